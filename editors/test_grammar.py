@@ -48,7 +48,7 @@ def tokens(line: str, patterns: list[tuple[str, re.Pattern[str]]] = PATTERNS) ->
 
 
 def scopes(line: str) -> list[str | None]:
-    """The scopes of a line's parts, each without what is behind its second dot."""
+    """The scopes of a line's parts, each without what is after its second dot."""
     return [name and ".".join(name.split(".")[:-1]) for name, _ in tokens(line)]
 
 

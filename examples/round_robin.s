@@ -157,7 +157,7 @@ bne r8 r10 wait
 addi r6 r6 1
 out r6
 beq r7 r10 count
-# yield(parent, vector 65, saved in 63): it goes on behind this when the root yields to it.
+# yield(parent, vector 65, saved in 63): it continues after this when the root yields to it.
 li r1 0
 li r2 65
 li r3 63

@@ -5,7 +5,7 @@
 #
 # A trap of a child enters the root unmasked. So a line can be taken before the root's handler has run its first
 # instruction, and r0 to r3 would be lost. Look at `switch 1 1 32` (such a line: the root itself was interrupted), first
-# at step 480, and at `call 8 switch 1 1 63` behind it: the root goes on with what was saved, and the request is served
+# at step 480, and at `call 8 switch 1 1 63` after it: the root goes on with what was saved, and the request is served
 # (`out`). A monitor that gives the next child its turn at each line loses that request.
 .frames 128
 .cpus 1
@@ -94,7 +94,7 @@ bne r4 r5 refused
 stw r5 r7 8
 stw r4 r8 0x404
 out r4
-# The child goes on behind its trap.
+# The child continues after its trap.
 mov r1 r3
 li r2 63
 li r3 256

@@ -11,7 +11,7 @@
 .equ CODE CHILD+9*4096            # its program
 .equ COUNT CHILD+10*4096          # the child's counter, and whether it is done; the same of the root
 .equ LAST 0xfffff000
-.equ SEEN 0xffc00000              # where the child has its program; the counters are the page behind it
+.equ SEEN 0xffc00000              # where the child has its program; the counters are the next page
 .equ TIMES 2
 .frames 64
 .cpus 2

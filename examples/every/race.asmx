@@ -9,9 +9,9 @@
 .equ CHILD 0x410000
 .equ TABLE CHILD+8*4096           # the child's handler table
 .equ CODE CHILD+9*4096            # its program
-.equ COUNT CHILD+10*4096          # the counter, and behind it whether the child is done
+.equ COUNT CHILD+10*4096          # the counter, and after it whether the child is done
 .equ LAST 0xfffff000
-.equ SEEN 0xffc00000              # where the child has its program; the counter is the page behind it
+.equ SEEN 0xffc00000              # where the child has its program; the counter is the next page
 .equ TIMES 2
 .frames 64
 .cpus 2

@@ -9,5 +9,5 @@ add r2 r2 r1
 out r2
 addi r1 r1 -1
 bne r1 r10 next
-# Trap 64 goes to whoever is above. Nobody is above the root: the processor parks.
+# Trap 64 goes to a partition above. No partition is above the root: the processor parks.
 int 64

@@ -69,7 +69,7 @@ class Names:
             names.sort()
 
     def place(self, world: World, name: int, pc: int) -> str:
-        """The nearest name at or before the pc, and how many instructions behind it."""
+        """The nearest name at or before the pc, and how many instructions after it."""
         place = world.tree.reach(world.tree.nodes[name], pc, FETCH, True)
         if isinstance(place, Fault):
             return ""

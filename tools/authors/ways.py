@@ -286,7 +286,7 @@ def run_of(image: Image, way: Way) -> Run:
 
 
 def plans_of(turns: Sequence[Turn], steps: Sequence[int]) -> list[Plan] | None:
-    """Plans that raise each line right behind the turn before, or None where a line would come once more."""
+    """Plans that raise each line right after the turn before, or None where a line would come once more."""
     raised: dict[int, list[int]] = {}
     for at, turn in enumerate(turns):
         for line in turn.raised:

@@ -27,7 +27,7 @@ ROWS = {
     "return": "a carriage return",
     "mark": "a byte order mark",
     "spaces": "an indentation",
-    "remark": "a remark behind a line",
+    "remark": "a remark after a line",
     "case": "upper case",
     "number": "`00`",
     "large": "more than eight digits",
@@ -92,7 +92,7 @@ def judge_bytes(line: bytes, place: int) -> None:
     if line.endswith(b"\r"):
         raise Cause("return", len(line), "the line ends with a carriage return")
     if (found := re.search(rb" #", line)) and not line.startswith(b"#"):
-        raise Cause("remark", found.start() + 2, "a remark begins behind the line's words")
+        raise Cause("remark", found.start() + 2, "a remark begins after the line's words")
     if found := re.search(rb"^ |  | $|[\t\v\f]", line):
         what = {b" ": "a space", b"  ": "two spaces"}.get(found.group(), "a tab")
         where = " at the beginning" if found.start() == 0 else " at the end" if found.end() == len(line) else ""

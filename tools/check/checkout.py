@@ -46,7 +46,9 @@ SOURCES = ("crates/pip/src/main.rt", "crates/pip_base/specs/Words.antt", "crates
            "crates.txt")
 # The program is made of three: one has its line below it, and two others have no part in it
 CRATES = "# a remark\npip_base: bitflags\npip_aside: pip_base\npip may_wait=1: pip_base pip_late\npip_late: pip_base\npip_test: pip\n"
-FOLDERS = ("bin", "crates/pip/src", "crates/pip_base/specs", "crates/pip_base/proofs", "tools/exporter", "tools/reference")
+FOLDERS = ("bin", "crates/pip/src", "crates/pip_base/specs", "crates/pip_base/proofs", "crates/pip_commands/src", "tools/exporter",
+           "tools/reference")
+USAGE = "crates/pip_commands/src/top.rt"    # the source with the usage line, which ./pip takes from there
 
 
 class Checkout:
@@ -57,8 +59,9 @@ class Checkout:
         self.builds = 0
         for name in FOLDERS:
             os.makedirs(self.path(name))
-        shutil.copy(os.path.join(REPOSITORY, "pip"), self.path("pip"))
-        for name in SOURCES:
+        for name in ("pip", USAGE):
+            shutil.copy(os.path.join(REPOSITORY, name), self.path(name))
+        for name in (*SOURCES, USAGE):
             self.touch(name, 1000)
         for name, text in (("crates.txt", CRATES), ("tools/export", EXPORTER), ("tools/reference/program.py", REFERENCE)):
             self.write(name, text)

@@ -2,7 +2,7 @@
 
     python3 -B -m tools.check.counts [--scripts N] [--runs N] [--loads N] [--seed N]
 
-No output of the program depends on the caches. So a program that says behind its output what they counted is made here: in
+No output of the program depends on the caches. So a program that says after its output what they counted is made here: in
 a copy of the sources counts_program.txt stands in the place of crates/pip/src/main.rt. `rt try` builds it, without proofs.
 The cases are those generated, the scripts of examples/, and one whose pages share places.
 """

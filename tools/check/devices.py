@@ -6,6 +6,7 @@ import os
 import signal
 import subprocess
 import sys
+import tempfile
 import time
 
 from .checkout import heed_interrupts
@@ -35,17 +36,27 @@ def full_devices(program: str) -> None:
 
 
 def interrupted(program: str) -> None:
-    """Ctrl-C ends a tool that waits for its input, and the checks, without a traceback."""
-    for name, words in (("why", ("-",)), ("check/run.py", ("--only", "script", "--program", program))):
-        at = time.monotonic()
-        subprocess.run(command(name, ("--help",), program), stdin=subprocess.DEVNULL, stdout=subprocess.DEVNULL)
-        start = time.monotonic() - at               # what a tool needs before it can answer, on this machine now
-        begun = subprocess.Popen(command(name, words, program), stdin=subprocess.PIPE, stdout=subprocess.PIPE, stderr=subprocess.PIPE,
-                                 preexec_fn=heed_interrupts, start_new_session=True)
-        try:
-            begun.wait(1 + 3 * start)
-        except subprocess.TimeoutExpired:
-            os.killpg(begun.pid, signal.SIGINT)
-        messages = begun.communicate(timeout=SECONDS)[1].decode()
-        if begun.returncode != 130 or "stopped" not in messages or len(messages.splitlines()) != 1:
-            raise Differs(f"tools/{name} at Ctrl-C: status {begun.returncode}, {messages[-300:]}")
+    """Ctrl-C ends a tool that waits for its input, and checks that wait for a program, without a traceback."""
+    with tempfile.TemporaryDirectory() as place:
+        waits = os.path.join(place, "pip")
+        with open(waits, "w") as file:
+            file.write(f"#!/bin/sh\nexec sleep {SECONDS}\n")
+        os.chmod(waits, 0o755)
+        stop("why", ("-",), program)
+        stop("check/run.py", ("--only", "empty-script", "--program", waits), program)
+
+
+def stop(name: str, words: tuple[str, ...], program: str) -> None:
+    """Begins a tool that goes on until it is stopped, and sends it Ctrl-C."""
+    at = time.monotonic()
+    subprocess.run(command(name, ("--help",), program), stdin=subprocess.DEVNULL, stdout=subprocess.DEVNULL)
+    start = time.monotonic() - at               # what a tool needs before it can answer, on this machine now
+    begun = subprocess.Popen(command(name, words, program), stdin=subprocess.PIPE, stdout=subprocess.PIPE, stderr=subprocess.PIPE,
+                             preexec_fn=heed_interrupts, start_new_session=True)
+    try:
+        begun.wait(1 + 3 * start)
+    except subprocess.TimeoutExpired:
+        os.killpg(begun.pid, signal.SIGINT)
+    messages = begun.communicate(timeout=SECONDS)[1].decode()
+    if begun.returncode != 130 or "stopped" not in messages or len(messages.splitlines()) != 1:
+        raise Differs(f"tools/{name} at Ctrl-C: status {begun.returncode}, {messages[-300:]}")

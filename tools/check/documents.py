@@ -47,7 +47,7 @@ def sessions(text: str) -> list[list[tuple[str, bytes]]]:
 
 
 def examples_with_arrows(program: str) -> None:
-    """Each session of the documents' blocks whose lines have their answer behind an arrow, by program and reference."""
+    """Each session of the documents' blocks whose lines have their answer after an arrow, by program and reference."""
     for name in ("docs/MODEL.md", "docs/FORMATS.md"):
         for lines, answers in arrow_sessions(read(name)):
             text = "".join(line + "\n" for line in lines).encode()

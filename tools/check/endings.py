@@ -28,7 +28,7 @@ def empty_script(program: str) -> None:
 def bad_line(program: str) -> None:
     expect("the script 'x'", run([program, "script"], b"x\n"), (b"bad line 1\n", 2))
     text = b"boot 32 1\n\nld 0 0x400000\nld 0 00\nld 0 0x400000\n"
-    expect("a bad line behind good ones", run([program, "script"], text), (b"boot 32 1\n0x00000000\nbad line 4\n", 2))
+    expect("a bad line after good ones", run([program, "script"], text), (b"boot 32 1\n0x00000000\nbad line 4\n", 2))
 
 
 def closed_input(program: str) -> None:

@@ -10,13 +10,36 @@ from ..authors import asmx
 from ..reference import commands as reference, script
 from .running import REPOSITORY, Differs, expect, run
 
+SESSIONS = os.path.join("examples", "sessions")
+PROVED = os.path.join("crates", "pip_test_model", "proofs", "Scripts.antt")
+LEMMA = re.compile(r"^(\w+) : script_text \((.*?)\)\s*≡ \((.*?)\)\nunfolding", re.M | re.S)
+
 
 def examples(program: str) -> None:
-    paths = sorted(glob.glob(os.path.join(REPOSITORY, "examples", "*.pip")))
-    if not paths:
-        raise Differs("examples/ has no script")
-    for path in paths:
-        script_gives(program, path)
+    """Each script of examples/ and of examples/sessions/ gives what is beside it; a session is also a lemma of its name."""
+    for folder in ("examples", SESSIONS):
+        paths = sorted(glob.glob(os.path.join(REPOSITORY, folder, "*.pip")))
+        if not paths:
+            raise Differs(f"{folder} has no script")
+        for path in paths:
+            script_gives(program, path)
+    sessions_are_lemmas()
+
+
+def sessions_are_lemmas() -> None:
+    """The lemma NAME is about the script NAME.pip of examples/sessions/, without its remarks, and about NAME.out."""
+    lemmas = {name: (written(text), written(answers))
+              for name, text, answers in LEMMA.findall(contents(os.path.join(REPOSITORY, PROVED)).decode())}
+    for path in sorted(glob.glob(os.path.join(REPOSITORY, SESSIONS, "*.pip"))):
+        name, lines = os.path.basename(path)[:-len(".pip")], contents(path).decode().splitlines(keepends=True)
+        text = "".join(line for line in lines if not line.startswith("#"))
+        if lemmas.get(name) != (text, contents(path[:-len("pip")] + "out").decode()):
+            raise Differs(f"{os.path.relpath(path, REPOSITORY)}: {PROVED} has no lemma {name} of this script and these answers")
+
+
+def written(codes: str) -> str:
+    """The text of a lemma: its strings, which are joined."""
+    return "".join(re.findall(r'codes "([^"]*)"', codes)).replace("\\n", "\n")
 
 
 def script_gives(program: str, path: str) -> None:

@@ -151,7 +151,7 @@ INTERRUPT = Exercise(
 
 # forged
 
-def looks_behind(r: Script, line: Line) -> list[Line]:
+def looks_after(r: Script, line: Line) -> list[Line]:
     """The lines right after one which only look, as long as they do."""
     begun = r.lines.index(line) + 1
     end = next((k for k in range(begun, len(r.lines)) if r.lines[k].name not in ("reg", "peek")), len(r.lines))
@@ -165,7 +165,7 @@ def entries(r: Script, v: SimpleNamespace, *names: str) -> list[Line]:
 
 def is_shown(r: Script, v: SimpleNamespace, name: str, *registers: int) -> bool:
     """Whether these registers were shown right after such an entry."""
-    return any({x.numbers[1] for x in looks_behind(r, line) if x.name == "reg" and x.cpu == line.cpu} >= set(registers)
+    return any({x.numbers[1] for x in looks_after(r, line) if x.name == "reg" and x.cpu == line.cpu} >= set(registers)
                for line in entries(r, v, name))
 
 
@@ -187,7 +187,7 @@ FORGED = Exercise(
         Goal("after the yield r1, r2 or r3 has another word than a line puts there", lambda r: block_tells(r, v),
              "a line puts 0 into r1 to r3, and a yield leaves what the block has: write something else there"),
         Goal("what lines wait was shown after a forged one",
-             lambda r: any(x.numbers == [1, 15] for line in entries(r, v, "trap", "call") for x in looks_behind(r, line)
+             lambda r: any(x.numbers == [1, 15] for line in entries(r, v, "trap", "call") for x in looks_after(r, line)
                            if x.name == "peek"), "peek 1 15, right after a forged one")))
 
 

@@ -45,7 +45,7 @@ def has_child(line: Line, name: int) -> bool:
     return any(parent == name for parent, _ in line.alive)
 
 
-def loaded_behind(r: Script, v: SimpleNamespace) -> bool:
+def loaded_after(r: Script, v: SimpleNamespace) -> bool:
     """Whether the root loaded a word after the deletion from a page that was hidden before it."""
     line = deleted(r, v)
     if line is None:
@@ -64,5 +64,5 @@ END = Exercise(
         Goal("the root is alone", lambda r: len(r.tree) == 1, "deletePartition ends a child with all below it"),
         Goal("all its pages are visible and free", lambda r: all(row.first == 0 and row.word & 2 for row in r.root.rows),
              "that is so by itself"),
-        Goal("then the root loaded a word that was configuration: 0", lambda r: loaded_behind(r, v),
+        Goal("then the root loaded a word that was configuration: 0", lambda r: loaded_after(r, v),
              "ld 0 A, after the deletion, A an address of a page that was given to the child")))

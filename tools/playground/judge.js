@@ -16,7 +16,7 @@ function judgeBytes(line, place) {
   if (place === 1 && line.startsWith("\ufeff")) return cause("mark", 1, "the file begins with a byte order mark");
   if (line.endsWith("\r")) return cause("return", count, "the line ends with a carriage return");
   const remark = line.indexOf(" #");
-  if (remark >= 0) return cause("remark", remark + 2, "a remark begins behind the line's words");
+  if (remark >= 0) return cause("remark", remark + 2, "a remark begins after the line's words");
   const space = /^ | {2}| $|[\t\v\f]/.exec(line);
   if (!space) return null;
   const what = {" ": "a space", "  ": "two spaces"}[space[0]] || "a tab";

@@ -90,7 +90,7 @@ def examples() -> List[Dict[str, str]]:
 
 
 def group(path: Path) -> str:
-    return "Tutorial" if path.parent != EXAMPLES else "Examples" if path.suffix == ".pip" else "Programs"
+    return path.parent.name.capitalize() if path.parent != EXAMPLES else "Examples" if path.suffix == ".pip" else "Programs"
 
 
 def example(path: Path) -> Dict[str, str]:

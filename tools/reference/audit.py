@@ -128,7 +128,7 @@ def node_of(memory: Memory, name: int) -> Node:
 
 
 def further_pages(memory: Memory, page: int, count: int) -> list[Pair]:
-    """The list pages behind one."""
+    """The list pages after one."""
     more = []
     for _ in range(count):
         if memory[page][0] >= len(memory):

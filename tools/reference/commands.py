@@ -4,7 +4,7 @@ Statuses that come from outside (3, 4, 5 and 10) aren't here: reading, writing a
 
     tools/reference/program.py [--counts] WORD ..
 
-With --counts a line for each processor comes behind the output, where the command leaves a machine: what its translation
+With --counts a line for each processor comes after the output, where the command leaves a machine: what its translation
 cache counted.
 """
 
@@ -26,7 +26,7 @@ ON_IMAGES = {"run": runs.run, "tree": runs.tree, "core": runs.core}
 
 
 def two_numbers(words: Sequence[str]) -> tuple[int, int] | None:
-    """The two numbers behind a command, or None where they are none."""
+    """The two numbers after a command, or None where they are none."""
     try:
         first, second = [script.number(word.encode()) for word in words]
     except (ValueError, script.Bad):
@@ -35,7 +35,7 @@ def two_numbers(words: Sequence[str]) -> tuple[int, int] | None:
 
 
 def frames_of(words: Sequence[str]) -> int | None:
-    """The number of frames behind `audit`, or None where it is none."""
+    """The number of frames after `audit`, or None where it is none."""
     try:
         frames, = [script.number(word.encode()) for word in words]
     except (ValueError, script.Bad):
@@ -44,7 +44,7 @@ def frames_of(words: Sequence[str]) -> int | None:
 
 
 def numbers(words: Sequence[str], most: int) -> tuple[int, int] | None:
-    """A count and a seed behind a command, or None where they are none or beyond their limits."""
+    """A count and a seed after a command, or None where they are none or beyond their limits."""
     given = two_numbers(words)
     return given if given and given[0] <= most and given[1] >= 1 else None
 
@@ -105,7 +105,7 @@ def ended(words: Sequence[str], text: bytes) -> Ended:
 
 
 def with_counts(words: Sequence[str], text: bytes) -> tuple[bytes, int]:
-    """Output with the counts of the caches behind it, and status."""
+    """Output with the counts of the caches after it, and status."""
     output, status, world = ended(words, text)
     return output + in_lines(str(cache) for cache in (world.caches if world else ())), status
 

@@ -16,7 +16,7 @@ from .script import LONGEST, Script
 ODD_ADDRESSES = (0, 1, 4, 0x00400001, 0x00401800, 0x00800000, 0x7FFFF000, 0xFFFFFFFF, 0xFFFFF004)
 CHILD_PLACES = (0x10000000, 0x10001000, 0x10002000, 0x103FF000, 0xFFC0A000, 0xFFC0B000, 0x00400000, 0x00401000)
 VECTORS = (0, 6, 14, 17, 32, 33, 34, 47, SAVED, 64, 65, 255)
-BLOCKS = 1024            # where in a handler table's page, behind its entries, blocks begin
+BLOCKS = 1024            # where in a handler table's page, after its entries, blocks begin
 BLOCK = 68               # bytes of a block
 FRAMES = (16, 18, 24, 32, 32, 40, 48, 64, 64, 64, 96, 96, 128, 128, 200)
 MANY_FRAMES = (1037, 1038, 2065, 4096)

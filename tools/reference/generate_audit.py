@@ -61,7 +61,7 @@ class Dump:
         self.lines[target] = self.lines[target][:5] + self.lines[source][5:]
 
     def grow(self) -> None:
-        """Gives a frame one group more, or the first, behind all that are named."""
+        """Gives a frame one group more, or the first, after all that are named."""
         last = [line for line in self.lines if line.startswith(b"frame ")][-1:]
         frame = int(last[0][6:]) + 1 if last else 0
         if frame < self.tree.frames:

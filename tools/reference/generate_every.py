@@ -127,7 +127,7 @@ def words_of(rng: random.Random, machine: Image) -> list[str]:
 
 
 def case(seed: int) -> tuple[list[str], bytes]:
-    """The words behind the command, and an image; now and then a faulty one."""
+    """The words after the command, and an image; now and then a faulty one."""
     rng = random.Random(seed)
     data = assembly.assemble(joined(rng, Small(seed).image()))
     words = words_of(rng, image.read(data))

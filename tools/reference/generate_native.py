@@ -15,7 +15,7 @@ from .native import BLOCK, PROGRAM, frames_needed, fresh
 
 ENTRIES = (0, 6, 14, 32, 33, SAVED, 64, 65, 66, 255)
 OTHER_BLOCK = BLOCK + 4 * 17
-KEPT = HANDLERS + 0xF00                      # where a child keeps words of its own, behind all blocks
+KEPT = HANDLERS + 0xF00                      # where a child keeps words of its own, after all blocks
 SPARE = 4096                                 # at most so many frames
 
 
@@ -88,7 +88,7 @@ class Program(Text):
         self.say(self.pick("ldw", "stw", "ldb", "stb"), f"r{self.random.randrange(7)}", "r7", self.pick(0, 0, 4, 1))
 
     def faults(self) -> None:
-        """An access where the child may have no page, now and then behind a jump."""
+        """An access where the child may have no page, now and then after a jump."""
         self.reaches(self.pick(0, PROGRAM + PAGE, PROGRAM + 2, 0x10000000, 0xFFFFEFFC, HANDLERS + 2))
         if self.chance(0.2):
             self.say("jr r7")

@@ -124,7 +124,7 @@ class Text:
         return self.pick(SAVED, SAVED, NOWHERE, 66, 257)
 
     def table(self, entries: dict[int, str]) -> None:
-        """A handler table, and behind it a block for each vector that has a handler."""
+        """A handler table, and after it a block for each vector that has a handler."""
         place = 0
         for number, vector in enumerate(sorted(entries)):
             if vector > place:

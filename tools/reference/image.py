@@ -116,7 +116,7 @@ def pages_of(reader: Reader, head: Head) -> Iterator[Page]:
 
 def read(data: bytes, least: int = 0) -> Image:
     """The image that the bytes are; BadImage where they are none. With fewer frames than `least` it is TooFew, whatever
-    stands behind the plans."""
+    stands after the plans."""
     reader = Reader(data)
     head = head_of(reader)
     plans = list(plans_of(reader, head))

@@ -178,7 +178,7 @@ class Tree:
     """
 
     frames: int
-    nodes: dict[int, Node]              # by name, in the order in which they were made, so a parent is never behind its child
+    nodes: dict[int, Node]              # by name, in the order in which they were made, so a parent is never after its child
     words: dict[int, dict[int, int]]    # by page: words that aren't 0, by index
 
     def children(self, node: Node) -> list[Node]:

@@ -12,7 +12,7 @@ from .script import word_text
 
 MOST_CHILDREN = 8
 PROGRAM = 0x400000                           # where a child has its program, and the root the first of them
-BLOCK = HANDLERS + 0x400                     # behind the 256 entries of a handler table
+BLOCK = HANDLERS + 0x400                     # after the 256 entries of a handler table
 WANTS = ((PROGRAM, READ | WRITE | EXECUTE), (HANDLERS, READ | WRITE))
 
 
@@ -100,7 +100,7 @@ class Monitor:
         self.last = len(built) - 1
 
     def next(self) -> int | None:
-        """The next child in turn that is alive, behind the last one; None where none is."""
+        """The next child in turn that is alive, after the last one; None where none is."""
         n = len(self.built)
         turns = [(self.last + k) % n for k in range(1, n + 1)]
         return next((i for i in turns if i in self.alive), None)

@@ -155,7 +155,7 @@ class NativeRuns(unittest.TestCase):
     def test_too_few_frames_come_before_pages_and_behind_plans(self) -> None:
         data = native_image(25, self.LOOPS, line=(".line 3 1 1",))
         short = ["short 12 13"], 8
-        self.assertEqual(self.told(1, 9, data + b"behind the last page"), short)
+        self.assertEqual(self.told(1, 9, data + b"after the last page"), short)
         self.assertEqual(self.told(1, 9, data[:36]), short)
         self.assertEqual(self.told(1, 9, data[:35]), (["bad image short 35"], 2))
         self.assertEqual(self.told(1, 9, data[:24] + b"\x10" + data[25:]), (["bad image plan 24"], 2))

@@ -11,7 +11,7 @@ use Rattle.pip_isa.proofs.Rows.{back_two_and_offset, back_one_and_value, back_on
 use Rattle.pip_isa.proofs.Rows.{back_vector, half, ra, rb, rc, shift_fits, short, vector_fits}
 use Rattle.pip_model.specs.AsmLines.{Holds, held, assembly_phrase, other_line, page_line, phrase_of, word_line}
 use Rattle.pip_model.specs.AsmLines.{zero_line}
-use Rattle.pip_model.specs.AsmWords.{by_form, by_place, by_row, made, nil, plain_cell, unused}
+use Rattle.pip_model.specs.AsmWords.{by_form, by_place, by_row, made, nil, plain_cell, no_field}
 use Rattle.pip_model.specs.Grammar.{words_of}
 use Rattle.pip_model.specs.InstrText.{before, operands_text, reg_text}
 use Rattle.pip_model.specs.InstrWords.{Opcode, fits, immediate, opcode_at, opcode_of, opcodes, reg_a, reg_b, reg_c}
@@ -48,7 +48,7 @@ Again op m f = (w : ℕ) → opcode_of w ≡ op → fits w f ≡ true
 again_two : (op : ℕ) (m : List ℕ) → Begins op m F.Two → Again op m F.Two
 again_two op m b w e f =
     by_words op m _ F.Two _ b (then_words (reg_a w) _ _ (ra w) (one_reg (reg_b w) (rb w)))
-    ∙ (λ j. held (made op (reg_again (reg_a w) (ra w) j) (reg_again (reg_b w) (rb w) j) unused nil))
+    ∙ (λ j. held (made op (reg_again (reg_a w) (ra w) j) (reg_again (reg_b w) (rb w) j) no_field nil))
     ∙ ap (λ v. Ok (Holds (plain_cell v))) (back_two op w e f)
 
 again_three : (op : ℕ) (m : List ℕ) → Begins op m F.Three → Again op m F.Three
@@ -64,7 +64,7 @@ again_two_and_value op m b w e f =
     let v : immediate w < 65536 = half w in
     by_words op m _ F.TwoAndValue _ b (then_words (reg_a w) _ _ (ra w)
     (then_words (reg_b w) _ _ (rb w) (number_word (immediate w) (omega (arith, v)))))
-    ∙ (λ j. held (made op (reg_again (reg_a w) (ra w) j) (reg_again (reg_b w) (rb w) j) unused
+    ∙ (λ j. held (made op (reg_again (reg_a w) (ra w) j) (reg_again (reg_b w) (rb w) j) no_field
     (unsigned_again m 0 65535 (immediate w) (omega arith) (omega (arith, v)) (omega arith) j)))
     ∙ ap (λ v. Ok (Holds (plain_cell v))) (back_two_and_value op w e f)
 
@@ -73,7 +73,7 @@ again_two_and_shift op m b w e f =
     let v = shift_fits w f in
     by_words op m _ F.TwoAndShift _ b (then_words (reg_a w) _ _ (ra w)
     (then_words (reg_b w) _ _ (rb w) (number_word (immediate w) (omega (arith, v)))))
-    ∙ (λ j. held (made op (reg_again (reg_a w) (ra w) j) (reg_again (reg_b w) (rb w) j) unused
+    ∙ (λ j. held (made op (reg_again (reg_a w) (ra w) j) (reg_again (reg_b w) (rb w) j) no_field
     (unsigned_again m 0 31 (immediate w) (omega arith) (omega (arith, v)) (omega arith) j)))
     ∙ ap (λ v. Ok (Holds (plain_cell v))) (back_two_and_shift op w e f)
 
@@ -81,7 +81,7 @@ again_two_and_offset : (op : ℕ) (m : List ℕ) → Begins op m F.TwoAndOffset 
 again_two_and_offset op m b w e f =
     by_words op m _ F.TwoAndOffset _ b
     (then_words (reg_a w) _ _ (ra w) (then_words (reg_b w) _ _ (rb w) (signed_word (signed_immediate w) (short w))))
-    ∙ (λ j. held (made op (reg_again (reg_a w) (ra w) j) (reg_again (reg_b w) (rb w) j) unused
+    ∙ (λ j. held (made op (reg_again (reg_a w) (ra w) j) (reg_again (reg_b w) (rb w) j) no_field
     (signed_again m (signed_immediate w) (short w) j)))
     ∙ ap (λ v. Ok (Holds (plain_cell v))) (back_two_and_offset op w e f)
 
@@ -89,7 +89,7 @@ again_one_and_value : (op : ℕ) (m : List ℕ) → Begins op m F.OneAndValue �
 again_one_and_value op m b w e f =
     let v : immediate w < 65536 = half w in
     by_words op m _ F.OneAndValue _ b (then_words (reg_a w) _ _ (ra w) (number_word (immediate w) (omega (arith, v))))
-    ∙ (λ j. held (made op (reg_again (reg_a w) (ra w) j) unused unused
+    ∙ (λ j. held (made op (reg_again (reg_a w) (ra w) j) no_field no_field
     (unsigned_again m 0 65535 (immediate w) (omega arith) (omega (arith, v)) (omega arith) j)))
     ∙ ap (λ v. Ok (Holds (plain_cell v))) (back_one_and_value op w e f)
 
@@ -97,20 +97,20 @@ again_one_and_offset : (op : ℕ) (m : List ℕ) → Begins op m F.OneAndOffset 
 again_one_and_offset op m b w e f =
     by_words op m _ F.OneAndOffset _ b (then_words (reg_a w) _ _ (ra w) (signed_word (signed_immediate w) (short w)))
     ∙ (λ j.
-    held (made op (reg_again (reg_a w) (ra w) j) unused unused (signed_again m (signed_immediate w) (short w) j)))
+    held (made op (reg_again (reg_a w) (ra w) j) no_field no_field (signed_again m (signed_immediate w) (short w) j)))
     ∙ ap (λ v. Ok (Holds (plain_cell v))) (back_one_and_offset op w e f)
 
 again_one : (op : ℕ) (m : List ℕ) → Begins op m F.One → Again op m F.One
 again_one op m b w e f =
     by_words op m _ F.One _ b (one_reg (reg_a w) (ra w))
-    ∙ (λ j. held (made op (reg_again (reg_a w) (ra w) j) unused unused nil))
+    ∙ (λ j. held (made op (reg_again (reg_a w) (ra w) j) no_field no_field nil))
     ∙ ap (λ v. Ok (Holds (plain_cell v))) (back_one op w e f)
 
 again_value : (op : ℕ) (m : List ℕ) → Begins op m F.Value → Again op m F.Value
 again_value op m b w e f =
     let v : immediate w < 65536 = half w in
     by_words op m _ F.Value _ b (number_word (immediate w) (omega (arith, v)))
-    ∙ (λ j. held (made op unused unused unused
+    ∙ (λ j. held (made op no_field no_field no_field
     (unsigned_again m 0 65535 (immediate w) (omega arith) (omega (arith, v)) (omega arith) j)))
     ∙ ap (λ v. Ok (Holds (plain_cell v))) (back_value op w e f)
 
@@ -120,7 +120,7 @@ again_vector op m b w e f =
     let l = v.0 in
     let k = v.1 in
     by_words op m _ F.Vector _ b (number_word (immediate w) (omega (arith, k)))
-    ∙ (λ j. held (made op unused unused unused
+    ∙ (λ j. held (made op no_field no_field no_field
     (unsigned_again m 64 255 (immediate w) (omega (arith, l)) (omega (arith, k)) (omega arith) j)))
     ∙ ap (λ v. Ok (Holds (plain_cell v))) (back_vector op w e f)
 

@@ -7,12 +7,12 @@ use Rattle.std.proofs.lemmas.List.{take_at}
 use borrow.Rule.Slice.PartMut.{post_of}
 use Rattle.byteorder.specs.Endian.{little_bytes}
 use Rattle.pip_model.specs.declared.assembly.AsmKind.{AsmKind}
-use Rattle.pip_model.specs.Assembly.{Fault, at_line, and_then, word_of_cell}
+use Rattle.pip_model.specs.Assembly.{LineFault, at_line, and_then, word_of_cell}
 use Rattle.pip_model.specs.Images.{bytes_of}
 use Rattle.pip_line.specs.Seen.{HasRoomFor, use_seen}
 use Rattle.pip_asm.specs.declared.emit.Note.{Note}
 use Rattle.pip_asm.specs.declared.emit.Written.{Written}
-use Rattle.pip_asm.specs.Emitted.{Adds, AreNotes, IsEmpty, IsInBounds, cell_word, filled, pages_of, put, said, words}
+use Rattle.pip_asm.specs.Emitted.{Adds, AreNotes, IsEmpty, IsInBounds, cell_word, fill_in, pages_of, put, said, words}
 
 -- ---- answers one after another
 
@@ -81,7 +81,7 @@ module _ (names : List ℕ → Option ℕ) where
   word_of : Note → Result ℕ AsmKind
   word_of x = word_of_cell names x.next x.cell.number (use_seen x.cell.takes)
 
-  filled_length : (ns : List Note) (bs cs : List ℕ) → AreNotes (length bs) ns → filled names ns bs ≡ Ok cs
+  filled_length : (ns : List Note) (bs cs : List ℕ) → AreNotes (length bs) ns → fill_in names ns bs ≡ Ok cs
       → length cs ≡ length bs
   filled_length [] bs cs a e = ap length (sym (ok_is bs cs e))
   filled_length (x ∷ ns) bs cs a e =
@@ -89,55 +89,55 @@ module _ (names : List ℕ → Option ℕ) where
       ∙ put_length bs (little_bytes 4 w) x.place refl a.0)
       (word_of_cell names x.next x.cell.number (use_seen x.cell.takes)) e
     where
-      go : ((w : ℕ) → filled names ns (put bs x.place w) ≡ Ok cs → length cs ≡ length bs) → (r : Result ℕ AsmKind)
-          → at_line x.line r (λ w. filled names ns (put bs x.place w)) ≡ Ok cs → length cs ≡ length bs
+      go : ((w : ℕ) → fill_in names ns (put bs x.place w) ≡ Ok cs → length cs ≡ length bs) → (r : Result ℕ AsmKind)
+          → at_line x.line r (λ w. fill_in names ns (put bs x.place w)) ≡ Ok cs → length cs ≡ length bs
       go again (Ok w) f = again w f
       go again (Err k) f = absurd (grind (arith, f))
 
   filled_after : (ns : List Note) (bs more : List ℕ) → AreNotes (length bs) ns
-      → filled names ns (bs ++ more) ≡ and_then (filled names ns bs) (λ cs. Ok (cs ++ more))
+      → fill_in names ns (bs ++ more) ≡ and_then (fill_in names ns bs) (λ cs. Ok (cs ++ more))
   filled_after [] bs more a = refl
   filled_after (x ∷ ns) bs more a =
-      go (λ w. ap (filled names ns) (put_front bs more (little_bytes 4 w) x.place a.0)
+      go (λ w. ap (fill_in names ns) (put_front bs more (little_bytes 4 w) x.place a.0)
       ∙ filled_after ns (put bs x.place w) more (notes_put bs (little_bytes 4 w) x.place ns refl a.0 a.2))
       (word_of_cell names x.next x.cell.number (use_seen x.cell.takes))
     where
-      go : ((w : ℕ) → filled names ns (put (bs ++ more) x.place w)
-          ≡ and_then (filled names ns (put bs x.place w)) (λ cs. Ok (cs ++ more))) → (r : Result ℕ AsmKind)
-          → at_line x.line r (λ w. filled names ns (put (bs ++ more) x.place w))
-          ≡ and_then (at_line x.line r (λ w. filled names ns (put bs x.place w))) (λ cs. Ok (cs ++ more))
+      go : ((w : ℕ) → fill_in names ns (put (bs ++ more) x.place w)
+          ≡ and_then (fill_in names ns (put bs x.place w)) (λ cs. Ok (cs ++ more))) → (r : Result ℕ AsmKind)
+          → at_line x.line r (λ w. fill_in names ns (put (bs ++ more) x.place w))
+          ≡ and_then (at_line x.line r (λ w. fill_in names ns (put bs x.place w))) (λ cs. Ok (cs ++ more))
       go again (Ok w) = again w
       go again (Err k) = refl
 
   filled_and : (ns : List Note) (x : Note) (bs : List ℕ)
-      → filled names (ns ++ x ∷ []) bs ≡ and_then (filled names ns bs) (λ cs.
+      → fill_in names (ns ++ x ∷ []) bs ≡ and_then (fill_in names ns bs) (λ cs.
       at_line x.line (word_of_cell names x.next x.cell.number (use_seen x.cell.takes)) (λ w. Ok (put cs x.place w)))
   filled_and [] x bs = refl
   filled_and (y ∷ ns) x bs =
       go (λ w. filled_and ns x (put bs y.place w)) (word_of_cell names y.next y.cell.number (use_seen y.cell.takes))
     where
-      last : List ℕ → Result (List ℕ) Fault
+      last : List ℕ → Result (List ℕ) LineFault
       last cs =
           at_line x.line (word_of_cell names x.next x.cell.number (use_seen x.cell.takes)) (λ w. Ok (put cs x.place w))
 
-      go : ((w : ℕ) → filled names (ns ++ x ∷ []) (put bs y.place w)
-          ≡ and_then (filled names ns (put bs y.place w)) last) → (r : Result ℕ AsmKind)
-          → at_line y.line r (λ w. filled names (ns ++ x ∷ []) (put bs y.place w))
-          ≡ and_then (at_line y.line r (λ w. filled names ns (put bs y.place w))) last
+      go : ((w : ℕ) → fill_in names (ns ++ x ∷ []) (put bs y.place w)
+          ≡ and_then (fill_in names ns (put bs y.place w)) last) → (r : Result ℕ AsmKind)
+          → at_line y.line r (λ w. fill_in names (ns ++ x ∷ []) (put bs y.place w))
+          ≡ and_then (at_line y.line r (λ w. fill_in names ns (put bs y.place w))) last
       go again (Ok w) = again w
       go again (Err k) = refl
 
   note_after : (ns : List Note) (x : Note) (bs old : List ℕ) → AreNotes (length bs) ns → x.place ≡ length bs
       → length old ≡ 4
-      → filled names (ns ++ x ∷ []) (bs ++ old) ≡ and_then (filled names ns bs) (λ cs. and_then (cell_word x.line
+      → fill_in names (ns ++ x ∷ []) (bs ++ old) ≡ and_then (fill_in names ns bs) (λ cs. and_then (cell_word x.line
       (word_of_cell names x.next x.cell.number (use_seen x.cell.takes))) (λ ms. Ok (cs ++ ms)))
   note_after ns x bs old a e o =
       filled_and ns x (bs ++ old)
       ∙ ap (λ r. and_then r (λ cs. at_line x.line (word_of_cell names x.next x.cell.number (use_seen x.cell.takes))
       (λ w. Ok (put cs x.place w)))) (filled_after ns bs old a)
-      ∙ and_and (filled names ns bs) (λ cs. Ok (cs ++ old)) (λ cs.
+      ∙ and_and (fill_in names ns bs) (λ cs. Ok (cs ++ old)) (λ cs.
       at_line x.line (word_of_cell names x.next x.cell.number (use_seen x.cell.takes)) (λ w. Ok (put cs x.place w)))
-      ∙ and_same (filled names ns bs) (λ cs. at_line x.line (word_of_cell names x.next x.cell.number
+      ∙ and_same (fill_in names ns bs) (λ cs. at_line x.line (word_of_cell names x.next x.cell.number
       (use_seen x.cell.takes)) (λ w. Ok (put (cs ++ old) x.place w))) (λ cs. and_then (cell_word x.line
       (word_of_cell names x.next x.cell.number (use_seen x.cell.takes))) (λ ms. Ok (cs ++ ms))) (λ cs f.
       one cs (filled_length ns bs cs a f ∙ sym e) (word_of_cell names x.next x.cell.number (use_seen x.cell.takes)))
@@ -176,7 +176,7 @@ words_add s t ws whole h n b =
             AreNotes (length (pages_of t)) ns) (sym n) (subst (λ bs. AreNotes (length bs) s.notes.items) (sym p) more);
       };
       front = front_stays s t (bytes_of ws) whole h b;
-      says = λ names. (λ i. filled names (n i) (p i))
+      says = λ names. (λ i. fill_in names (n i) (p i))
           ∙ filled_after names s.notes.items (pages_of s) (bytes_of ws) whole.notes;
     }
 
@@ -200,7 +200,7 @@ note_adds s t x four whole room place o h n b =
             (sym n) (subst (λ bs. AreNotes (length bs) (s.notes.items ++ x ∷ [])) (sym p) all);
       };
       front = front_stays s t four whole h b;
-      says = λ names. (λ i. filled names (n i) (p i))
+      says = λ names. (λ i. fill_in names (n i) (p i))
           ∙ note_after names s.notes.items x (pages_of s) four whole.notes at o;
     }
 
@@ -220,11 +220,12 @@ begun s t front none b h n =
       whole =
           record { head = omega (arith, h); notes = subst (λ ns. AreNotes (length (pages_of t)) ns) (sym notes) tt };
       front = take_all t.head t.bytes.items (omega (arith, h)) ∙ bytes;
-      said = λ names. (λ i. filled names (notes i) (pages i));
+      said = λ names. (λ i. fill_in names (notes i) (pages i));
     }
 
 -- the bytes after the head, and the number of pages in it
-pub completed : (b pages new : List ℕ) (head count : ℕ) (r : Result (List ℕ) Fault) → (24 ≤ head) × (head ≤ length b)
+pub completed : (b pages new : List ℕ) (head count : ℕ) (r : Result (List ℕ) LineFault) → (24 ≤ head)
+    × (head ≤ length b)
     → r ≡ Ok pages → new ≡ put (take head b ++ (pages ++ post_of head (length b - head) b)) 20 count
     → and_then r (λ rest. Ok (put (take head b) 20 count ++ rest)) ≡ Ok new
 completed b pages new head count r h e f =

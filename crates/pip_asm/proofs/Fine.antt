@@ -13,7 +13,7 @@ use Rattle.pip_model.specs.InstrWords.{Opcode, immediate, opcode_at, reg_a, reg_
 use Rattle.pip_model.specs.declared.form.Form.{Form}
 use Rattle.pip_model.specs.declared.form.Form.TheVariants as F
 use Rattle.pip_isa.proofs.Rows.{half, ra, rb, rc, row_passes, short}
-use Rattle.pip_asm.proofs.NumberTexts.{own}
+use Rattle.pip_model.proofs.Texts.Numbers.{own}
 
 -- a byte is no newline
 abbrev pub is_inner : ℕ → Bool

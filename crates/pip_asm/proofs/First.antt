@@ -6,9 +6,9 @@ use Rattle.std.proofs.lemmas.Bool.Decides.{nat_tests}
 use Rattle.pip_base.specs.declared.types.Plan.{Plan}
 use Rattle.pip_model.specs.AsmWords.{plain_cell}
 use Rattle.pip_model.specs.AsmLines.{Statement, Begins, Holds, statement}
-use Rattle.pip_model.specs.Assembly.{AssemblyState, at_line, and_then, grown, placed, end_of_text, first_pass}
+use Rattle.pip_model.specs.Assembly.{AssemblyState, at_line, and_then, grown, place_statement, end_of_text, first_pass}
 use Rattle.pip_model.specs.InstrText.{word_said}
-use Rattle.pip_model.specs.DisText.{trimmed, parts_lines}
+use Rattle.pip_model.specs.DisText.{without_last_zeros, parts_lines}
 use Rattle.pip_model.specs.Images.{Part, Head, Line, Holds as HoldsPage, has_row, is_seen}
 use Rattle.pip_model.specs.declared.assembly.AsmKind.TheVariants as K
 use Rattle.pip_model.specs.declared.assembly.Stage.{Stage}
@@ -19,8 +19,8 @@ use Rattle.pip_asm.proofs.Whole.{ArePages}
 
 -- one line
 pub first_step : (s t : AssemblyState) (n : ℕ) (l : List ℕ) (ls : List (List ℕ)) (st : Statement)
-    → statement s.stage l ≡ Ok st → placed s st ≡ Ok t → first_pass s n (l ∷ ls) ≡ first_pass t (n + 1) ls
-first_step s t n l ls st e f = ap (λ r. at_line n (and_then r (placed s)) (λ t. first_pass t (n + 1) ls)) e
+    → statement s.stage l ≡ Ok st → place_statement s st ≡ Ok t → first_pass s n (l ∷ ls) ≡ first_pass t (n + 1) ls
+first_step s t n l ls st e f = ap (λ r. at_line n (and_then r (place_statement s)) (λ t. first_pass t (n + 1) ls)) e
     ∙ ap (λ r. at_line n r (λ t. first_pass t (n + 1) ls)) f
 
 fits : (s : AssemblyState) (k : ℕ) → s.size + k ≤ 1024 → grown s k ≡ Ok (record s { size = s.size + k })
@@ -60,7 +60,8 @@ module _ (n c least : ℕ) (plans : List Plan) where
             ∙ r.1 ∙ ap (λ z. first_pass (state InPage n c least plans seen at z) r.0 ls) e,
       )
 
-  begun : (g : Stage) (seen : List ℕ) (at size v : ℕ) → has_row n v ≡ true → is_seen v seen ≡ false → placed (state g n
+  begun : (g : Stage) (seen : List ℕ) (at size v : ℕ) → has_row n v ≡ true → is_seen v seen ≡ false → place_statement
+      (state g n
       c least plans seen at size) (Begins v) ≡ Ok (state InPage n c least plans (seen ++ v ∷ []) (v * 4096) 0)
   begun g seen at size v r s = ap (λ b. cond b (cond (is_seen v seen) (Err K.Twice)
       (Ok (state InPage n c least plans (seen ++ v ∷ []) (v * 4096) 0))) (Err K.Range)) r
@@ -98,10 +99,13 @@ module _ (n c least : ℕ) (plans : List Plan) where
   first_pages g seen at size m (suc k) (HoldsPage p ∷ ps) o small h =
       let ok = h.0 in
       let t = trims p.words in
-      let l : length (trimmed p.words) ≤ 1024 = shorter (trimmed p.words) _ p.words t.whole ok.count in
-      let r = first_words (seen ++ p.vpage ∷ []) (p.vpage * 4096) 0 (m + 1) (trimmed p.words) (parts_lines ps)
-      (words_left (trimmed p.words) _ (sym_words (sym t.whole) ok.words)) (omega (arith, l)) in
-      let q = first_pages InPage (seen ++ p.vpage ∷ []) (p.vpage * 4096) (0 + length (trimmed p.words)) r.0 k ps tt
+      let l : length (without_last_zeros p.words) ≤ 1024 = shorter (without_last_zeros p.words) _ p.words t.whole
+      ok.count in
+      let r = first_words (seen ++ p.vpage ∷ []) (p.vpage * 4096) 0 (m + 1) (without_last_zeros p.words)
+      (parts_lines ps)
+      (words_left (without_last_zeros p.words) _ (sym_words (sym t.whole) ok.words)) (omega (arith, l)) in
+      let q = first_pages InPage (seen ++ p.vpage ∷ []) (p.vpage * 4096) (0 + length (without_last_zeros p.words)) r.0
+      k ps tt
       small h.1 in
       let e = length-append seen (p.vpage ∷ []) in
       let d = q.count in
@@ -111,7 +115,8 @@ module _ (n c least : ℕ) (plans : List Plan) where
         at' = q.at';
         size' = q.size';
         passed = first_step (state g n c least plans seen at size) (state InPage n c least plans (seen ++ p.vpage
-            ∷ []) (p.vpage * 4096) 0) m (page_text p.vpage) (map word_said (trimmed p.words) ++ parts_lines ps)
+            ∷ []) (p.vpage * 4096) 0) m (page_text p.vpage) (map word_said (without_last_zeros p.words) ++ parts_lines
+            ps)
             (Begins p.vpage) (page_said g p.vpage o (small p.vpage ok.row)) (begun g seen at size p.vpage ok.row ok.new)
             ∙ r.1 ∙ q.passed;
         count = omega (arith, d, e);

@@ -11,8 +11,9 @@ use Rattle.pip_model.specs.AsmLines.{Frames, Cpus, Plans}
 use Rattle.pip_model.specs.Assembly.{and_then, first_pass, first_state, plan_words, head_words, as_image, second_pass}
 use Rattle.pip_model.specs.Assembly.{assembly}
 use Rattle.pip_model.specs.InstrText.{word_said}
-use Rattle.pip_model.specs.DisText.{trimmed, parts_lines, text_of_lines, dis_text}
-use Rattle.pip_model.specs.Images.{Image, imaged, magic, bytes_of, Part, Head, Line, Holds, has_row, image_parts}
+use Rattle.pip_model.specs.DisText.{without_last_zeros, parts_lines, text_of_lines, dis_text}
+use Rattle.pip_model.specs.Images.{Image, image_or_fault, magic, bytes_of, Part, Head, Line, Holds, has_row}
+use Rattle.pip_model.specs.Images.{image_parts}
 use Rattle.pip_model.specs.declared.image.ImageError.{ImageError}
 use Rattle.pip_asm.specs.Laws.{AreBytes, TextsAreAgain}
 use Rattle.pip_model.specs.declared.assembly.AsmKind.TheVariants as K
@@ -27,7 +28,7 @@ use Rattle.pip_asm.proofs.Bytes.{AllBytes}
 use Rattle.pip_asm.proofs.Parts.{plan_words_of}
 use Rattle.pip_asm.proofs.Whole.{ArePages, AreParts, AreAll, image_whole, parts_words}
 use Rattle.pip_asm.proofs.First.{state, first_step, first_pages}
-use Rattle.pip_asm.proofs.Second.{second_step, second_pages, behind_none}
+use Rattle.pip_asm.proofs.Second.{second_step, second_pages, after_none}
 
 abbrev no_names : List ℕ → Option ℕ
 no_names t = None
@@ -83,8 +84,9 @@ pages_clean n seen (suc k) (Line p ∷ ps) h = absurd h
 pages_clean n seen (suc k) (Holds p ∷ ps) h =
     let t = trims p.words in (
       (page_fine p.vpage).clean,
-      clean_append (map word_said (trimmed p.words)) (parts_lines ps)
-          (words_clean (trimmed p.words) (words_left (trimmed p.words) _ (kept_words (sym t.whole) h.0.words)))
+      clean_append (map word_said (without_last_zeros p.words)) (parts_lines ps)
+          (words_clean (without_last_zeros p.words) (words_left (without_last_zeros p.words) _
+          (kept_words (sym t.whole) h.0.words)))
           (pages_clean n (seen ++ p.vpage ∷ []) k ps h.1),
     )
 
@@ -198,7 +200,7 @@ second_parts n m least (suc k) num (Head f ∷ ps) b h = absurd h
 second_parts n m least (suc k) num (Line p ∷ ps) b h =
     second_step no_names Header 0 0 num (plan_text p) (parts_lines ps) (Plans p)
     (record { words = []; stage = Header; at = 0; size = 0 }) (plan_said p h.0.line h.0.first h.0.period) refl
-    ∙ behind_none (second_pass no_names Header 0 0 (num + 1) (parts_lines ps))
+    ∙ after_none (second_pass no_names Header 0 0 (num + 1) (parts_lines ps))
     ∙ second_parts n m (p.line + 1) k (num + 1) ps b h.1
 second_parts n m least (suc k) num (Holds p ∷ ps) b h = absurd h
 
@@ -232,10 +234,10 @@ again (Head f ∷ ps) h =
     let second : second_pass no_names Start 0 0 1 (l1 ∷ l2 ∷ ls) ≡ Ok (page_words ps) =
     second_step no_names Start 0 0 1 l1 (l2 ∷ ls) (Frames n) (record { words = []; stage = Framed; at = 0; size = 0 })
     (frames_said n bn.0 bn.1) refl
-    ∙ behind_none (second_pass no_names Framed 0 0 2 (l2 ∷ ls))
+    ∙ after_none (second_pass no_names Framed 0 0 2 (l2 ∷ ls))
     ∙ second_step no_names Framed 0 0 2 l2 ls (Cpus c) (record { words = []; stage = Header; at = 0; size = 0 })
     (cpus_said c bc.0 bc.1) refl
-    ∙ behind_none (second_pass no_names Header 0 0 3 ls)
+    ∙ after_none (second_pass no_names Header 0 0 3 ls)
     ∙ second_parts n f.pages 0 f.plans 3 ps bn.1 h.1 in
     ap (λ t. and_then (first_pass first_state 1 t) (λ s. as_image (head_words s) (second_pass s.names Start 0 0 1 t)))
     (lines_again (l1 ∷ l2 ∷ ls) clean)
@@ -259,7 +261,7 @@ all_bytes : (bs : List ℕ) → AreBytes bs → AllBytes bs
 all_bytes [] h = tt
 all_bytes (b ∷ bs) h = (h 0, all_bytes bs (λ i. h (suc i)))
 
-no_fault : (ps : List Part) (o : Option ImageError) (i : Image) → imaged ps o ≡ Ok i → o ≡ None
+no_fault : (ps : List Part) (o : Option ImageError) (i : Image) → image_or_fault ps o ≡ Ok i → o ≡ None
 no_fault ps None i h = refl
 no_fault ps (Some e) i h = absurd (grind (arith, h))
 

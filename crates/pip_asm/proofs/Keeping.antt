@@ -13,10 +13,10 @@ use Rattle.pip_model.specs.Grammar.{lines_of}
 use Rattle.pip_model.specs.Images.{bytes_of, has_row, is_seen, magic}
 use Rattle.pip_model.specs.AsmWords.{Cell}
 use Rattle.pip_model.specs.AsmLines.{Statement, Blank, Frames, Cpus, Plans, Begins, Holds, Zeros, Names, statement}
-use Rattle.pip_model.specs.Assembly.{Fault, Gives, AssemblyState, and_then, as_image, assembly, at_line, words_before}
-use Rattle.pip_model.specs.Assembly.{first_pass, first_state, given, head_words, one_word, padding, placed, second_pass}
-use Rattle.pip_model.specs.Assembly.{with_name, word_of_cell}
-use Rattle.pip_asm.specs.Emitted.{IsEmpty, SaysMore, StartsWith, cell_word, cell_words, filled, first_head, line_words}
+use Rattle.pip_model.specs.Assembly.{LineFault, Gives, AssemblyState, and_then, as_image, assembly, at_line}
+use Rattle.pip_model.specs.Assembly.{words_before, first_pass, first_state, given, head_words, one_word, padding}
+use Rattle.pip_model.specs.Assembly.{place_statement, second_pass, with_name, word_of_cell}
+use Rattle.pip_asm.specs.Emitted.{IsEmpty, SaysMore, StartsWith, cell_word, cell_words, fill_in, first_head, line_words}
 use Rattle.pip_asm.specs.Emitted.{prefix, put, said, words}
 use Rattle.pip_asm.specs.Names.{address_of_name}
 use Rattle.pip_asm.specs.Reading.{KeepsBytes, Refused, bytes_ended, bytes_said, head_of, state_of}
@@ -47,7 +47,8 @@ chosen_else true r k t e = absurd (grind (arith, e))
 chosen_else false r k t e = e
 
 module _ (names : List ℕ → Option ℕ) (s t : AssemblyState) where
-  stays : (st : Statement) (g : Gives) → placed s st ≡ Ok t → given names s.stage s.at s.size st ≡ Ok g → Stays g t
+  stays : (st : Statement) (g : Gives) → place_statement s st ≡ Ok t → given names s.stage s.at s.size st ≡ Ok g
+      → Stays g t
   stays Blank g e f = meet _ g _ t (record { stage = refl; at = refl; size = refl }) e f
   stays (Frames n) g e f = meet _ g _ t (record { stage = refl; at = refl; size = refl }) e f
   stays (Cpus n) g e f = meet _ g _ t (record { stage = refl; at = refl; size = refl }) e f
@@ -74,7 +75,8 @@ module _ (names : List ℕ → Option ℕ) (s t : AssemblyState) where
 -- ---- a line
 
 pub line_keeps : (s t : Passed) (n : ℕ) (l : List ℕ) (st : Statement) → statement s.stage l ≡ Ok st
-    → placed (state_of s) st ≡ Ok (state_of t) → SaysMore s.written (line_words n s.stage s.at s.size st) t.written
+    → place_statement (state_of s) st ≡ Ok (state_of t) → SaysMore s.written (line_words n s.stage s.at s.size st)
+    t.written
     → KeepsBytes s n l t
 line_keeps s t n l st e f w names ls =
     ap (λ r. and_then (said names s.written)
@@ -83,13 +85,13 @@ line_keeps s t n l st e f w names ls =
     (said names s.written)
     ∙ sym (ap (λ r. and_then r after) (w names))
   where
-    tail : Gives → Result (List ℕ) Fault
+    tail : Gives → Result (List ℕ) LineFault
     tail g = words_before g.words (second_pass names g.stage g.at g.size (n + 1) ls)
 
-    after : List ℕ → Result (List ℕ) Fault
+    after : List ℕ → Result (List ℕ) LineFault
     after bs = prefix bs (second_pass names t.stage t.at t.size (n + 1) ls)
 
-    go : (r : Result Gives AsmKind) → ((g : Gives) → r ≡ Ok g → Stays g (state_of t)) → (o : Result (List ℕ) Fault)
+    go : (r : Result Gives AsmKind) → ((g : Gives) → r ≡ Ok g → Stays g (state_of t)) → (o : Result (List ℕ) LineFault)
         → and_then o (λ bs. prefix bs (at_line n r tail)) ≡ and_then (and_then o (λ bs.
         and_then (at_line n r (λ g. Ok (bytes_of g.words))) (λ ms. Ok (bs ++ ms)))) after
     go r h (Err e) = refl
@@ -103,7 +105,7 @@ line_keeps s t n l st e f w names ls =
 pub says_nothing : (s t : Written) → t ≡ s → SaysMore s (words []) t
 says_nothing s t e names = ap (said names) e ∙ go (said names s)
   where
-    go : (r : Result (List ℕ) Fault) → r ≡ and_then r (λ bs. Ok (bs ++ []))
+    go : (r : Result (List ℕ) LineFault) → r ≡ and_then r (λ bs. Ok (bs ++ []))
     go (Ok bs) = ap (λ t. Ok t) (sym (append-nil bs))
     go (Err e) = refl
 
@@ -113,7 +115,8 @@ pub says_both : (s t u : Written) (a b : List ℕ) → SaysMore s (words a) t �
 says_both s t u a b f g names =
     g names ∙ ap (λ r. and_then r (λ bs. Ok (bs ++ bytes_of b))) (f names) ∙ go (said names s)
   where
-    go : (r : Result (List ℕ) Fault) → and_then (and_then r (λ bs. Ok (bs ++ bytes_of a))) (λ bs. Ok (bs ++ bytes_of b))
+    go : (r : Result (List ℕ) LineFault) → and_then (and_then r (λ bs. Ok (bs ++ bytes_of a)))
+        (λ bs. Ok (bs ++ bytes_of b))
         ≡ and_then r (λ bs. Ok (bs ++ bytes_of (a ++ b)))
     go (Ok bs) = ap (λ t. Ok t) (append_assoc bs (bytes_of a) (bytes_of b) ∙ ap (λ t. bs ++ t) (sym (bytes_append a b)))
     go (Err e) = refl
@@ -131,7 +134,7 @@ says_cell s t n g at size c h names = h names ∙ ap (λ r. and_then (said names
 -- ---- the head
 
 said_none : (names : List ℕ → Option ℕ) (s : Written) → IsEmpty s → said names s ≡ Ok []
-said_none names s e = (λ i. filled names (e.notes i) (drop s.head (e.bytes i))) ∙ ap (λ t. Ok t) (drop-nil s.head)
+said_none names s e = (λ i. fill_in names (e.notes i) (drop s.head (e.bytes i))) ∙ ap (λ t. Ok t) (drop-nil s.head)
 
 -- nothing was written before the first page
 pub begun_says : (g : Stage) (size : ℕ) (front : List ℕ) (s t : Written) → (g ≡ InPage → ⊥) → StartsWith g front s
@@ -150,7 +153,7 @@ head_long w f c plans e = let l = length-take w.head w.bytes.items in let k = ap
 
 -- ---- the whole text
 
-as_prefix : (head : List ℕ) (r : Result (List ℕ) Fault)
+as_prefix : (head : List ℕ) (r : Result (List ℕ) LineFault)
     → as_image head r ≡ and_then (prefix [] r) (λ bs. Ok ((magic ++ bytes_of head) ++ bs))
 as_prefix head (Ok ws) = prefix_head head (Ok ws)
 as_prefix head (Err e) = refl

@@ -15,7 +15,7 @@ use Rattle.std.proofs.lemmas.Option.{none-some, slice_get-get_or}
 use Rattle.std.proofs.lemmas.Slice.Eq.{bytes_eq-Decides}
 use Rattle.pip_model.specs.Assembly.{with_name}
 use Rattle.pip_asm.specs.Names.{IsKept, address_at, first_there, found_in, has_free, has_room, home_of, in_map}
-use Rattle.pip_asm.specs.Names.{address_of_name, in_table, is_free, is_name_at, mark_of, mixed}
+use Rattle.pip_asm.specs.Names.{address_of_name, in_table, is_free, is_name_at, mark_of, hash_on}
 use Rattle.pip_asm.specs.declared.names.Addresses.{Addresses}
 use Rattle.pip_asm.specs.declared.names.Slot.{Slot}
 
@@ -161,14 +161,14 @@ found-none size s mark t ne free i (suc n) =
 
 -- the hash after one more byte
 pub mixed-next : (hash i : ℕ) (t : List ℕ) → i < length t
-    → mixed hash (drop i t) ≡ mixed ((bit_xor hash (get_or t i 0) * 0x9e3779b97f4a7c15) % 2 ^ 64) (drop (i + 1) t)
-unfolding mixed
-mixed-next hash i t h = ap (mixed hash) (drop-cons t i 0 h ∙ ap (λ k. get_or t i 0 ∷ drop k t) (sym (add-one i)))
+    → hash_on hash (drop i t) ≡ hash_on ((bit_xor hash (get_or t i 0) * 0x9e3779b97f4a7c15) % 2 ^ 64) (drop (i + 1) t)
+unfolding hash_on
+mixed-next hash i t h = ap (hash_on hash) (drop-cons t i 0 h ∙ ap (λ k. get_or t i 0 ∷ drop k t) (sym (add-one i)))
 
 -- the hash after all bytes
-pub mixed-end : (hash i : ℕ) (t : List ℕ) → length t ≤ i → mixed hash (drop i t) ≡ hash
-unfolding mixed
-mixed-end hash i t h = ap (mixed hash) (drop_all i t h)
+pub mixed-end : (hash i : ℕ) (t : List ℕ) → length t ≤ i → hash_on hash (drop i t) ≡ hash
+unfolding hash_on
+mixed-end hash i t h = ap (hash_on hash) (drop_all i t h)
 
 -- a place that has the name ends the search
 pub found-here : (xs : List Slot) (mark : ℕ) (t : List ℕ) (i n : ℕ) (d : Slot) → i < length xs → i < n
@@ -227,16 +227,16 @@ home-set xs k x hash = ap (λ n. hash % (n - 8)) (length-set xs k x)
 
 -- what a look at the table answers
 pub table_found : (n : Addresses) (t : List ℕ) (xs ys : List Slot) (hash mark home : ℕ) (r : Option ℕ)
-    → hash ≡ mixed n.seed t → mark ≡ mark_of hash → xs ≡ n.slots.items → home ≡ home_of xs hash → ys ≡ n.slots.items
+    → hash ≡ hash_on n.seed t → mark ≡ mark_of hash → xs ≡ n.slots.items → home ≡ home_of xs hash → ys ≡ n.slots.items
     → r ≡ found_in ys mark t home 8 → r ≡ in_table n t
 table_found n t xs ys hash mark home r h m x o y e =
     e ∙ ap (λ zs. found_in zs mark t home 8) y
     ∙ ap (λ k. found_in n.slots.items k t home 8) (m ∙ ap mark_of h)
-    ∙ ap (λ k. found_in n.slots.items (mark_of (mixed n.seed t)) t k 8)
+    ∙ ap (λ k. found_in n.slots.items (mark_of (hash_on n.seed t)) t k 8)
     (o ∙ ap (λ zs. home_of zs hash) x ∙ ap (home_of n.slots.items) h)
 
 -- and a look for a free place
-pub room_found : (n : Addresses) (t : List ℕ) (xs ys : List Slot) (hash home : ℕ) → hash ≡ mixed n.seed t
+pub room_found : (n : Addresses) (t : List ℕ) (xs ys : List Slot) (hash home : ℕ) → hash ≡ hash_on n.seed t
     → xs ≡ n.slots.items → home ≡ home_of xs hash → ys ≡ n.slots.items → has_free ys home 8 ≡ has_room n t
 room_found n t xs ys hash home h x o y =
     ap (λ zs. has_free zs home 8) y
@@ -250,9 +250,9 @@ none_named n size s e free empty = λ i t. at t i
   where
     at : (t : List ℕ) → address_of_name n t ≡ None
     at t =
-        ap (λ o. first_there o (in_map n.others t)) (ap (λ xs. found_in xs (mark_of (mixed n.seed t)) t
-        (home_of n.slots.items (mixed n.seed t)) 8) e ∙ found-none size s (mark_of (mixed n.seed t)) t
-        (mark-positive (mixed n.seed t)) free (home_of n.slots.items (mixed n.seed t)) 8)
+        ap (λ o. first_there o (in_map n.others t)) (ap (λ xs. found_in xs (mark_of (hash_on n.seed t)) t
+        (home_of n.slots.items (hash_on n.seed t)) 8) e ∙ found-none size s (mark_of (hash_on n.seed t)) t
+        (mark-positive (hash_on n.seed t)) free (home_of n.slots.items (hash_on n.seed t)) 8)
         ∙ ap (lookup (λ (k : Bor (List ℕ)). is_eq (slice_cmp nat_cmp t k.now))) empty
 
 -- a name that is found in the table has an address
@@ -281,11 +281,11 @@ named-map n t r e h = sym (ap (λ o. first_there o (in_map n.others t)) (sym e �
 -- the names with one at a free place of the table
 pub record IsPlaced (n : Addresses) (t : Bor (List ℕ)) (i mark a : ℕ) : Type 0 where
   pub kept : IsKept n
-  pub marked : mark ≡ mark_of (mixed n.seed t.now)
+  pub marked : mark ≡ mark_of (hash_on n.seed t.now)
   pub none : in_table n t.now ≡ None
   pub inside : i < length n.slots.items
-  pub low : home_of n.slots.items (mixed n.seed t.now) ≤ i
-  pub high : i < home_of n.slots.items (mixed n.seed t.now) + 8
+  pub low : home_of n.slots.items (hash_on n.seed t.now) ≤ i
+  pub high : i < home_of n.slots.items (hash_on n.seed t.now) + 8
   pub free : is_free (slice_get n.slots.items i) ≡ true
 
 module _ (n : Addresses) (t : Bor (List ℕ)) (i mark a : ℕ) (p : IsPlaced n t i mark a) where
@@ -297,14 +297,14 @@ module _ (n : Addresses) (t : Bor (List ℕ)) (i mark a : ℕ) (p : IsPlaced n t
 
   taken : is_free (Some slot) ≡ false
   unfolding slot
-  taken = ne_eqb mark 0 (λ e. mark-positive (mixed n.seed t.now) (sym p.marked ∙ e))
+  taken = ne_eqb mark 0 (λ e. mark-positive (hash_on n.seed t.now) (sym p.marked ∙ e))
 
   pub place-fresh : address_of_name n t.now ≡ None
   unfolding address_of_name
   place-fresh =
       ap (λ o. first_there o (in_map n.others t.now)) p.none
       ∙ p.kept.others t.now
-      (free-here n.slots.items i p.free (home_of n.slots.items (mixed n.seed t.now)) 8 p.low p.high)
+      (free-here n.slots.items i p.free (home_of n.slots.items (hash_on n.seed t.now)) 8 p.low p.high)
 
   -- a map and a table with the name
   pub place-kept : (m : Addresses) → m.seed ≡ n.seed → m.slots.items
@@ -314,10 +314,10 @@ module _ (n : Addresses) (t : Bor (List ℕ)) (i mark a : ℕ) (p : IsPlaced n t
     room = subst (λ k. 8 < k) (sym (ap length items ∙ length-set n.slots.items i slot)) p.kept.room;
     others = λ u room.
         ap (λ o. in_map o u) others
-        ∙ p.kept.others u (free-set n.slots.items i slot p.inside taken (home_of n.slots.items (mixed n.seed u)) 8 (
-        ap (λ k. has_free slots k 8) (sym (home-set n.slots.items i slot (mixed n.seed u)))
-        ∙ ap (λ xs. has_free xs (home_of xs (mixed n.seed u)) 8) (sym items)
-        ∙ ap (λ s. has_free m.slots.items (home_of m.slots.items (mixed s u)) 8) (sym seed)
+        ∙ p.kept.others u (free-set n.slots.items i slot p.inside taken (home_of n.slots.items (hash_on n.seed u)) 8 (
+        ap (λ k. has_free slots k 8) (sym (home-set n.slots.items i slot (hash_on n.seed u)))
+        ∙ ap (λ xs. has_free xs (home_of xs (hash_on n.seed u)) 8) (sym items)
+        ∙ ap (λ s. has_free m.slots.items (home_of m.slots.items (hash_on s u)) 8) (sym seed)
         ∙ room));
   }
 
@@ -328,26 +328,28 @@ module _ (n : Addresses) (t : Bor (List ℕ)) (i mark a : ℕ) (p : IsPlaced n t
   place-added m seed items others = λ j u. at u j
     where
       in_new : (u : List ℕ)
-          → in_table m u ≡ found_in slots (mark_of (mixed n.seed u)) u (home_of n.slots.items (mixed n.seed u)) 8
+          → in_table m u ≡ found_in slots (mark_of (hash_on n.seed u)) u (home_of n.slots.items (hash_on n.seed u)) 8
       in_new u =
-          ap (λ s. found_in m.slots.items (mark_of (mixed s u)) u (home_of m.slots.items (mixed s u)) 8) seed
-          ∙ ap (λ xs. found_in xs (mark_of (mixed n.seed u)) u (home_of xs (mixed n.seed u)) 8) items
-          ∙ ap (λ k. found_in slots (mark_of (mixed n.seed u)) u k 8) (home-set n.slots.items i slot (mixed n.seed u))
+          ap (λ s. found_in m.slots.items (mark_of (hash_on s u)) u (home_of m.slots.items (hash_on s u)) 8) seed
+          ∙ ap (λ xs. found_in xs (mark_of (hash_on n.seed u)) u (home_of xs (hash_on n.seed u)) 8) items
+          ∙ ap (λ k. found_in slots (mark_of (hash_on n.seed u)) u k 8)
+          (home-set n.slots.items i slot (hash_on n.seed u))
 
       own : in_table m t.now ≡ Some a
       own =
           in_new t.now
-          ∙ found-new n.slots.items i slot (mark_of (mixed n.seed t.now)) a t.now p.inside
-          (own-there (mark_of (mixed n.seed t.now)) t.now slot p.marked refl)
-          (home_of n.slots.items (mixed n.seed t.now)) 8 p.low p.high p.none
+          ∙ found-new n.slots.items i slot (mark_of (hash_on n.seed t.now)) a t.now p.inside
+          (own-there (mark_of (hash_on n.seed t.now)) t.now slot p.marked refl)
+          (home_of n.slots.items (hash_on n.seed t.now)) 8 p.low p.high p.none
 
       other : (u : List ℕ) → bytes_eq t.now u ≡ false → in_table m u ≡ in_table n u
       other u ne =
           in_new u
-          ∙ found-set n.slots.items i slot (mark_of (mixed n.seed u)) u p.inside (free-none (mark_of (mixed n.seed u)) u
-          (slice_get n.slots.items i) (mark-positive (mixed n.seed u)) p.free)
-          (other-none (mark_of (mixed n.seed u)) mark a t.now u ne slot refl)
-          (home_of n.slots.items (mixed n.seed u)) 8
+          ∙ found-set n.slots.items i slot (mark_of (hash_on n.seed u)) u p.inside
+          (free-none (mark_of (hash_on n.seed u)) u
+          (slice_get n.slots.items i) (mark-positive (hash_on n.seed u)) p.free)
+          (other-none (mark_of (hash_on n.seed u)) mark a t.now u ne slot refl)
+          (home_of n.slots.items (hash_on n.seed u)) 8
 
       at : (u : List ℕ) → address_of_name m u ≡ with_name t.now a (address_of_name n) u
       at u = go (bytes_eq t.now u) refl

@@ -10,7 +10,7 @@ use Rattle.byteorder.specs.Endian.{little_bytes}
 use Rattle.pip_base.specs.declared.types.Plan.{Plan}
 use Rattle.pip_model.specs.declared.image.ImageError.{ImageError}
 use Rattle.pip_model.specs.declared.image.ImageError.TheVariants as F
-use Rattle.pip_model.specs.Images.{◌>>=◌, magic, old_magic, word_of_bytes, words_in, bytes_of, Fields, Page, tested}
+use Rattle.pip_model.specs.Images.{◌>>=◌, magic, old_magic, word_of_bytes, words_in, bytes_of, Fields, Page, pass_test}
 use Rattle.pip_model.specs.Images.{front_word, magic_of, frames_at, cpus_at, plans_at, pages_at, fields_of, plan_at}
 use Rattle.pip_model.specs.Images.{front_page, has_row, is_seen}
 use Rattle.pip_asm.proofs.Trim.{AllWords}
@@ -139,11 +139,11 @@ field_tests : (l g : Bool) (a b : ImageError) (y x : ℕ × List ℕ)
 field_tests l g a b y x h = (grind (arith, h), grind (arith, h), grind (arith, h))
 
 field_back : (at : ℕ) (good : ℕ → Bool) (e : ImageError) (bs : List ℕ) (x : ℕ × List ℕ) → AllBytes bs
-    → (front_word at bs >>= (λ w. tested (good w.0) e w)) ≡ Ok x → FieldBack good bs x
+    → (front_word at bs >>= (λ w. pass_test (good w.0) e w)) ≡ Ok x → FieldBack good bs x
 field_back at good e bs x a h = go (nat_lt (length bs) 4) refl h
   where
     go : (l : Bool) → nat_lt (length bs) 4 ≡ l → (cond l (Err (F.Short (at + length bs)))
-        (Ok (word_of_bytes bs, drop 4 bs)) >>= (λ w. tested (good w.0) e w)) ≡ Ok x → FieldBack good bs x
+        (Ok (word_of_bytes bs, drop 4 bs)) >>= (λ w. pass_test (good w.0) e w)) ≡ Ok x → FieldBack good bs x
     go true l h = absurd (grind (arith, h))
     go false l h =
         let t = field_tests false (good (word_of_bytes bs)) e e (word_of_bytes bs, drop 4 bs) x h in

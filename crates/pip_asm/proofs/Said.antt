@@ -13,7 +13,7 @@ use Rattle.pip_model.specs.InstrText.{mnemonic_text, word_said}
 use Rattle.pip_model.specs.InstrWords.{Opcode, fits, fits_row, opcode_at, opcode_of}
 use Rattle.pip_model.specs.declared.assembly.Stage.{Stage}
 use Rattle.pip_model.specs.declared.assembly.Stage.TheVariants.{Start, Framed, Header, InPage}
-use Rattle.pip_asm.proofs.NumberTexts.{number_decimal}
+use Rattle.pip_model.proofs.Texts.Numbers.{number_decimal}
 use Rattle.pip_asm.proofs.WordTexts.{one_word, word_before, decimal_no_space, text_word, number_text, fine_text}
 use Rattle.pip_asm.proofs.Fine.{Fine, Starts, fine_decimal, fine_join, fine_more, fine_row, starts_row}
 use Rattle.pip_asm.proofs.Again.{again}

@@ -5,9 +5,9 @@ use Rattle.std.proofs.Common.{ap, sym, subst, ◌∙◌, arith, length-append, a
 use Rattle.std.proofs.lemmas.List.{append-nil, length-replicate}
 use Rattle.pip_model.specs.AsmWords.{plain_cell}
 use Rattle.pip_model.specs.AsmLines.{Statement, Begins, Holds, statement}
-use Rattle.pip_model.specs.Assembly.{Fault, Gives, at_line, and_then, given, padding, words_before, second_pass}
+use Rattle.pip_model.specs.Assembly.{LineFault, Gives, at_line, and_then, given, padding, words_before, second_pass}
 use Rattle.pip_model.specs.InstrText.{word_said}
-use Rattle.pip_model.specs.DisText.{trimmed, parts_lines}
+use Rattle.pip_model.specs.DisText.{without_last_zeros, parts_lines}
 use Rattle.pip_model.specs.Images.{Part, Head, Line, Holds as HoldsPage, has_row}
 use Rattle.pip_model.specs.declared.assembly.Stage.{Stage}
 use Rattle.pip_model.specs.declared.assembly.Stage.TheVariants.{InPage}
@@ -23,14 +23,14 @@ second_step names g at size n l ls st t e f =
     (λ t. words_before t.words (second_pass names t.stage t.at t.size (n + 1) ls))) e
     ∙ ap (λ r. at_line n r (λ t. words_before t.words (second_pass names t.stage t.at t.size (n + 1) ls))) f
 
-pub after_both : (a b : List ℕ) (r : Result (List ℕ) Fault)
+pub after_both : (a b : List ℕ) (r : Result (List ℕ) LineFault)
     → words_before a (words_before b r) ≡ words_before (a ++ b) r
 after_both a b (Ok c) = ap (λ w. Ok w) (sym (append_assoc a b c))
 after_both a b (Err e) = refl
 
-pub behind_none : (r : Result (List ℕ) Fault) → words_before [] r ≡ r
-behind_none (Ok c) = refl
-behind_none (Err e) = refl
+pub after_none : (r : Result (List ℕ) LineFault) → words_before [] r ≡ r
+after_none (Ok c) = refl
+after_none (Err e) = refl
 
 module _ (names : List ℕ → Option ℕ) where
   pub second_words : (at size m : ℕ) (ws : List ℕ) (ls : List (List ℕ)) → AllWords ws
@@ -40,7 +40,7 @@ module _ (names : List ℕ → Option ℕ) where
       let e : size ≡ size + 0 = omega arith in (
         m,
         ap (λ z. second_pass names InPage at z m ls) e
-            ∙ sym (behind_none (second_pass names InPage at (size + 0) m ls)),
+            ∙ sym (after_none (second_pass names InPage at (size + 0) m ls)),
       )
   second_words at size m (w ∷ ws) ls a =
       let r = second_words at (size + 1) (m + 1) ws ls a.1 in
@@ -75,19 +75,22 @@ module _ (names : List ℕ → Option ℕ) where
   second_pages n g seen at size m (suc k) (HoldsPage p ∷ ps) o small h =
       let ok = h.0 in
       let t = trims p.words in
-      let r = second_words (p.vpage * 4096) 0 (m + 1) (trimmed p.words) (parts_lines ps)
-      (words_left (trimmed p.words) _ (sym_words (sym t.whole) ok.words)) in
-      let q = second_pages n InPage (seen ++ p.vpage ∷ []) (p.vpage * 4096) (0 + length (trimmed p.words)) r.0 k ps tt
+      let r = second_words (p.vpage * 4096) 0 (m + 1) (without_last_zeros p.words) (parts_lines ps)
+      (words_left (without_last_zeros p.words) _ (sym_words (sym t.whole) ok.words)) in
+      let q = second_pages n InPage (seen ++ p.vpage ∷ []) (p.vpage * 4096) (0 + length (without_last_zeros p.words))
+      r.0 k ps tt
       small h.1 in
-      second_step names g at size m (page_text p.vpage) (map word_said (trimmed p.words) ++ parts_lines ps)
+      second_step names g at size m (page_text p.vpage) (map word_said (without_last_zeros p.words) ++ parts_lines ps)
       (Begins p.vpage) (record {
         words = padding g size ++ p.vpage ∷ [];
         stage = InPage;
         at = p.vpage * 4096;
         size = 0;
       }) (page_said g p.vpage o (small p.vpage ok.row)) refl
-      ∙ ap (λ s. words_before (padding g size ++ p.vpage ∷ []) s) (r.1 ∙ ap (λ s. words_before (trimmed p.words) s) q)
-      ∙ ap (λ w. Ok w) (padded (trimmed p.words) p.words t (padding g size) (parts_words ps) p.vpage ok.count)
+      ∙ ap (λ s. words_before (padding g size ++ p.vpage ∷ []) s)
+      (r.1 ∙ ap (λ s. words_before (without_last_zeros p.words) s) q)
+      ∙ ap (λ w. Ok w) (padded (without_last_zeros p.words) p.words t (padding g size) (parts_words ps) p.vpage
+      ok.count)
     where
       sym_words : {a b : List ℕ} → a ≡ b → AllWords a → AllWords b
       sym_words e w = subst AllWords e w

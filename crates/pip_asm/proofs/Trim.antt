@@ -2,7 +2,7 @@
 use Rattle.std.specs.Prelude.{◌≡◌, refl, ℕ, suc, ◌<◌, ◌^◌, ◌==◌, Bool, true, false, cond, List, [], ◌∷◌, ◌++◌}
 use Rattle.std.specs.Prelude.{replicate}
 use Rattle.std.proofs.Common.{ap, sym, ◌∙◌, eqb-true}
-use Rattle.pip_model.specs.DisText.{trim_on, trimmed}
+use Rattle.pip_model.specs.DisText.{trim_on, without_last_zeros}
 
 pub record Trims (ws ts : List ℕ) : Type 0 where
   pub zeros : ℕ
@@ -19,9 +19,9 @@ on : (w : ℕ) (ws ts : List ℕ) → Trims ws ts → Trims (w ∷ ws) (trim_on 
 on w ws [] t = first_by w ws (w == 0) refl t
 on w ws (v ∷ vs) t = record { zeros = t.zeros; whole = ap (λ us. w ∷ us) t.whole }
 
-pub trims : (ws : List ℕ) → Trims ws (trimmed ws)
+pub trims : (ws : List ℕ) → Trims ws (without_last_zeros ws)
 trims [] = record { zeros = 0; whole = refl }
-trims (w ∷ ws) = on w ws (trimmed ws) (trims ws)
+trims (w ∷ ws) = on w ws (without_last_zeros ws) (trims ws)
 
 abbrev pub AllWords : List ℕ → Type 0
 AllWords [] = Unit {0}

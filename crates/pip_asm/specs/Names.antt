@@ -14,9 +14,9 @@ use Rattle.pip_asm.specs.declared.reading.Stop.{Stop}
 use Rattle.pip_asm.specs.declared.reading.Stop.TheVariants as S
 
 -- the hash of a name, from a number on: each byte is mixed in
-unfoldable pub mixed : ℕ → List ℕ → ℕ
-mixed hash [] = hash
-mixed hash (b ∷ bs) = mixed ((bit_xor hash b * 0x9e3779b97f4a7c15) % 2 ^ 64) bs
+unfoldable pub hash_on : ℕ → List ℕ → ℕ
+hash_on hash [] = hash
+hash_on hash (b ∷ bs) = hash_on ((bit_xor hash b * 0x9e3779b97f4a7c15) % 2 ^ 64) bs
 
 -- the mark of a hash, which isn't 0
 unfoldable pub mark_of : ℕ → ℕ
@@ -62,11 +62,11 @@ IsFreePlace slots home (Some k) = (home ≤ k) × (k < home + 8) × (is_free (sl
 
 -- the address of a name in its places of the table
 abbrev pub in_table : Addresses → List ℕ → Option ℕ
-in_table n t = let hash = mixed n.seed t in found_in n.slots.items (mark_of hash) t (home_of n.slots.items hash) 8
+in_table n t = let hash = hash_on n.seed t in found_in n.slots.items (mark_of hash) t (home_of n.slots.items hash) 8
 
 -- one of its places is free
 abbrev pub has_room : Addresses → List ℕ → Bool
-has_room n t = has_free n.slots.items (home_of n.slots.items (mixed n.seed t)) 8
+has_room n t = has_free n.slots.items (home_of n.slots.items (hash_on n.seed t)) 8
 
 -- its address in the map
 abbrev pub in_map : BTreeMap (Bor (List ℕ)) ℕ → List ℕ → Option ℕ

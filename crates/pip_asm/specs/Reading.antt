@@ -1,7 +1,7 @@
 -- What the lines of a text leave, and what is answered.
 use Rattle.std.specs.Prelude.{◌≡◌, ◌≤◌, ◌+◌, ◌*◌, ℕ, List, [], ◌∷◌, ◌++◌, length, Option, Result, Ok, Err}
 use Rattle.pip_model.specs.declared.assembly.AsmKind.{AsmKind}
-use Rattle.pip_model.specs.Assembly.{Fault, AssemblyState, and_then, first_pass, head_words, padding, second_pass}
+use Rattle.pip_model.specs.Assembly.{LineFault, AssemblyState, and_then, first_pass, head_words, padding, second_pass}
 use Rattle.pip_model.specs.Images.{bytes_of, magic}
 use Rattle.pip_model.specs.declared.assembly.Stage.TheVariants.{InPage}
 use Rattle.pip_asm.specs.Emitted.{IsInBounds, StartsWith, first_head, prefix, said}
@@ -45,7 +45,7 @@ StopIs r (S.Kind k) = r ≡ Err k
 StopIs r S.Memory = Unit {0}
 
 -- a text is refused with the fault that it has
-abbrev pub Refused : {A : Type 0} → Result A Fault → AsmError → Type 0
+abbrev pub Refused : {A : Type 0} → Result A LineFault → AsmError → Type 0
 Refused r (E.Line n k) = r ≡ Err (record { line = n; kind = k })
 Refused r E.Memory = Unit {0}
 
@@ -55,7 +55,7 @@ TakesLine s n l (Ok u) t = (ls : List (List ℕ)) → first_pass s n (l ∷ ls) 
 TakesLine s n l (Err e) t = (ls : List (List ℕ)) → Refused (first_pass s n (l ∷ ls)) e
 
 -- the bytes of all pages by these names, where the lines that are left have them too
-abbrev pub bytes_said : (List ℕ → Option ℕ) → Passed → ℕ → List (List ℕ) → Result (List ℕ) Fault
+abbrev pub bytes_said : (List ℕ → Option ℕ) → Passed → ℕ → List (List ℕ) → Result (List ℕ) LineFault
 bytes_said names p n ls = and_then (said names p.written) (λ bs. prefix bs (second_pass names p.stage p.at p.size n ls))
 
 -- they are what they were before the line
@@ -64,7 +64,7 @@ KeepsBytes s n l t = (names : List ℕ → Option ℕ) (ls : List (List ℕ))
     → bytes_said names s n (l ∷ ls) ≡ bytes_said names t (n + 1) ls
 
 -- and after the last line
-abbrev pub bytes_ended : (List ℕ → Option ℕ) → Passed → Result (List ℕ) Fault
+abbrev pub bytes_ended : (List ℕ → Option ℕ) → Passed → Result (List ℕ) LineFault
 bytes_ended names p = and_then (said names p.written) (λ bs. Ok (bs ++ bytes_of (padding p.stage p.size)))
 
 -- the head of the image
@@ -72,5 +72,5 @@ abbrev pub head_of : AssemblyState → List ℕ
 head_of s = magic ++ bytes_of (head_words s)
 
 -- a page more
-abbrev pub opened : AssemblyState → ℕ → AssemblyState
-opened s v = record s { stage = InPage; pages = s.pages ++ v ∷ []; at = v * 4096; size = 0 }
+abbrev pub open_page : AssemblyState → ℕ → AssemblyState
+open_page s v = record s { stage = InPage; pages = s.pages ++ v ∷ []; at = v * 4096; size = 0 }

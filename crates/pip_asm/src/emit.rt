@@ -1,9 +1,12 @@
-//! The image as it is written, line by line: words that take from names are filled in after the text was read, when all names are known.
-ghost use Rattle.std.specs.Prelude.{◌≡◌, ◌<◌, ◌≤◌, ◌+◌, ◌^◌, ◌++◌, ◌∷◌, [], ℕ, List, Option, length, take, drop, replicate, MatchResult, OnOk, Ok};
+//! The image as it is written, line by line: words that take from names are filled in after the text was read, when all
+//! names are known.
+ghost use Rattle.std.specs.Prelude.{◌≡◌, ◌<◌, ◌≤◌, ◌+◌, ◌^◌, ◌++◌, ◌∷◌, [], ℕ, List, Option, length, take, drop};
+ghost use Rattle.std.specs.Prelude.{replicate, MatchResult, OnOk, Ok};
 ghost use Rattle.pip_model.specs.Assembly.{and_then, apart, word_of_cell};
 ghost use Rattle.pip_asm.specs.Names.{IsKept, address_of_name};
 ghost use Rattle.pip_asm.specs.Reading.{Refused};
-ghost use Rattle.pip_asm.specs.Emitted.{Adds, AreNotes, IsEmpty, IsInBounds, cell_words, filled, first_head, put, said, words};
+ghost use Rattle.pip_asm.specs.Emitted.{Adds, AreNotes, IsEmpty, IsInBounds, cell_words, fill_in, first_head, put};
+ghost use Rattle.pip_asm.specs.Emitted.{said, words};
 ghost use Rattle.pip_line.specs.Seen.{HasRoomFor, cell_of, use_seen};
 
 use crate::head::push_head;
@@ -18,8 +21,8 @@ use std::alloc::{AllocError, Global};
 // Where the head has the number of pages: after the magic and three words.
 const PAGES_PLACE: usize = 20;
 
-/// A word that takes from a name: the line that says it, its place in the bytes after the head, where the next instruction
-/// stands, and its cell.
+/// A word that takes from a name: the line that says it, its place in the bytes after the head, where the next
+/// instruction stands, and its cell.
 #[derive(Clone, Copy, Debug, PartialEq, Eq)]
 pub struct Note<'a> {
     pub line: u64,
@@ -169,10 +172,8 @@ impl<'a> Written<'a> {
             head,
             notes,
         } = self;
-        match complete(names, &notes, head, pages, &mut bytes) {
-            Ok(()) => Ok(bytes),
-            Err(error) => Err(error),
-        }
+        complete(names, &notes, head, pages, &mut bytes)?;
+        Ok(bytes)
     }
 }
 
@@ -188,14 +189,11 @@ fn complete<'a>(
     requires notes { AreNotes (length (drop head bytes.old)) notes.now }
     requires head { (24 ≤ head) × (head ≤ length bytes.old) }
     ensures { MatchResult result
-        (λ _. and_then (filled (address_of_name names.now) notes.now (drop head bytes.old))
+        (λ _. and_then (fill_in (address_of_name names.now) notes.now (drop head bytes.old))
         (λ rest. Ok (put (take head bytes.old) 20 pages ++ rest)) ≡ Ok bytes.new)
-        (Refused (filled (address_of_name names.now) notes.now (drop head bytes.old))) }
+        (Refused (fill_in (address_of_name names.now) notes.now (drop head bytes.old))) }
 {
-    match fill(names, notes, &mut bytes[head..]) {
-        Ok(()) => {}
-        Err(error) => return Err(error),
-    }
+    fill(names, notes, &mut bytes[head..])?;
     put_word(bytes, PAGES_PLACE, pages);
     Ok(())
 }
@@ -205,8 +203,8 @@ fn fill<'a>(names: &Addresses<'a>, notes: &[Note<'a>], pages: &mut [u8]) -> Resu
     requires kept { IsKept names.now }
     requires notes { AreNotes (length pages.old) notes.now }
     ensures { MatchResult result
-        (λ _. filled (address_of_name names.now) notes.now pages.old ≡ Ok pages.new)
-        (Refused (filled (address_of_name names.now) notes.now pages.old)) }
+        (λ _. fill_in (address_of_name names.now) notes.now pages.old ≡ Ok pages.new)
+        (Refused (fill_in (address_of_name names.now) notes.now pages.old)) }
 {
     for note in notes {
         match word_for(names, note.next, note.cell) {

@@ -41,7 +41,8 @@ pub fn push_head(
 ) -> Result<(), AllocError>
     requires { length plans.now ≤ 16 }
     ensures { OnOk result
-        (bytes.new.items ≡ bytes.old.items ++ (magic ++ bytes_of (frames ∷ cpus ∷ length plans.now ∷ 0 ∷ plan_words plans.now))) }
+        (bytes.new.items ≡ bytes.old.items ++ (magic ++ bytes_of
+        (frames ∷ cpus ∷ length plans.now ∷ 0 ∷ plan_words plans.now))) }
 {
     bytes.extend_from_slice(b"PIPIMG2\n")?;
     push_four(bytes, frames, cpus, plans.len() as u32, 0)?;

@@ -5,7 +5,8 @@ ghost use Rattle.pip_asm.specs.Marks.{AreMarks, IsNear};
 
 use std::alloc::{AllocError, Global};
 
-// The rows of a root begin at page 1024 and are fewer than 4096, but for the one of the last page, which has the last mark.
+// The rows of a root begin at page 1024 and are fewer than 4096, but for the one of the last page, which has the last
+// mark.
 const MARKS: usize = 8192;
 
 /// No page was begun.

@@ -1,12 +1,14 @@
 //! The names of a text with their addresses.
 //!
-//! They are in a table, and where it has no room for one, in an ordered map. A name has eight places in the table, side by side
-//! from one on that its hash gives, and takes one that is free. So to add or to find a name takes a look at eight places and one at
-//! the map, whatever the names are: n names take n log n. The hash begins with a number that is drawn from the whole text. So the
-//! map stays nearly empty, also for names that were chosen to share their places: the choice would have to foresee that number.
+//! They are in a table, and where it has no room for one, in an ordered map. A name has eight places in the table, side
+//! by side from one on that its hash gives, and takes one that is free. So to add or to find a name takes a look at
+//! eight places and one at the map, whatever the names are: n names take n log n. The hash begins with a number that is
+//! drawn from the whole text. So the map stays nearly empty, also for names that were chosen to share their places: the
+//! choice would have to foresee that number.
 ghost use Rattle.std.specs.Prelude.{◌≡◌, ⊤, ◌+◌, ◌^◌, ◌<◌, ◌≤◌, false, length, None, IfOk, MatchResult, OnOk};
 ghost use Rattle.pip_model.specs.Assembly.{with_name};
-ghost use Rattle.pip_asm.specs.Names.{IsFreePlace, IsKept, IsTwice, address_of_name, found_in, has_room, home_of, in_table, is_name_at, mark_of, mixed};
+ghost use Rattle.pip_asm.specs.Names.{IsFreePlace, IsKept, IsTwice, address_of_name, found_in, has_room, home_of};
+ghost use Rattle.pip_asm.specs.Names.{in_table, is_name_at, mark_of, hash_on};
 
 use crate::reading::Stop;
 use byteorder::{ByteOrder, LittleEndian};
@@ -90,7 +92,7 @@ fn bytes_of(word: u64, byte: u8) -> u64 {
 
 // The hash of a name, which begins with a number.
 fn mixed(seed: u64, name: &[u8]) -> u64
-    ensures { result ≡ mixed seed name.now }
+    ensures { result ≡ hash_on seed name.now }
 {
     let mut hash = seed;
     for byte in name {

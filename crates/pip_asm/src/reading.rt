@@ -1,13 +1,17 @@
 //! The lines of a text, one after another: each is judged alone and by the lines before it, and its words are written.
-ghost use Rattle.std.specs.Prelude.{◌≡◌, ◌<◌, ◌≤◌, ◌+◌, ◌*◌, ◌%◌, ◌^◌, ◌++◌, ◌∷◌, [], ℕ, List, Option, length, take, replicate, MatchResult, OnOk, Ok, IfOk};
+ghost use Rattle.std.specs.Prelude.{◌≡◌, ◌<◌, ◌≤◌, ◌+◌, ◌*◌, ◌%◌, ◌^◌, ◌++◌, ◌∷◌, [], ℕ, List, Option, length, take};
+ghost use Rattle.std.specs.Prelude.{replicate, MatchResult, OnOk, Ok, IfOk};
 ghost use Rattle.pip_model.specs.declared.assembly.Stage.TheVariants.{Start, Header, InPage};
 ghost use Rattle.pip_model.specs.Grammar.{lines_of};
-ghost use Rattle.pip_model.specs.Assembly.{and_then, first_pass, first_state, grown, padding, placed, second_pass};
+ghost use Rattle.pip_model.specs.Assembly.{and_then, first_pass, first_state, grown, padding, place_statement};
+ghost use Rattle.pip_model.specs.Assembly.{second_pass};
 ghost use Rattle.pip_model.specs.AsmLines.{Begins, Plans, Names};
-ghost use Rattle.pip_asm.specs.Emitted.{IsEmpty, IsInBounds, SaysMore, cell_words, first_head, line_words, prefix, words};
+ghost use Rattle.pip_asm.specs.Emitted.{IsEmpty, IsInBounds, SaysMore, cell_words, first_head, line_words, prefix};
+ghost use Rattle.pip_asm.specs.Emitted.{words};
 ghost use Rattle.pip_asm.specs.Marks.{IsNear};
 ghost use Rattle.pip_asm.specs.Names.{address_of_name};
-ghost use Rattle.pip_asm.specs.Reading.{IsProperState, KeepsBytes, Refused, StopIs, TakesLine, bytes_ended, head_of, opened, state_of};
+ghost use Rattle.pip_asm.specs.Reading.{IsProperState, KeepsBytes, Refused, StopIs, TakesLine, bytes_ended, head_of};
+ghost use Rattle.pip_asm.specs.Reading.{open_page, state_of};
 ghost use Rattle.pip_asm.specs.Stages.{StandsAt};
 ghost use Rattle.pip_line.specs.Seen.{HasRoomFor, IsInRange, cell_of, statement_of};
 
@@ -37,8 +41,8 @@ pub enum Stop {
     Memory,
 }
 
-/// What the lines so far said, plans and pages in their order, and the address of each name. The next plan's line must be
-/// `least` or more. The present page begins at address `at` and has `size` words so far. `marks` tell the pages.
+/// What the lines so far said, plans and pages in their order, and the address of each name. The next plan's line must
+/// be `least` or more. The present page begins at address `at` and has `size` words so far. `marks` tell the pages.
 #[derive(Drop)]
 pub struct Passed<'a> {
     pub stage: Stage,
@@ -85,8 +89,8 @@ impl<'a> Passed<'a> {
         requires small { plan.line < 16 }
         requires stage { self.old.stage ≡ Header }
         ensures same { MatchResult result
-            (λ _. placed (state_of self.old) (Plans plan) ≡ Ok (state_of self.new))
-            (StopIs (placed (state_of self.old) (Plans plan))) }
+            (λ _. place_statement (state_of self.old) (Plans plan) ≡ Ok (state_of self.new))
+            (StopIs (place_statement (state_of self.old) (Plans plan))) }
         ensures proper { OnOk result (IsProperState self.new) }
         ensures pages { OnOk result (length self.new.pages.items ≤ length self.old.pages.items + 1) }
         ensures written { OnOk result (self.new.written ≡ self.old.written) }
@@ -101,7 +105,8 @@ impl<'a> Passed<'a> {
         Ok(())
     }
 
-    // What stands before a page, or the end: the head before the first one, else the zeros after the words of the present.
+    // What stands before a page, or the end: the head before the first one, else the zeros after the words of the
+    // present.
     fn end_page(&mut self) -> Result<(), AllocError>
         requires proper { IsProperState self.old }
         ensures whole { OnOk result (IsInBounds self.new.written) }
@@ -122,8 +127,8 @@ impl<'a> Passed<'a> {
         requires proper { IsProperState self.old }
         requires small { page < 2 ^ 20 }
         ensures same { MatchResult result
-            (λ _. placed (state_of self.old) (Begins page) ≡ Ok (state_of self.new))
-            (StopIs (placed (state_of self.old) (Begins page))) }
+            (λ _. place_statement (state_of self.old) (Begins page) ≡ Ok (state_of self.new))
+            (StopIs (place_statement (state_of self.old) (Begins page))) }
         ensures proper { OnOk result (IsProperState self.new) }
         ensures pages { OnOk result (length self.new.pages.items ≤ length self.old.pages.items + 1) }
         ensures says { OnOk result
@@ -146,7 +151,7 @@ impl<'a> Passed<'a> {
         requires proper { IsProperState self.old }
         requires small { page < 2 ^ 20 }
         requires near { IsNear page }
-        ensures same { OnOk result (state_of self.new ≡ opened (state_of self.old) page) }
+        ensures same { OnOk result (state_of self.new ≡ open_page (state_of self.old) page) }
         ensures proper { OnOk result (IsProperState self.new) }
         ensures pages { OnOk result (length self.new.pages.items ≡ length self.old.pages.items + 1) }
         ensures says { OnOk result
@@ -173,7 +178,8 @@ impl<'a> Passed<'a> {
         ensures pages { OnOk result (length self.new.pages.items ≤ length self.old.pages.items + 1) }
         ensures says { OnOk result
             (SaysMore self.old.written
-            (cell_words number ((self.old.at + 4 * self.old.size + 4) % 2 ^ 32) (cell_of cell.entry)) self.new.written) }
+            (cell_words number ((self.old.at + 4 * self.old.size + 4) % 2 ^ 32) (cell_of cell.entry))
+            self.new.written) }
     {
         if self.size >= 1024 {
             return Err(Stop::Kind(AsmKind::Size));
@@ -210,8 +216,8 @@ impl<'a> Passed<'a> {
     fn name(&mut self, text: &'a [u8]) -> Result<(), Stop>
         requires proper { IsProperState self.old }
         ensures same { MatchResult result
-            (λ _. placed (state_of self.old) (Names text.now) ≡ Ok (state_of self.new))
-            (StopIs (placed (state_of self.old) (Names text.now))) }
+            (λ _. place_statement (state_of self.old) (Names text.now) ≡ Ok (state_of self.new))
+            (StopIs (place_statement (state_of self.old) (Names text.now))) }
         ensures proper { OnOk result (IsProperState self.new) }
         ensures pages { OnOk result (length self.new.pages.items ≤ length self.old.pages.items + 1) }
         ensures written { OnOk result (self.new.written ≡ self.old.written) }
@@ -226,8 +232,8 @@ impl<'a> Passed<'a> {
         requires within { IsInRange said }
         requires stands { StandsAt self.old.stage (statement_of said) }
         ensures same { MatchResult result
-            (λ _. placed (state_of self.old) (statement_of said.entry) ≡ Ok (state_of self.new))
-            (StopIs (placed (state_of self.old) (statement_of said.entry))) }
+            (λ _. place_statement (state_of self.old) (statement_of said.entry) ≡ Ok (state_of self.new))
+            (StopIs (place_statement (state_of self.old) (statement_of said.entry))) }
         ensures proper { OnOk result (IsProperState self.new) }
         ensures pages { OnOk result (length self.new.pages.items ≤ length self.old.pages.items + 1) }
         ensures says { OnOk result
@@ -307,12 +313,9 @@ pub fn read_lines(alloc: Global, text: &[u8]) -> Result<Passed<'_>, AsmError>
     let mut rest = text;
     let mut number = 1u64;
     while !rest.is_empty() {
-        let (line, behind) = cut_line(rest);
-        match passed.take_line(number, line) {
-            Ok(()) => {}
-            Err(error) => return Err(error),
-        }
-        rest = behind;
+        let (line, after) = cut_line(rest);
+        passed.take_line(number, line)?;
+        rest = after;
         number += 1;
     }
     match passed.stage {

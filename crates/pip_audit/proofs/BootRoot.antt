@@ -2,7 +2,7 @@
 use Rattle.std.proofs.Common.{◌≡◌, ◌≢◌, ◌⊎◌, ℕ, zero, suc, ◌+◌, ◌-◌, ◌*◌, ◌/◌, ◌%◌, ◌^◌, ◌<◌, ◌≤◌, ◌==◌, ◌&&◌, inl, inr}
 use Rattle.std.proofs.Common.{List, [], ◌∷◌, map, length, refl, sym, ap, ap₂, ◌∙◌, subst, arith, Option, Some, None}
 use Rattle.std.proofs.Common.{Bool, true, false, cond, eq-eqb, eqb-true, ne_eqb}
-use Rattle.std.specs.Prelude.{nat_le, option_map, unwrap_or}
+use Rattle.std.specs.Prelude.{nat_le, option_map}
 use Rattle.std.proofs.lemmas.Bool.{cases_eq, cases_lt}
 use Rattle.std.proofs.lemmas.Bool.Decides.{nat_tests}
 use Rattle.pip_base.specs.declared.types.Pair.{Pair}
@@ -10,22 +10,23 @@ use Rattle.pip_base.specs.Memory.{Memory, word_at}
 use Rattle.pip_model.specs.Boot.{boot_root, boot_table, first_user, own, rows_from, tables_from, tables_of_root}
 use Rattle.pip_model.specs.Lists.{Rising}
 use Rattle.pip_model.specs.Parts.{part_2, same_all, same_base, same_pair, same_row, same_table}
-use Rattle.pip_model.specs.ReadOff.{base_read, listed, more_read, node_read, pair_read, place_of_table, row_read}
-use Rattle.pip_model.specs.ReadOff.{table_from, table_read}
+use Rattle.pip_model.specs.ReadOff.{base_read, values_from, more_read, node_read, row_read, table_from, table_read}
 use Rattle.pip_model.specs.Tree.{Row, Table, dir, lists, row_at, table_at}
 use Rattle.pip_model.proofs.Audit.Over.{gather_at, gather_none, gather_rises}
 use Rattle.pip_model.proofs.Frames.Same.{rows_equal}
 use Rattle.pip_model.proofs.Trees.Boot.{boot-sound, frame-none}
 use Rattle.pip_audit.specs.declared.auditor.Auditor.{Auditor}
 use Rattle.pip_audit.specs.BootRows.{HasBootRow, boot_base, boot_row}
-use Rattle.pip_audit.specs.Judging.{Says, Tests}
+use Rattle.pip_audit.specs.Comparing.{tree_in}
+use Rattle.pip_audit.specs.Judging.{Says}
 use Rattle.pip_audit.specs.Links.{list_read, page_after}
 use Rattle.pip_audit.specs.Reading.{IsRead, tree_read}
 use Rattle.pip_audit.specs.Tables.{tables_in, triple_of}
-use Rattle.pip_audit.proofs.EachNode.{both, name_is, not_first, not_second, up_is}
+use Rattle.pip_audit.proofs.EachNode.{both, name_is, up_is}
 use Rattle.pip_audit.proofs.Loads.{slot_table}
 use Rattle.pip_audit.proofs.PartLaws.{row_stands, rows_are}
 use Rattle.pip_audit.proofs.Rows.{no_row}
+use Rattle.pip_audit.proofs.TreeIn.{read_in}
 
 first : (a b : Bool) → (a && b) ≡ true → a ≡ true
 first true b e = refl
@@ -68,51 +69,24 @@ module _ (m : Memory) (index g i : ℕ) where
   slot : Table
   slot = table_from m 2 5 i
 
-  pub slot_mmu : same_pair (pair_read m 5 i) (own g) ≡ false
-      → same_table (table_from m 2 5 i) (boot_table index g) ≡ false
-  slot_mmu e = not_second ((table_from m 2 5 i).index == index) (not_first _ e)
-
-  pub slot_shadow1 : same_pair (pair_read m 5 (i + 2)) (own (g + 1)) ≡ false
-      → same_table (table_from m 2 5 i) (boot_table index g) ≡ false
-  slot_shadow1 e = not_second ((table_from m 2 5 i).index
-      == index) (not_second (same_pair (pair_read m 5 i) (own g)) (not_first _ e))
-
-  pub slot_shadow2 : same_pair (pair_read m 5 (i + 4)) (own (g + 2)) ≡ false
-      → same_table (table_from m 2 5 i) (boot_table index g) ≡ false
-  slot_shadow2 e = not_second ((table_from m 2 5 i).index == index) (not_second (same_pair (pair_read m 5 i) (own g))
-      (not_second (same_pair (pair_read m 5 (i + 2)) (own (g + 1))) e))
-
-  pub slot_place : (z : Bool) → same_pair (pair_read m 5 i) (own g) ≡ true
-      → same_pair (pair_read m 5 (i + 2)) (own (g + 1)) ≡ true → same_pair (pair_read m 5 (i + 4)) (own (g + 2)) ≡ true
-      → z ≡ (unwrap_or (place_of_table m 2 g) 0 == index) → z ≡ same_table (table_from m 2 5 i) (boot_table index g)
-  slot_place z a b c e =
-      let page : word_at m 5 (i + 1) ≡ g = (same_own (pair_read m 5 i) g a).1 in
-      e
-      ∙ ap (λ t. unwrap_or (place_of_table m 2 t) 0 == index) (sym page)
-      ∙ sym (with_true ((table_from m 2 5 i).index == index))
-      ∙ ap (λ r. (table_from m 2 5 i).index == index && r) (sym (both a (both b c)))
-    where
-      with_true : (b : Bool) → (b && true) ≡ b
-      with_true true = refl
-      with_true false = refl
-
 -- ---- the tables, slot by slot
 
 abbrev pub tables_here : (ℕ → Table) → ℕ → ℕ → Bool
-tables_here f count k = same_all same_table (listed f k (count + 1 - k)) (tables_from (count - k) (1 + k) (6 + 3 * k))
+tables_here f count k = same_all same_table (values_from f k (count + 1 - k))
+    (tables_from (count - k) (1 + k) (6 + 3 * k))
 
 module _ (f : ℕ → Table) (count : ℕ) where
   here_next : (k : ℕ) → k < count
       → tables_here f count k ≡ (same_table (f k) (boot_table (1 + k) (6 + 3 * k)) && tables_here f count (k + 1))
-  unfolding listed
+  unfolding values_from
   here_next k h =
       let a : count + 1 - k ≡ suc (count + 1 - (k + 1)) = omega (arith, h) in
       let b : count - k ≡ suc (count - (k + 1)) = omega (arith, h) in
       let i : 1 + k + 1 ≡ 1 + (k + 1) = omega arith in
       let g : 6 + 3 * k + 3 ≡ 6 + 3 * (k + 1) = omega arith in
-      ap₂ (λ x y. same_all same_table (listed f k x) (tables_from y (1 + k) (6 + 3 * k))) a b
+      ap₂ (λ x y. same_all same_table (values_from f k x) (tables_from y (1 + k) (6 + 3 * k))) a b
       ∙ ap₂ (λ x y. same_table (f k) (boot_table (1 + k) (6 + 3 * k))
-      && same_all same_table (listed f (k + 1) (count + 1 - (k + 1))) (tables_from (count - (k + 1)) x y)) i g
+      && same_all same_table (values_from f (k + 1) (count + 1 - (k + 1))) (tables_from (count - (k + 1)) x y)) i g
 
   pub here_more : (k : ℕ) → k < count → same_table (f k) (boot_table (1 + k) (6 + 3 * k)) ≡ true
       → tables_here f count k ≡ tables_here f count (k + 1)
@@ -123,11 +97,11 @@ module _ (f : ℕ → Table) (count : ℕ) where
   here_less k h e = here_next k h ∙ ap (λ b. b && tables_here f count (k + 1)) e
 
   pub here_last : tables_here f count count ≡ same_table (f count) (boot_table 1023 (6 + 3 * count))
-  unfolding listed
+  unfolding values_from
   here_last =
       let a : count + 1 - count ≡ 1 = omega arith in
       let b : count - count ≡ 0 = omega arith in
-      ap₂ (λ x y. same_all same_table (listed f count x) (tables_from y (1 + count) (6 + 3 * count))) a b
+      ap₂ (λ x y. same_all same_table (values_from f count x) (tables_from y (1 + count) (6 + 3 * count))) a b
       ∙ with_true (same_table (f count) (boot_table 1023 (6 + 3 * count)))
     where
       with_true : (b : Bool) → (b && true) ≡ b
@@ -144,15 +118,15 @@ unfolding node_read
 tables_all m count c e =
     let w : count + 1 - 0 ≡ count + 1 = omega arith in
     let z : count - 0 ≡ count = omega arith in
-    ap₂ (λ x y. same_all same_table (listed (root_table m x) 0 x) (tables_from y 1 6)) c (sym e)
-    ∙ ap₂ (λ x y. same_all same_table (listed (root_table m (count + 1)) 0 x) (tables_from y 1 6)) (sym w) (sym z)
+    ap₂ (λ x y. same_all same_table (values_from (root_table m x) 0 x) (tables_from y 1 6)) c (sym e)
+    ∙ ap₂ (λ x y. same_all same_table (values_from (root_table m (count + 1)) 0 x) (tables_from y 1 6)) (sym w) (sym z)
 
 tables_long : (n i g : ℕ) → length (tables_from n i g) ≡ n + 1
 tables_long zero i g = refl
 tables_long (suc n) i g = let e : suc (n + 1) ≡ suc n + 1 = omega arith in ap suc (tables_long n (i + 1) (g + 3)) ∙ e
 
-listed_many : (f : ℕ → Table) (k n : ℕ) → length (listed f k n) ≡ n
-unfolding listed
+listed_many : (f : ℕ → Table) (k n : ℕ) → length (values_from f k n) ≡ n
+unfolding values_from
 listed_many f k zero = refl
 listed_many f k (suc n) = ap suc (listed_many f (k + 1) n)
 
@@ -167,7 +141,8 @@ pub tables_few : (m : Memory) (count : ℕ) → count ≡ tables_of_root (length
 unfolding node_read
 tables_few m count e same =
     let c = word_at m 1 12 in
-    sym (listed_many (root_table m c) 0 c) ∙ same_length (listed (root_table m c) 0 c) (boot_root (length m)).tables
+    sym (listed_many (root_table m c) 0 c) ∙ same_length (values_from (root_table m c) 0 c)
+    (boot_root (length m)).tables
     same ∙ tables_long (tables_of_root (length m)) 1 6 ∙ ap (λ x. x + 1) (sym e)
 
 pub tables_other : (m : Memory) (count : ℕ) → count ≡ tables_of_root (length m) → word_at m 1 12 ≢ count + 1
@@ -349,7 +324,7 @@ pub record IsBoot (m : Memory) : Type 0 where
   pub rows : (v : ℕ) → v < 2 ^ 20 → HasBootRow m (tables_in m 1) v
 
 module _ (m : Memory) (a : Auditor) (least : 16 ≤ length m) (most : length m ≤ 4096) where
-  pub part_2_holds : IsBoot m → Tests part_2 m a true
+  pub part_2_holds : IsBoot m → (r : IsRead m a) → true ≡ part_2 (tree_read m r.others)
   unfolding part_2
   part_2_holds b = λ r.
       let x = node_read m 1 in
@@ -384,12 +359,14 @@ module _ (m : Memory) (a : Auditor) (least : 16 ≤ length m) (most : length m �
         rows = rows_back m least most (same_row_lists x.rows y.rows e8);
       }
 
-  pub part_2_breaks : (IsBoot m → ⊥) → Tests part_2 m a false
-  part_2_breaks broken = λ r. sym (untrue (part_2 (tree_read m r.others)) (λ e. broken (part_2_parts r e)))
+  pub part_2_breaks : IsRead m a → (IsBoot m → ⊥) → false ≡ part_2 (tree_in m)
+  part_2_breaks r broken = sym (untrue (part_2 (tree_read m r.others)) (λ e. broken (part_2_parts r e)))
+      ∙ ap part_2 (sym (read_in m a r))
 
   -- the rows decide where all else is the boot's
-  pub part_2_says : (z : Bool) → word_at m 1 11 ≡ 1 → same_base (base_read m 1) boot_base ≡ true
+  pub part_2_says : IsRead m a → (z : Bool) → word_at m 1 11 ≡ 1 → same_base (base_read m 1) boot_base ≡ true
       → same_all same_table (tables_in m 1) (boot_root (length m)).tables ≡ true
-      → Says z ((v : ℕ) → v < 2 ^ 20 → HasBootRow m (tables_in m 1) v) → Tests part_2 m a z
-  part_2_says true up base tables rows = part_2_holds (record { up = up; base = base; tables = tables; rows = rows })
-  part_2_says false up base tables rows = part_2_breaks (λ b. rows b.rows)
+      → Says z ((v : ℕ) → v < 2 ^ 20 → HasBootRow m (tables_in m 1) v) → z ≡ part_2 (tree_in m)
+  part_2_says r true up base tables rows =
+      part_2_holds (record { up = up; base = base; tables = tables; rows = rows }) r ∙ ap part_2 (sym (read_in m a r))
+  part_2_says r false up base tables rows = part_2_breaks r (λ b. rows b.rows)

@@ -1,89 +1,134 @@
--- The least part of soundness that a tree breaks, part by part.
-use Rattle.std.proofs.Common.{◌≡◌, ℕ, sym, ap, ◌∙◌, Option, Some, None, Bool, true, false}
-use Rattle.pip_base.specs.Memory.{Memory}
-use Rattle.pip_model.specs.Parts.{broken_part, part_1, part_2, part_3, part_4, part_5, part_6, part_7, part_8}
-use Rattle.pip_model.specs.Parts.{unless_broken}
+-- The parts of soundness, by the tests of the nodes that were read, and the least part that a tree breaks.
+use Rattle.std.proofs.Common.{◌≡◌, ℕ, zero, suc, ◌+◌, ◌-◌, ◌<◌, ◌≤◌, ◌==◌, ◌&&◌, List, [], ◌∷◌, length, refl, sym, ap}
+use Rattle.std.proofs.Common.{◌∙◌, arith, inl, inr, Option, Some, None, Bool, true, false, eq-eqb, ne_eqb}
+use Rattle.std.specs.Prelude.{slice_index_or}
+use Rattle.std.proofs.lemmas.Bool.{cases_eq}
+use Rattle.pip_base.specs.Memory.{Memory, word_at}
+use Rattle.pip_model.specs.Parts.{broken_part, each_child, each_node, each_other, gives_no_more, has_no_lines}
+use Rattle.pip_model.specs.Parts.{has_tables, is_lent_by, is_named_by_base, keeps_pages_apart, part_1, part_3, part_4}
+use Rattle.pip_model.specs.Parts.{part_5, part_6, part_7, part_8, unless_broken}
 use Rattle.pip_model.specs.Tree.{Tree}
 use Rattle.pip_audit.specs.declared.auditor.Auditor.{Auditor}
-use Rattle.pip_audit.specs.Judging.{Tests, TestsApart}
+use Rattle.pip_audit.specs.Comparing.{tree_in}
+use Rattle.pip_audit.specs.Judging.{IsReadLater, KeepsBefore, TellsApart, TellsEach, keeps_to, parent_test, parts}
 use Rattle.pip_audit.specs.Reading.{IsRead, tree_read}
-use Rattle.pip_audit.proofs.Verdicts.{same_others}
+use Rattle.pip_audit.proofs.Children.{children_told}
+use Rattle.pip_audit.proofs.EachNode.{is_early, is_later, node_at, nodes_told, not_first, others_told, unrooted_top}
+use Rattle.pip_audit.proofs.Narrowing.{all_can_read}
+use Rattle.pip_audit.proofs.Siblings.{part_5_breaks, part_5_holds}
+use Rattle.pip_audit.proofs.TreeIn.{read_in}
 
--- a part that was tested when the nodes still were the same
-pub tested : (part : Tree → Bool) (m : Memory) (a b : Auditor) (z y : Bool) (r : IsRead m a) → IsRead m b
-    → Tests part m b z → z ≡ y → part (tree_read m r.others) ≡ y
-tested part m a b z y r q t e = ap (λ xs. part (tree_read m xs)) (same_others m a b r q) ∙ sym (t q) ∙ e
+-- ---- each part
 
-pub tested_apart : (m : Memory) (a : Auditor) (z y : Bool) (r : IsRead m a) → part_1 (tree_read m r.others) ≡ true
-    → part_3 (tree_read m r.others) ≡ true → TestsApart m a z → z ≡ y → part_5 (tree_read m r.others) ≡ y
-tested_apart m a z y r one three t e = sym (t r one three) ∙ e
+module _ (m : Memory) (a : Auditor) (r : IsRead m a) (z : Bool) where
+  -- a part that is told of the tree that was read
+  told : (part : Tree → Bool) → part (tree_read m r.others) ≡ z → z ≡ part (tree_in m)
+  told part e = sym e ∙ ap part (sym (read_in m a r))
 
-passes : {b : Bool} (part : ℕ) (o : Option ℕ) → b ≡ true → unless_broken b part o ≡ o
-passes part o e = ap (λ b. unless_broken b part o) e
+  pub part_3_told : TellsEach (λ k b. b ≡ keeps_pages_apart (node_at m a.names.items k)) 0 a.count z
+      → z ≡ part_3 (tree_in m)
+  unfolding part_3
+  part_3_told t = told (each_node keeps_pages_apart) (nodes_told m a r.others r.has_read keeps_pages_apart z t)
 
-fails : {b : Bool} (part : ℕ) (o : Option ℕ) → b ≡ false → unless_broken b part o ≡ Some part
-fails part o e = ap (λ b. unless_broken b part o) e
+  pub named_told : TellsEach (λ k b. b ≡ is_named_by_base (node_at m a.names.items k)) 1 a.count z
+      → z ≡ each_other is_named_by_base (tree_in m)
+  named_told t = told (each_other is_named_by_base) (others_told m a r.others r.has_read is_named_by_base z t)
 
-module _ (t : Tree) where
-  abbrev behind_8 : Option ℕ
-  behind_8 = None
+  pub lent_told : part_1 (tree_in m) ≡ true
+      → TellsEach (λ x b. b ≡ parent_test is_lent_by m a.names.items x) 1 a.count z
+      → z ≡ each_child is_lent_by (tree_in m)
+  lent_told one t = told (each_child is_lent_by) (children_told is_lent_by m a r one z t)
 
-  abbrev behind_7 : Option ℕ
-  behind_7 = unless_broken (part_8 t) 8 behind_8
+  pub part_6_told : part_1 (tree_in m) ≡ true
+      → TellsEach (λ x b. b ≡ parent_test gives_no_more m a.names.items x) 1 a.count z → z ≡ part_6 (tree_in m)
+  unfolding part_6
+  part_6_told one t = told part_6 (ap (λ b. b && each_child gives_no_more (tree_read m r.others)) (all_can_read m a r)
+      ∙ children_told gives_no_more m a r one z t)
 
-  abbrev behind_6 : Option ℕ
-  behind_6 = unless_broken (part_7 t) 7 behind_7
+  pub part_7_told : TellsEach (λ k b. b ≡ has_tables (node_at m a.names.items k)) 0 a.count z
+      → z ≡ part_7 (tree_in m)
+  unfolding part_7
+  part_7_told t = told (each_node has_tables) (nodes_told m a r.others r.has_read has_tables z t)
 
-  abbrev behind_5 : Option ℕ
-  behind_5 = unless_broken (part_6 t) 6 behind_6
+  pub part_8_told : TellsEach (λ k b. b ≡ has_no_lines (node_at m a.names.items k)) 1 a.count z
+      → z ≡ part_8 (tree_in m)
+  unfolding part_8
+  part_8_told t = told (each_other has_no_lines) (others_told m a r.others r.has_read has_no_lines z t)
 
-  abbrev behind_4 : Option ℕ
-  behind_4 = unless_broken (part_5 t) 5 behind_5
+pub part_4_both : (t : Tree) (z : Bool) → true ≡ each_child is_lent_by t → z ≡ each_other is_named_by_base t
+    → z ≡ part_4 t
+unfolding part_4
+part_4_both t z p q = q ∙ ap (λ b. b && each_other is_named_by_base t) p
 
-  abbrev behind_3 : Option ℕ
-  behind_3 = unless_broken (part_4 t) 4 behind_4
+pub part_4_not : (t : Tree) → false ≡ each_child is_lent_by t → false ≡ part_4 t
+unfolding part_4
+part_4_not t p = sym (not_first (each_other is_named_by_base t) (sym p))
 
-  abbrev behind_2 : Option ℕ
-  behind_2 = unless_broken (part_3 t) 3 behind_3
+pub part_5_told : (m : Memory) (a : Auditor) (r : IsRead m a) (z : Bool) → part_1 (tree_in m) ≡ true
+    → part_3 (tree_in m) ≡ true → TellsEach (TellsApart m a.names.items a.count) 0 a.count z → z ≡ part_5 (tree_in m)
+part_5_told m a r z one three = go z
+  where
+    as_read : (part : Tree → Bool) → part (tree_in m) ≡ true → part (tree_read m r.others) ≡ true
+    as_read part e = ap part (sym (read_in m a r)) ∙ e
 
-  abbrev behind_1 : Option ℕ
-  behind_1 = unless_broken (part_2 t) 2 behind_2
+    go : (z : Bool) → TellsEach (TellsApart m a.names.items a.count) 0 a.count z → z ≡ part_5 (tree_in m)
+    go true t = told m a r true part_5 (part_5_holds m a r (as_read part_1 one) (λ y hi. t y (omega arith) hi))
+    go false t = told m a r false part_5 (part_5_breaks m a r (as_read part_3 three) t.0 t.3)
 
-  pub breaks_1 : part_1 t ≡ false → Some 1 ≡ broken_part t
-  unfolding broken_part
-  breaks_1 e = sym (fails 1 behind_1 e)
+-- each other node was read later than its parent, and the root is its own
+pub part_1_told : (m : Memory) (a : Auditor) (r : IsRead m a) (z : Bool)
+    → TellsEach (IsReadLater m a.names.items) 1 a.count z → (z && word_at m 1 11 == 1) ≡ part_1 (tree_in m)
+unfolding part_1
+part_1_told m a r true t = elim (cases_eq (word_at m 1 11) 1) [
+  | inl e ↦ told m a r (word_at m 1 11 == 1) part_1
+      (is_later m a r.others r.has_read t e ∙ sym (eq-eqb (word_at m 1 11) 1 e))
+  | inr ne ↦ told m a r (word_at m 1 11 == 1) part_1
+      (unrooted_top m a.names.items a.count r.others r.has_read.names ne ∙ sym (ne_eqb (word_at m 1 11) 1 ne))
+]
+part_1_told m a r false t = told m a r false part_1 (is_early m a r.others r.has_read t.0 t.1 t.2 t.3)
 
-  module _ (h1 : part_1 t ≡ true) where
-    pub breaks_2 : part_2 t ≡ false → Some 2 ≡ broken_part t
-    unfolding broken_part
-    breaks_2 e = sym (passes 1 behind_1 h1 ∙ fails 2 behind_2 e)
+-- ---- the least part that breaks
 
-    module _ (h2 : part_2 t ≡ true) where
-      pub breaks_3 : part_3 t ≡ false → Some 3 ≡ broken_part t
-      unfolding broken_part
-      breaks_3 e = sym (passes 1 behind_1 h1 ∙ passes 2 behind_2 h2 ∙ fails 3 behind_3 e)
+-- the first of these parts that a tree breaks, where they are numbered from here on
+chain : List (Tree → Bool) → ℕ → Tree → Option ℕ
+chain [] n t = None
+chain (p ∷ ps) n t = unless_broken (p t) n (chain ps (suc n) t)
 
-      module _ (h3 : part_3 t ≡ true) where
-        pub breaks_4 : part_4 t ≡ false → Some 4 ≡ broken_part t
-        unfolding broken_part
-        breaks_4 e = sym (passes 1 behind_1 h1 ∙ passes 2 behind_2 h2 ∙ passes 3 behind_3 h3 ∙ fails 4 behind_4 e)
+abbrev holds : List (Tree → Bool) → ℕ → Tree → Bool
+holds ps k t = slice_index_or ps k (λ u. true) t
 
-        module _ (h4 : part_4 t ≡ true) where
-          to_4 : broken_part t ≡ behind_4
-          unfolding broken_part
-          to_4 = passes 1 behind_1 h1 ∙ passes 2 behind_2 h2 ∙ passes 3 behind_3 h3 ∙ passes 4 behind_4 h4
+chain_at : (ps : List (Tree → Bool)) (n k : ℕ) (t : Tree) → k < length ps → ((j : ℕ) → j < k → holds ps j t ≡ true)
+    → holds ps k t ≡ false → chain ps n t ≡ Some (n + k)
+unfolding chain
+chain_at [] n k t lo before e = absurd (omega (arith, lo))
+chain_at (p ∷ ps) n zero t lo before e =
+    ap (λ b. unless_broken b n (chain ps (suc n) t)) e ∙ ap Some (omega arith)
+chain_at (p ∷ ps) n (suc k) t lo before e =
+    ap (λ b. unless_broken b n (chain ps (suc n) t)) (before 0 (omega arith))
+    ∙ chain_at ps (suc n) k t (omega (arith, lo)) (λ j h. before (suc j) (omega (arith, h))) e
+    ∙ ap Some (omega arith)
 
-          pub breaks_5 : part_5 t ≡ false → Some 5 ≡ broken_part t
-          breaks_5 e = sym (to_4 ∙ fails 5 behind_5 e)
+chain_none : (ps : List (Tree → Bool)) (n : ℕ) (t : Tree) → ((j : ℕ) → j < length ps → holds ps j t ≡ true)
+    → chain ps n t ≡ None
+unfolding chain
+chain_none [] n t all = refl
+chain_none (p ∷ ps) n t all =
+    ap (λ b. unless_broken b n (chain ps (suc n) t)) (all 0 (omega arith))
+    ∙ chain_none ps (suc n) t (λ j h. all (suc j) (omega (arith, h)))
 
-          module _ (h5 : part_5 t ≡ true) where
-            pub breaks_6 : part_6 t ≡ false → Some 6 ≡ broken_part t
-            breaks_6 e = sym (to_4 ∙ passes 5 behind_5 h5 ∙ fails 6 behind_6 e)
+chained : (t : Tree) → chain parts 1 t ≡ broken_part t
+unfolding broken_part chain
+chained t = refl
 
-            module _ (h6 : part_6 t ≡ true) where
-              pub breaks_7 : part_7 t ≡ false → Some 7 ≡ broken_part t
-              breaks_7 e = sym (to_4 ∙ passes 5 behind_5 h5 ∙ passes 6 behind_6 h6 ∙ fails 7 behind_7 e)
+before : (t : Tree) (part : ℕ) → KeepsBefore part t → (j : ℕ) → j < part - 1 → holds parts j t ≡ true
+before t part h j lo =
+    ap (λ k. holds parts k t) (omega arith) ∙ h (suc j) (omega arith) (omega (arith, lo))
 
-              pub breaks_8 : part_7 t ≡ true → part_8 t ≡ false → Some 8 ≡ broken_part t
-              breaks_8 h7 e =
-                  sym (to_4 ∙ passes 5 behind_5 h5 ∙ passes 6 behind_6 h6 ∙ passes 7 behind_7 h7 ∙ fails 8 behind_8 e)
+pub breaks_at : (t : Tree) (part : ℕ) → 1 ≤ part → part ≤ 8 → KeepsBefore part t → keeps_to part t ≡ false
+    → Some part ≡ broken_part t
+breaks_at t part lo hi h e =
+    ap Some (omega (arith, lo))
+    ∙ sym (chain_at parts 1 (part - 1) t (omega (arith, lo, hi)) (before t part h) e) ∙ chained t
+
+pub breaks_none : (t : Tree) → KeepsBefore 9 t → None ≡ broken_part t
+breaks_none t h = sym (chain_none parts 1 t (λ j lo. before t 9 h j (omega (arith, lo)))) ∙ chained t

@@ -1,23 +1,21 @@
 -- Tests of each parent and its children, by their places among the names.
-use Rattle.std.proofs.Common.{◌≡◌, ℕ, ◌<◌, ◌≤◌, ◌==◌, ◌&&◌, inl, inr, ◌∷◌, refl, sym, ap, ap₂, ◌∙◌, arith, Bool, true}
+use Rattle.std.proofs.Common.{◌≡◌, ℕ, ◌<◌, ◌≤◌, ◌==◌, inl, inr, ◌∷◌, refl, sym, ap, ap₂, ◌∙◌, arith, Bool, true}
 use Rattle.std.proofs.Common.{false, eq-eqb, ne_eqb}
 use Rattle.std.specs.Prelude.{slice_index}
 use Rattle.std.specs.List.{list_all}
 use Rattle.std.proofs.lemmas.Bool.{cases_eq}
 use Rattle.pip_base.specs.Memory.{Memory, word_at}
-use Rattle.pip_model.specs.Parts.{each_child, each_other, implies, is_lent_by, is_named_by_base, part_1, part_4}
+use Rattle.pip_model.specs.Parts.{implies, part_1}
 use Rattle.pip_model.specs.ReadOff.{node_read}
 use Rattle.pip_model.specs.Tree.{Node}
 use Rattle.pip_model.proofs.Audit.PartTests.{tests_1}
 use Rattle.pip_audit.specs.declared.auditor.Auditor.{Auditor}
 use Rattle.pip_audit.specs.Comparing.{tree_in}
-use Rattle.pip_audit.specs.Judging.{Tests, parent_test}
+use Rattle.pip_audit.specs.Judging.{TellsEach, parent_test}
 use Rattle.pip_audit.specs.Reading.{IsRead, tree_read}
-use Rattle.pip_audit.proofs.EachNode.{both, name_is, node_at, nodes_are, not_first, not_second}
-use Rattle.pip_audit.proofs.EachNode.{others_false, others_true, root_name, up_is}
+use Rattle.pip_audit.proofs.EachNode.{name_is, node_at, nodes_are, nodes_told, others_told, up_is}
 use Rattle.pip_audit.proofs.Siblings.{node_in, parent_at}
 use Rattle.pip_audit.proofs.TreeIn.{read_in}
-use Rattle.pip_audit.proofs.Verdicts.{same_others}
 
 -- ---- the parent of a node
 
@@ -66,47 +64,24 @@ module _ (r : Node → Node → Bool) (m : Memory) (a : Auditor) where
   abbrev of_child : IsRead m a → Node → Bool
   of_child read x = list_all (with_child read x) (node_read m 1 ∷ read.others)
 
-  pub children_hold : ((x : ℕ) → 1 ≤ x → x < a.count → parent_test r m a.names.items x ≡ true)
-      → Tests (each_child r) m a true
-  children_hold t = λ read.
-      let h = read.has_read in
+  pub children_told : (read : IsRead m a) → part_1 (tree_in m) ≡ true → (z : Bool)
+      → TellsEach (λ x b. b ≡ parent_test r m a.names.items x) 1 a.count z → list_all (of_child read) read.others ≡ z
+  children_told read one true t = others_told m a read.others read.has_read (of_child read) true (λ x lo hi.
+      sym (nodes_told m a read.others read.has_read (with_child read (node_at m a.names.items x)) true (λ y low high.
+      sym (holds_by_parent r m (slice_index a.names.items y) (slice_index a.names.items x) (sym (t x lo hi))))))
+  children_told read one false t =
+      let x = t.0 in
+      let up = parent_place m a read one x t.1 t.2 in
       let names = a.names.items in
-      let is = nodes_are m a read.others h in
-      sym (others_true m names (of_child read) a.count read.others h.names is (λ x lo hi.
-      both (holds_by_parent r m 1 (slice_index names x) (t x lo hi))
-      (others_true m names (with_child read (node_at m names x)) a.count read.others h.names is
-      (λ y low high. holds_by_parent r m (slice_index names y) (slice_index names x) (t x lo hi)))))
-
-  pub children_break : part_1 (tree_in m) ≡ true → (x : ℕ) → 1 ≤ x → x < a.count
-      → parent_test r m a.names.items x ≡ false → Tests (each_child r) m a false
-  children_break one x lo hi e = λ read.
-      let h = read.has_read in
-      let names = a.names.items in
-      let is = nodes_are m a read.others h in
-      let up = parent_place m a read one x lo hi in
-      let y = up.0 in
-      let here = breaks_by_parent r m (slice_index names y) (slice_index names x) up.2 e in
-      sym (others_false m names (of_child read) a.count read.others h.names is x lo hi (elim (cases_eq y 0) [
-        | inl z ↦ not_first _ (ap (with_child read (node_at m names x)) (ap (node_read m)
-            (sym (root_name names a.count read.others h.names) ∙ ap (slice_index names) (sym z))) ∙ here)
-        | inr nz ↦ not_second (with_child read (node_at m names x) (node_read m 1)) (others_false m names
-            (with_child read (node_at m names x)) a.count read.others h.names is y (omega (arith, nz)) up.1 here)
-      ]))
-
--- ---- part 4
-
-pub part_4_breaks : (m : Memory) (a : Auditor) → part_1 (tree_in m) ≡ true → (x : ℕ) → 1 ≤ x → x < a.count
-    → parent_test is_lent_by m a.names.items x ≡ false → Tests part_4 m a false
-unfolding part_4
-part_4_breaks m a one x lo hi e =
-    λ r. sym (not_first (list_all is_named_by_base r.others) (sym (children_break is_lent_by m a one x lo hi e r)))
-
--- the names are judged when the nodes still are the same
-pub part_4_names : (m : Memory) (a b : Auditor) (z : Bool) → IsRead m b
-    → ((x : ℕ) → 1 ≤ x → x < a.count → parent_test is_lent_by m a.names.items x ≡ true)
-    → Tests (each_other is_named_by_base) m b z → Tests part_4 m a z
-unfolding part_4
-part_4_names m a b z q t named = λ r.
-    named q
-    ∙ ap (λ xs. list_all is_named_by_base xs) (sym (same_others m a b r q))
-    ∙ ap (λ c. c && list_all is_named_by_base r.others) (children_hold is_lent_by m a t r)
+      others_told m a read.others read.has_read (of_child read) false (
+        x,
+        t.1,
+        t.2,
+        sym (nodes_told m a read.others
+            read.has_read (with_child read (node_at m names x)) false (
+              up.0,
+              omega arith,
+              up.1,
+              sym (breaks_by_parent r m (slice_index names up.0) (slice_index names x) up.2 (sym t.3)),
+            )),
+      )

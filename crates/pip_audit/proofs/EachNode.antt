@@ -8,11 +8,11 @@ use Rattle.std.proofs.lemmas.Bool.{cases_eq}
 use Rattle.std.proofs.Math.Nat.{div-add-mod, div-div-eq-div-mul}
 use Rattle.pip_base.specs.Memory.{Memory, word_at}
 use Rattle.pip_model.specs.Lists.{In, has}
-use Rattle.pip_model.specs.Parts.{has_no_lines, is_rooted, part_1, part_8}
+use Rattle.pip_model.specs.Parts.{has_no_lines, is_rooted}
 use Rattle.pip_model.specs.ReadOff.{lines_read, node_read, node_stop}
 use Rattle.pip_model.specs.Tree.{Node, names_of}
 use Rattle.pip_audit.specs.declared.auditor.Auditor.{Auditor}
-use Rattle.pip_audit.specs.Judging.{IsReadLater, Tests}
+use Rattle.pip_audit.specs.Judging.{IsReadLater, TellsEach}
 use Rattle.pip_audit.specs.Reading.{AreNames, HasRead}
 use Rattle.pip_audit.proofs.Walks.{names_count}
 
@@ -117,23 +117,45 @@ some_lines : (m : Memory) (f : ℕ) → word_at m f 15 % 65536 ≢ 0 → has_no_
 unfolding node_read
 some_lines m f ne = ne_eqb (length (lines_read 16 0 (word_at m f 15))) 0 (λ q. ne (lines_some 16 0 (word_at m f 15) q))
 
--- ---- part 8
+-- whether a node has lines, by its word of them
+pub lines_told : (m : Memory) (f : ℕ) → (word_at m f 15 % 65536 == 0) ≡ has_no_lines (node_read m f)
+lines_told m f = elim (cases_eq (word_at m f 15 % 65536) 0) [
+  | inl e ↦ eq-eqb (word_at m f 15 % 65536) 0 e ∙ sym (no_lines m f e)
+  | inr ne ↦ ne_eqb (word_at m f 15 % 65536) 0 ne ∙ sym (some_lines m f ne)
+]
+
+-- ---- a test of each node
 
 pub nodes_are : (m : Memory) (a : Auditor) (others : List Node) → HasRead m a others → (x : Node) → In x others
     → x ≡ node_read m x.name
 nodes_are m a others h x i = (h.nodes x i).2
 
-pub part_8_holds : (m : Memory) (a : Auditor)
-    → ((k : ℕ) → 1 ≤ k → k < a.count → word_at m (slice_index a.names.items k) 15 % 65536 ≡ 0) → Tests part_8 m a true
-unfolding part_8
-part_8_holds m a t = λ r. sym (others_true m a.names.items has_no_lines a.count r.others r.has_read.names
-    (nodes_are m a r.others r.has_read) (λ k lo hi. no_lines m (slice_index a.names.items k) (t k lo hi)))
+pub count_some : (m : Memory) (a : Auditor) (others : List Node) → HasRead m a others → 0 < a.count
+count_some m a others h = let n = names_count a.names.items a.count others h.names in omega (arith, n)
 
-pub part_8_breaks : (m : Memory) (a : Auditor) (k : ℕ) → 1 ≤ k → k < a.count
-    → word_at m (slice_index a.names.items k) 15 % 65536 ≢ 0 → Tests part_8 m a false
-unfolding part_8
-part_8_breaks m a k lo hi ne = λ r. sym (others_false m a.names.items has_no_lines a.count r.others r.has_read.names
-    (nodes_are m a r.others r.has_read) k lo hi (some_lines m (slice_index a.names.items k) ne))
+module _ (m : Memory) (a : Auditor) (others : List Node) (h : HasRead m a others) (p : Node → Bool) where
+  -- but the root
+  pub others_told : (z : Bool) → TellsEach (λ k b. b ≡ p (node_at m a.names.items k)) 1 a.count z
+      → list_all p others ≡ z
+  others_told true t = others_true m a.names.items p a.count others h.names (nodes_are m a others h)
+      (λ k lo hi. sym (t k lo hi))
+  others_told false t = others_false m a.names.items p a.count others h.names (nodes_are m a others h) t.0 t.1 t.2
+      (sym t.3)
+
+  -- and with it
+  pub nodes_told : (z : Bool) → TellsEach (λ k b. b ≡ p (node_at m a.names.items k)) 0 a.count z
+      → list_all p (node_read m 1 ∷ others) ≡ z
+  nodes_told true t = both (root ∙ sym (t 0 (omega arith) (count_some m a others h)))
+      (others_told true (λ k lo hi. t k (omega arith) hi))
+    where
+      root : p (node_read m 1) ≡ p (node_at m a.names.items 0)
+      root = ap (λ f. p (node_read m f)) (sym (root_name a.names.items a.count others h.names))
+  nodes_told false t = elim (cases_eq t.0 0) [
+    | inl q ↦ not_first (list_all p others)
+        (ap (λ f. p (node_read m f)) (sym (root_name a.names.items a.count others h.names)
+        ∙ ap (slice_index a.names.items) (sym q)) ∙ sym t.3)
+    | inr ne ↦ not_second (p (node_read m 1)) (others_told false (t.0, omega (arith, ne), t.2, t.3))
+  ]
 
 -- ---- the names
 
@@ -237,20 +259,20 @@ module _ (m : Memory) (names : List ℕ) where
         → ((x : Node) → In x xs → x ≡ node_read m x.name)
         → ((k : ℕ) → 1 ≤ k → k < count → (j : ℕ) × (j < k) × (slice_index names j ≡ word_at m (slice_index names k) 11))
         → word_at m 1 11 ≡ 1 → is_rooted (node_read m 1) xs ≡ true
-    rooted count [] most h is behind top =
+    rooted count [] most h is later top =
         eq-eqb (node_read m 1).up (node_read m 1).name (up_is m 1 ∙ top ∙ sym (name_is m 1))
-    rooted count (x ∷ xs) most h is behind top =
+    rooted count (x ∷ xs) most h is later top =
         let more = h.1 in
         let below = names_count names h.0 xs h.3 in
-        let b = behind h.0 (omega (arith, below)) (omega (arith, more)) in
+        let b = later h.0 (omega (arith, below)) (omega (arith, more)) in
         let up : x.up ≡ word_at m (slice_index names h.0) 11 =
         ap (λ (y : Node). y.up) (is x (inl refl)) ∙ up_is m x.name ∙ ap (λ f. word_at m f 11) (sym h.2) in
         both (ap not (not_known h.0 xs h.3 x.name (λ k l q. apart k h.0 l (omega (arith, more, most)) (q ∙ sym h.2))))
         (both (at_known h.0 xs h.3 x.up b.0 b.1 (b.2 ∙ sym up))
         (rooted h.0 xs (omega (arith, more, most)) h.3 (λ y i. is y (inr i))
-        (λ k lo hi. behind k lo (omega (arith, hi, more))) top))
+        (λ k lo hi. later k lo (omega (arith, hi, more))) top))
 
-  unrooted_top : (count : ℕ) (xs : List Node) → AreNames names count xs → word_at m 1 11 ≢ 1
+  pub unrooted_top : (count : ℕ) (xs : List Node) → AreNames names count xs → word_at m 1 11 ≢ 1
       → is_rooted (node_read m 1) xs ≡ false
   unrooted_top count [] h top =
       ne_eqb (node_read m 1).up (node_read m 1).name (λ q. top (sym (up_is m 1) ∙ q ∙ name_is m 1))
@@ -284,21 +306,15 @@ apart_names m a others h j k l hi = λ q.
     same : {i k : ℕ} → Some i ≡ Some k → i ≡ k
     same q = cc
 
-pub part_1_holds : (m : Memory) (a : Auditor) → ((k : ℕ) → 1 ≤ k → k < a.count → IsReadLater m a k true)
-    → word_at m 1 11 ≡ 1 → Tests part_1 m a true
-unfolding part_1
-part_1_holds m a behind top = λ r. sym (rooted m a.names.items a.count (apart_names m a r.others r.has_read) a.count
-    r.others (omega arith) r.has_read.names (nodes_are m a r.others r.has_read) behind top)
+pub is_later : (m : Memory) (a : Auditor) (others : List Node) → HasRead m a others
+    → ((k : ℕ) → 1 ≤ k → k < a.count → IsReadLater m a.names.items k true) → word_at m 1 11 ≡ 1
+    → is_rooted (node_read m 1) others ≡ true
+is_later m a others h = rooted m a.names.items a.count (apart_names m a others h) a.count others (omega arith) h.names
+    (nodes_are m a others h)
 
-pub part_1_breaks : (m : Memory) (a : Auditor) (k : ℕ) → 1 ≤ k → k < a.count → IsReadLater m a k false
-    → Tests part_1 m a false
-unfolding part_1
-part_1_breaks m a k lo hi none = λ r.
-    sym (unrooted m a.names.items a.count r.others r.has_read.names (nodes_are m a r.others r.has_read) k lo hi none)
-
-pub part_1_root : (m : Memory) (a : Auditor) → word_at m 1 11 ≢ 1 → Tests part_1 m a false
-unfolding part_1
-part_1_root m a top = λ r. sym (unrooted_top m a.names.items a.count r.others r.has_read.names top)
+pub is_early : (m : Memory) (a : Auditor) (others : List Node) → HasRead m a others → (k : ℕ) → 1 ≤ k → k < a.count
+    → IsReadLater m a.names.items k false → is_rooted (node_read m 1) others ≡ false
+is_early m a others h = unrooted m a.names.items a.count others h.names (nodes_are m a others h)
 
 -- ---- what is known of the node at a place
 
@@ -322,37 +338,3 @@ node_there m a others h k hi = go a.count others h.names (λ x i. (h.nodes x i).
 pub name_fits : (m : Memory) (a : Auditor) (others : List Node) → HasRead m a others → (k : ℕ) → k < a.count
     → k < length a.names.items
 name_fits m a others h k hi = let fits = h.fits in omega (arith, fits, hi)
-
-pub count_some : (m : Memory) (a : Auditor) (others : List Node) → HasRead m a others → 0 < a.count
-count_some m a others h = let n = names_count a.names.items a.count others h.names in omega (arith, n)
-
-pub behind_true : (m : Memory) (a : Auditor) (others : List Node) → HasRead m a others → (x up place : ℕ)
-    → up < length m → up ≡ word_at m (slice_index a.names.items x) 11
-    → slice_index_or a.order.items up None ≡ Some place → place < x → IsReadLater m a x true
-behind_true m a others h x up place l e o less = (place, less, (h.order.place up place l o).1 ∙ e)
-
-pub behind_none : (m : Memory) (a : Auditor) (others : List Node) → HasRead m a others → (x up : ℕ) → x < a.count
-    → up ≡ word_at m (slice_index a.names.items x) 11 → slice_index_or a.order.items up None ≡ None
-    → IsReadLater m a x false
-behind_none m a others h x up hi e o = λ k l q.
-    never (sym o ∙ ap (λ f. slice_index_or a.order.items f None) (e ∙ sym q) ∙ h.order.back k (omega (arith, l, hi)))
-  where
-    never : {k : ℕ} → None ≡ Some k → ⊥
-    never q = cc
-
-pub behind_late : (m : Memory) (a : Auditor) (others : List Node) → HasRead m a others → (x up place : ℕ) → x < a.count
-    → up ≡ word_at m (slice_index a.names.items x) 11 → slice_index_or a.order.items up None ≡ Some place → x ≤ place
-    → IsReadLater m a x false
-behind_late m a others h x up place hi e o late = λ k l q.
-    let s : place ≡ k = same (sym o ∙ ap (λ f. slice_index_or a.order.items f None) (e ∙ sym q)
-    ∙ h.order.back k (omega (arith, l, hi))) in
-    absurd (omega (arith, l, late, s))
-  where
-    same : {i k : ℕ} → Some i ≡ Some k → i ≡ k
-    same q = cc
-
-pub behind_far : (m : Memory) (a : Auditor) (others : List Node) → 16 ≤ length m → HasRead m a others → (x up : ℕ)
-    → x < a.count → up ≡ word_at m (slice_index a.names.items x) 11 → length m ≤ up → IsReadLater m a x false
-behind_far m a others least h x up hi e far = λ k l q.
-    let inside = name_inside m a others least h k (omega (arith, l, hi)) in
-    absurd (omega (arith, far, e, q, inside))

@@ -5,12 +5,12 @@ use Rattle.std.specs.Prelude.{slice_index, slice_index_or}
 use Rattle.std.proofs.lemmas.List.{drop_more}
 use Rattle.pip_base.specs.declared.types.Pair.{Pair}
 use Rattle.pip_base.specs.Memory.{Memory}
-use Rattle.pip_model.specs.ReadOff.{gather, node_read, row_read, with_first}
-use Rattle.pip_model.specs.Tree.{Row, row_pages}
+use Rattle.pip_model.specs.ReadOff.{gather, row_read, with_first}
+use Rattle.pip_model.specs.Tree.{Row}
 use Rattle.pip_model.proofs.Audit.Over.{gather_append, gather_empty}
 use Rattle.pip_audit.specs.FrameSets.{are_fresh, with_all}
-use Rattle.pip_audit.specs.Tables.{tables_in}
-use Rattle.pip_audit.proofs.PartLaws.{rows_are}
+use Rattle.pip_audit.specs.declared.tables.Row.{Row as Held}
+use Rattle.pip_audit.specs.Tables.{IsFirstRow, IsNextLeft, row_seen, tables_in}
 
 pub fresh_same : (a b : ℕ → Bool) (gs : List ℕ) → ((f : ℕ) → a f ≡ b f) → are_fresh a gs ≡ are_fresh b gs
 fresh_same a b [] h = refl
@@ -39,13 +39,6 @@ module _ (xs gs : List ℕ) (g : ℕ) (is : xs ≡ g ∷ gs) (a b : ℕ → Bool
   pub with_more : (f : ℕ) → with_all a xs f ≡ with_all b gs f
   with_more f = ap (λ ys. with_all a ys f) is ∙ sym (with_same b (λ h. h == g || a h) gs f e)
 
-pub fresh_end : (t : Bool) (a : ℕ → Bool) (xs : List ℕ) → xs ≡ [] → (t && are_fresh a xs) ≡ t
-fresh_end t a xs e = ap (λ ys. t && are_fresh a ys) e ∙ all t
-  where
-    all : (b : Bool) → (b && true) ≡ b
-    all true = refl
-    all false = refl
-
 -- the pages from place k on
 pub next_page : (gs : List ℕ) (k g : ℕ) → k < length gs → slice_index gs k ≡ g → drop k gs ≡ g ∷ drop (k + 1) gs
 next_page gs k g h is = drop_more gs k 0 h ∙ ap (λ x. x ∷ drop (k + 1) gs) is
@@ -68,11 +61,9 @@ drop_all (g ∷ gs) (suc k) h = drop_all gs k (omega (arith, h))
 
 -- ---- the rows of a node from a vpage on
 
-abbrev pub rows_from : (ℕ → Option Row) → ℕ → List Row
-rows_from f from = gather f from (2 ^ 20 - from)
-
-pub rows_step : (f : ℕ → Option Row) (from at : ℕ) (r : Row) → from ≤ at → at < 2 ^ 20
-    → ((k : ℕ) → from ≤ k → k < at → f k ≡ None) → f at ≡ Some r → rows_from f from ≡ r ∷ rows_from f (at + 1)
+rows_step : (f : ℕ → Option Row) (from at : ℕ) (r : Row) → from ≤ at → at < 2 ^ 20
+    → ((k : ℕ) → from ≤ k → k < at → f k ≡ None) → f at ≡ Some r
+    → gather f from (2 ^ 20 - from) ≡ r ∷ gather f (at + 1) (2 ^ 20 - (at + 1))
 unfolding gather
 rows_step f from at r lo hi none some =
     let a : (at - from) + suc (2 ^ 20 - (at + 1)) ≡ 2 ^ 20 - from = omega (arith, lo, hi) in
@@ -84,24 +75,17 @@ rows_step f from at r lo hi none some =
     ∙ ap (λ k. gather f k (suc (2 ^ 20 - (at + 1)))) b
     ∙ ap (λ o. with_first o (gather f (at + 1) (2 ^ 20 - (at + 1)))) some
 
-pub rows_end : (f : ℕ → Option Row) (from : ℕ) → ((k : ℕ) → from ≤ k → k < 2 ^ 20 → f k ≡ None) → rows_from f from ≡ []
-rows_end f from none = gather_empty f from (2 ^ 20 - from) (λ k lo hi. none k lo (omega (arith, lo, hi)))
-
--- ---- the pages of rows
-
-abbrev pub pages_from : (ℕ → Option Row) → ℕ → List ℕ
-pages_from f from = map (λ (r : Row). r.frame) (rows_from f from)
-
-pub pages_step : (f : ℕ → Option Row) (from at : ℕ) (r : Row) → from ≤ at → at < 2 ^ 20
-    → ((k : ℕ) → from ≤ k → k < at → f k ≡ None) → f at ≡ Some r → pages_from f from ≡ r.frame ∷ pages_from f (at + 1)
-pages_step f from at r lo hi none some = ap (map (λ (r : Row). r.frame)) (rows_step f from at r lo hi none some)
-
-pub pages_end : (f : ℕ → Option Row) (from : ℕ) → ((k : ℕ) → from ≤ k → k < 2 ^ 20 → f k ≡ None)
-    → pages_from f from ≡ []
-pages_end f from none = ap (map (λ (r : Row). r.frame)) (rows_end f from none)
-
-pub pages_all : (m : Memory) (f : ℕ) → row_pages (node_read m f) ≡ pages_from (row_read m (tables_in m f)) 0
-pages_all m f = ap (map (λ (r : Row). r.frame)) (rows_are m f)
+-- the next of them is the first row from there on
+pub next_is : (m : Memory) (part from : ℕ) (o : Option Held) → IsFirstRow m (tables_in m part) from (2 ^ 20) o
+    → IsNextLeft m part from o
+next_is m part from None none =
+    gather_empty (row_read m (tables_in m part)) from (2 ^ 20 - from) (λ k lo hi. none k lo (omega (arith, lo, hi)))
+next_is m part from (Some r) is = record {
+  from = is.0;
+  small = is.1;
+  inside = is.2;
+  rows = rows_step (row_read m (tables_in m part)) from r.at (row_seen r) is.0 is.1 is.4 is.3;
+}
 
 -- ---- all that a node holds
 

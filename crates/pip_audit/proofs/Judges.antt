@@ -123,16 +123,6 @@ pub record Hides (m : Memory) (names : List ℕ) (end : ℕ) (marked : ℕ → B
   pub from : (g : ℕ) → marked g ≡ true → (k : ℕ) × (k < end) × In g (config (node_at m names k))
   pub marks : (g k : ℕ) → k < end → In g (config (node_at m names k)) → marked g ≡ true
 
-pub hides_none : (m : Memory) (names : List ℕ) (marked : ℕ → Bool) → ((g : ℕ) → marked g ≡ false)
-    → Hides m names 0 marked
-hides_none m names marked none = record {
-  from = λ g e. absurd (clash (sym e ∙ none g));
-  marks = λ g k h i. absurd (omega (arith, h));
-}
-  where
-    clash : true ≡ false → ⊥
-    clash e = cc
-
 pub hides_next : (m : Memory) (names : List ℕ) (x : ℕ) (old new : ℕ → Bool) → ((f : ℕ)
     → new f ≡ with_all old (config (node_at m names x)) f) → Hides m names x old → Hides m names (x + 1) new
 hides_next m names x old new e h = record {

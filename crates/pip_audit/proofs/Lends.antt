@@ -1,26 +1,25 @@
 -- Part 4 of soundness, by the set of the pages of the rows of the parent.
-use Rattle.std.proofs.Common.{◌≡◌, ◌≢◌, ℕ, ◌+◌, ◌^◌, ◌<◌, ◌≤◌, ◌%◌, ◌==◌, Option, Some, None, ◌&&◌, ◌||◌, inl, inr}
-use Rattle.std.proofs.Common.{List, [], ◌∷◌, ◌++◌, zero, suc, drop, map, length, refl, sym, ap, ap₂, ◌∙◌, subst, arith}
+use Rattle.std.proofs.Common.{◌≡◌, ℕ, ◌+◌, ◌^◌, ◌<◌, ◌%◌, ◌==◌, Option, Some, None, ◌&&◌, ◌||◌, inl, inr}
+use Rattle.std.proofs.Common.{List, [], ◌∷◌, ◌++◌, drop, map, length, refl, sym, ap, ap₂, ◌∙◌, subst, arith}
 use Rattle.std.proofs.Common.{Bool, true, false, eq-eqb, eqb-true, ne_eqb}
-use Rattle.std.specs.Prelude.{option_map, slice_index, slice_index_or}
+use Rattle.std.specs.Prelude.{option_map, slice_index_or}
 use Rattle.std.specs.List.{list_all}
 use Rattle.std.proofs.lemmas.Bool.{cases_eq}
 use Rattle.std.proofs.lemmas.List.{drop_more}
 use Rattle.pip_base.specs.declared.types.Pair.{Pair}
 use Rattle.pip_base.specs.Memory.{Memory, word_at}
 use Rattle.pip_model.specs.Lists.{In, has}
-use Rattle.pip_model.specs.Parts.{each_other, is_lent_by, is_named_by_base, is_page}
+use Rattle.pip_model.specs.Parts.{is_lent_by, is_named_by_base, is_page}
 use Rattle.pip_model.specs.ReadOff.{node_read, row_read}
 use Rattle.pip_model.specs.Tree.{Node, Row, config, page_at, pairs, row_at, row_pages, vpage}
 use Rattle.pip_model.proofs.Audit.Over.{gather_at}
 use Rattle.pip_model.proofs.OnLists.Members.{In-map, in_has}
 use Rattle.pip_model.proofs.Trees.Free.{row_found}
-use Rattle.pip_audit.specs.declared.auditor.Auditor.{Auditor}
 use Rattle.pip_audit.specs.FrameSets.{with_all}
-use Rattle.pip_audit.specs.Judging.{Tests, is_placed}
+use Rattle.pip_audit.specs.Judging.{is_placed}
 use Rattle.pip_audit.specs.Givens.{no_pair}
 use Rattle.pip_audit.specs.Tables.{tables_in}
-use Rattle.pip_audit.proofs.EachNode.{both, nodes_are, not_first, others_false, others_true}
+use Rattle.pip_audit.proofs.EachNode.{both, not_first}
 use Rattle.pip_audit.proofs.PartLaws.{row_stands, rows_are}
 
 same_back : (x y : ℕ) → (x == y) ≡ (y == x)
@@ -51,12 +50,10 @@ has_of a gs f z none e = e ∙ with_has a gs f ∙ ap (λ b. has gs f || b) (non
     or_false true = refl
     or_false false = refl
 
-module _ (xs gs : List ℕ) (g : ℕ) (is : xs ≡ g ∷ gs) where
-  pub all_more : (p : ℕ → Bool) → p g ≡ true → list_all p xs ≡ list_all p gs
-  all_more p e = ap (list_all p) is ∙ ap (λ b. b && list_all p gs) e
-
-  pub all_less : (p : ℕ → Bool) → p g ≡ false → list_all p xs ≡ false
-  all_less p e = ap (list_all p) is ∙ not_first (list_all p gs) e
+pub all_mapped : (p : ℕ → Bool) (rs : List Row)
+    → list_all p (map (λ (r : Row). r.frame) rs) ≡ list_all (λ (r : Row). p r.frame) rs
+all_mapped p [] = refl
+all_mapped p (r ∷ rs) = ap (λ b. p r.frame && b) (all_mapped p rs)
 
 -- ---- a page of configuration
 
@@ -66,10 +63,6 @@ page_at_is m f v o small e =
     ap (λ rs. option_map (λ (r : Row). r.frame) (row_at rs v)) (rows_are m f)
     ∙ ap (option_map (λ (r : Row). r.frame)) (gather_at (row_read m (tables_in m f)) (row_stands m (tables_in m f)) 0
     (2 ^ 20) v (omega arith) (omega (arith, small)) ∙ e)
-
--- whether it stands at an address
-pub lent_off : (va : ℕ) (b : Bool) → va % 4096 ≢ 0 → false ≡ (va % 4096 == 0 && b)
-lent_off va b ne = sym (not_first b (ne_eqb (va % 4096) 0 ne))
 
 pub lent_at : (m : Memory) (f va frame : ℕ) (o : Option Row) (z : Bool) → va % 4096 ≡ 0 → va < 2 ^ 32
     → row_read m (tables_in m f) (vpage va) ≡ o → z ≡ is_page (option_map (λ (r : Row). r.frame) o) frame
@@ -91,35 +84,18 @@ module _ (p : Pair → Bool) (ps : List Pair) (k : ℕ) where
     pub pairs_less : p g ≡ false → list_all p (drop k ps) ≡ false
     pairs_less e = ap (list_all p) next ∙ not_first (list_all p (drop (k + 1) ps)) e
 
-  pub pairs_end : length ps ≤ k → list_all p (drop k ps) ≡ true
-  pairs_end h = ap (list_all p) (none ps k h)
-    where
-      none : (gs : List Pair) (i : ℕ) → length gs ≤ i → drop i gs ≡ []
-      none [] zero l = refl
-      none [] (suc i) l = refl
-      none (g ∷ gs) zero l = absurd (omega (arith, l))
-      none (g ∷ gs) (suc i) l = none gs i (omega (arith, l))
-
 -- ---- names
 
-named : (m : Memory) (f : ℕ) → word_at m f 1 ≡ f → is_named_by_base (node_read m f) ≡ true
+pub name_told : (m : Memory) (f : ℕ) → (word_at m f 1 == f) ≡ is_named_by_base (node_read m f)
 unfolding node_read
-named m f e = both (eq-eqb f (word_at m f 1) (sym e)) (eq-eqb (word_at m f 0) (word_at m f 0) refl)
-
-not_named : (m : Memory) (f : ℕ) → word_at m f 1 ≢ f → is_named_by_base (node_read m f) ≡ false
-unfolding node_read
-not_named m f ne = not_first (word_at m f 0 == word_at m f 0) (ne_eqb f (word_at m f 1) (λ q. ne (sym q)))
-
-pub named_holds : (m : Memory) (a : Auditor)
-    → ((k : ℕ) → 1 ≤ k → k < a.count → word_at m (slice_index a.names.items k) 1 ≡ slice_index a.names.items k)
-    → Tests (each_other is_named_by_base) m a true
-named_holds m a t = λ r. sym (others_true m a.names.items is_named_by_base a.count r.others r.has_read.names
-    (nodes_are m a r.others r.has_read) (λ k lo hi. named m (slice_index a.names.items k) (t k lo hi)))
-
-pub named_breaks : (m : Memory) (a : Auditor) (k : ℕ) → 1 ≤ k → k < a.count → word_at m (slice_index a.names.items k) 1
-    ≢ slice_index a.names.items k → Tests (each_other is_named_by_base) m a false
-named_breaks m a k lo hi ne = λ r. sym (others_false m a.names.items is_named_by_base a.count r.others r.has_read.names
-    (nodes_are m a r.others r.has_read) k lo hi (not_named m (slice_index a.names.items k) ne))
+name_told m f =
+    same_back (word_at m f 1) f
+    ∙ sym (with_true (f == word_at m f 1))
+    ∙ sym (ap (λ b. f == word_at m f 1 && b) (eq-eqb (word_at m f 0) (word_at m f 0) refl))
+  where
+    with_true : (b : Bool) → (b && true) ≡ b
+    with_true true = refl
+    with_true false = refl
 
 -- ---- all that a child holds
 

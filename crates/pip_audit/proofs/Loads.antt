@@ -6,9 +6,9 @@ use Rattle.std.specs.Prelude.{is_some, nat_le, option_map}
 use Rattle.std.proofs.lemmas.Bool.Decides.{nat_tests}
 use Rattle.pip_base.specs.Memory.{Memory, word_at}
 use Rattle.pip_model.specs.Lists.{has, repeats}
-use Rattle.pip_model.specs.ReadOff.{base_read, base_stop, count_stop, first, leaf_stop, listed, more_stop, node_read}
-use Rattle.pip_model.specs.ReadOff.{node_stop, or_first, place_of_table, slot_start, slot_stop_at, stop_at_frame}
-use Rattle.pip_model.specs.ReadOff.{stop_unless, table_from, table_read, table_stop, tables_read}
+use Rattle.pip_model.specs.ReadOff.{base_read, base_stop, count_stop, first, leaf_stop, values_from, more_stop}
+use Rattle.pip_model.specs.ReadOff.{node_read, node_stop, or_first, place_of_table, slot_start, slot_stop_at}
+use Rattle.pip_model.specs.ReadOff.{stop_at_frame, stop_unless, table_from, table_read, table_stop, tables_read}
 use Rattle.pip_model.specs.Tree.{Table, lists, table_at}
 use Rattle.pip_model.proofs.Audit.AuditLaw.{first_none_back}
 use Rattle.pip_audit.specs.declared.tables.Tables.{Tables}
@@ -108,25 +108,25 @@ passes m f c q e =
 -- ---- the last tables
 
 abbrev pub last_tables : Memory → ℕ → ℕ → ℕ → List Table
-last_tables m f c k = listed (table_read m (base_read m f) (list_read m f c)) (c - k) k
+last_tables m f c k = values_from (table_read m (base_read m f) (list_read m f c)) (c - k) k
 
 pub last_none : (m : Memory) (f c d : ℕ) → option_map triple_of (table_at (last_tables m f c 0) d) ≡ None
-unfolding listed
+unfolding values_from
 last_none m f c d = refl
 
 pub last_apart : (m : Memory) (f c : ℕ) → repeats (map (λ (t : Table). t.index) (last_tables m f c 0)) ≡ false
-unfolding listed
+unfolding values_from
 last_apart m f c = refl
 
 last_more : (m : Memory) (f c k : ℕ) → k < c
     → last_tables m f c (k + 1) ≡ table_read m (base_read m f) (list_read m f c) (c - 1 - k) ∷ last_tables m f c k
-unfolding listed
+unfolding values_from
 last_more m f c k h =
     let g = table_read m (base_read m f) (list_read m f c) in
     let s : k + 1 ≡ suc k = omega arith in
     let a : c - (k + 1) ≡ c - 1 - k = omega arith in
     let b : c - (k + 1) + 1 ≡ c - k = omega (arith, h) in
-    ap (listed g (c - (k + 1))) s ∙ ap₂ (λ t ts. t ∷ ts) (ap g a) (ap (λ i. listed g i k) b)
+    ap (values_from g (c - (k + 1))) s ∙ ap₂ (λ t ts. t ∷ ts) (ap g a) (ap (λ i. values_from g i k) b)
 
 pub slot_table : (m : Memory) (f c j directory page : ℕ) → j < c → directory ≡ word_at m f 3
     → page ≡ page_after m (word_at m f 9) (j / 170)
@@ -179,7 +179,7 @@ pub all_tables : (m : Memory) (f c k : ℕ) → k ≡ c → c ≡ word_at m f 12
 unfolding node_read
 all_tables m f c k e q =
     let z : c - c ≡ 0 = omega arith in
-    ap (last_tables m f c) e ∙ ap (λ i. listed (table_read m (base_read m f) (list_read m f c)) i c) z
+    ap (last_tables m f c) e ∙ ap (λ i. values_from (table_read m (base_read m f) (list_read m f c)) i c) z
     ∙ ap (λ n. tables_read m (base_read m f) (list_read m f n) n) q
 
 -- ---- which slot a table is from
@@ -187,17 +187,18 @@ all_tables m f c k e q =
 abbrev Found : (ℕ → Table) → ℕ → ℕ → Triple → Type 0
 Found f from n b = (j : ℕ) × (from ≤ j) × (j < from + n) × (triple_of (f j) ≡ b)
 
-found_in : (f : ℕ → Table) (from n d : ℕ) (b : Triple) → option_map triple_of (table_at (listed f from n) d) ≡ Some b
+found_in : (f : ℕ → Table) (from n d : ℕ) (b : Triple) → option_map triple_of (table_at (values_from f from n) d)
+    ≡ Some b
     → Found f from n b
-unfolding listed
+unfolding values_from
 found_in f from zero d b e = cc
 found_in f from (suc n) d b e = go ((f from).index == d) (found_in f (from + 1) n d b) e
   where
     inside : (t : Triple) → Some t ≡ Some b → t ≡ b
     inside t q = cc
 
-    go : (z : Bool) → (option_map triple_of (table_at (listed f (from + 1) n) d) ≡ Some b → Found f (from + 1) n b)
-        → option_map triple_of (cond z (Some (f from)) (table_at (listed f (from + 1) n) d)) ≡ Some b
+    go : (z : Bool) → (option_map triple_of (table_at (values_from f (from + 1) n) d) ≡ Some b → Found f (from + 1) n b)
+        → option_map triple_of (cond z (Some (f from)) (table_at (values_from f (from + 1) n) d)) ≡ Some b
         → Found f from (suc n) b
     go true later e = (from, omega arith, omega arith, inside (triple_of (f from)) e)
     go false later e =

@@ -38,10 +38,3 @@ is_none kind m s f b i known lo hi e = go (place_in s f) refl e
     go : (o : Option ℕ) → place_in s f ≡ o → bit_at (mask_at s o b) i ≡ 0 → IsNone kind (word_at m f (32 * b + i))
     go None q e = absurd (unset i hi e)
     go (Some k) q e = (known f k q).1 b i lo hi e
-
--- where nothing was read, all is known
-pub none_read : (kind : Kind) (m : Memory) (s : Masks) → ((f : ℕ) → place_in s f ≡ None) → AreMasks kind m s
-none_read kind m s none f k q = clash (sym (none f) ∙ q)
-  where
-    clash : {A : Type 0} → None ≡ Some k → A
-    clash e = cc

@@ -1,5 +1,5 @@
 -- Part 6 of soundness, by the rights that the rows of a parent give each page.
-use Rattle.std.proofs.Common.{◌≡◌, ℕ, zero, suc, ◌+◌, ◌/◌, ◌%◌, ◌^◌, ◌<◌, ◌≤◌, ◌==◌, ◌&&◌, List, [], ◌∷◌, length, refl}
+use Rattle.std.proofs.Common.{◌≡◌, ℕ, zero, suc, ◌+◌, ◌/◌, ◌%◌, ◌^◌, ◌<◌, ◌==◌, ◌&&◌, List, ◌∷◌, length, refl}
 use Rattle.std.proofs.Common.{sym, ap, ap₂, ◌∙◌, arith, Option, Some, None, Bool, true, false, cond, eq-eqb}
 use Rattle.std.proofs.Common.{eqb-true}
 use Rattle.std.specs.Prelude.{if◌then◌else◌, nat_le, nat_lt, option_map, slice_index}
@@ -8,18 +8,16 @@ use Rattle.std.specs.List.{list_all}
 use Rattle.std.proofs.lemmas.Grind.{numeral_and}
 use Rattle.std.proofs.lemmas.Nat.{and_assoc, and_comm}
 use Rattle.pip_base.specs.Memory.{Memory, word_at}
-use Rattle.pip_model.specs.Parts.{are_among, can_read, gives_no_more, implies, part_1, part_6}
+use Rattle.pip_model.specs.Parts.{are_among, can_read, gives_no_more, implies}
 use Rattle.pip_model.specs.ReadOff.{gather, is_leaf, leaf_is_read, leaf_stop, node_read, node_stop, row_of_word}
 use Rattle.pip_model.specs.ReadOff.{row_read, stop_unless, with_first}
 use Rattle.pip_model.specs.Tree.{Row, Table, dir, table_at}
 use Rattle.pip_audit.specs.declared.auditor.Auditor.{Auditor}
 use Rattle.pip_audit.specs.declared.tables.Triple.{Triple}
-use Rattle.pip_audit.specs.Comparing.{tree_in}
-use Rattle.pip_audit.specs.Judging.{AreRights, Tests, is_given, parent_test}
+use Rattle.pip_audit.specs.Judging.{AreRights, is_given}
 use Rattle.pip_audit.specs.Reading.{IsRead}
 use Rattle.pip_audit.specs.Tables.{tables_in, triple_of}
-use Rattle.pip_audit.proofs.Children.{children_break, children_hold}
-use Rattle.pip_audit.proofs.EachNode.{both, node_there, nodes_are, not_first, not_second, others_true}
+use Rattle.pip_audit.proofs.EachNode.{both, node_there, nodes_are, others_true}
 use Rattle.pip_audit.proofs.Loads.{table_leaves}
 use Rattle.pip_audit.proofs.PartLaws.{gather_true, rows_are}
 use Rattle.pip_audit.proofs.Rows.{no_row, row_by_word}
@@ -106,22 +104,6 @@ one_more held new all rows rest s e is so_far = λ r g low.
         assoc false y w = refl
     turn false r h z = refl
 
-pub all_so_far : (held : ℕ → ℕ) (all rows : List Row) → rows ≡ [] → AreSoFar held all rows → AreRights held all
-all_so_far held all rows e so_far = λ r g low. sym (so_far r g low
-    ∙ ap (λ rs. are_among r (held g) && list_all (allows r g) rs) e ∙ with_true (are_among r (held g)))
-  where
-    with_true : (b : Bool) → (b && true) ≡ b
-    with_true true = refl
-    with_true false = refl
-
--- a test of the rows from here on
-module _ (p : Row → Bool) (rows rest : List Row) (s : Row) (is : rows ≡ s ∷ rest) where
-  pub rows_more : p s ≡ true → list_all p rows ≡ list_all p rest
-  rows_more e = ap (list_all p) is ∙ ap (λ b. b && list_all p rest) e
-
-  pub rows_less : p s ≡ false → list_all p rows ≡ false
-  rows_less e = ap (list_all p) is ∙ not_first (list_all p rest) e
-
 -- ---- a row by its word
 
 row_word : (v w : ℕ) (r : Row) → row_of_word v w ≡ Some r → ((w == 0) ≡ false) × (r.rights ≡ w / 4 % 8)
@@ -205,22 +187,10 @@ given_is m y f held h =
     (2 ^ 20) (λ v r e. h r.rights r.frame (rights_small m (tables_in m f) v r e))
     ∙ sym (ap (list_all all) (rows_are m f))
 
--- ---- part 6
+-- ---- every node
 
-all_can_read : (m : Memory) (a : Auditor) (r : IsRead m a) → list_all can_read (node_read m 1 ∷ r.others) ≡ true
+pub all_can_read : (m : Memory) (a : Auditor) (r : IsRead m a) → list_all can_read (node_read m 1 ∷ r.others) ≡ true
 all_can_read m a r =
     let h = r.has_read in
     both (node_can_read m 1 h.root) (others_true m a.names.items can_read a.count r.others h.names (nodes_are m a
     r.others h) (λ k lo hi. node_can_read m (slice_index a.names.items k) (node_there m a r.others h k hi)))
-
-pub part_6_holds : (m : Memory) (a : Auditor)
-    → ((x : ℕ) → 1 ≤ x → x < a.count → parent_test gives_no_more m a.names.items x ≡ true) → Tests part_6 m a true
-unfolding part_6
-part_6_holds m a t = λ r. sym (both (all_can_read m a r) (sym (children_hold gives_no_more m a t r)))
-
-pub part_6_breaks : (m : Memory) (a : Auditor) → part_1 (tree_in m) ≡ true → (x : ℕ) → 1 ≤ x → x < a.count
-    → parent_test gives_no_more m a.names.items x ≡ false → Tests part_6 m a false
-unfolding part_6
-part_6_breaks m a one x lo hi e = λ r.
-    sym (not_second (list_all can_read (node_read m 1 ∷ r.others))
-    (sym (children_break gives_no_more m a one x lo hi e r)))

@@ -8,20 +8,18 @@ use Rattle.std.proofs.lemmas.Bool.{cases_eq}
 use Rattle.std.proofs.lemmas.Bool.Decides.{nat_tests}
 use Rattle.pip_base.specs.Memory.{Memory, word_at}
 use Rattle.pip_model.specs.Lists.{has}
-use Rattle.pip_model.specs.Parts.{has_tables, indexes, part_7}
+use Rattle.pip_model.specs.Parts.{has_tables, indexes}
 use Rattle.pip_model.specs.NodeWords.{Mmu}
-use Rattle.pip_model.specs.ReadOff.{base_read, cell_in, cell_read, gather, listed, more_read, node_read, place_of_table}
-use Rattle.pip_model.specs.ReadOff.{row_of_word, row_read, slot_page, slot_start, table_read, tables_read, with_first}
+use Rattle.pip_model.specs.ReadOff.{base_read, cell_in, cell_read, gather, values_from, more_read, node_read}
+use Rattle.pip_model.specs.ReadOff.{place_of_table, row_of_word, row_read, slot_page, slot_start, table_read}
+use Rattle.pip_model.specs.ReadOff.{tables_read, with_first}
 use Rattle.pip_model.specs.Tree.{Row, Table, dir, lists, table_at}
 use Rattle.pip_model.proofs.Audit.NodeBack.{rows_gathered}
-use Rattle.pip_audit.specs.declared.auditor.Auditor.{Auditor}
 use Rattle.pip_audit.specs.declared.tables.Tables.{Tables}
 use Rattle.pip_audit.specs.Links.{list_read}
-use Rattle.pip_audit.specs.Judging.{Tests}
 use Rattle.pip_audit.specs.Tables.{IsOf, IsRowAt, tables_in, triple_of}
 use Rattle.pip_audit.specs.declared.tables.Row.{Row as Held}
-use Rattle.pip_audit.proofs.EachNode.{both, node_at, nodes_are, not_first, not_second, others_false, others_true}
-use Rattle.pip_audit.proofs.EachNode.{root_name}
+use Rattle.pip_audit.proofs.EachNode.{both, not_first, not_second}
 use Rattle.pip_audit.proofs.Loads.{has_index, place_small}
 use Rattle.pip_audit.proofs.TableWords.{listed_long}
 
@@ -56,8 +54,8 @@ module _ {A : Type 0} (p : A → Bool) (f : ℕ → Option A) where
       go (Some s) rest = not_second (p s) rest
 
 pub listed_true : {A : Type 0} (p : A → Bool) (f : ℕ → A) (from n : ℕ) → ((j : ℕ) → p (f j) ≡ true)
-    → list_all p (listed f from n) ≡ true
-unfolding listed
+    → list_all p (values_from f from n) ≡ true
+unfolding values_from
 listed_true p f from zero h = refl
 listed_true p f from (suc n) h = both (h from) (listed_true p f (from + 1) n h)
 
@@ -124,7 +122,7 @@ lists_fit m f =
     eq-eqb (length (list_read m f c)) (lists (length (tables_read m (base_read m f) (list_read m f c) c))
     - 1) (more_long m (word_at m f 9) (lists c - 1) ∙ ap (λ n. lists n - 1) (sym long))
 
-pub tables_hold : (m : Memory) (t : Tables) → IsOf m t → t.repeats ≡ false → IsRowAt m (tables_in m t.part) 0 None
+tables_hold : (m : Memory) (t : Tables) → IsOf m t → t.repeats ≡ false → IsRowAt m (tables_in m t.part) 0 None
     → has_tables (node_read m t.part) ≡ true
 tables_hold m t of once none =
     let x = node_read m t.part in
@@ -142,37 +140,16 @@ tables_hold m t of once none =
     never : {r : Row} → None ≡ Some r → ⊥
     never q = cc
 
-pub tables_repeat : (m : Memory) (t : Tables) → IsOf m t → t.repeats ≡ true → has_tables (node_read m t.part) ≡ false
-tables_repeat m t of twice =
-    not_second (list_all (λ (r : Row). not (r.at == 0)) (node_read m t.part).rows)
-    (not_first _ (ap not (sym of.repeats ∙ twice)))
-
-pub tables_low : (m : Memory) (t : Tables) (r : Held) → IsOf m t → IsRowAt m (tables_in m t.part) 0 (Some r)
+tables_low : (m : Memory) (t : Tables) (r : Held) → IsOf m t → IsRowAt m (tables_in m t.part) 0 (Some r)
     → has_tables (node_read m t.part) ≡ false
 tables_low m t r of some =
     not_first _ (ap (list_all (λ (r : Row). not (r.at == 0))) (rows_are m t.part)
     ∙ gather_false (λ (r : Row). not (r.at == 0)) (row_read m (tables_in m t.part)) 0 (2 ^ 20) 0 _ (omega arith)
     (omega arith) some.2 (ap not (eq-eqb r.at 0 some.0)))
 
--- ---- part 7
-
-pub part_7_holds : (m : Memory) (a : Auditor) → ((k : ℕ) → k < a.count → has_tables (node_at m a.names.items k) ≡ true)
-    → 0 < a.count → Tests part_7 m a true
-unfolding part_7
-part_7_holds m a t some = λ r.
-    let root = ap (λ f. has_tables (node_read m f)) (sym (root_name a.names.items a.count r.others r.has_read.names)) in
-    sym (both (root ∙ t 0 some) (others_true m a.names.items has_tables a.count r.others r.has_read.names
-    (nodes_are m a r.others r.has_read) (λ k lo hi. t k hi)))
-
-pub part_7_breaks : (m : Memory) (a : Auditor) (k : ℕ) → k < a.count → has_tables (node_at m a.names.items k) ≡ false
-    → Tests part_7 m a false
-unfolding part_7
-part_7_breaks m a k hi e = λ r. elim (cases_eq k 0) [
-  | inl z ↦
-      let root =
-      ap (λ f. has_tables (node_read m f)) (sym (root_name a.names.items a.count r.others r.has_read.names)) in
-      sym (not_first (list_all has_tables r.others)
-      (root ∙ ap (λ j. has_tables (node_at m a.names.items j)) (sym z) ∙ e))
-  | inr nz ↦ sym (not_second (has_tables (node_read m 1)) (others_false m a.names.items has_tables a.count r.others
-      r.has_read.names (nodes_are m a r.others r.has_read) k (omega (arith, nz)) hi e))
-]
+pub tables_told : (m : Memory) (t : Tables) (o : Option Held) (z : Bool) → IsOf m t → t.repeats ≡ false
+    → IsRowAt m (tables_in m t.part) 0 o → is_some o ≡ not z → z ≡ has_tables (node_read m t.part)
+tables_told m t None true of once none e = sym (tables_hold m t of once none)
+tables_told m t None false of once none e = cc
+tables_told m t (Some r) true of once some e = cc
+tables_told m t (Some r) false of once some e = sym (tables_low m t r of some)

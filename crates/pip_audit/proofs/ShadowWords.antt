@@ -1,11 +1,11 @@
 -- The words of shadows, page by page.
 use Rattle.std.proofs.Common.{◌≡◌, ◌≢◌, ℕ, ◌+◌, ◌≤◌, ◌==◌, ◌&&◌, ◌||◌, inl, inr, List, [], ◌∷◌, ◌++◌, refl, sym, ap}
-use Rattle.std.proofs.Common.{ap₂, ◌∙◌, subst, arith, Some, Bool, true, false, cond, eq-eqb, ne_eqb, eqb-true}
+use Rattle.std.proofs.Common.{ap₂, ◌∙◌, subst, arith, Some, Bool, true, false, cond, eq-eqb, ne_eqb}
 use Rattle.std.specs.Prelude.{if◌then◌else◌, find, filter, option_map, slice_index}
 use Rattle.std.proofs.lemmas.Bool.{cases_eq}
 use Rattle.pip_base.specs.Memory.{Memory, word_at}
-use Rattle.pip_base.specs.Words.{as_configuration, as_descriptor, as_lent, shadow1_word, shadow2_word}
-use Rattle.pip_model.specs.FullRows.{given_by, given_word, vpage_of_page, place_word}
+use Rattle.pip_base.specs.Words.{as_configuration, as_descriptor, as_lent, shadow1_word}
+use Rattle.pip_model.specs.FullRows.{given_by, given_word, place_word}
 use Rattle.pip_model.specs.Lists.{In, has}
 use Rattle.pip_model.specs.ReadOff.{node_read}
 use Rattle.pip_model.specs.Tree.{Node, Row, config, holds, row_pages, vpage}
@@ -36,9 +36,6 @@ over_next word old new xs rest f w is e n g = elim (cases_eq g f) [
       ∙ sym (ap (λ ys. held_over word ys old g) is
       ∙ ap (λ b. if b || has rest g then word g else old g) (ne_eqb f g (λ q. ne (sym q))))
 ]
-
-pub over_end : (word held : ℕ → ℕ) (xs : List ℕ) (g : ℕ) → xs ≡ [] → held_over word xs held g ≡ held g
-over_end word held xs g e = ap (λ ys. held_over word ys held g) e
 
 born_is : (m : Memory) (f : ℕ) → (node_read m f).born ≡ word_at m f 0
 unfolding node_read
@@ -143,46 +140,3 @@ first_word rows g = place_word (option_map (λ (r : Row). r.at) (find (λ (r : R
 -- what is held, or where that is none, what the rows from here on say
 abbrev pub placed : List Row → (ℕ → ℕ) → ℕ → ℕ
 placed rows held g = held_or (first_word rows g) (held g)
-
-pub first_placed : (x : Node) (rows : List Row) (held : ℕ → ℕ) → x.rows ≡ rows → ((g : ℕ) → held g ≡ 0) → (g : ℕ)
-    → placed rows held g ≡ place_word (vpage_of_page x g)
-first_placed x rows held e h g = ap (held_or (first_word rows g)) (h g) ∙ ap (λ rs. first_word rs g) (sym e)
-
-pub next_placed : (old new : ℕ → ℕ) (rows rest : List Row) (s : Row) (w : ℕ) → rows ≡ s ∷ rest → w ≡ shadow2_word s.at
-    → ((g : ℕ) → new g ≡ held_with s.frame (held_or w (old s.frame)) old g) → (g : ℕ)
-    → placed rest new g ≡ placed rows old g
-next_placed old new rows rest s w is e n g = elim (cases_eq g s.frame) [
-  | inl q ↦
-      ap (held_or (first_word rest g)) (n g ∙ ap (λ b. if b then held_or w (old s.frame) else old g)
-      (eq-eqb g s.frame q) ∙ ap (λ f. held_or w (old f)) (sym q))
-      ∙ go (old g == 0) refl
-      ∙ sym (ap (λ rs. placed rs old g) is ∙ ap head (eq-eqb s.frame g (sym q)))
-  | inr ne ↦
-      ap (held_or (first_word rest g))
-      (n g ∙ ap (λ b. if b then held_or w (old s.frame) else old g) (ne_eqb g s.frame ne))
-      ∙ sym (ap (λ rs. placed rs old g) is ∙ ap head (ne_eqb s.frame g (λ q. ne (sym q))))
-]
-  where
-    head : Bool → ℕ
-    head b =
-        held_or (place_word (option_map (λ (r : Row). r.at) (cond b (Some s) (find (λ (r : Row). r.frame == g) rest))))
-        (old g)
-
-    go : (b : Bool) → (old g == 0) ≡ b
-        → held_or (first_word rest g) (held_or w (old g)) ≡ held_or (shadow2_word s.at) (old g)
-    go true q =
-        ap (λ b. held_or (first_word rest g) (if b then w else old g)) q
-        ∙ ap (λ b. if b then first_word rest g else w) (ne_eqb w 0 (λ z. absurd (omega (arith, e, z))))
-        ∙ e
-        ∙ sym (ap (λ b. if b then shadow2_word s.at else old g) q)
-    go false q =
-        ap (λ b. held_or (first_word rest g) (if b then w else old g)) q
-        ∙ ap (λ b. if b then first_word rest g else old g) q
-        ∙ sym (ap (λ b. if b then shadow2_word s.at else old g) q)
-
-pub last_placed : (rows : List Row) (held : ℕ → ℕ) (g : ℕ) → rows ≡ [] → placed rows held g ≡ held g
-last_placed rows held g e = ap (λ rs. placed rs held g) e ∙ go (held g == 0) refl
-  where
-    go : (b : Bool) → (held g == 0) ≡ b → held_or 0 (held g) ≡ held g
-    go true q = ap (λ b. if b then 0 else held g) q ∙ sym (eqb-true (held g) 0 q)
-    go false q = ap (λ b. if b then 0 else held g) q

@@ -5,7 +5,7 @@ use Rattle.std.specs.Prelude.{if◌then◌else◌, slice_index}
 use Rattle.std.proofs.lemmas.Bool.{cases_eq, cases_lt}
 use Rattle.pip_base.specs.Memory.{Memory, word_at}
 use Rattle.pip_model.specs.Lists.{In, has, repeats}
-use Rattle.pip_model.specs.Parts.{part_5}
+use Rattle.pip_model.specs.Parts.{part_1, part_3, part_5}
 use Rattle.pip_model.specs.ReadOff.{node_read}
 use Rattle.pip_model.specs.Sound.{IsRooted}
 use Rattle.pip_model.specs.Tree.{Node, held_pages, names_of}
@@ -13,8 +13,8 @@ use Rattle.pip_model.proofs.OnLists.Members.{in_has}
 use Rattle.pip_model.proofs.Audit.PartTests.{dec_distinct, tests_1, tests_3, tests_5}
 use Rattle.pip_audit.specs.declared.auditor.Auditor.{Auditor}
 use Rattle.pip_audit.specs.FrameSets.{are_fresh, with_all}
-use Rattle.pip_audit.specs.Judging.{KeepsNodes, TellsApart, TestsApart, held_at_place, held_by}
-use Rattle.pip_audit.specs.Reading.{AreNames, tree_read}
+use Rattle.pip_audit.specs.Judging.{TellsApart, held_at_place, held_by}
+use Rattle.pip_audit.specs.Reading.{AreNames, IsRead, tree_read}
 use Rattle.pip_audit.proofs.EachNode.{apart_names, known_at, node_at, nodes_are, name_is, up_is}
 use Rattle.pip_audit.proofs.Walks.{names_count}
 
@@ -96,16 +96,6 @@ pub record SoFar (h : ℕ → List ℕ) (end : ℕ) (a : ℕ → Bool) : Type 0 
   pub from : (g : ℕ) → a g ≡ true → (j : ℕ) × (1 ≤ j) × (j < end) × In g (h j)
   pub met : (g j : ℕ) → 1 ≤ j → j < end → In g (h j) → a g ≡ true
   pub apart : (j k : ℕ) → 1 ≤ j → j < k → k < end → (g : ℕ) → In g (h j) → In g (h k) → ⊥
-
-pub so_far_none : (h : ℕ → List ℕ) (a : ℕ → Bool) → ((g : ℕ) → a g ≡ false) → SoFar h 1 a
-so_far_none h a none = record {
-  from = λ g e. absurd (clash (sym e ∙ none g));
-  met = λ g j lo hi i. absurd (omega (arith, lo, hi));
-  apart = λ j k lo less hi g p q. absurd (omega (arith, lo, less, hi));
-}
-  where
-    clash : true ≡ false → ⊥
-    clash e = cc
 
 module _ (h : ℕ → List ℕ) (x : ℕ) (a : ℕ → Bool) (s : SoFar h x a) (one : 1 ≤ x) where
   pub so_far_next : (b : ℕ → Bool) → are_fresh a (h x) ≡ true → ((f : ℕ) → b f ≡ with_all a (h x) f)
@@ -213,11 +203,12 @@ held_there m names x p k is name up =
     (sym (up_is m (slice_index names k)) ∙ sym (ap (λ (z : Node). z.up) there) ∙ sym up)
     ∙ ap held_pages (sym there)
 
-pub part_5_holds : (m : Memory) (a : Auditor) → ((y : ℕ) → y < a.count → TellsApart m a y true) → TestsApart m a true
-part_5_holds m a t = λ r one three.
+pub part_5_holds : (m : Memory) (a : Auditor) (r : IsRead m a) → part_1 (tree_read m r.others) ≡ true
+    → ((y : ℕ) → y < a.count → TellsApart m a.names.items a.count y true) → part_5 (tree_read m r.others) ≡ true
+part_5_holds m a r one t =
     let h = r.has_read in
     let is = nodes_are m a r.others h in
-    sym ((tests_5 (tree_read m r.others)).from (λ x y i j u ne g p q.
+    (tests_5 (tree_read m r.others)).from (λ x y i j u ne g p q.
     let k = place_of a.names.items a.count r.others h.names x i in
     let l = place_of a.names.items a.count r.others h.names y j in
     let up = parent_at m a.names.items a.count r.others h.names ((tests_1 (tree_read m r.others)).to one) x i in
@@ -229,16 +220,17 @@ part_5_holds m a t = λ r one three.
         | inl less ↦ t up.0 up.1 k.0 l.0 k.1 less l.2 g at_x at_y
         | inr more ↦ t up.0 up.1 l.0 k.0 l.1 (omega (arith, far, more)) k.2 g at_y at_x
       ]
-    ]))
+    ])
 
-pub part_5_breaks : (m : Memory) (a : Auditor) (y : ℕ) → TellsApart m a y false → TestsApart m a false
-part_5_breaks m a y t = λ r one three.
+pub part_5_breaks : (m : Memory) (a : Auditor) (r : IsRead m a) → part_3 (tree_read m r.others) ≡ true → (y : ℕ)
+    → TellsApart m a.names.items a.count y false → part_5 (tree_read m r.others) ≡ false
+part_5_breaks m a r three y t =
     let h = r.has_read in
     let is = nodes_are m a r.others h in
     let names = a.names.items in
     let k = t.0 in
     let at_k = node_in m names a.count r.others h.names is k t.1 t.2 in
-    sym (untrue (part_5 (tree_read m r.others)) (λ e. elim t.3 [
+    untrue (part_5 (tree_read m r.others)) (λ e. elim t.3 [
       | inl c ↦
           let less = c.3 in
           let far = t.2 in
@@ -254,25 +246,8 @@ part_5_breaks m a y t = λ r one three.
           let d = ((tests_3 (tree_read m r.others)).to three (node_at m names k) (inr at_k)).pages in
           clash (repeats (held_pages (node_at m names k))) (child_repeats m (slice_index names y) (slice_index names k)
           c) ((dec_distinct (held_pages (node_at m names k))).from d)
-    ]))
+    ])
   where
     clash : (b : Bool) → b ≡ true → not b ≡ true → ⊥
     clash true p q = cc
     clash false p q = cc
-
--- where the nodes that were read stay, the same is told
-pub tells_apart_same : (m : Memory) (a b : Auditor) → KeepsNodes a b → (y : ℕ) (holds : Bool) → TellsApart m b y holds
-    → TellsApart m a y holds
-tells_apart_same m a b s y true t = λ j k lo less hi.
-    let count = s.count in
-    subst (λ ns. (g : ℕ) → In g (held_at_place m ns y j) → In g (held_at_place m ns y k) → ⊥) s.names
-    (t j k lo less (omega (arith, hi, count)))
-tells_apart_same m a b s y false t =
-    let count = s.count in
-    let less = t.2 in (
-      t.0,
-      t.1,
-      omega (arith, less, count),
-      subst (λ ns. ((j : ℕ) × (g : ℕ) × (1 ≤ j) × (j < t.0) × In g (held_at_place m ns y j)
-          × In g (held_at_place m ns y t.0)) ⊎ (repeats (held_at_place m ns y t.0) ≡ true)) s.names t.3,
-    )

@@ -1,5 +1,5 @@
 -- The walk over the nodes by what an auditor holds.
-use Rattle.std.proofs.Common.{◌≡◌, ◌≢◌, ℕ, zero, suc, ◌+◌, ◌-◌, ◌*◌, ◌^◌, ◌<◌, ◌≤◌, ◌==◌, ◌||◌, ◌⊎◌, inl, inr, List, []}
+use Rattle.std.proofs.Common.{◌≡◌, ◌≢◌, ℕ, zero, suc, ◌+◌, ◌-◌, ◌^◌, ◌<◌, ◌≤◌, ◌==◌, ◌||◌, ◌⊎◌, inl, inr, List, []}
 use Rattle.std.proofs.Common.{◌∷◌, ◌++◌, length, refl, sym, ap, ap₂, ◌∙◌, subst, arith, Some, None, Bool, true, false}
 use Rattle.std.proofs.Common.{cond, eq-eqb, ne_eqb}
 use Rattle.std.specs.Prelude.{is_some, slice_index, slice_index_or, slice_set}
@@ -208,12 +208,6 @@ module _ (n : ℕ) (s : Sets) (t : FrameSet) (r : AreSets n s) where
   pub read_set : length t.has.items ≡ length s.read.has.items → AreSets n (record s { read = t })
   read_set l = record { read = l ∙ r.read; met = r.met; lent = r.lent; hidden = r.hidden }
 
-  pub met_set : length t.has.items ≡ length s.met.has.items → AreSets n (record s { met = t })
-  met_set l = record { read = r.read; met = l ∙ r.met; lent = r.lent; hidden = r.hidden }
-
-  pub lent_set : length t.has.items ≡ length s.lent.has.items → AreSets n (record s { lent = t })
-  lent_set l = record { read = r.read; met = r.met; lent = l ∙ r.lent; hidden = r.hidden }
-
   pub hidden_set : length t.has.items ≡ length s.hidden.has.items → AreSets n (record s { hidden = t })
   hidden_set l = record { read = r.read; met = r.met; lent = r.lent; hidden = l ∙ r.hidden }
 
@@ -221,9 +215,6 @@ module _ (n : ℕ) (s : Sets) (t : FrameSet) (r : AreSets n s) where
 module _ (n : ℕ) (s : Words) (t : FrameWords) (r : AreFrameWords n s) where
   pub quiet_words : length t.words.items ≡ length s.quiet.words.items → AreFrameWords n (record s { quiet = t })
   quiet_words l = record { quiet = l ∙ r.quiet; rights = r.rights; given = r.given; above = r.above }
-
-  pub rights_words : length t.words.items ≡ length s.rights.words.items → AreFrameWords n (record s { rights = t })
-  rights_words l = record { quiet = r.quiet; rights = l ∙ r.rights; given = r.given; above = r.above }
 
   pub given_words : length t.words.items ≡ length s.given.words.items → AreFrameWords n (record s { given = t })
   given_words l = record { quiet = r.quiet; rights = r.rights; given = l ∙ r.given; above = r.above }
@@ -447,42 +438,6 @@ entered m a o b w v deep n ne new passes u e =
           omega (arith, f, h),
         )
     stacked s (inr (inr i)) = w.pages s (subst (In s) (sym (top m a w deep).stack) (inr i))
-
--- it has room as before
-pub room_kept : (n at : ℕ) (a o : Auditor) → IsFor n a → IsOn a at o → IsFor n o
-room_kept n at a o r u = record {
-  names = ap length u.names ∙ r.names;
-  order = ap length u.order ∙ r.order;
-  standing = ap length u.standing ∙ r.standing;
-  from = ap length u.from ∙ length-set a.from.items (a.depth - 1) (at + 1) ∙ r.from;
-  node = subst (HasTableRoom n) (sym u.node) r.node;
-  child = subst (HasTableRoom n) (sym u.child) r.child;
-  sets = subst (AreSets n) (sym u.sets) r.sets;
-  words = subst (AreFrameWords n) (sym u.words) r.words;
-}
-
-pub not_full : (n at : ℕ) (a o : Auditor) → IsFor n a → IsOn a at o → o.count ≢ length o.names.items → a.count ≢ n + 1
-not_full n at a o r u ne q = ne (u.count ∙ q ∙ sym r.names ∙ sym (ap length u.names))
-
-pub is_full : (n at : ℕ) (a o : Auditor) → IsFor n a → IsOn a at o → o.count ≡ length o.names.items → a.count ≡ n + 1
-is_full n at a o r u e = sym u.count ∙ e ∙ ap length u.names ∙ r.names
-
--- the first of these isn't above the number of names
-pub fits_on : (m : Memory) (at : ℕ) (a o : Auditor) (w : InWalk m a) → IsOn a at o → a.count ≢ length m + 1
-    → (o.count < length m + 1) × (o.depth < length m + 1)
-fits_on m at a o w u ne =
-    let count = names_count a.names.items a.count w.others w.has_read.names in
-    let few = w.few in
-    let deep = w.deep in
-    let uc = u.count in
-    let ud = u.depth in
-    let most : a.count < length m + 1 = less a.count (length m) ne (omega (arith, count, few)) in (
-      omega (arith, uc, most),
-      omega (arith, ud, deep, most),
-    )
-  where
-    less : (c n : ℕ) → c ≢ n + 1 → c ≤ n + 1 → c < n + 1
-    less i n a b = omega (arith, a, b)
 
 -- ---- the other steps
 
@@ -762,15 +717,6 @@ top_fits m a w deep =
       omega (arith, deep, deep', count, few, from),
     )
 
--- each step makes less of what is left
-pub lessens : (m : Memory) (a b : Auditor) → InWalk m b → b.count ≡ a.count + 1 → b.depth ≡ a.depth + 1
-    → 2 * (length m + 1 - b.count) + b.depth < 2 * (length m + 1 - a.count) + a.depth
-lessens m a b w c d =
-    let count = names_count b.names.items b.count w.others w.has_read.names in
-    let few = w.few in
-    let most : b.count ≤ length m + 1 = omega (arith, count, few) in
-    omega (arith, c, d, most)
-
 -- what was read is forgotten
 pub forgot : (n : ℕ) (a b : Auditor) → b ≡ record a {
   count = b.count;
@@ -791,17 +737,6 @@ forgot n a b e order read words r = subst (IsFor n) (sym e) (record {
   sets = read_set n a.sets b.sets.read r.sets read;
   words = quiet_words n a.words b.words.quiet r.words words;
 })
-
--- the tree stays read when other tables are loaded
-pub stays_read : (m : Memory) (a : Auditor) (t : Tables) → IsRead m a → HasTableRoom (length m) t
-    → IsRead m (record a { node = t })
-stays_read m a t r h = record {
-  others = r.others;
-  has_read = has_read_with m a (record a { node = t }) r.others r.has_read
-      (with_node (length m) a t r.has_read.room h) refl refl refl;
-  whole = r.whole;
-  known = r.known;
-}
 
 -- and when the tables of a child are loaded and sets are changed
 pub stays_marked : (m : Memory) (a b : Auditor) → IsRead m a → HasTableRoom (length m) b.child → AreSets (length m)

@@ -1,17 +1,18 @@
 -- What an auditor says of the tree that it has read.
-use Rattle.std.specs.Prelude.{◌≡◌, ◌≢◌, ℕ, ◌<◌, ◌≤◌, ◌%◌, ◌⊎◌, ◌==◌, ◌&&◌, if◌then◌else◌, List, []}
-use Rattle.std.specs.Prelude.{Bool, true, false, Option, slice_index}
+use Rattle.std.specs.Prelude.{◌≡◌, ◌≢◌, ℕ, ◌-◌, ◌<◌, ◌≤◌, ◌%◌, ◌⊎◌, ◌==◌, ◌&&◌, if◌then◌else◌, List, [], ◌∷◌}
+use Rattle.std.specs.Prelude.{Bool, true, false, slice_index, slice_index_or}
 use Rattle.std.specs.List.{list_all}
 use Rattle.pip_base.specs.declared.types.Pair.{Pair}
 use Rattle.pip_base.specs.Memory.{Memory, word_at}
 use Rattle.pip_model.specs.Lists.{In, has, repeats}
-use Rattle.pip_model.specs.Parts.{are_among, broken_part, implies, is_page, part_1, part_2, part_3, part_4, part_5}
+use Rattle.pip_model.specs.Parts.{are_among, implies, is_page, part_1, part_2, part_3, part_4, part_5, part_6, part_7}
+use Rattle.pip_model.specs.Parts.{part_8}
 use Rattle.pip_model.specs.ReadOff.{node_read}
 use Rattle.pip_model.specs.Tree.{Node, Row, Tree, held_pages, page_at, row_pages, vpage}
 use Rattle.pip_audit.specs.declared.auditor.Auditor.{Auditor}
+use Rattle.pip_audit.specs.Comparing.{tree_in}
 use Rattle.pip_audit.specs.FrameSets.{contains}
 use Rattle.pip_audit.specs.FrameWords.{rights_held}
-use Rattle.pip_audit.specs.Reading.{IsRead, tree_read}
 use Rattle.pip_audit.specs.Tables.{IsOf}
 
 -- a test says whether a statement holds
@@ -19,14 +20,22 @@ abbrev pub Says : Bool → Type 0 → Type 0
 Says true P = P
 Says false P = P → ⊥
 
--- a part of soundness, tested on the tree that was read
-abbrev pub Tests : (Tree → Bool) → Memory → Auditor → Bool → Type 0
-Tests part m a holds = (r : IsRead m a) → holds ≡ part (tree_read m r.others)
+-- the parts of soundness that are tested, in turn
+abbrev pub parts : List (Tree → Bool)
+parts = part_1 ∷ part_2 ∷ part_3 ∷ part_4 ∷ part_5 ∷ part_6 ∷ part_7 ∷ part_8 ∷ []
 
--- part 5, where parts 1 and 3 hold: each parent is a node, and no node holds a page twice
-abbrev pub TestsApart : Memory → Auditor → Bool → Type 0
-TestsApart m a holds = (r : IsRead m a) → part_1 (tree_read m r.others) ≡ true → part_3 (tree_read m r.others) ≡ true
-    → holds ≡ part_5 (tree_read m r.others)
+-- whether a tree keeps to one of them, by its number from 1 on
+abbrev pub keeps_to : ℕ → Tree → Bool
+keeps_to part t = slice_index_or parts (part - 1) (λ u. true) t
+
+-- it keeps to all parts before one
+abbrev pub KeepsBefore : ℕ → Tree → Type 0
+KeepsBefore part t = (k : ℕ) → 1 ≤ k → k < part → keeps_to k t ≡ true
+
+-- a test of each place from one on and below another: all pass, or one fails
+abbrev pub TellsEach : (ℕ → Bool → Type 0) → ℕ → ℕ → Bool → Type 0
+TellsEach says from end true = (k : ℕ) → from ≤ k → k < end → says k true
+TellsEach says from end false = (k : ℕ) × (from ≤ k) × (k < end) × says k false
 
 -- a relation of a parent and its child, tested of the node at place x and the parent that it names
 abbrev pub parent_test : (Node → Node → Bool) → Memory → List ℕ → ℕ → Bool
@@ -38,9 +47,9 @@ pub record KeepsNodes (old new : Auditor) : Type 0 where
   pub names : new.names.items ≡ old.names.items
 
 -- whether a node was read later than the one that it names as its parent
-abbrev pub IsReadLater : Memory → Auditor → ℕ → Bool → Type 0
-IsReadLater m a x true = (k : ℕ) × (k < x) × (slice_index a.names.items k ≡ word_at m (slice_index a.names.items x) 11)
-IsReadLater m a x false = (k : ℕ) → k < x → slice_index a.names.items k ≢ word_at m (slice_index a.names.items x) 11
+abbrev pub IsReadLater : Memory → List ℕ → ℕ → Bool → Type 0
+IsReadLater m names x true = (k : ℕ) × (k < x) × (slice_index names k ≡ word_at m (slice_index names x) 11)
+IsReadLater m names x false = (k : ℕ) → k < x → slice_index names k ≢ word_at m (slice_index names x) 11
 
 -- whether a page of configuration stands in a row of the parent, at the address that it names
 abbrev pub is_placed : Node → Pair → Bool
@@ -57,6 +66,12 @@ pub record Lends (m : Memory) (a : Auditor) : Type 0 where
   pub rows : (f : ℕ) → contains a.sets.lent f ≡ has (row_pages (node_read m a.node.part)) f
   pub rights : AreRights (rights_held a.words.rights) (node_read m a.node.part).rows
 
+-- a node's parent can be loaded: parents come first, it isn't the root, and some node is loaded as a parent
+pub record HasParent (m : Memory) (a : Auditor) (x : ℕ) : Type 0 where
+  pub other : 1 ≤ x
+  pub parents : part_1 (tree_in m) ≡ true
+  pub lends : Lends m a
+
 -- whether a row's rights are among those that are held for its page
 abbrev pub is_given : (ℕ → ℕ) → Row → Bool
 is_given held r = are_among r.rights (held r.frame)
@@ -65,25 +80,15 @@ is_given held r = are_among r.rights (held r.frame)
 abbrev pub held_by : Memory → ℕ → ℕ → List ℕ
 held_by m parent f = if word_at m f 11 == parent then held_pages (node_read m f) else []
 
--- the same of the node at place k, for the parent at place y
+-- what the node at place k holds, where it is a child of the node at place y
 abbrev pub held_at_place : Memory → List ℕ → ℕ → ℕ → List ℕ
 held_at_place m names y k = held_by m (slice_index names y) (slice_index names k)
 
 -- whether the children of the node at place y hold no common page, and none a page twice
-abbrev pub TellsApart : Memory → Auditor → ℕ → Bool → Type 0
-TellsApart m a y true = (j k : ℕ) → 1 ≤ j → j < k → k < a.count → (g : ℕ) → In g (held_at_place m a.names.items y j)
-    → In g (held_at_place m a.names.items y k) → ⊥
-TellsApart m a y false =
-    (k : ℕ) × (1 ≤ k) × (k < a.count)
-    × (((j : ℕ) × (g : ℕ) × (1 ≤ j) × (j < k) × In g (held_at_place m a.names.items y j)
-    × In g (held_at_place m a.names.items y k))
-    ⊎ (repeats (held_at_place m a.names.items y k) ≡ true))
-
--- parts 1 to 4 hold
-abbrev pub HoldToFour : Memory → Auditor → Type 0
-HoldToFour m a = (r : IsRead m a) → (part_1 (tree_read m r.others) ≡ true) × (part_2 (tree_read m r.others) ≡ true)
-    × (part_3 (tree_read m r.others) ≡ true) × (part_4 (tree_read m r.others) ≡ true)
-
--- the least part that it breaks
-abbrev pub Breaks : Memory → Auditor → Option ℕ → Type 0
-Breaks m a part = (r : IsRead m a) → part ≡ broken_part (tree_read m r.others)
+abbrev pub TellsApart : Memory → List ℕ → ℕ → ℕ → Bool → Type 0
+TellsApart m names count y true = (j k : ℕ) → 1 ≤ j → j < k → k < count → (g : ℕ) → In g (held_at_place m names y j)
+    → In g (held_at_place m names y k) → ⊥
+TellsApart m names count y false =
+    (k : ℕ) × (1 ≤ k) × (k < count)
+    × (((j : ℕ) × (g : ℕ) × (1 ≤ j) × (j < k) × In g (held_at_place m names y j) × In g (held_at_place m names y k))
+    ⊎ (repeats (held_at_place m names y k) ≡ true))

@@ -51,8 +51,7 @@ fn mask_of<M: Frames, L: Ledger>(kind: Kind, mem: &M, f: Frame, b: u32, steps: &
 {
     let mut mask = 0u32;
     for i in 0..32u32 {
-        let is_set = is_of(kind, mem.word(f, 32 * b + i, steps));
-        if is_set {
+        if is_of(kind, mem.word(f, 32 * b + i, steps)) {
             mask |= 1u32 << i;
         }
     }

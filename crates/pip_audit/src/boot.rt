@@ -100,8 +100,7 @@ pub(crate) fn has_boot_tables<M: Frames, L: Ledger>(mem: &M, steps: &mut Steps<L
         return false;
     }
     for k in 0..count {
-        let is_boot = is_boot_slot(mem, k, 1 + k, steps);
-        if !is_boot {
+        if !is_boot_slot(mem, k, 1 + k, steps) {
             return false;
         }
     }
@@ -142,8 +141,7 @@ fn has_boot_rows_in<M: Frames, L: Ledger>(
         (tables_in (M.memory mem.now) tables.now.part) (1024 * index + i)) }
 {
     for i in 0..WORDS {
-        let has_row = has_boot_row(tables, mem, WORDS * index + i, steps);
-        if !has_row {
+        if !has_boot_row(tables, mem, WORDS * index + i, steps) {
             return false;
         }
     }
@@ -163,8 +161,7 @@ pub(crate) fn has_boot_rows<M: Frames, L: Ledger>(
 {
     let count = root_tables(mem.count());
     for k in 0..count {
-        let has_rows = has_boot_rows_in(tables, mem, 1 + k, steps);
-        if !has_rows {
+        if !has_boot_rows_in(tables, mem, 1 + k, steps) {
             return false;
         }
     }

@@ -1,6 +1,5 @@
 //! Sets of frames, and what of a node is in them.
 ghost use Rattle.std.specs.Prelude.{◌≡◌, ℕ, ◌<◌, ◌==◌, ◌||◌, not, false, IfOk, None, length};
-ghost use Rattle.std.specs.List.{list_all};
 ghost use Rattle.pip_model.specs.ReadOff.{node_read, node_stop};
 ghost use Rattle.pip_model.specs.Tree.{config, row_pages};
 ghost use Rattle.pip_audit.specs.Blocks.{AreKnown};
@@ -113,6 +112,7 @@ impl FrameSet {
     }
 
     /// Puts in the pages of a node's rows, and says whether none was in before and none comes twice.
+    #[tactic(auto, using(crate::proofs::PartLaws::rows_are))]
     pub(crate) fn insert_rows<M: Frames, L: Ledger>(
         &mut self,
         tables: &Tables,
@@ -137,29 +137,5 @@ impl FrameSet {
             from = row.at + 1;
         }
         are_new
-    }
-
-    /// Whether the pages of a node's rows are all in.
-    pub(crate) fn contains_rows<M: Frames, L: Ledger>(
-        &self,
-        tables: &Tables,
-        mem: &M,
-        blocks: &Blocks,
-        steps: &mut Steps<L>,
-    ) -> bool
-        requires room { IsSet (length (M.memory mem.now)) self.now }
-        requires of { IsOf (M.memory mem.now) tables.now }
-        requires known { AreKnown (M.memory mem.now) blocks.now }
-        ensures { result ≡ list_all (contains self.now) (row_pages (node_read (M.memory mem.now) tables.now.part)) }
-    {
-        let mut from = 0;
-        while let Some(row) = tables.next_row(mem, blocks, from, steps) {
-            let is_in = self.contains(row.frame);
-            if !is_in {
-                return false;
-            }
-            from = row.at + 1;
-        }
-        true
     }
 }

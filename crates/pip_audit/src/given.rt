@@ -30,6 +30,7 @@ fn word_to(part: Frame, born: u32, frame: u32, kind: u32) -> u32
 
 impl FrameWords {
     // Holds the words of the pages of a child's rows.
+    #[tactic(auto, using(crate::proofs::PartLaws::rows_are))]
     fn give_rows<M: Frames, L: Ledger>(
         &mut self,
         tables: &Tables,
@@ -71,6 +72,7 @@ impl FrameWords {
     }
 
     // Holds for each page where a node has it first, 0 where it doesn't.
+    #[tactic(auto, using(crate::proofs::PartLaws::rows_are))]
     fn place_rows<M: Frames, L: Ledger>(
         &mut self,
         tables: &Tables,
@@ -159,7 +161,7 @@ impl Auditor {
             .place_rows(&self.child, mem, &self.blocks, steps);
     }
 
-    /// The same, unless it is this node that is loaded.
+    /// Places a node, as `place` does, unless it is the one that is loaded beside.
     pub(crate) fn place_from<M: Frames, L: Ledger>(
         &mut self,
         mem: &M,

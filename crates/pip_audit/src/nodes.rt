@@ -174,8 +174,7 @@ fn bad_slot<M: Frames, L: Ledger>(
         return Some(stop);
     }
     let table = Frame::new(mem.word(page, i + 1, steps));
-    let is_placed = tables.has_place(table);
-    if !is_placed {
+    if !tables.has_place(table) {
         return Some(Stop {
             frame: page.number(),
             index: i + 1,
@@ -237,8 +236,7 @@ impl Auditor {
         ensures known { AreKnown (M.memory mem.now) self.new.blocks }
         ensures rest { self.new ≡ record self.old { sets = self.new.sets; blocks = self.new.blocks } }
     {
-        let was_read = self.sets.read.contains(table.number());
-        if was_read {
+        if self.sets.read.contains(table.number()) {
             return None;
         }
         if let Some(stop) = first_bad_leaf(mem, table, steps) {

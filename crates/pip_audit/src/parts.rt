@@ -1,20 +1,21 @@
 //! Soundness, part by part.
-ghost use Rattle.std.specs.Prelude.{◌≡◌, ℕ, ◌<◌, ◌≤◌, ◌%◌, ◌==◌, ◌&&◌, true, false, None, length, slice_index};
+ghost use Rattle.std.specs.Prelude.{◌≡◌, ℕ, ◌<◌, ◌≤◌, ◌%◌, ◌==◌, ◌&&◌, true, None, length, slice_index};
 ghost use Rattle.pip_base.specs.Memory.{word_at};
 ghost use Rattle.pip_model.specs.ReadOff.{node_read, node_stop};
 ghost use Rattle.pip_model.specs.Tree.{held_pages, page_at, pairs, vpage};
 ghost use Rattle.std.specs.List.{list_all};
-ghost use Rattle.pip_model.specs.Parts.{each_other, gives_no_more, has_tables, is_lent_by, is_named_by_base, is_page};
-ghost use Rattle.pip_model.specs.Parts.{part_1, part_2, part_3, part_4, part_6, part_7, part_8};
+ghost use Rattle.pip_model.specs.Parts.{broken_part, gives_no_more, has_no_lines, has_tables, is_lent_by};
+ghost use Rattle.pip_model.specs.Parts.{is_named_by_base, is_page, keeps_pages_apart, part_1, part_2};
 ghost use Rattle.pip_audit.specs.Comparing.{tree_in};
-ghost use Rattle.pip_audit.specs.Judging.{Breaks, HoldToFour, KeepsNodes, IsReadLater, Lends, TellsApart, Tests};
-ghost use Rattle.pip_audit.specs.Judging.{TestsApart, held_by, is_placed, parent_test};
+ghost use Rattle.pip_audit.specs.Judging.{HasParent, IsReadLater, KeepsBefore, KeepsNodes, Lends, TellsApart, held_by};
+ghost use Rattle.pip_audit.specs.Judging.{is_placed, keeps_to, parent_test};
 ghost use Rattle.pip_audit.specs.FrameSets.{are_fresh, contains, with_all};
 ghost use Rattle.pip_audit.specs.Tables.{IsOf};
 ghost use Rattle.pip_audit.specs.Reading.{IsRead};
 
 use crate::auditor::Auditor;
 use crate::boot::{ROOT, has_boot_base, has_boot_rows, has_boot_tables};
+use crate::each_node::NodeTest;
 use crate::pages::{count_pages, page};
 use pip_base::{Frame, LINES, Steps};
 use pip_entry::descriptor::{PARENT, PENDING, SELF_FRAME};
@@ -61,40 +62,10 @@ impl Auditor {
         Frame::new(self.up(mem, x, steps))
     }
 
-    // Whether node `x` was read later than its parent.
-    fn is_read_later<M: Frames, L: Ledger>(&self, mem: &M, x: usize, steps: &mut Steps<L>) -> bool
-        requires read { IsRead (M.memory mem.now) self.now }
-        requires node { x < self.now.count }
-        ensures { IsReadLater (M.memory mem.now) self.now x result }
-    {
-        let up = self.up(mem, x, steps);
-        if up >= mem.count() {
-            return false;
-        }
-        if let Some(place) = self.order[up as usize] {
-            return (place as usize) < x;
-        }
-        false
-    }
-
-    // Whether each node but the root was read later than its parent, and the root is its own.
-    fn parents_come_first<M: Frames, L: Ledger>(&self, mem: &M, steps: &mut Steps<L>) -> bool
-        requires { IsRead (M.memory mem.now) self.now }
-        ensures tests { Tests part_1 (M.memory mem.now) self.now result }
-    {
-        for x in 1..self.count {
-            let is_later = self.is_read_later(mem, x, steps);
-            if !is_later {
-                return false;
-            }
-        }
-        self.up(mem, 0, steps) == 1
-    }
-
     // Whether the root is that of the boot.
     fn has_boot_root<M: Frames, L: Ledger>(&mut self, mem: &M, steps: &mut Steps<L>) -> bool
         requires { IsRead (M.memory mem.now) self.old }
-        ensures tests { Tests part_2 (M.memory mem.now) self.old result }
+        ensures tests { result ≡ part_2 (tree_in (M.memory mem.now)) }
         ensures read { IsRead (M.memory mem.now) self.new }
     {
         let root = Frame::new(ROOT);
@@ -102,12 +73,10 @@ impl Auditor {
         if up != 1 {
             return false;
         }
-        let has_base = has_boot_base(mem, steps);
-        if !has_base {
+        if !has_boot_base(mem, steps) {
             return false;
         }
-        let has_tables = has_boot_tables(mem, steps);
-        if !has_tables {
+        if !has_boot_tables(mem, steps) {
             return false;
         }
         self.node.load(mem, root, steps);
@@ -130,30 +99,13 @@ impl Auditor {
         ensures rest { self.new ≡ record self.old { child = self.new.child; sets = self.new.sets } }
     {
         let part = self.name(mem, x);
-        let is_new = self.sets.met.insert_pages(mem, part, steps);
-        if !is_new {
+        if !self.sets.met.insert_pages(mem, part, steps) {
             return false;
         }
         self.child.load(mem, part, steps);
         self.sets
             .met
             .insert_rows(&self.child, mem, &self.blocks, steps)
-    }
-
-    // Whether no node holds a page twice.
-    fn pages_are_apart<M: Frames, L: Ledger>(&mut self, mem: &M, steps: &mut Steps<L>) -> bool
-        requires { IsRead (M.memory mem.now) self.old }
-        ensures tests { Tests part_3 (M.memory mem.now) self.old result }
-        ensures read { IsRead (M.memory mem.now) self.new }
-    {
-        for x in 0..self.count {
-            self.sets.met.clear();
-            let is_apart = self.meet_held(mem, x, steps);
-            if !is_apart {
-                return false;
-            }
-        }
-        true
     }
 
     // ---- all comes from the parent
@@ -195,8 +147,7 @@ impl Auditor {
         let count = count_pages(mem, part, steps);
         for k in 0..count {
             let given = page(mem, part, k, steps);
-            let is_lent = self.is_lent(mem, given.va, given.frame, steps);
-            if !is_lent {
+            if !self.is_lent(mem, given.va, given.frame, steps) {
                 return false;
             }
         }
@@ -255,68 +206,13 @@ impl Auditor {
         ensures rest { self.new ≡ record self.old { child = self.new.child } }
     {
         let part = self.name(mem, x);
-        let are_lent = self.pages_are_lent(mem, part, steps);
-        if !are_lent {
+        if !self.pages_are_lent(mem, part, steps) {
             return false;
         }
         self.child.load(mem, part, steps);
-        self.sets
-            .lent
-            .contains_rows(&self.child, mem, &self.blocks, steps)
-    }
-
-    // Whether all that node `x` holds stands in rows of its parent.
-    fn is_lent_by_parent<M: Frames, L: Ledger>(
-        &mut self,
-        mem: &M,
-        x: usize,
-        steps: &mut Steps<L>,
-    ) -> bool
-        requires read { IsRead (M.memory mem.now) self.old }
-        requires parents { part_1 (tree_in (M.memory mem.now)) ≡ true }
-        requires other { 1 ≤ x }
-        requires node { x < self.old.count }
-        requires lends { Lends (M.memory mem.now) self.old }
-        ensures lent { result ≡ parent_test is_lent_by (M.memory mem.now) self.old.names.items x }
-        ensures lends { Lends (M.memory mem.now) self.new }
-        ensures read { IsRead (M.memory mem.now) self.new }
-        ensures keeps { KeepsNodes self.old self.new }
-    {
-        self.lend_to(mem, x, steps);
-        self.is_lent_by(mem, x, steps)
-    }
-
-    // Whether each node but the root has the name that its descriptor's page has.
-    fn are_named<M: Frames, L: Ledger>(&self, mem: &M, steps: &mut Steps<L>) -> bool
-        requires { IsRead (M.memory mem.now) self.now }
-        ensures tests { Tests (each_other is_named_by_base) (M.memory mem.now) self.now result }
-    {
-        for x in 1..self.count {
-            let part = self.name(mem, x);
-            let named = mem.word(part, SELF_FRAME, steps);
-            if named != part.number() {
-                return false;
-            }
-        }
-        true
-    }
-
-    // Whether all that a node holds comes from its parent. A parent is loaded once for all children that were read one
-    // after the other.
-    fn all_is_lent<M: Frames, L: Ledger>(&mut self, mem: &M, steps: &mut Steps<L>) -> bool
-        requires read { IsRead (M.memory mem.now) self.old }
-        requires parents { part_1 (tree_in (M.memory mem.now)) ≡ true }
-        ensures tests { Tests part_4 (M.memory mem.now) self.old result }
-        ensures read { IsRead (M.memory mem.now) self.new }
-    {
-        self.load_parent(mem, Frame::new(ROOT), steps);
-        for x in 1..self.count {
-            let is_lent = self.is_lent_by_parent(mem, x, steps);
-            if !is_lent {
-                return false;
-            }
-        }
-        self.are_named(mem, steps)
+        let lent = &self.sets.lent;
+        self.child
+            .all_rows(mem, &self.blocks, steps, |row| lent.contains(row.frame))
     }
 
     // ---- siblings are apart
@@ -345,137 +241,33 @@ impl Auditor {
         self.meet_held(mem, x, steps)
     }
 
-    // Whether the children of node `y` hold no common page, and none a page twice.
-    fn keeps_children_apart<M: Frames, L: Ledger>(
-        &mut self,
-        mem: &M,
-        y: usize,
-        steps: &mut Steps<L>,
-    ) -> bool
+    // Whether the tree that was read keeps to a part of soundness, where it keeps to those before. A parent is loaded
+    // once for all children that were read one after the other.
+    fn keeps_to<M: Frames, L: Ledger>(&mut self, mem: &M, part: u32, steps: &mut Steps<L>) -> bool
         requires read { IsRead (M.memory mem.now) self.old }
-        requires node { y < self.old.count }
-        ensures tells { TellsApart (M.memory mem.now) self.old y result }
+        requires part { 1 ≤ part }
+        requires known { part ≤ 8 }
+        requires before { KeepsBefore part (tree_in (M.memory mem.now)) }
+        ensures keeps { result ≡ keeps_to part (tree_in (M.memory mem.now)) }
         ensures read { IsRead (M.memory mem.now) self.new }
-        ensures keeps { KeepsNodes self.old self.new }
     {
-        let parent = self.name(mem, y);
-        self.sets.met.clear();
-        for x in 1..self.count {
-            let is_new = self.meet_child(mem, x, parent, steps);
-            if !is_new {
-                return false;
+        match part {
+            1 => self.each_node::<IsLater, M, L>(mem, 1, steps) && self.up(mem, 0, steps) == 1,
+            2 => self.has_boot_root(mem, steps),
+            3 => self.each_node::<IsApart, M, L>(mem, 0, steps),
+            4 => {
+                self.load_parent(mem, Frame::new(ROOT), steps);
+                self.each_node::<IsLent, M, L>(mem, 1, steps)
+                    && self.each_node::<IsNamed, M, L>(mem, 1, steps)
             }
-        }
-        true
-    }
-
-    // Whether no two children of one parent hold a common page.
-    fn siblings_are_apart<M: Frames, L: Ledger>(&mut self, mem: &M, steps: &mut Steps<L>) -> bool
-        requires { IsRead (M.memory mem.now) self.old }
-        ensures tests { TestsApart (M.memory mem.now) self.old result }
-        ensures read { IsRead (M.memory mem.now) self.new }
-    {
-        for y in 0..self.count {
-            let are_apart = self.keeps_children_apart(mem, y, steps);
-            if !are_apart {
-                return false;
+            5 => self.each_node::<HasChildrenApart, M, L>(mem, 0, steps),
+            6 => {
+                self.load_parent(mem, Frame::new(ROOT), steps);
+                self.each_node::<IsGranted, M, L>(mem, 1, steps)
             }
+            7 => self.each_node::<HasTables, M, L>(mem, 0, steps),
+            _ => self.each_node::<HasNoLines, M, L>(mem, 1, steps),
         }
-        true
-    }
-
-    // ---- rights only shrink
-
-    // Whether node `x` has no right to a page that its parent lacks.
-    fn is_granted_by_parent<M: Frames, L: Ledger>(
-        &mut self,
-        mem: &M,
-        x: usize,
-        steps: &mut Steps<L>,
-    ) -> bool
-        requires read { IsRead (M.memory mem.now) self.old }
-        requires parents { part_1 (tree_in (M.memory mem.now)) ≡ true }
-        requires other { 1 ≤ x }
-        requires node { x < self.old.count }
-        requires lends { Lends (M.memory mem.now) self.old }
-        ensures granted { result ≡ parent_test gives_no_more (M.memory mem.now) self.old.names.items x }
-        ensures lends { Lends (M.memory mem.now) self.new }
-        ensures read { IsRead (M.memory mem.now) self.new }
-        ensures keeps { KeepsNodes self.old self.new }
-    {
-        self.lend_to(mem, x, steps);
-        let part = self.name(mem, x);
-        self.child.load(mem, part, steps);
-        self.words
-            .rights
-            .rows_are_given(&self.child, mem, &self.blocks, steps)
-    }
-
-    // Whether no child has a right that its parent lacks. A row that can't be read has stopped the reading.
-    fn rights_shrink<M: Frames, L: Ledger>(&mut self, mem: &M, steps: &mut Steps<L>) -> bool
-        requires read { IsRead (M.memory mem.now) self.old }
-        requires parents { part_1 (tree_in (M.memory mem.now)) ≡ true }
-        ensures tests { Tests part_6 (M.memory mem.now) self.old result }
-        ensures read { IsRead (M.memory mem.now) self.new }
-    {
-        self.load_parent(mem, Frame::new(ROOT), steps);
-        for x in 1..self.count {
-            let is_granted = self.is_granted_by_parent(mem, x, steps);
-            if !is_granted {
-                return false;
-            }
-        }
-        true
-    }
-
-    // ---- rows have tables, and the root alone has lines
-
-    // Whether a node's tables are as they have to be.
-    fn has_tables<M: Frames, L: Ledger>(&mut self, mem: &M, x: usize, steps: &mut Steps<L>) -> bool
-        requires read { IsRead (M.memory mem.now) self.old }
-        requires node { x < self.old.count }
-        ensures tests { result ≡ has_tables (node_read (M.memory mem.now) (slice_index self.old.names.items x)) }
-        ensures read { IsRead (M.memory mem.now) self.new }
-        ensures keeps { KeepsNodes self.old self.new }
-    {
-        let page = self.name(mem, x);
-        self.node.load(mem, page, steps);
-        if self.node.repeats() {
-            return false;
-        }
-        if let Some(_row) = self.node.row(mem, 0, steps) {
-            return false;
-        }
-        true
-    }
-
-    // Whether each node has the tables of its rows, and no row at virtual page 0.
-    fn rows_have_tables<M: Frames, L: Ledger>(&mut self, mem: &M, steps: &mut Steps<L>) -> bool
-        requires { IsRead (M.memory mem.now) self.old }
-        ensures tests { Tests part_7 (M.memory mem.now) self.old result }
-        ensures read { IsRead (M.memory mem.now) self.new }
-    {
-        for x in 0..self.count {
-            let holds = self.has_tables(mem, x, steps);
-            if !holds {
-                return false;
-            }
-        }
-        true
-    }
-
-    // Whether no node but the root has pending lines.
-    fn no_lines_but_the_root<M: Frames, L: Ledger>(&self, mem: &M, steps: &mut Steps<L>) -> bool
-        requires { IsRead (M.memory mem.now) self.now }
-        ensures tests { Tests part_8 (M.memory mem.now) self.now result }
-    {
-        for x in 1..self.count {
-            let lines = mem.word(self.name(mem, x), PENDING, steps);
-            if lines % (1 << LINES) != 0 {
-                return false;
-            }
-        }
-        true
     }
 
     /// The least part of soundness that the tree that was read breaks.
@@ -485,55 +277,136 @@ impl Auditor {
         steps: &mut Steps<L>,
     ) -> Option<u32>
         requires { IsRead (M.memory mem.now) self.old }
-        ensures part { Breaks (M.memory mem.now) self.old result }
+        ensures part { result ≡ broken_part (tree_in (M.memory mem.now)) }
         ensures read { IsRead (M.memory mem.now) self.new }
     {
-        let are_rooted = self.parents_come_first(mem, steps);
-        if !are_rooted {
-            return Some(1);
-        }
-        let is_boot = self.has_boot_root(mem, steps);
-        if !is_boot {
-            return Some(2);
-        }
-        let keep_apart = self.pages_are_apart(mem, steps);
-        if !keep_apart {
-            return Some(3);
-        }
-        let are_lent = self.all_is_lent(mem, steps);
-        if !are_lent {
-            return Some(4);
-        }
-        self.broken_after_four(mem, steps)
-    }
-
-    // The least part that it breaks, where it breaks none of the first four.
-    fn broken_after_four<M: Frames, L: Ledger>(
-        &mut self,
-        mem: &M,
-        steps: &mut Steps<L>,
-    ) -> Option<u32>
-        requires read { IsRead (M.memory mem.now) self.old }
-        requires parts { HoldToFour (M.memory mem.now) self.old }
-        ensures part { Breaks (M.memory mem.now) self.old result }
-        ensures read { IsRead (M.memory mem.now) self.new }
-    {
-        let are_apart = self.siblings_are_apart(mem, steps);
-        if !are_apart {
-            return Some(5);
-        }
-        let are_given = self.rights_shrink(mem, steps);
-        if !are_given {
-            return Some(6);
-        }
-        let have_tables = self.rows_have_tables(mem, steps);
-        if !have_tables {
-            return Some(7);
-        }
-        let have_no_lines = self.no_lines_but_the_root(mem, steps);
-        if !have_no_lines {
-            return Some(8);
+        for part in 1..9u32 {
+            if !self.keeps_to(mem, part, steps) {
+                return Some(part);
+            }
         }
         None
+    }
+}
+
+// ---- the tests of a node, part by part
+
+/// Whether it was read later than its parent.
+pub(crate) struct IsLater;
+
+impl NodeTest for IsLater {
+    ghost says = { λ m names _ x z. IsReadLater m names x z };
+
+    fn at<M: Frames, L: Ledger>(a: &mut Auditor, mem: &M, x: usize, steps: &mut Steps<L>) -> bool {
+        let up = a.up(mem, x, steps);
+        if up >= mem.count() {
+            return false;
+        }
+        if let Some(place) = a.order[up as usize] {
+            return (place as usize) < x;
+        }
+        false
+    }
+}
+
+/// Whether it holds no page twice.
+pub(crate) struct IsApart;
+
+impl NodeTest for IsApart {
+    ghost says = { λ m names _ x z. z ≡ keeps_pages_apart (node_read m (slice_index names x)) };
+
+    fn at<M: Frames, L: Ledger>(a: &mut Auditor, mem: &M, x: usize, steps: &mut Steps<L>) -> bool {
+        a.sets.met.clear();
+        a.meet_held(mem, x, steps)
+    }
+}
+
+/// Whether all that it holds stands in rows of its parent.
+pub(crate) struct IsLent;
+
+impl NodeTest for IsLent {
+    ghost needs = { λ m a x. HasParent m a x };
+
+    ghost says = { λ m names _ x z. z ≡ parent_test is_lent_by m names x };
+
+    fn at<M: Frames, L: Ledger>(a: &mut Auditor, mem: &M, x: usize, steps: &mut Steps<L>) -> bool {
+        a.lend_to(mem, x, steps);
+        a.is_lent_by(mem, x, steps)
+    }
+}
+
+/// Whether it has the name that its descriptor's page has.
+pub(crate) struct IsNamed;
+
+impl NodeTest for IsNamed {
+    ghost says = { λ m names _ x z. z ≡ is_named_by_base (node_read m (slice_index names x)) };
+
+    fn at<M: Frames, L: Ledger>(a: &mut Auditor, mem: &M, x: usize, steps: &mut Steps<L>) -> bool {
+        let part = a.name(mem, x);
+        mem.word(part, SELF_FRAME, steps) == part.number()
+    }
+}
+
+/// Whether its children hold no common page, and none a page twice.
+pub(crate) struct HasChildrenApart;
+
+impl NodeTest for HasChildrenApart {
+    ghost says = { λ m names count x z. TellsApart m names count x z };
+
+    fn at<M: Frames, L: Ledger>(a: &mut Auditor, mem: &M, x: usize, steps: &mut Steps<L>) -> bool {
+        let parent = a.name(mem, x);
+        a.sets.met.clear();
+        for k in 1..a.count {
+            if !a.meet_child(mem, k, parent, steps) {
+                return false;
+            }
+        }
+        true
+    }
+}
+
+/// Whether it has no right to a page that its parent lacks. A row that can't be read has stopped the reading.
+pub(crate) struct IsGranted;
+
+impl NodeTest for IsGranted {
+    ghost needs = { λ m a x. HasParent m a x };
+
+    ghost says = { λ m names _ x z. z ≡ parent_test gives_no_more m names x };
+
+    fn at<M: Frames, L: Ledger>(a: &mut Auditor, mem: &M, x: usize, steps: &mut Steps<L>) -> bool {
+        a.lend_to(mem, x, steps);
+        let part = a.name(mem, x);
+        a.child.load(mem, part, steps);
+        let rights = &a.words.rights;
+        a.child.all_rows(mem, &a.blocks, steps, |row| {
+            rights.gives(row.frame, row.rights)
+        })
+    }
+}
+
+/// Whether it has the tables of its rows, and no row at virtual page 0.
+pub(crate) struct HasTables;
+
+impl NodeTest for HasTables {
+    ghost says = { λ m names _ x z. z ≡ has_tables (node_read m (slice_index names x)) };
+
+    fn at<M: Frames, L: Ledger>(a: &mut Auditor, mem: &M, x: usize, steps: &mut Steps<L>) -> bool {
+        let page = a.name(mem, x);
+        a.node.load(mem, page, steps);
+        if a.node.repeats() {
+            return false;
+        }
+        a.node.row(mem, 0, steps).is_none()
+    }
+}
+
+/// Whether it has no pending lines.
+pub(crate) struct HasNoLines;
+
+impl NodeTest for HasNoLines {
+    ghost says = { λ m names _ x z. z ≡ has_no_lines (node_read m (slice_index names x)) };
+
+    fn at<M: Frames, L: Ledger>(a: &mut Auditor, mem: &M, x: usize, steps: &mut Steps<L>) -> bool {
+        mem.word(a.name(mem, x), PENDING, steps) % (1 << LINES) == 0
     }
 }

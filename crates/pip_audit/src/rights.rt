@@ -1,12 +1,11 @@
 //! The rights that the rows of a node give to pages, held for each page.
 ghost use Rattle.std.specs.Prelude.{◌≡◌, ℕ, ◌<◌, ◌==◌, if◌then◌else◌, length};
 ghost use Rattle.std.specs.Int.Bits.{bit_and};
-ghost use Rattle.std.specs.List.{list_all};
 ghost use Rattle.pip_model.specs.Parts.{are_among};
 ghost use Rattle.pip_model.specs.ReadOff.{node_read};
 ghost use Rattle.pip_audit.specs.Blocks.{AreKnown};
 ghost use Rattle.pip_audit.specs.FrameWords.{HasWordEach, rights_held};
-ghost use Rattle.pip_audit.specs.Judging.{AreRights, is_given};
+ghost use Rattle.pip_audit.specs.Judging.{AreRights};
 ghost use Rattle.pip_audit.specs.Tables.{IsOf};
 
 use crate::blocks::Blocks;
@@ -53,36 +52,11 @@ impl FrameWords {
         }
     }
 
-    // Whether these rights are among those that are held for a page.
-    fn gives(&self, f: u32, rights: u32) -> bool
+    /// Whether these rights are among those that are held for a page.
+    pub(crate) fn gives(&self, f: u32, rights: u32) -> bool
         requires { f < length self.now.words.items }
         ensures { result ≡ are_among rights (rights_held self.now f) }
     {
         rights & self.words[f as usize] == rights
-    }
-
-    /// Whether no row of a node has a right that isn't held for its page.
-    pub(crate) fn rows_are_given<M: Frames, L: Ledger>(
-        &self,
-        tables: &Tables,
-        mem: &M,
-        blocks: &Blocks,
-        steps: &mut Steps<L>,
-    ) -> bool
-        requires room { HasWordEach (length (M.memory mem.now)) self.now }
-        requires of { IsOf (M.memory mem.now) tables.now }
-        requires known { AreKnown (M.memory mem.now) blocks.now }
-        ensures { result ≡ list_all (is_given (rights_held self.now))
-            (node_read (M.memory mem.now) tables.now.part).rows }
-    {
-        let mut from = 0;
-        while let Some(row) = tables.next_row(mem, blocks, from, steps) {
-            let is_given = self.gives(row.frame, row.rights);
-            if !is_given {
-                return false;
-            }
-            from = row.at + 1;
-        }
-        true
     }
 }

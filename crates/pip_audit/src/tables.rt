@@ -4,11 +4,12 @@ ghost use Rattle.std.specs.Prelude.{is_some, IfOk, None, Some, length};
 ghost use Rattle.pip_base.specs.Memory.{word_at};
 ghost use Rattle.pip_base.specs.Words.{directory_word};
 ghost use Rattle.pip_audit.specs.Blocks.{AreKnown};
-ghost use Rattle.pip_audit.specs.Tables.{HasPlaces, HasTableRoom, IsFirstRow, IsFirstSought, IsOf, IsReady, IsRowAt};
-ghost use Rattle.pip_audit.specs.Tables.{IsSoughtAt, directory_in, held_at, place_held, row_seen, row_sought, triple_with};
-ghost use Rattle.pip_audit.specs.Tables.{tables_in};
+ghost use Rattle.pip_audit.specs.Tables.{HasPlaces, HasTableRoom, IsFirstRow, IsFirstSought, IsNextLeft, IsOf};
+ghost use Rattle.pip_audit.specs.Tables.{IsReady, IsRowAt, IsSoughtAt, TellsRows, directory_in, held_at, place_held};
+ghost use Rattle.pip_audit.specs.Tables.{row_seen, row_sought, tables_in, triple_with};
 ghost use Rattle.pip_model.specs.Walking.{visit_at};
-ghost use Rattle.pip_model.specs.ReadOff.{base_stop, node_stop, or_first, place_of_table, slot_stop_at, table_from};
+ghost use Rattle.pip_model.specs.ReadOff.{base_stop, node_read, node_stop, or_first, place_of_table};
+ghost use Rattle.pip_model.specs.ReadOff.{slot_stop_at, table_from};
 
 use crate::blocks::Blocks;
 use crate::nodes::list_page;
@@ -336,8 +337,7 @@ impl Tables {
         let Some(row) = self.row(mem, v, steps) else {
             return None;
         };
-        let is_sought = self.is_sought(mem, sought, row, steps);
-        if !is_sought {
+        if !self.is_sought(mem, sought, row, steps) {
             return None;
         }
         Some(row)
@@ -364,7 +364,8 @@ impl Tables {
         None
     }
 
-    // The same, but a block that is known to have none isn't read.
+    // The first row that is sought of a block of a table from an index on. A block that is known to have none isn't
+    // read.
     fn next_of_block<M: Frames, L: Ledger>(
         &self,
         mem: &M,
@@ -381,8 +382,7 @@ impl Tables {
     {
         let _count = mem.count();
         let tables = self.at(from / 1024)?;
-        let lacks = blocks.lacks(sought, tables, from % 1024 / 32);
-        if lacks {
+        if blocks.lacks(sought, tables, from % 1024 / 32) {
             return None;
         }
         self.next_in_block(mem, sought, from, steps)
@@ -485,7 +485,7 @@ impl Tables {
         requires of { IsOf (M.memory mem.now) self.now }
         requires known { AreKnown (M.memory mem.now) blocks.now }
         requires small { from ≤ 2 ^ 20 }
-        ensures { IsFirstRow (M.memory mem.now) (tables_in (M.memory mem.now) self.now.part) from (2 ^ 20) result }
+        ensures { IsNextLeft (M.memory mem.now) self.now.part from result }
     {
         if from < VPAGES {
             if let Some(row) = self.row(mem, from, steps) {
@@ -493,5 +493,29 @@ impl Tables {
             }
         }
         self.later_row(mem, blocks, from, steps)
+    }
+
+    /// Whether each row passes a test. It ends with the first that fails.
+    #[tactic(auto, using(crate::proofs::PartLaws::rows_are))]
+    pub(crate) fn all_rows<M: Frames, L: Ledger, F: Fn(Row) -> bool>(
+        &self,
+        mem: &M,
+        blocks: &Blocks,
+        steps: &mut Steps<L>,
+        passes: F,
+    ) -> bool
+        requires of { IsOf (M.memory mem.now) self.now }
+        requires known { AreKnown (M.memory mem.now) blocks.now }
+        requires can { (r : Row) → r.frame < length (M.memory mem.now) → F.pre passes r }
+        ensures { TellsRows (F.post passes) (node_read (M.memory mem.now) self.now.part).rows result }
+    {
+        let mut from = 0;
+        while let Some(row) = self.next_row(mem, blocks, from, steps) {
+            if !passes(row) {
+                return false;
+            }
+            from = row.at + 1;
+        }
+        true
     }
 }

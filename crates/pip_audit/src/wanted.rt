@@ -252,8 +252,7 @@ impl Auditor {
         ensures { result ≡ true → (i : ℕ) → i < 32 → differs_at (M.memory mem.now) self.now f (role_of role.now)
             (32 * b + i) ≡ None }
     {
-        let has_zeros = is_zero_block(mem.frame(f, steps), b);
-        if !has_zeros {
+        if !is_zero_block(mem.frame(f, steps), b) {
             return false;
         }
         self.wants_zeros(mem, role, b, steps)
@@ -298,8 +297,7 @@ impl Auditor {
         ensures { result ≡ differs_from (M.memory mem.now) self.now f (role_of role.now) }
     {
         for b in 0..32 {
-            let is_blank = self.is_blank_block(mem, f, role, b, steps);
-            if !is_blank {
+            if !self.is_blank_block(mem, f, role, b, steps) {
                 if let Some(difference) = self.difference_in_block(mem, f, role, b, steps) {
                     return Some(difference);
                 }

@@ -34,5 +34,11 @@ pub const LINES: u32 = 16;
 /// The greatest number of bytes that a program reads.
 pub const MAX_INPUT: u32 = 1 << 24;
 
+/// The greatest number of bytes of a line of text, without its newline.
+pub const MAX_LINE: usize = 120;
+
+/// The greatest number of steps of a run.
+pub const MAX_STEPS: u32 = 10_000_000;
+
 /// The number of the virtual page at which a partition has its handler table.
 pub const VIDT: u32 = 0xfffff;

@@ -11,7 +11,7 @@ abbrev pub ArePartitions : Tree → List ℕ → Type 0
 ArePartitions t rs = All (λ (r : ℕ). In r (names_of (nodes t))) rs
 
 -- all these are partitions of some sound tree that the memory lays out
-pub record AreRunning (m : Memory) (rs : List ℕ) : Type 0 where
+pub record HasPartitions (m : Memory) (rs : List ℕ) : Type 0 where
   pub tree : Tree
   pub sound : IsSound tree
   pub laid : LaysOut tree m

@@ -4,7 +4,7 @@ use Rattle.std.specs.List.{list_any}
 use Rattle.pip_base.specs.declared.outcome.Status.{Status}
 use Rattle.pip_base.specs.declared.outcome.Status.TheVariants as S
 use Rattle.pip_base.specs.declared.types.Pair.{Pair}
-use Rattle.pip_model.specs.Answers.{mapped, some_null, some_unaligned, writable}
+use Rattle.pip_model.specs.Answers.{is_mapped, some_null, some_unaligned, writable}
 use Rattle.pip_model.specs.FullRows.{FullRow}
 use Rattle.pip_model.specs.Lists.{repeats}
 use Rattle.pip_model.specs.Tree.{Tree, free, vpage}
@@ -20,7 +20,7 @@ five_address_tests xs = some_unaligned xs ∷ some_null xs ∷ (repeats xs, S.Re
 
 -- whether p has no row at one of them
 abbrev pub some_unmapped : Tree → ℕ → List ℕ → Bool × Status
-some_unmapped t p xs = (list_any (λ x. not (mapped t p (vpage x))) xs, S.NotMapped)
+some_unmapped t p xs = (list_any (λ x. not (is_mapped t p (vpage x))) xs, S.NotMapped)
 
 -- of p's rows there
 abbrev pub five_page_tests : Tree → ℕ → List ℕ → List (Bool × Status)

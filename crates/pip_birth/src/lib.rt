@@ -1,7 +1,7 @@
 //! The calls that make and end partitions, over frames: a file each under `calls`.
 //!
-//! Both are asked of frames that lay out some sound tree which has the caller (`HasPartition`), and leave such frames. They
-//! keep nothing beside the frames and take no memory.
+//! Both are asked of frames that lay out some sound tree which has the caller (`HasPartition`), and leave such frames.
+//! They keep nothing beside the frames and take no memory.
 #![tactic(auto)]
 
 mod calls;

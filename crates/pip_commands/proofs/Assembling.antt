@@ -4,7 +4,7 @@ use Rattle.std.proofs.Common.{refl, sym, ap, subst, arith}
 use Rattle.pip_input.specs.Whole.{TakesMore, TakesPart, TakesWhole}
 use Rattle.pip_io.specs.Causes.{RoseByOne}
 use Rattle.pip_io.specs.Taken.{Keeps}
-use Rattle.pip_model.specs.Assembly.{Fault, assembly}
+use Rattle.pip_model.specs.Assembly.{LineFault, assembly}
 use Rattle.pip_switch.specs.Standing.{State}
 use Rattle.pip_commands.specs.Dues.{asm_answer, asm_due}
 use Rattle.pip_commands.specs.EndsBy.{EndsBy, IsAnswered, EndsWithResponse}
@@ -36,10 +36,10 @@ module _ (code : ℕ) (p : Option State) (a b : Streams) (none : p ≡ None) (ca
 
   -- the whole input was read
   module _ (start : a.written.held ≡ []) (input : List ℕ) (read : TakesWhole input a.left b.left) where
-    assembled : (t : Result (List ℕ) Fault) → assembly input ≡ t → IsAnswered asm_due input (asm_answer t) b.left
+    assembled : (t : Result (List ℕ) LineFault) → assembly input ≡ t → IsAnswered asm_due input (asm_answer t) b.left
     assembled t is = record { is = ap asm_answer (sym is); decided = inr (read.whole, read.limit) }
 
-    tells : (t : Result (List ℕ) Fault) → assembly input ≡ t
+    tells : (t : Result (List ℕ) LineFault) → assembly input ≡ t
         → EndsWithResponse (asm_answer t) code a.written b.written a.writes b.writes → EndsBy asm_due code p a b
     tells (Ok image) is told = by_plain asm_due code p a b calm settled apart input read.read none start 0 image
         (inl (omega arith)) (assembled (Ok image) is) told

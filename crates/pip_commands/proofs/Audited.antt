@@ -5,14 +5,13 @@ use Rattle.std.specs.Prelude.{Result, Ok, Err, IsErr, MatchOption}
 use Rattle.std.specs.Io.KnownBytes.{Consumes}
 use Rattle.std.proofs.KnownBytes.{Consumes-nil}
 use Rattle.pip_base.specs.Memory.{IsMemory, Memory}
-use Rattle.pip_core.specs.Core.{Whole, core_text}
-use Rattle.pip_core.specs.CoreRead.{BeginsText, IsBadLineOf, IsBadText, IsText}
-use Rattle.pip_core.proofs.CanonicalRun.{only_texts}
+use Rattle.pip_core_text.specs.Core.{Whole, core_text}
+use Rattle.pip_core_text.specs.CoreRead.{BeginsText, IsBadLineOf, IsBadText, IsText}
+use Rattle.pip_core_text.proofs.CanonicalRun.{only_texts}
 use Rattle.pip_dis.proofs.Written.{part_of_more}
-use Rattle.pip_dump.specs.Written.{Wrote}
 use Rattle.pip_io.specs.Causes.{RoseByOne}
-use Rattle.pip_io.specs.Taken.{Taken, Appends, Keeps, SendsPart}
-use Rattle.pip_io.proofs.Taken.{Appends-trans, SendsPart-behind, part_sent}
+use Rattle.pip_io.specs.Taken.{Taken, Appends, Keeps, SendsPart, Wrote}
+use Rattle.pip_io.proofs.Taken.{Appends-trans, SendsPart-after, part_sent}
 use Rattle.pip_model.specs.Audit.{Differs, Finding, HasWordsOnly, Lays, Unread, Unsound, finding}
 use Rattle.pip_model.specs.Dump.{tree_text}
 use Rattle.pip_model.specs.Partitions.{HasPartition, IsHeld}
@@ -79,7 +78,7 @@ line_after : (status code : ℕ) (text line : List ℕ) (before mid after : Take
 line_after status code text line before mid after writes writes' wrote (inl h) =
     inl (h.0, Appends-trans before mid after text line wrote h.1)
 line_after status code text line before mid after writes writes' wrote (inr h) =
-    inr (h.0, SendsPart-behind before mid after text line wrote h.1, h.2)
+    inr (h.0, SendsPart-after before mid after text line wrote h.1, h.2)
 
 module _ (m : Memory) (shape : IsMemory m) (words : HasWordsOnly m) (none : no_line (finding m) ≡ None) (code : ℕ)
     (before after : Taken) where
@@ -96,13 +95,13 @@ module _ (m : Memory) (shape : IsMemory m) (words : HasWordsOnly m) (none : no_l
       (subst (λ k. EndsLine 0 yes_line code mid after k writes') same line))
 
   pub answers_cut : {T E : Type 0} (r : Result T E) (writes writes' : ℕ) → IsErr r → code ≡ 4
-      → ((t : Tree) → IsHeld t m → Wrote before after r (tree_text t)) → RoseByOne writes writes'
+      → ((t : Tree) → IsHeld t m → Wrote r before after (tree_text t)) → RoseByOne writes writes'
       → EndsWithResponse (found_answer (finding m)) code before after writes writes'
   answers_cut r writes writes' err is wrote rose =
       subst (λ f. EndsWithResponse (found_answer f) code before after writes writes') (sym there.1)
       (inr (is, cut r there.0 err (wrote there.0 there.2), rose))
     where
-      cut : {T E : Type 0} (r : Result T E) (t : Tree) → IsErr r → Wrote before after r (tree_text t)
+      cut : {T E : Type 0} (r : Result T E) (t : Tree) → IsErr r → Wrote r before after (tree_text t)
           → SendsPart before after (yes_text t)
       cut (Ok v) t err h = absurd (cc)
       cut (Err e) t err h = part_sent before after (yes_text t) (part_of_more before after (tree_text t) yes_line h)

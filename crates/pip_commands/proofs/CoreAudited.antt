@@ -4,8 +4,8 @@ use Rattle.std.proofs.Common.{subst, append-nil}
 use Rattle.std.specs.Option.{IsSomeAnd}
 use Rattle.std.specs.Io.KnownBytes.{Consumes}
 use Rattle.pip_base.specs.Memory.{Memory}
-use Rattle.pip_core.specs.Core.{BadAt, Whole, core_text}
-use Rattle.pip_core.proofs.RoundTrip.{all_frames}
+use Rattle.pip_core_text.specs.Core.{BadAt, Whole, core_text}
+use Rattle.pip_core_text.proofs.RoundTrip.{all_frames}
 use Rattle.pip_io.specs.Taken.{Appends}
 use Rattle.pip_model.specs.Dump.{tree_text}
 use Rattle.pip_model.specs.Layout.{LaysOut, layout}

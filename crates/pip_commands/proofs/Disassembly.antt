@@ -10,11 +10,11 @@ use Rattle.pip_dis.specs.Writing.{Disassembles, parts_text}
 use Rattle.pip_dis.specs.declared.disassembler.DisError.{DisError}
 use Rattle.pip_dis.specs.declared.disassembler.DisError.TheVariants.{Image, Write}
 use Rattle.pip_dis.proofs.Written.{parts_append}
-use Rattle.pip_image.specs.Reading.{IsCut, IsFault, parts_then, stopped}
+use Rattle.pip_image.specs.Reading.{IsCut, IsFault, parts_then, only_fault}
 use Rattle.pip_image.proofs.Steps.{after_parts}
 use Rattle.pip_io.specs.Causes.{RoseByOne}
 use Rattle.pip_io.specs.Taken.{Taken, Appends, Keeps, SendsPart}
-use Rattle.pip_io.proofs.Taken.{Appends-kept, Appends-trans, SendsPart-behind, past_sent}
+use Rattle.pip_io.proofs.Taken.{Appends-kept, Appends-trans, SendsPart-after, past_sent}
 use Rattle.pip_model.specs.DisText.{dis_text}
 use Rattle.pip_model.specs.Images.{Image as Parsed, Part, image, image_parts}
 use Rattle.pip_model.specs.declared.image.ImageError.{ImageError}
@@ -31,7 +31,7 @@ fault_text : (parts : List Part) (bytes : List ℕ) (left : Option (List ℕ)) (
     → IsFault image_parts parts bytes left e
     → parts_text parts ≡ dis_text bytes
 fault_text parts bytes left e is =
-    ap parts_text (sym (append-nil parts) ∙ sym (after_parts parts (stopped e)))
+    ap parts_text (sym (append-nil parts) ∙ sym (after_parts parts (only_fault e)))
     ∙ ap (λ t. parts_text t.parts) (sym (faulty parts bytes left e is))
 
 -- ---- the answers
@@ -118,7 +118,7 @@ module _ (code : ℕ) (p : Option State) (a c : Streams) (none : p ≡ None) (se
               last = line;
               due = inl (line_answer (dis_text bytes) line, due, refl, refl);
               out = past_sent a.written mid c.written (dis_text bytes) line text held cut.1;
-              part = SendsPart-behind a.written mid c.written (dis_text bytes) line text cut.1;
+              part = SendsPart-after a.written mid c.written (dis_text bytes) line text cut.1;
             }) (subst (λ k. RoseByOne k c.writes) same cut.2)
           ]
 

@@ -1,6 +1,6 @@
 -- The lines of `every` are those of runs: a turn's line at another step differs in the step alone.
-use Rattle.std.proofs.Common.{◌≡◌, ℕ, ◌+◌, ◌-◌, List, [], ◌∷◌, ◌++◌, length, take, inl, inr, Option, None, Some}
-use Rattle.std.proofs.Common.{refl, sym, ap, ◌∙◌, subst, arith, append-nil, append_assoc, length-append, decimal}
+use Rattle.std.proofs.Common.{◌≡◌, ℕ, ◌+◌, ◌-◌, List, [], ◌∷◌, ◌++◌, length, take, inl, inr, Option, None, Some, refl}
+use Rattle.std.proofs.Common.{sym, ap, ◌∙◌, subst, arith, append-nil, append_assoc, length-append, decimal}
 use Rattle.std.specs.Prelude.{codes}
 use Rattle.std.proofs.Math.Seq.{take-length}
 use Rattle.std.proofs.lemmas.Fmt.{decimal_digit}
@@ -10,12 +10,12 @@ use Rattle.pip_base.specs.declared.types.Ctx.{Ctx}
 use Rattle.pip_base.specs.declared.outcome.Outcome.{Outcome}
 use Rattle.pip_base.specs.declared.outcome.Outcome.TheVariants as O
 use Rattle.pip_model.specs.Acts.{text_of}
-use Rattle.pip_model.specs.Effects.{passed, word_effect}
+use Rattle.pip_model.specs.Effects.{at_next, word_effect}
 use Rattle.pip_model.specs.Events as E
 use Rattle.pip_model.specs.InstrRead.{instr_of}
 use Rattle.pip_model.specs.Text.{word_text}
-use Rattle.pip_model.specs.Turn.{arguments, call_line, effect_acts, fetched, head, load_acts, moved_line, out_line}
-use Rattle.pip_model.specs.Turn.{outcome_of, polled, store_acts, word_acts, world_of}
+use Rattle.pip_model.specs.Turn.{arguments, call_line, effect_acts, acts_after_fetch, head, load_acts, moved_line}
+use Rattle.pip_model.specs.Turn.{out_line, outcome_of, acts_after_poll, store_acts, word_acts, world_of}
 use Rattle.pip_model.specs.Worlds.{World, runs_on}
 use Rattle.pip_model.specs.declared.effect.Effect.{Effect}
 use Rattle.pip_model.specs.declared.effect.Effect.TheVariants as F
@@ -117,9 +117,9 @@ effect_text w t cpu x (F.Loads a va size) = load_text t cpu x a (outcome_of w (E
 effect_text w t cpu x (F.Stores va v size) = store_text t cpu x (outcome_of w (E.Store cpu va size v))
 effect_text w t cpu x (F.Traps k a b) = moved_text t cpu (outcome_of w (E.Trap cpu k a b))
 effect_text w t cpu x (F.Interrupts k) =
-    moved_text t cpu (outcome_of (world_of w (E.SetContext cpu (passed x))) (E.Trap cpu k 0 0))
+    moved_text t cpu (outcome_of (world_of w (E.SetContext cpu (at_next x))) (E.Trap cpu k 0 0))
 effect_text w t cpu x (F.Calls n) =
-    let o = outcome_of (world_of w (E.SetContext cpu (passed x))) (E.Call cpu n (arguments x)) in
+    let o = outcome_of (world_of w (E.SetContext cpu (at_next x))) (E.Call cpu n (arguments x)) in
     alone t (call_line 0 cpu n o) (call_line t cpu n o) (call_at t cpu n o)
 effect_text w t cpu x (F.Shows v) = alone t (out_line 0 cpu v) (out_line t cpu v) (out_at t cpu v)
 
@@ -129,7 +129,7 @@ word_acts_text w t cpu v None = inl (refl, refl)
 word_acts_text w t cpu v (Some r) = effect_text w t cpu r.ctx (word_effect r.ctx v (instr_of v))
 
 fetched_text : (w : World) (t cpu : ℕ) (o : Outcome)
-    → IsLineAt t (text_of (fetched w 0 cpu o)) (text_of (fetched w t cpu o))
+    → IsLineAt t (text_of (acts_after_fetch w 0 cpu o)) (text_of (acts_after_fetch w t cpu o))
 fetched_text w t cpu (O.Word v) = word_acts_text w t cpu v (runs_on w cpu)
 fetched_text w t cpu O.Done = moved_text t cpu O.Done
 fetched_text w t cpu (O.Reply s v) = moved_text t cpu (O.Reply s v)
@@ -138,7 +138,7 @@ fetched_text w t cpu (O.Parked from k) = moved_text t cpu (O.Parked from k)
 fetched_text w t cpu O.Idle = moved_text t cpu O.Idle
 
 polled_text : (w : World) (t cpu : ℕ) (o : Outcome)
-    → IsLineAt t (text_of (polled w 0 cpu o)) (text_of (polled w t cpu o))
+    → IsLineAt t (text_of (acts_after_poll w 0 cpu o)) (text_of (acts_after_poll w t cpu o))
 polled_text w t cpu (O.Switched from to k) = moved_text t cpu (O.Switched from to k)
 polled_text w t cpu O.Idle = inl (refl, refl)
 polled_text w t cpu (O.Word v) = fetched_text (world_of w (E.Fetch cpu)) t cpu (outcome_of w (E.Fetch cpu))

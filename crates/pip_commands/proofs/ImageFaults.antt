@@ -2,9 +2,9 @@
 use Rattle.std.proofs.Common.{◌≡◌, ℕ, ◌⊎◌, inl, inr, Option, None, Some, List}
 use Rattle.std.proofs.Common.{[], Err, refl, sym, ap, ◌∙◌, append-nil}
 use Rattle.std.specs.Io.KnownBytes.{IsAtEnd}
-use Rattle.pip_image.specs.Reading.{IsFault, by_read, parts_then, stopped}
+use Rattle.pip_image.specs.Reading.{IsFault, by_read, parts_then, only_fault}
 use Rattle.pip_image.proofs.Steps.{after_fault}
-use Rattle.pip_model.specs.Images.{Part, image, image_parts, imaged}
+use Rattle.pip_model.specs.Images.{Part, image, image_parts, image_or_fault}
 use Rattle.pip_model.specs.declared.image.ImageError.{ImageError}
 use Rattle.pip_model.specs.declared.image.ImageError.TheVariants as F
 use Rattle.pip_commands.specs.Faults.{image_line}
@@ -26,7 +26,7 @@ by_line F.Read A B h = inl (h, refl)
 
 -- what these bytes are, where a fault comes after some parts
 pub faulty : (parts : List Part) (bytes : List ℕ) (left : Option (List ℕ)) (e : ImageError)
-    → IsFault image_parts parts bytes left e → image_parts bytes ≡ parts_then parts (stopped e)
+    → IsFault image_parts parts bytes left e → image_parts bytes ≡ parts_then parts (only_fault e)
 faulty parts bytes left e (inl all) = ap image_parts (sym (append-nil bytes)) ∙ all []
 faulty parts bytes left e (inr here) = here.0
 
@@ -37,7 +37,7 @@ is_faulty parts bytes left e is =
     let told = faulty parts bytes left e is in elim is [
       | inl all ↦ inl (record {
         fault = e;
-        first = ap (λ t. t.fault) told ∙ after_fault parts (stopped e);
+        first = ap (λ t. t.fault) told ∙ after_fault parts (only_fault e);
         fixed = λ rest. all rest ∙ sym told;
       })
       | inr here ↦ inr here.1
@@ -47,5 +47,5 @@ is_faulty parts bytes left e is =
 pub no_image : (parts : List Part) (bytes : List ℕ) (left : Option (List ℕ)) (e : ImageError)
     → IsFault image_parts parts bytes left e → image bytes ≡ Err e
 no_image parts bytes left e is =
-    ap (imaged (image_parts bytes).parts) (ap (λ t. t.fault) (faulty parts bytes left e is) ∙ after_fault parts
-    (stopped e))
+    ap (image_or_fault (image_parts bytes).parts) (ap (λ t. t.fault) (faulty parts bytes left e is) ∙ after_fault parts
+    (only_fault e))

@@ -3,9 +3,9 @@ use Rattle.std.proofs.Common.{◌≡◌, ◌≢◌, ℕ, zero, suc, ◌≤◌, �
 use Rattle.std.proofs.Common.{arith, Option, Some, None, Bool, false, ◌==◌}
 use Rattle.std.specs.Prelude.{Result, Ok, Err, IsErr, IsOk, OnErr, option_map}
 use Rattle.pip_base.specs.declared.types.Plan.{Plan}
-use Rattle.pip_cpu.specs.Made.{Cut, Made, WroteLine}
-use Rattle.pip_dis.proofs.Written.{part_behind, part_of_more}
-use Rattle.pip_io.specs.Taken.{Taken, Appends, AppendsPart, Keeps}
+use Rattle.pip_cpu.specs.Made.{Cut, Made}
+use Rattle.pip_dis.proofs.Written.{part_after, part_of_more}
+use Rattle.pip_io.specs.Taken.{Taken, Appends, AppendsPart, Keeps, Wrote}
 use Rattle.pip_io.proofs.Taken.{Appends-trans, Appends-kept, cut_sent, part_sent}
 use Rattle.pip_model.specs.Acts.{Act, text_of}
 use Rattle.pip_model.specs.Images.{Image, image_word}
@@ -89,7 +89,7 @@ module _ (i : Image) (n count frames pages : ℕ) (plans : List Plan)
     pub cut_built : (new : Taken) (xs : List ℕ) → xs ≡ addresses n n → AppendsPart one new (built_from 0 xs)
         → AppendsPart old new (native_text i n count)
     cut_built new xs same y =
-        part_behind old one new line (lines ++ (text_of acts ++ end_line count)) began (part_of_more one new lines
+        part_after old one new line (lines ++ (text_of acts ++ end_line count)) began (part_of_more one new lines
         (text_of acts ++ end_line count) (subst (λ xs. AppendsPart one new (built_from 0 xs)) same y))
 
     module _ (two : Taken) (xs : List ℕ) (same : xs ≡ addresses n n) (y : Appends one two (built_from 0 xs)) where
@@ -100,14 +100,14 @@ module _ (i : Image) (n count frames pages : ℕ) (plans : List Plan)
       pub cut_steps : (S : World → Type 0) (new : Taken) → Cut S two new (ready_world (image_world i) n) acts
           → AppendsPart old new (native_text i n count)
       cut_steps S new z =
-          part_behind old one new line (lines ++ (text_of acts ++ end_line count)) began
-          (part_behind one two new lines (text_of acts ++ end_line count) told
+          part_after old one new line (lines ++ (text_of acts ++ end_line count)) began
+          (part_after one two new lines (text_of acts ++ end_line count) told
           (part_of_more two new (text_of acts) (end_line count)
           (cut_part S two new (ready_world (image_world i) n) acts z)))
 
       -- they were made
       pub made_steps : {T E : Type 0} (r : Result T E) (q : State) (three new : Taken) → Made (StandsAs q) two three
-          (ready_world (image_world i) n) acts → WroteLine r three new (end_line count) → ShowsNative r i n count old
+          (ready_world (image_world i) n) acts → Wrote r three new (end_line count) → ShowsNative r i n count old
           new q
       made_steps (Ok v) q three new z w = (
         Appends-trans old one new line (lines ++ (text_of acts ++ end_line count)) began
@@ -116,9 +116,9 @@ module _ (i : Image) (n count frames pages : ℕ) (plans : List Plan)
         z.world,
       )
       made_steps (Err e) q three new z w =
-          part_behind old one new line (lines ++ (text_of acts ++ end_line count)) began
-          (part_behind one two new lines (text_of acts ++ end_line count) told
-          (part_behind two three new (text_of acts) (end_line count) z.text w))
+          part_after old one new line (lines ++ (text_of acts ++ end_line count)) began
+          (part_after one two new lines (text_of acts ++ end_line count) told
+          (part_after two three new (text_of acts) (end_line count) z.text w))
 
 -- ---- a text that was taken, and then a settling
 

@@ -3,9 +3,9 @@ use Rattle.std.proofs.Common.{◌≡◌, ℕ, List, ◌∷◌, ◌++◌, length,
 use Rattle.std.specs.Prelude.{◌≢◌, [], Result, Ok, Err, IsErr, IsOk, OnErr}
 use Rattle.pip_io.proofs.Taken.{Appends-trans, cut_sent, part_sent, Appends-kept}
 use Rattle.pip_base.specs.declared.types.Plan.{Plan}
-use Rattle.pip_cpu.specs.Made.{Cut, MadeOrCut, WroteLine}
-use Rattle.pip_dis.proofs.Written.{part_behind}
-use Rattle.pip_io.specs.Taken.{Taken, Appends, AppendsPart, Keeps}
+use Rattle.pip_cpu.specs.Made.{Cut, MadeOrCut}
+use Rattle.pip_dis.proofs.Written.{part_after}
+use Rattle.pip_io.specs.Taken.{Taken, Appends, AppendsPart, Keeps, Wrote}
 use Rattle.pip_io.proofs.Pieces.{left_more}
 use Rattle.pip_model.specs.Acts.{Act, Writes, after_acts, text_of}
 use Rattle.pip_model.specs.Dump.{frames_text, tree_text}
@@ -85,27 +85,27 @@ has_root s w stands = root_held s.memory s.cpus (record { world = w; stands = st
 
 -- a text, and then its last line
 pub ended_text : {T E : Type 0} (r : Result T E) (old mid new : Taken) (text line : List ℕ) → Appends old mid text
-    → WroteLine r mid new line → WroteLine r old new (text ++ line)
+    → Wrote r mid new line → Wrote r old new (text ++ line)
 ended_text (Ok v) old mid new text line before after = Appends-trans old mid new text line before after
-ended_text (Err e) old mid new text line before after = part_behind old mid new text line before after
+ended_text (Err e) old mid new text line before after = part_after old mid new text line before after
 
 -- the tree was shown, or the frames
 module _ (i : Image) (q : State) (count seed : ℕ) (stands : StandsAs q (stepped_world i count seed)) {T E : Type 0}
     (r : Result T E) (old new : Taken) where
-  pub tree_shows : ((t : Tree) → IsHeld t q.memory → WroteLine r old new (tree_text t ++ end_line count))
+  pub tree_shows : ((t : Tree) → IsHeld t q.memory → Wrote r old new (tree_text t ++ end_line count))
       → ShowsReport r R.Tree i count seed old new q
   tree_shows wrote = go r (wrote (stepped_world i count seed).tree (held q (stepped_world i count seed) stands))
     where
-      go : {T E : Type 0} (r : Result T E) → WroteLine r old new
+      go : {T E : Type 0} (r : Result T E) → Wrote r old new
           (tree_text (stepped_world i count seed).tree ++ end_line count) → ShowsReport r R.Tree i count seed old new q
       go (Ok v) h = (h, stands)
       go (Err e) h = h
 
-  pub frames_shows : ((t : Tree) → IsHeld t q.memory → WroteLine r old new (frames_text t ++ end_line count))
+  pub frames_shows : ((t : Tree) → IsHeld t q.memory → Wrote r old new (frames_text t ++ end_line count))
       → ShowsReport r R.Frames i count seed old new q
   frames_shows wrote = go r (wrote (stepped_world i count seed).tree (held q (stepped_world i count seed) stands))
     where
-      go : {T E : Type 0} (r : Result T E) → WroteLine r old new
+      go : {T E : Type 0} (r : Result T E) → Wrote r old new
           (frames_text (stepped_world i count seed).tree ++ end_line count) → ShowsReport r R.Frames i count seed old
           new q
       go (Ok v) h = (h, stands)

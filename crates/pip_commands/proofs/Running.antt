@@ -11,7 +11,7 @@ use Rattle.pip_model.specs.declared.image.ImageError.{ImageError}
 use Rattle.pip_switch.specs.Standing.{StandsAs, State}
 use Rattle.pip_commands.specs.EndsBy.{Response, Due, EndsBy, IsAnswered, plainly}
 use Rattle.pip_commands.specs.Faults.{image_line}
-use Rattle.pip_commands.specs.Dues.{reached, run_answer, run_due, shown}
+use Rattle.pip_commands.specs.Dues.{last_world, run_answer, run_due, shown}
 use Rattle.pip_commands.specs.Loading.{LacksMemoryAfterHeader, LoadsImage}
 use Rattle.pip_commands.specs.Machines.{StandsIfAny}
 use Rattle.pip_commands.specs.Streams.{EndsLine, IsCalm, Streams}
@@ -28,7 +28,7 @@ module _ (r : Report) (count seed code : ℕ) (p : Option State) (a c : Streams)
   -- the answer to an image, and to a fault
   abbrev good : (frames pages : ℕ) (plans : List Plan) (s : State) → LoadsImage a.left c.left frames pages plans s →
       Response
-  good frames pages plans s l = plainly 0 (shown r l.parsed count seed) (Some (reached r l.parsed count seed))
+  good frames pages plans s l = plainly 0 (shown r l.parsed count seed) (Some (last_world r l.parsed count seed))
 
   is_good : (frames pages : ℕ) (plans : List Plan) (s : State) (l : LoadsImage a.left c.left frames pages plans s)
       → IsAnswered due l.input (good frames pages plans s l) c.left
@@ -48,7 +48,7 @@ module _ (r : Report) (count seed code : ℕ) (p : Option State) (a c : Streams)
   -- the text was written
   pub run_shown : (frames pages : ℕ) (plans : List Plan) (s q : State) → code ≡ 0 → p ≡ Some q
       → (l : LoadsImage a.left c.left frames pages plans s)
-      → Appends a.written c.written (shown r l.parsed count seed) × StandsAs q (reached r l.parsed count seed)
+      → Appends a.written c.written (shown r l.parsed count seed) × StandsAs q (last_world r l.parsed count seed)
       → IsCalm code a c → EndsBy due code p a c
   run_shown frames pages plans s q is some l did calm =
       by_answer due code p a c calm settled apart l.input l.read (inl (omega (arith, is))) (record {
@@ -56,7 +56,7 @@ module _ (r : Report) (count seed code : ℕ) (p : Option State) (a c : Streams)
         due = is_good frames pages plans s l;
         status = is;
         wrote = did.0;
-        machine = subst (λ o. StandsIfAny o (Some (reached r l.parsed count seed))) (sym some) did.1;
+        machine = subst (λ o. StandsIfAny o (Some (last_world r l.parsed count seed))) (sym some) did.1;
       })
 
   module _ (none : p ≡ None) where

@@ -8,7 +8,7 @@ use Rattle.pip_input.specs.Held.{Held}
 use Rattle.pip_input.proofs.Taking.{all_read}
 use Rattle.pip_io.specs.Causes.{RoseByOne}
 use Rattle.pip_io.specs.Taken.{Taken, Appends, Keeps, SendsPart}
-use Rattle.pip_io.proofs.Taken.{Appends-kept, Appends-nil, Appends-trans, Keeps-trans, SendsPart-behind, cut_sent}
+use Rattle.pip_io.proofs.Taken.{Appends-kept, Appends-nil, Appends-trans, Keeps-trans, SendsPart-after, cut_sent}
 use Rattle.pip_model.specs.Grammar.{lines_of}
 use Rattle.pip_model.specs.Text.{transcript_from}
 use Rattle.pip_model.specs.Worlds.{World}
@@ -84,8 +84,8 @@ module _ (a : Streams) (w : Taken) (m : ℕ) (kept : Keeps a.written w) (same : 
       → TakesLast i a b bytes beyond
   takes_after i b bytes beyond t = record { read = t.read; few = t.few }
 
-  wrote_behind : (c : Taken) (t : List ℕ) → Appends w c t → Appends a.written c t
-  wrote_behind c t h = Appends-trans a.written w c [] t kept h
+  wrote_after : (c : Taken) (t : List ℕ) → Appends w c t → Appends a.written c t
+  wrote_after c t h = Appends-trans a.written w c [] t kept h
 
   ends_after : (e : End) (v : Option World) (n : ℕ) (i : Held) (b : Streams) (machine : Option State)
       → EndsTurn e v n i settled_first b machine → EndsTurn e v n i a b machine
@@ -97,7 +97,7 @@ module _ (a : Streams) (w : Taken) (m : ℕ) (kept : Keeps a.written w) (same : 
         takes = takes_after i b d.bytes [] d.takes;
         whole = d.whole;
         told = d.told;
-        wrote = wrote_behind b.written d.text d.wrote;
+        wrote = wrote_after b.written d.text d.wrote;
         stands = d.stands;
       }
   ends_after BadLine v n i b machine d =
@@ -109,7 +109,7 @@ module _ (a : Streams) (w : Taken) (m : ℕ) (kept : Keeps a.written w) (same : 
         takes =
             takes_after i b d.bytes d.beyond d.takes;
         told = d.told;
-        wrote = wrote_behind b.written d.end.text d.wrote;
+        wrote = wrote_after b.written d.end.text d.wrote;
       }
   ends_after ReadFault v n i b machine d =
       record {
@@ -117,7 +117,7 @@ module _ (a : Streams) (w : Taken) (m : ℕ) (kept : Keeps a.written w) (same : 
         takes = takes_after i b d.rest [] d.takes;
         plain = d.plain;
         short = d.short;
-        wrote = wrote_behind b.written [] d.wrote;
+        wrote = wrote_after b.written [] d.wrote;
         rose = d.rose;
       }
   ends_after WriteFault v n i b machine d = record {
@@ -125,7 +125,7 @@ module _ (a : Streams) (w : Taken) (m : ℕ) (kept : Keeps a.written w) (same : 
     beyond = d.beyond;
     takes = takes_after i b d.bytes d.beyond d.takes;
     uncut = d.uncut;
-    wrote = SendsPart-behind a.written w b.written [] (transcript_from v n (lines_of d.bytes)).text kept d.wrote;
+    wrote = SendsPart-after a.written w b.written [] (transcript_from v n (lines_of d.bytes)).text kept d.wrote;
     rose = subst (λ k. RoseByOne k b.writes) same d.rose;
   }
   ends_after NoMemory v n i b machine d = record {
@@ -136,7 +136,7 @@ module _ (a : Streams) (w : Taken) (m : ℕ) (kept : Keeps a.written w) (same : 
     ended = d.ended;
     first = d.first;
     boots = d.boots;
-    wrote = wrote_behind b.written [] d.wrote;
+    wrote = wrote_after b.written [] d.wrote;
   }
   ends_after Limit v n i b machine d =
       record {
@@ -146,7 +146,7 @@ module _ (a : Streams) (w : Taken) (m : ℕ) (kept : Keeps a.written w) (same : 
         limit = d.limit;
         plain = d.plain;
         short = d.short;
-        wrote = wrote_behind b.written [] d.wrote;
+        wrote = wrote_after b.written [] d.wrote;
       }
 
   pub did_after : (end : Option End) (machine machine' : Option State) (n : ℕ) (i j : Held) (b : Streams)
@@ -161,7 +161,7 @@ module _ (a : Streams) (w : Taken) (m : ℕ) (kept : Keeps a.written w) (same : 
           taken = d.taken;
           count = d.count;
           goes = d.goes;
-          wrote = wrote_behind b.written d.text d.wrote;
+          wrote = wrote_after b.written d.text d.wrote;
           stands = d.stands;
         },
   )

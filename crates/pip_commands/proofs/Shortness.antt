@@ -3,7 +3,7 @@ use Rattle.std.proofs.Common.{◌≡◌, ℕ, ◌≤◌, ◌<◌, inl, inr, List
 use Rattle.std.proofs.Common.{append-nil, Option}
 use Rattle.pip_base.specs.declared.types.Plan.{Plan}
 use Rattle.pip_image.specs.Coming.{header_parts}
-use Rattle.pip_image.specs.Reading.{IsCut, IsFault, LacksHeader, Refuses, stopped}
+use Rattle.pip_image.specs.Reading.{IsCut, IsFault, LacksHeader, Refuses, only_fault}
 use Rattle.pip_image.specs.declared.header.Header.{Header}
 use Rattle.pip_image.proofs.Steps.{after_parts}
 use Rattle.pip_model.specs.Images.{Head, Holds, Line, Part, image_parts, page_parts}
@@ -27,7 +27,7 @@ refused_parts parts a c i k e x =
     elim (by_line e (IsCut image_parts parts x.bytes i k) (IsFault image_parts parts x.bytes c e × (k ≡ i)) x.why) [
       | inl cut ↦ cut.0.whole
       | inr fault ↦
-          ap (λ t. t.parts) (faulty parts x.bytes c e fault.0.0) ∙ after_parts parts (stopped e) ∙ append-nil parts
+          ap (λ t. t.parts) (faulty parts x.bytes c e fault.0.0) ∙ after_parts parts (only_fault e) ∙ append-nil parts
     ]
 
 lines_least : (ps : List Plan) (more : List Part) → length ps ≤ length (map Line ps ++ more)

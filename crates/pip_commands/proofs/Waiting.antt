@@ -2,11 +2,11 @@
 use Rattle.std.specs.Prelude.{◌≡◌, refl, ℕ, [], Option}
 use Rattle.std.proofs.Common.{ap, sym, subst, arith, inl}
 use Rattle.std.proofs.KnownBytes.{Consumes-nil}
-use Rattle.pip_core.specs.Core.{at_first}
-use Rattle.pip_core.specs.CoreRead.{BeginsLines}
-use Rattle.pip_core.proofs.FirstBad.{can_end}
+use Rattle.pip_core_text.specs.Core.{at_first}
+use Rattle.pip_core_text.specs.CoreRead.{BeginsLines}
+use Rattle.pip_core_text.proofs.FirstBad.{can_end}
 use Rattle.pip_image.specs.Pacing.{IsFaultless}
-use Rattle.pip_image.specs.Reading.{EndsAtMost, LacksHeader, stopped}
+use Rattle.pip_image.specs.Reading.{EndsAtMost, LacksHeader, only_fault}
 use Rattle.pip_io.proofs.Taken.{Appends-nil}
 use Rattle.pip_model.specs.DisText.{parts_lines, text_of_lines}
 use Rattle.pip_model.specs.Images.{fields_of, image_parts}
@@ -19,7 +19,7 @@ use Rattle.pip_commands.specs.declared.commands.run.report.Report.{Report}
 use Rattle.pip_commands.proofs.Shortness.{unshort_lacking}
 
 -- no byte is an image that is too short
-nothing_told : image_parts [] ≡ stopped (F.Short 0)
+nothing_told : image_parts [] ≡ only_fault (F.Short 0)
 unfolding fields_of
 nothing_told = refl
 

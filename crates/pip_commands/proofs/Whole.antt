@@ -4,12 +4,12 @@ use Rattle.std.proofs.Common.{◌≡◌, ◌≢◌, ℕ, ◌+◌, ◌≤◌, inl
 use Rattle.std.proofs.Common.{refl, sym, ap, ◌∙◌, subst, append-nil, append_assoc, length-append, arith}
 use Rattle.std.specs.Io.KnownBytes.{Consumes, prepend_known}
 use Rattle.std.proofs.KnownBytes.{Consumes-nil, Consumes-trans, prepend_known-nil}
-use Rattle.pip_core.specs.CoreRead.{AreWholeLines}
+use Rattle.pip_core_text.specs.CoreRead.{AreWholeLines}
 use Rattle.pip_input.specs.Held.{Held}
 use Rattle.pip_input.specs.Lines.{IsLineless}
 use Rattle.pip_io.specs.Causes.{RoseByOne}
 use Rattle.pip_io.specs.Taken.{Taken, Appends, Keeps, SendsPart}
-use Rattle.pip_io.proofs.Taken.{Appends-kept, Appends-nil, Appends-trans, Keeps-trans, SendsPart-behind}
+use Rattle.pip_io.proofs.Taken.{Appends-kept, Appends-nil, Appends-trans, Keeps-trans, SendsPart-after}
 use Rattle.pip_model.specs.Grammar.{lines_of}
 use Rattle.pip_model.specs.Text.{Ending, Transcript, bad_at, text_before}
 use Rattle.pip_model.specs.Text.{finished, script_text, transcript, script_world, transcript_from}
@@ -291,7 +291,7 @@ module _ (a b c : Streams) (i : Held) (machine : Option State) (n : ℕ) (run : 
 
       part : SendsPart a.written c.written (script_text taken)
       part = subst (SendsPart a.written c.written) (sym (ap (λ t. t.text) (told_all d.bytes _ refl)))
-          (SendsPart-behind a.written b.written c.written run.text _ run.wrote d.wrote)
+          (SendsPart-after a.written b.written c.written run.text _ run.wrote d.wrote)
 
       ends_cut : (bytes : List ℕ) → Consumes a.left c.left bytes
           → IsDueLast script_due bytes [] (script_text taken) c.left

@@ -4,14 +4,14 @@ use Rattle.std.specs.Prelude.{◌-◌, Option, Some, None, Result, Ok, Err, opti
 use Rattle.std.specs.Io.KnownBytes.{IsAtEnd}
 use Rattle.pip_base.specs.Memory.{Memory}
 use Rattle.pip_base.specs.declared.types.Plan.{Plan}
-use Rattle.pip_core.specs.Core.{BadAt, CoreText, Whole, core_text}
-use Rattle.pip_core.specs.CoreRead.{AreWholeLines, BeginsLines}
+use Rattle.pip_core_text.specs.Core.{BadAt, CoreText, Whole, core_text}
+use Rattle.pip_core_text.specs.CoreRead.{AreWholeLines, BeginsLines}
 use Rattle.pip_dis.specs.Writing.{parts_text}
 use Rattle.pip_image.specs.Reading.{EndsAtMost, parts_then}
 use Rattle.pip_input.specs.Lines.{HasNoNewline}
 use Rattle.pip_every.specs.Keys.{model_of}
 use Rattle.pip_every.specs.Moments.{Scope, first_moment}
-use Rattle.pip_model.specs.Assembly.{Fault, assembly}
+use Rattle.pip_model.specs.Assembly.{LineFault, assembly}
 use Rattle.pip_model.specs.Audit.{Finding, Lays, Unread, Unsound, Differs, finding}
 use Rattle.pip_model.specs.Booted.{IsBooted}
 use Rattle.pip_model.specs.DisText.{dis_text}
@@ -142,7 +142,7 @@ script_due = record {
 }
 
 -- the image that a text says, or the line that names its first fault
-abbrev pub asm_answer : Result (List ℕ) Fault → Response
+abbrev pub asm_answer : Result (List ℕ) LineFault → Response
 asm_answer (Ok bytes) = plainly 0 bytes None
 asm_answer (Err fault) = plainly 2 (asm_line fault) None
 
@@ -180,14 +180,14 @@ shown R.Tree = tree_run_text
 shown R.Frames = core_run_text
 
 -- and the last world
-abbrev pub reached : Report → Image → ℕ → ℕ → World
-reached R.Trace = run_world
-reached R.Tree = stepped_world
-reached R.Frames = stepped_world
+abbrev pub last_world : Report → Image → ℕ → ℕ → World
+last_world R.Trace = run_world
+last_world R.Tree = stepped_world
+last_world R.Frames = stepped_world
 
 -- the text of the steps of an image, and their last world; or the line that names its first fault
 abbrev pub run_answer : Report → ℕ → ℕ → Result Image ImageError → Option Response
-run_answer r count seed (Ok i) = Some (plainly 0 (shown r i count seed) (Some (reached r i count seed)))
+run_answer r count seed (Ok i) = Some (plainly 0 (shown r i count seed) (Some (last_world r i count seed)))
 run_answer r count seed (Err e) = option_map (λ line. plainly 2 line None) (image_line e)
 
 -- `run`, `tree` and `core` stop at the first fault, write nothing before, and ask for memory after the header

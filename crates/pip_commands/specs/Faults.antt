@@ -1,6 +1,6 @@
 -- The faults of images and of assembly texts, as the lines that name them.
 use Rattle.std.specs.Prelude.{ℕ, List, ◌++◌, Option, Some, None, codes, decimal}
-use Rattle.pip_model.specs.Assembly.{Fault}
+use Rattle.pip_model.specs.Assembly.{LineFault}
 use Rattle.pip_model.specs.Text.{line_text}
 use Rattle.pip_model.specs.declared.assembly.AsmKind.{AsmKind}
 use Rattle.pip_model.specs.declared.assembly.AsmKind.TheVariants as K
@@ -34,5 +34,5 @@ asm_kind K.Twice = codes "twice"
 asm_kind K.Size = codes "size"
 
 -- the line that names the fault of an assembly text
-abbrev pub asm_line : Fault → List ℕ
+abbrev pub asm_line : LineFault → List ℕ
 asm_line fault = line_text (codes "bad line " ++ decimal fault.line ++ codes " " ++ asm_kind fault.kind)

@@ -11,7 +11,7 @@ use Rattle.pip_model.specs.Booted.{IsBooted}
 use Rattle.pip_model.specs.Images.{Image, Part, image, image_parts, image_word}
 use Rattle.pip_model.specs.Run.{image_world}
 use Rattle.pip_switch.specs.Standing.{StandsAs, State}
-use Rattle.pip_commands.specs.Dues.{IsHeaderText, reached, shown}
+use Rattle.pip_commands.specs.Dues.{IsHeaderText, last_world, shown}
 use Rattle.pip_commands.specs.declared.commands.run.loading.Stop.{Stop}
 use Rattle.pip_commands.specs.declared.commands.run.loading.Stop.TheVariants as T
 use Rattle.pip_commands.specs.declared.commands.run.report.Report.{Report}
@@ -75,11 +75,11 @@ HasImage frames pages plans p = (i : Image) × Begins i frames pages plans p
 -- at Ok the text was taken, and the machine stands for the last world; at Err a part of the text was taken
 abbrev pub ShowsReport : {T E : Type 0} → Result T E → Report → Image → ℕ → ℕ → Taken → Taken → State → Type 0
 ShowsReport result r i count seed before after p = MatchResult result
-    (λ v. Appends before after (shown r i count seed) × StandsAs p (reached r i count seed))
+    (λ v. Appends before after (shown r i count seed) × StandsAs p (last_world r i count seed))
     (λ e. AppendsPart before after (shown r i count seed))
 
 -- all of the text went out at Ok, and a part at Err
 abbrev pub ShowsOut : {T E : Type 0} → Result T E → Report → Image → ℕ → ℕ → Taken → Taken → State → Type 0
 ShowsOut result r i count seed before after p = MatchResult result
-    (λ v. Appends before after (shown r i count seed) × StandsAs p (reached r i count seed))
+    (λ v. Appends before after (shown r i count seed) × StandsAs p (last_world r i count seed))
     (λ e. SendsPart before after (shown r i count seed))

@@ -43,7 +43,8 @@ pub fn end_with<K: Sink>(sink: &mut K, line: &[u8], status: u8) -> Ended
     }
 }
 
-/// Ends at a fault of an image: with the line that names it, or without one where the source failed. The sink holds nothing.
+/// Ends at a fault of an image: with the line that names it, or without one where the source failed. The sink holds
+/// nothing.
 pub fn end_at_image<K: Sink>(sink: &mut K, fault: ImageError) -> Ended
     requires { (K.written sink.old).held ≡ [] }
     ensures wrote { MatchOption (image_line fault) ((result.status ≡ 3)

@@ -13,8 +13,8 @@ pub fn law_inputs_answered()
     ensures { InputsAreAnswered }
 {}
 
-/// What `every` writes of an image is determined by the image and the words of the command line, and its lines are those that
-/// the turns have in runs.
+/// What `every` writes of an image is determined by the image and the words of the command line, and its lines are
+/// those that the turns have in runs.
 pub fn law_every()
     ensures once { SearchesSayOnce }
     ensures lines { LinesAreOfRuns }

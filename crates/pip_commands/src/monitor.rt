@@ -1,6 +1,7 @@
 //! The sample monitor.
 
-/// A monitor as an assembly text: the root partition shares one processor out to two children. It is `examples/monitor.s`.
+/// A monitor as an assembly text: the root partition shares one processor out to two children. It is
+/// `examples/monitor.s`.
 pub const MONITOR: &str =
     "# A monitor: the root partition shares one processor out to two children, in turns.
 #
@@ -63,7 +64,7 @@ out r0
 stopped:
 beq r10 r10 stopped
 
-# ---- make_child: r6 is the first of thirteen pages of the root, one behind the other, and r14 where to go on.
+# ---- make_child: r6 is the first of thirteen pages of the root, one after another, and r14 where to go on.
 #
 #     r6           the descriptor, the MMU directory, two shadow directories and the first list page
 #     r6 + 0x5000  three pages for the tables of the child's directory index 64, addresses from 0x10000000 on
@@ -107,7 +108,7 @@ bne r0 r10 refused
 jr r14
 
 # ---- make_tables: tables of the child r6 for the directory index of the address r2, from three pages at r7 on.
-# r7 goes on behind them, and r13 is where to go on.
+# r7 continues after them, and r13 is where to go on.
 make_tables:
 # prepare(child, address, first page) takes a chain: the first word of each page is the address of the next one.
 addi r8 r7 4096

@@ -22,10 +22,10 @@ use std::alloc::Global;
 const USAGE: &[u8] =
     b"usage: pip script | run STEPS SEED | asm | dis | tree STEPS SEED | core STEPS SEED | soak COUNT SEED | native N STEPS | audit FRAMES | every STATES [FROM [DEPTH]]\n";
 
-/// Does what the words of the command line ask for. The words leave out the program's name (docs/FORMATS.md, "Statuses").
-/// The sink holds nothing at first, and at each status but 4 it holds nothing at the end. Whatever the source asks for at a
-/// read, it is read nowhere but where what was read has no answer yet, and all that is due for it is out. It is read while it
-/// is open, so that its end is asked for once.
+/// Does what the words of the command line ask for. The words leave out the program's name (docs/FORMATS.md,
+/// "Statuses"). The sink holds nothing at first, and at each status but 4 it holds nothing at the end. Whatever the
+/// source asks for at a read, it is read nowhere but where what was read has no answer yet, and all that is due for it
+/// is out. It is read while it is open, so that its end is asked for once.
 pub fn pip<S: Source, K: Sink>(
     alloc: Global,
     words: &[String],

@@ -1,7 +1,9 @@
 //! The words of the command line.
 ghost use Rattle.std.specs.Prelude.{◌≡◌, map, string_bytes, Some};
-ghost use Rattle.pip_commands.specs.Words.{audit_words, command_of, every_words, four_words, native_words, single_word, three_words, two_words};
+ghost use Rattle.pip_commands.specs.Words.{audit_words, command_of, every_words, four_words, native_words, single_word};
+ghost use Rattle.pip_commands.specs.Words.{three_words, two_words};
 
+use pip_base::{MAX_FRAMES, MAX_STEPS, MIN_FRAMES};
 use pip_script::read_number;
 
 /// What the words ask for (README, "Commands").
@@ -40,16 +42,8 @@ pub enum Command {
     },
 }
 
-/// The most steps of a run.
-const MAX_STEPS: u32 = 10_000_000;
-
 /// The most children of `native`.
 const MAX_CHILDREN: u32 = 8;
-
-/// The least and the most frames of a memory.
-const MIN_FRAMES: u32 = 16;
-
-const MAX_FRAMES: u32 = 4096;
 
 /// The most events of `soak`.
 const MAX_EVENTS: u32 = 1_000_000;

@@ -13,7 +13,7 @@ use Rattle.pip_model.specs.Boot.{own}
 use Rattle.pip_model.specs.Tree.{Table, lists}
 use Rattle.pip_model.specs.NodeWords.{next_list_page, no_table, page_word, slots}
 use Rattle.pip_config.specs.Lists.{HasSmallFrames, IsFresh, ListIn, ListStays, PagesIn, list_frame}
-use Rattle.pip_config.proofs.PageWords.{frame_next, same_pair, word_behind, word_frame, word_link, word_none, word_va}
+use Rattle.pip_config.proofs.PageWords.{frame_next, same_pair, word_after, word_frame, word_link, word_none, word_va}
 
 -- ---- one link written: page j now leads to q
 
@@ -42,7 +42,7 @@ module _ (m : Memory) (first : ℕ) (more new : List Pair) (slot : ℕ → Table
       | inr not_one ↦
           word_at-put_words_index m (list_frame first more j) 0 (q.frame ∷ q.va ∷ []) i list.shape here (omega arith)
           (inr (omega arith))
-          ∙ (list.each j i j_in i_in ∙ word_behind more new slot j i not_zero not_one)
+          ∙ (list.each j i j_in i_in ∙ word_after more new slot j i not_zero not_one)
     ]
   ]
 

@@ -36,10 +36,10 @@ word_link a b slot k i e = ap (λ (p : Pair). if i == 0 then p.frame else if i =
     else if nat_lt i 1022 then slice_index (slot_words (slot (170 * k + (i - 2) / 6))) ((i - 2) % 6) else 0) e
 
 -- after the two words of the link, the link says nothing
-pub word_behind : (a b : List Pair) (slot : ℕ → Table) (k i : ℕ) → i ≢ 0 → i ≢ 1
+pub word_after : (a b : List Pair) (slot : ℕ → Table) (k i : ℕ) → i ≢ 0 → i ≢ 1
     → page_word a slot k i ≡ page_word b slot k i
 unfolding page_word
-word_behind a b slot k i not_zero not_one = rw (ne_eqb i 0 not_zero, ne_eqb i 1 not_one) refl
+word_after a b slot k i not_zero not_one = rw (ne_eqb i 0 not_zero, ne_eqb i 1 not_one) refl
 
 no_table_word : (j : ℕ) → slice_index (slot_words no_table) j ≡ 0
 no_table_word zero = refl

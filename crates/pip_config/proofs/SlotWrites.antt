@@ -64,9 +64,9 @@ module _ (m : Memory) (first : ℕ) (more : List Pair) (slot : ℕ → Table) (l
         ∙ (list.each (p / 170) i low i_in
         ∙ sym (word_far more slot p t (p / 170) i (λ h z. let a = h.0 in let b = h.1 in omega arith)))
     | inr from ↦ elim (cases_lt i (2 + 6 * (p % 170) + 6)) [
-      | inr behind ↦
+      | inr after ↦
           word_at-put_words_index m (list_frame first more (p / 170)) (2 + 6 * (p % 170)) (slot_words t) i list.shape
-          here fits (inr behind)
+          here fits (inr after)
           ∙ (list.each (p / 170) i low i_in
           ∙ sym (word_far more slot p t (p / 170) i (λ h z. let a = h.0 in let b = h.1 in omega arith)))
       | inl inside ↦

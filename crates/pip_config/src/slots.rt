@@ -1,10 +1,12 @@
 //! The slots of a list.
-ghost use Rattle.std.specs.Prelude.{◌≡◌, ℕ, ◌<◌, ◌≤◌, ◌+◌, ◌-◌, ◌*◌, ◌/◌, ◌^◌, ◌==◌, [], ◌∷◌, ◌++◌, List, length, position, slice_set};
+ghost use Rattle.std.specs.Prelude.{◌≡◌, ℕ, ◌<◌, ◌≤◌, ◌+◌, ◌-◌, ◌*◌, ◌/◌, ◌^◌, ◌==◌, [], ◌∷◌, ◌++◌, List, length};
+ghost use Rattle.std.specs.Prelude.{position, slice_set};
 ghost use Rattle.pip_base.specs.declared.types.Pair.{Pair};
 ghost use Rattle.pip_base.specs.Memory.{put_words, word_at};
 ghost use Rattle.pip_model.specs.Tree.{Table, lists, table_pairs};
 ghost use Rattle.pip_model.specs.NodeWords.{no_table, slots};
-ghost use Rattle.pip_config.specs.Lists.{ListIn, ListStays, PagesIn, HasPage, HasList, HasRoomInList, HasSmallFrames, pair_words, put_slot};
+ghost use Rattle.pip_config.specs.Lists.{ListIn, ListStays, PagesIn, HasPage, HasList, HasRoomInList, HasSmallFrames};
+ghost use Rattle.pip_config.specs.Lists.{pair_words, put_slot};
 
 use crate::pages::page_at;
 use crate::pairs::{read_pair, write_pair};

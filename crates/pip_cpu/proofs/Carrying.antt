@@ -7,10 +7,10 @@ use Rattle.pip_base.specs.declared.outcome.Outcome.TheVariants as O
 use Rattle.pip_base.specs.declared.types.Ctx.{Ctx}
 use Rattle.pip_base.specs.declared.types.Size.{Size}
 use Rattle.pip_cpu.proofs.Makings.{after_event, line_alone}
-use Rattle.pip_cpu.specs.Made.{Made, MadeOrCut, WroteLine}
+use Rattle.pip_cpu.specs.Made.{Made, MadeOrCut}
 use Rattle.pip_model.specs.Acts.{Makes, Writes}
 use Rattle.pip_model.specs.Answers.{Five}
-use Rattle.pip_model.specs.Effects.{next, passed, word_effect}
+use Rattle.pip_model.specs.Effects.{next, at_next, word_effect}
 use Rattle.pip_model.specs.InstrRead.{instr_of}
 use Rattle.pip_model.proofs.Events.Outcomes.{load_same, store_same}
 use Rattle.pip_model.specs.Events as E
@@ -20,7 +20,7 @@ use Rattle.pip_model.specs.Turn.{word_acts, world_of}
 use Rattle.pip_model.specs.Worlds.{World, ctx_of, ctx_on}
 use Rattle.pip_model.specs.declared.processors.Occupant.{Occupant}
 use Rattle.pip_model.specs.declared.effect.Effect.TheVariants as F
-use Rattle.pip_io.specs.Taken.{Taken}
+use Rattle.pip_io.specs.Taken.{Taken, Wrote}
 
 -- an access that gave no word, or was not done
 no_word : (t cpu : ℕ) (x : Ctx) (a : ℕ) (o : Outcome) → ((v : ℕ) → o ≡ O.Word v → ⊥)
@@ -45,20 +45,20 @@ not_done t cpu x O.Idle n = refl
 module _ {T X : Type 0} (r : Result T X) (old new : Taken) (w : World) (t cpu : ℕ) (x : Ctx) where
   -- an event that wrote the line of its outcome
   moved_by : (S : World → Type 0) (e : E.Event) (o : Outcome) → (o ≡ outcome_of w e) × S (world_of w e)
-      → WroteLine r old new (moved_line t cpu o)
+      → Wrote r old new (moved_line t cpu o)
       → MadeOrCut r S old new w (Makes e ∷ Writes (moved_line t cpu (outcome_of w e)) ∷ [])
   moved_by S e o h s = after_event S old new w r e _
-      (line_alone S old new (world_of w e) r _ h.1 (subst (λ p. WroteLine r old new (moved_line t cpu p)) h.0 s))
+      (line_alone S old new (world_of w e) r _ h.1 (subst (λ p. Wrote r old new (moved_line t cpu p)) h.0 s))
 
   pub trapped : (S : World → Type 0) (k a b : ℕ) (o : Outcome)
-      → (o ≡ outcome_of w (E.Trap cpu k a b)) × S (world_of w (E.Trap cpu k a b)) → WroteLine r old new
+      → (o ≡ outcome_of w (E.Trap cpu k a b)) × S (world_of w (E.Trap cpu k a b)) → Wrote r old new
       (moved_line t cpu o)
       → MadeOrCut r S old new w (effect_acts w t cpu x (F.Traps k a b))
   trapped S k a b o h s = moved_by S (E.Trap cpu k a b) o h s
 
   pub load_moved : (S : World → Type 0) (a va : ℕ) (size : Size) (o : Outcome) → ((v : ℕ) → o ≡ O.Word v → ⊥)
       → (o ≡ outcome_of w (E.Load cpu va size)) × S (world_of w (E.Load cpu va size))
-      → WroteLine r old new (moved_line t cpu o)
+      → Wrote r old new (moved_line t cpu o)
       → MadeOrCut r S old new w (effect_acts w t cpu x (F.Loads a va size))
   load_moved S a va size o n h s =
       let same = ap (λ p. moved_line t cpu p) (sym h.0) in
@@ -68,7 +68,7 @@ module _ {T X : Type 0} (r : Result T X) (old new : Taken) (w : World) (t cpu : 
 
   pub store_moved : (S : World → Type 0) (va : ℕ) (size : Size) (word : ℕ) (o : Outcome) → (o ≡ O.Done → ⊥)
       → (o ≡ outcome_of w (E.Store cpu va size word)) × S (world_of w (E.Store cpu va size word))
-      → WroteLine r old new (moved_line t cpu o)
+      → Wrote r old new (moved_line t cpu o)
       → MadeOrCut r S old new w (effect_acts w t cpu x (F.Stores va word size))
   store_moved S va size word o n h s =
       let same = ap (λ p. moved_line t cpu p) (sym h.0) in
@@ -79,27 +79,27 @@ module _ {T X : Type 0} (r : Result T X) (old new : Taken) (w : World) (t cpu : 
   -- pc goes on, and then a trap or a call is made. S1 stands between
   module _ (S1 S2 : World → Type 0) (pc : ℕ) (same : pc ≡ next x)
       (stands : S1 (world_of w (E.SetContext cpu (record x { pc = pc })))) where
-    between : S1 (world_of w (E.SetContext cpu (passed x)))
+    between : S1 (world_of w (E.SetContext cpu (at_next x)))
     between = subst (λ z. S1 (world_of w (E.SetContext cpu (record x { pc = z })))) same stands
 
-    pub interrupted : (k : ℕ) (o : Outcome) → Follows S1 S2 (E.Trap cpu k 0 0) o → WroteLine r old new
+    pub interrupted : (k : ℕ) (o : Outcome) → Follows S1 S2 (E.Trap cpu k 0 0) o → Wrote r old new
         (moved_line t cpu o)
         → MadeOrCut r S2 old new w (effect_acts w t cpu x (F.Interrupts k))
     interrupted k o f s =
-        let v = world_of w (E.SetContext cpu (passed x)) in
+        let v = world_of w (E.SetContext cpu (at_next x)) in
         let g = f v between in
-        after_event S2 old new w r (E.SetContext cpu (passed x)) _ (after_event S2 old new v r (E.Trap cpu k 0 0) _
-        (line_alone S2 old new _ r _ g.1 (subst (λ p. WroteLine r old new (moved_line t cpu p)) g.0 s)))
+        after_event S2 old new w r (E.SetContext cpu (at_next x)) _ (after_event S2 old new v r (E.Trap cpu k 0 0) _
+        (line_alone S2 old new _ r _ g.1 (subst (λ p. Wrote r old new (moved_line t cpu p)) g.0 s)))
 
     pub called : (n : ℕ) (five : Five) (o : Outcome) → five ≡ arguments x → Follows S1 S2 (E.Call cpu n five) o
-        → WroteLine r old new (call_line t cpu n o)
+        → Wrote r old new (call_line t cpu n o)
         → MadeOrCut r S2 old new w (effect_acts w t cpu x (F.Calls n))
     called n five o args f s =
-        let v = world_of w (E.SetContext cpu (passed x)) in
+        let v = world_of w (E.SetContext cpu (at_next x)) in
         let g = subst (λ a. Follows S1 S2 (E.Call cpu n a) o) args f v between in
-        after_event S2 old new w r (E.SetContext cpu (passed x)) _
+        after_event S2 old new w r (E.SetContext cpu (at_next x)) _
         (after_event S2 old new v r (E.Call cpu n (arguments x)) _
-        (line_alone S2 old new _ r _ g.1 (subst (λ p. WroteLine r old new (call_line t cpu n p)) g.0 s)))
+        (line_alone S2 old new _ r _ g.1 (subst (λ p. Wrote r old new (call_line t cpu n p)) g.0 s)))
 
 -- ---- what runs gets another context
 

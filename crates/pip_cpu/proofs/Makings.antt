@@ -1,9 +1,9 @@
 -- Acts that are made one after the other, or cut at a line.
 use Rattle.std.proofs.Common.{refl, ℕ, sym, ap, ◌∙◌, subst, append_assoc, append-nil, List, [], ◌∷◌, ◌++◌}
 use Rattle.std.specs.Prelude.{Result, Ok, Err}
-use Rattle.pip_io.specs.Taken.{Taken, Appends, AppendsPart}
+use Rattle.pip_io.specs.Taken.{Taken, Appends, AppendsPart, Wrote}
 use Rattle.pip_io.proofs.Taken.{Appends-trans}
-use Rattle.pip_cpu.specs.Made.{Cut, Made, MadeOrCut, WroteLine}
+use Rattle.pip_cpu.specs.Made.{Cut, Made, MadeOrCut}
 use Rattle.pip_model.proofs.OnLists.Acts.{after-append, text-append}
 use Rattle.pip_model.specs.Acts.{Act, Makes, Writes, text_of}
 use Rattle.pip_model.specs.Events.{Event}
@@ -53,7 +53,7 @@ module _ (S : World → Type 0) (old new : Taken) (w : World) where
     text = h.2;
   }
 
-  pub line_alone : {T X : Type 0} (r : Result T X) (line : List ℕ) → S w → WroteLine r old new line
+  pub line_alone : {T X : Type 0} (r : Result T X) (line : List ℕ) → S w → Wrote r old new line
       → MadeOrCut r S old new w (Writes line ∷ [])
   line_alone (Ok v) line s h = record { world = s; text = subst (Appends old new) (sym (append-nil line)) h }
   line_alone (Err x) line s h = cut_line line [] s h
@@ -98,13 +98,13 @@ module _ (S : World → Type 0) (old mid new : Taken) (w : World) where
         (Appends-trans old mid new line (text_of m.front ++ m.part) a m.text);
   }
 
-  pub behind_line : {T X : Type 0} (r : Result T X) (line : List ℕ) (acts : List Act) → Appends old mid line
+  pub after_line : {T X : Type 0} (r : Result T X) (line : List ℕ) (acts : List Act) → Appends old mid line
       → MadeOrCut r S mid new w acts → MadeOrCut r S old new w (Writes line ∷ acts)
-  behind_line (Ok v) line acts a m = made_after_line line acts a m
-  behind_line (Err x) line acts a m = cut_after_line line acts a m
+  after_line (Ok v) line acts a m = made_after_line line acts a m
+  after_line (Err x) line acts a m = cut_after_line line acts a m
 
   pub before_line : {T X : Type 0} (r : Result T X) (acts : List Act) (line : List ℕ) → Made S old mid w acts
-      → WroteLine r mid new line → MadeOrCut r S old new w (acts ++ Writes line ∷ [])
+      → Wrote r mid new line → MadeOrCut r S old new w (acts ++ Writes line ∷ [])
   before_line (Ok v) acts line m a = record {
     world = subst S (sym (after-append w acts (Writes line ∷ []))) m.world;
     text = subst (Appends old new) (sym (text-append acts (Writes line ∷ [])

@@ -1,6 +1,6 @@
 -- What a call on a machine and a sink did of a list of acts.
 use Rattle.std.specs.Prelude.{◌≡◌, ◌≢◌, ℕ, List, [], ◌∷◌, ◌++◌, Result, MatchResult}
-use Rattle.pip_io.specs.Taken.{Taken, Appends, AppendsPart}
+use Rattle.pip_io.specs.Taken.{Taken, Appends}
 use Rattle.pip_model.specs.Acts.{Act, Writes, after_acts, text_of}
 use Rattle.pip_model.specs.Effects.{next}
 use Rattle.pip_model.specs.Worlds.{World, ctx_on}
@@ -32,10 +32,6 @@ MadeOrCut result stands old new w acts =
 abbrev pub Acts : {T E : Type 0} → Result T E → (World → Type 0) → (World → Type 0) → Taken → Taken → (World → List Act)
     → Type 0
 Acts result before after old new acts = (w : World) → before w → MadeOrCut result after old new w (acts w)
-
--- a line was written, or at Err a part of it
-abbrev pub WroteLine : {T E : Type 0} → Result T E → Taken → Taken → List ℕ → Type 0
-WroteLine result old new line = MatchResult result (λ v. Appends old new line) (λ e. AppendsPart old new line)
 
 -- the next instruction of what runs on a processor stands there
 abbrev pub IsNext : (World → Type 0) → ℕ → ℕ → Type 0

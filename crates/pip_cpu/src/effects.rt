@@ -83,7 +83,7 @@ fn set(a: Register, word: u32) -> Effect
 // The divisor 0 traps.
 fn quotient(ctx: &Ctx, a: Register, b: u32, c: u32) -> Effect
     ensures proper { IsEffect result }
-    ensures same { result ≡ model.divided ctx.now c (F.Sets a (b / c)) }
+    ensures same { result ≡ model.traps_at_zero ctx.now c (F.Sets a (b / c)) }
 {
     if c == 0 {
         return zero_divisor(ctx);
@@ -93,7 +93,7 @@ fn quotient(ctx: &Ctx, a: Register, b: u32, c: u32) -> Effect
 
 fn remainder(ctx: &Ctx, a: Register, b: u32, c: u32) -> Effect
     ensures proper { IsEffect result }
-    ensures same { result ≡ model.divided ctx.now c (F.Sets a (b % c)) }
+    ensures same { result ≡ model.traps_at_zero ctx.now c (F.Sets a (b % c)) }
 {
     if c == 0 {
         return zero_divisor(ctx);

@@ -1,5 +1,5 @@
-//! One turn of a processor: it polls, fetches and runs one instruction (docs/MODEL.md, "A turn"), and writes the lines of
-//! the trace (docs/FORMATS.md, "Trace lines").
+//! One turn of a processor: it polls, fetches and runs one instruction (docs/MODEL.md, "A turn"), and writes the lines
+//! of the trace (docs/FORMATS.md, "Trace lines").
 #![tactic(auto)]
 
 mod carry;

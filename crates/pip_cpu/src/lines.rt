@@ -1,7 +1,7 @@
 //! Writes the lines of a trace.
 ghost use Rattle.std.specs.Prelude.{◌≡◌, ◌+◌, ◌≤◌, ◌++◌, []};
 ghost use Rattle.arrayvec.specs.ArrayString.{array_string_len};
-ghost use Rattle.pip_cpu.specs.Made.{WroteLine};
+ghost use Rattle.pip_io.specs.Taken.{Wrote};
 ghost use Rattle.pip_base.specs.declared.outcome.Outcome.TheVariants as O;
 ghost use Rattle.pip_io.specs.Causes.{HasCause};
 ghost use Rattle.pip_model.specs.Turn.{call_line, head, moved_line, out_line, switch_text};
@@ -15,12 +15,13 @@ use pip_script::{push_decimal, push_word};
 /// Room for a line of a trace: the longest has 88 bytes.
 const ROOM: usize = 96;
 
-/// Writes a line by one `write_all`. It fails only where the sink's count of faults is one more; a part of it was written then.
+/// Writes a line by one `write_all`. It fails only where the sink's count of faults is one more; a part of it was
+/// written then.
 pub fn write_line<K: Sink, const N: usize>(
     sink: &mut K,
     line: &ArrayString<N>,
 ) -> Result<(), Failed>
-    ensures wrote { WroteLine result (K.written sink.old) (K.written sink.new) line.now.bytes }
+    ensures wrote { Wrote result (K.written sink.old) (K.written sink.new) line.now.bytes }
     ensures cause { HasCause (K.faults sink.old) (K.faults sink.new) result }
 {
     write_all(sink, line.as_bytes())
@@ -29,7 +30,7 @@ pub fn write_line<K: Sink, const N: usize>(
 /// Writes the line of what moved control, if something did. For a sink that discards it no line is made.
 #[inline(always)]
 pub fn write_moved<K: Sink>(sink: &mut K, t: u64, cpu: u32, outcome: Outcome) -> Result<(), Failed>
-    ensures wrote { WroteLine result (K.written sink.old) (K.written sink.new) (moved_line t cpu outcome) }
+    ensures wrote { Wrote result (K.written sink.old) (K.written sink.new) (moved_line t cpu outcome) }
     ensures cause { HasCause (K.faults sink.old) (K.faults sink.new) result }
 {
     if sink.discards() {
@@ -52,7 +53,7 @@ fn write_switch<K: Sink>(
     to: u32,
     vector: u32,
 ) -> Result<(), Failed>
-    ensures wrote { WroteLine result (K.written sink.old) (K.written sink.new)
+    ensures wrote { Wrote result (K.written sink.old) (K.written sink.new)
         (moved_line t cpu (O.Switched from to vector)) }
     ensures cause { HasCause (K.faults sink.old) (K.faults sink.new) result }
 {
@@ -65,7 +66,7 @@ fn write_switch<K: Sink>(
 // Writes the line of a processor that parked.
 #[inline(never)]
 fn write_park<K: Sink>(sink: &mut K, t: u64, cpu: u32, from: u32, vector: u32) -> Result<(), Failed>
-    ensures wrote { WroteLine result (K.written sink.old) (K.written sink.new) (moved_line t cpu (O.Parked from vector)) }
+    ensures wrote { Wrote result (K.written sink.old) (K.written sink.new) (moved_line t cpu (O.Parked from vector)) }
     ensures cause { HasCause (K.faults sink.old) (K.faults sink.new) result }
 {
     let mut line: ArrayString<ROOM> = ArrayString::new();
@@ -87,7 +88,7 @@ pub fn write_call<K: Sink>(
     number: u32,
     outcome: Outcome,
 ) -> Result<(), Failed>
-    ensures wrote { WroteLine result (K.written sink.old) (K.written sink.new) (call_line t cpu number outcome) }
+    ensures wrote { Wrote result (K.written sink.old) (K.written sink.new) (call_line t cpu number outcome) }
     ensures cause { HasCause (K.faults sink.old) (K.faults sink.new) result }
 {
     if sink.discards() {
@@ -105,7 +106,7 @@ fn write_told<K: Sink>(
     number: u32,
     outcome: &Outcome,
 ) -> Result<(), Failed>
-    ensures wrote { WroteLine result (K.written sink.old) (K.written sink.new) (call_line t cpu number outcome.now) }
+    ensures wrote { Wrote result (K.written sink.old) (K.written sink.new) (call_line t cpu number outcome.now) }
     ensures cause { HasCause (K.faults sink.old) (K.faults sink.new) result }
 {
     let mut line = ArrayString::new();
@@ -116,7 +117,7 @@ fn write_told<K: Sink>(
 /// Writes the line of a word that is shown. For a sink that discards it no line is made.
 #[inline(always)]
 pub fn write_out<K: Sink>(sink: &mut K, t: u64, cpu: u32, word: u32) -> Result<(), Failed>
-    ensures wrote { WroteLine result (K.written sink.old) (K.written sink.new) (out_line t cpu word) }
+    ensures wrote { Wrote result (K.written sink.old) (K.written sink.new) (out_line t cpu word) }
     ensures cause { HasCause (K.faults sink.old) (K.faults sink.new) result }
 {
     if sink.discards() {
@@ -128,7 +129,7 @@ pub fn write_out<K: Sink>(sink: &mut K, t: u64, cpu: u32, word: u32) -> Result<(
 // Writes the line of a word.
 #[inline(never)]
 fn write_shown<K: Sink>(sink: &mut K, t: u64, cpu: u32, word: u32) -> Result<(), Failed>
-    ensures wrote { WroteLine result (K.written sink.old) (K.written sink.new) (out_line t cpu word) }
+    ensures wrote { Wrote result (K.written sink.old) (K.written sink.new) (out_line t cpu word) }
     ensures cause { HasCause (K.faults sink.old) (K.faults sink.new) result }
 {
     let mut line = ArrayString::new();

@@ -6,11 +6,11 @@ use Rattle.std.proofs.KnownBytes.{Consumes-trans}
 use Rattle.pip_io.specs.Causes.{RoseByOne}
 use Rattle.pip_io.specs.Pacing.{MayRead}
 use Rattle.pip_io.specs.Taken.{Taken, Appends, SendsPart, SendsPast}
-use Rattle.pip_io.proofs.Taken.{Appends-nil, Appends-trans, SendsPart-behind, SendsPast-behind, past_sent}
+use Rattle.pip_io.proofs.Taken.{Appends-nil, Appends-trans, SendsPart-after, SendsPast-after, past_sent}
 use Rattle.pip_model.specs.declared.image.ImageError.{ImageError}
-use Rattle.pip_model.specs.Images.{Part, PartsRead, imaged, image_parts}
+use Rattle.pip_model.specs.Images.{Part, PartsRead, image_or_fault, image_parts}
 use Rattle.pip_image.specs.Pacing.{IsPartless}
-use Rattle.pip_image.specs.Reading.{TakesParts, EndsInput, Refuses, parts_then, ended}
+use Rattle.pip_image.specs.Reading.{TakesParts, EndsInput, Refuses, parts_then, no_more_parts}
 use Rattle.pip_image.proofs.Steps.{takes_then, takes_refused, after_parts, after_fault, after_append}
 use Rattle.pip_image.proofs.Steps.{faultless_after, takes_none}
 use Rattle.pip_dis.specs.Pacing.{MayGoOn}
@@ -39,7 +39,7 @@ up_to_after ps qs x y z w u = (
   ps ++ u.0,
   u.1,
   ap (λ qs. ps ++ qs) u.2 ∙ sym (append_assoc ps u.0 (u.1 ∷ [])),
-  subst (SendsPast x z) (sym (parts_append ps u.0)) (SendsPast-behind x y z (parts_text ps) (parts_text u.0) w u.3),
+  subst (SendsPast x z) (sym (parts_append ps u.0)) (SendsPast-after x y z (parts_text ps) (parts_text u.0) w u.3),
 )
 
 pub passes_stops : (t u : List ℕ → PartsRead) (a b c : Option (List ℕ)) (x y z : Taken) (m n k i j l : ℕ) (e : DisError)
@@ -59,7 +59,7 @@ passes_stops t u a b c x y z m n k i j l Write h g p s = record {
   rose = subst (λ k. RoseByOne k l) g s.rose;
   calm = s.calm ∙ h;
   wrote = subst (SendsPart x z) (sym (parts_append p.parts s.parts))
-      (SendsPart-behind x y z (parts_text p.parts) (parts_text s.parts) p.wrote s.wrote);
+      (SendsPart-after x y z (parts_text p.parts) (parts_text s.parts) p.wrote s.wrote);
   up_to = up_to_after p.parts s.parts x y z p.wrote s.up_to;
 }
 
@@ -70,7 +70,7 @@ passes_all t u a b c x y z p q = record {
   bytes = p.took.bytes ++ q.bytes;
   read = Consumes-trans _ _ _ _ _ p.took.taken q.read;
   whole = q.whole;
-  is = p.took.is q.bytes ∙ ap (parts_then p.parts) q.is ∙ sym (after_append p.parts q.parts ended);
+  is = p.took.is q.bytes ∙ ap (parts_then p.parts) q.is ∙ sym (after_append p.parts q.parts no_more_parts);
   wrote = subst (Appends x z) (sym (parts_append p.parts q.parts))
       (Appends-trans x y z (parts_text p.parts) (parts_text q.parts) p.wrote q.wrote);
   none = q.none;
@@ -132,7 +132,7 @@ module _ (t u : List ℕ → PartsRead) (a b : Option (List ℕ)) (x y : Taken) 
         up_to = ([], p, refl, past_sent x x z [] (parts_text (p ∷ [])) (Appends-nil x) none part);
       }
 
-imaged_ok : (ps : List Part) (f : Option ImageError) → f ≡ None → IsOk (imaged ps f)
+imaged_ok : (ps : List Part) (f : Option ImageError) → f ≡ None → IsOk (image_or_fault ps f)
 imaged_ok ps None h = refl
 imaged_ok ps (Some e) h = absurd (cc)
 
@@ -142,9 +142,9 @@ all_disassembled a b x y p = record {
   read = p.read;
   whole = p.whole;
   good = imaged_ok (image_parts p.bytes).parts (image_parts p.bytes).fault
-      (ap (λ t. t.fault) p.is ∙ after_fault p.parts ended);
+      (ap (λ t. t.fault) p.is ∙ after_fault p.parts no_more_parts);
   text = subst (λ ps. Appends x y (parts_text ps))
-      (sym (ap (λ t. t.parts) p.is ∙ after_parts p.parts ended ∙ append-nil p.parts)) p.wrote;
+      (sym (ap (λ t. t.parts) p.is ∙ after_parts p.parts no_more_parts ∙ append-nil p.parts)) p.wrote;
   none = p.none;
 }
 

@@ -1,12 +1,11 @@
 -- Texts that are written one after another.
 use Rattle.std.specs.Prelude.{◌≡◌, refl, ℕ, ◌+◌, ◌*◌, ◌<◌, List, [], ◌∷◌, ◌++◌, length, map, take, drop, codes}
 use Rattle.std.proofs.Common.{ap, sym, subst, ◌∙◌, append_assoc, append-nil, get_or}
-use Rattle.std.proofs.lemmas.List.{map-append, take-append-drop}
-use Rattle.std.proofs.lemmas.List.{take_more}
+use Rattle.std.proofs.lemmas.List.{map-append, take-append-drop, take_more}
 use Rattle.pip_io.proofs.Taken.{Appends-trans}
 use Rattle.pip_io.specs.Taken.{Taken, Appends, AppendsPart}
 use Rattle.pip_io.proofs.Pieces.{left_more}
-use Rattle.pip_model.specs.DisText.{trimmed, text_of_lines, part_lines, parts_lines}
+use Rattle.pip_model.specs.DisText.{without_last_zeros, text_of_lines, part_lines, parts_lines}
 use Rattle.pip_model.specs.InstrText.{word_said}
 use Rattle.pip_model.specs.Text.{line_text, word_text}
 use Rattle.pip_model.specs.Images.{Part, Holds}
@@ -26,9 +25,9 @@ pub parts_append : (ps qs : List Part) → parts_text (ps ++ qs) ≡ parts_text 
 parts_append ps qs = ap text_of_lines (lines_of_parts ps qs) ∙ lines_append (parts_lines ps) (parts_lines qs)
 
 -- a part of a text after a text
-pub part_behind : (a b c : Taken) (done text : List ℕ) → Appends a b done → AppendsPart b c text
+pub part_after : (a b c : Taken) (done text : List ℕ) → Appends a b done → AppendsPart b c text
     → AppendsPart a c (done ++ text)
-part_behind a b c done text x y =
+part_after a b c done text x y =
     (done ++ y.0, y.1, Appends-trans _ _ _ _ _ x y.2, append_assoc done y.0 y.1 ∙ ap (λ t. done ++ t) y.3, y.4)
 
 -- a part of a longer text
@@ -46,7 +45,7 @@ part_of_first a b l x ls e h =
 pub part_of_rest : (a b c : Taken) (l x : List ℕ) (ls : List (List ℕ)) → l ≡ x → Appends a b (line_text l)
     → AppendsPart b c (text_of_lines ls) → AppendsPart a c (text_of_lines (x ∷ ls))
 part_of_rest a b c l x ls e h k =
-    part_behind a b c (line_text x) (text_of_lines ls) (subst (λ t. Appends a b (line_text t)) e h) k
+    part_after a b c (line_text x) (text_of_lines ls) (subst (λ t. Appends a b (line_text t)) e h) k
 
 -- ---- words
 
@@ -79,29 +78,32 @@ word_stopped a b c ws l i h e x y =
     (part_of_more a c (text_of_lines (map word_said (take (i + 1) ws)))
     (text_of_lines (map word_said (drop (i + 1) ws)))
     (subst (AppendsPart a c) (sym (words_more ws i h))
-    (part_behind a b c _ _ x (subst (λ t. AppendsPart b c (line_text t)) e y))))
+    (part_after a b c _ _ x (subst (λ t. AppendsPart b c (line_text t)) e y))))
 
 -- ---- a page
 
-page_lines : (v : ℕ) (ws us : List ℕ) → us ≡ trimmed ws
-    → text_of_lines (map word_said us) ≡ text_of_lines (map word_said (trimmed ws) ++ [])
+page_lines : (v : ℕ) (ws us : List ℕ) → us ≡ without_last_zeros ws
+    → text_of_lines (map word_said us) ≡ text_of_lines (map word_said (without_last_zeros ws) ++ [])
 page_lines v ws us e =
-    ap (λ t. text_of_lines (map word_said t)) e ∙ ap text_of_lines (sym (append-nil (map word_said (trimmed ws))))
+    ap (λ t. text_of_lines (map word_said t)) e ∙ ap text_of_lines
+    (sym (append-nil (map word_said (without_last_zeros ws))))
 
 pub page_begun : (a b : Taken) (v : ℕ) (ws l : List ℕ) → l ≡ codes ".page " ++ word_text (v * 4096)
     → AppendsPart a b (line_text l) → AppendsPart a b (parts_text (Holds (record { vpage = v; words = ws }) ∷ []))
 page_begun a b v ws l e h =
-    part_of_first a b l (codes ".page " ++ word_text (v * 4096)) (map word_said (trimmed ws) ++ []) e h
+    part_of_first a b l (codes ".page " ++ word_text (v * 4096)) (map word_said (without_last_zeros ws) ++ []) e h
 
 pub page_stopped : (a b c : Taken) (v : ℕ) (ws us l : List ℕ) → l ≡ codes ".page " ++ word_text (v * 4096)
-    → us ≡ trimmed ws → Appends a b (line_text l) → AppendsPart b c (text_of_lines (map word_said us))
+    → us ≡ without_last_zeros ws → Appends a b (line_text l) → AppendsPart b c (text_of_lines (map word_said us))
     → AppendsPart a c (parts_text (Holds (record { vpage = v; words = ws }) ∷ []))
 page_stopped a b c v ws us l e f h k = part_of_rest a b c l (codes ".page "
-    ++ word_text (v * 4096)) (map word_said (trimmed ws) ++ []) e h (subst (AppendsPart b c) (page_lines v ws us f) k)
+    ++ word_text (v * 4096)) (map word_said (without_last_zeros ws) ++ []) e h
+    (subst (AppendsPart b c) (page_lines v ws us f) k)
 
 pub page_written : (a b c : Taken) (v : ℕ) (ws us l : List ℕ) → l ≡ codes ".page " ++ word_text (v * 4096)
-    → us ≡ trimmed ws → Appends a b (line_text l) → Appends b c (text_of_lines (map word_said us))
+    → us ≡ without_last_zeros ws → Appends a b (line_text l) → Appends b c (text_of_lines (map word_said us))
     → Appends a c (parts_text (Holds (record { vpage = v; words = ws }) ∷ []))
 page_written a b c v ws us l e f h k =
-    Appends-trans a b c (line_text (codes ".page " ++ word_text (v * 4096))) (text_of_lines (map word_said (trimmed ws)
+    Appends-trans a b c (line_text (codes ".page " ++ word_text (v * 4096)))
+    (text_of_lines (map word_said (without_last_zeros ws)
     ++ [])) (subst (λ t. Appends a b (line_text t)) e h) (subst (Appends b c) (page_lines v ws us f) k)

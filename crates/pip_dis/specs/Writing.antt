@@ -5,7 +5,7 @@ use Rattle.std.specs.Io.KnownBytes.{Consumes, IsAtEnd}
 use Rattle.pip_io.specs.Taken.{Taken, Appends}
 use Rattle.pip_model.specs.DisText.{dis_text, parts_lines, text_of_lines}
 use Rattle.pip_model.specs.Images.{Part, PartsRead, image}
-use Rattle.pip_image.specs.Reading.{TakesParts, ended, parts_then}
+use Rattle.pip_image.specs.Reading.{TakesParts, no_more_parts, parts_then}
 
 -- the text of parts
 abbrev pub parts_text : List Part → List ℕ
@@ -35,6 +35,6 @@ pub record PassesAll (tell : List ℕ → PartsRead) (left left' : Option (List 
   pub bytes : List ℕ
   pub read : Consumes left left' bytes
   pub whole : IsAtEnd left'
-  pub is : tell bytes ≡ parts_then parts ended
+  pub is : tell bytes ≡ parts_then parts no_more_parts
   pub wrote : Appends written written' (parts_text parts)
   pub none : written'.held ≡ []

@@ -22,10 +22,11 @@ pub enum DisError {
     Write,
 }
 
-/// Writes the image that the source holds as an assembly text, part by part (docs/FORMATS.md, "Assembly"). At Ok the source
-/// was read to its end and the whole text was written. At `Image` the text of what was accepted before the fault was
-/// written; at `Write` all of it up to some place in the text of the last part that was read. The sink is settled after each
-/// part: whatever the source asks for at a read, it is asked nowhere but where the text of all that was read is out.
+/// Writes the image that the source holds as an assembly text, part by part (docs/FORMATS.md, "Assembly"). At Ok the
+/// source was read to its end and the whole text was written. At `Image` the text of what was accepted before the fault
+/// was written; at `Write` all of it up to some place in the text of the last part that was read. The sink is settled
+/// after each part: whatever the source asks for at a read, it is asked nowhere but where the text of all that was read
+/// is out.
 #[tactic(auto, using(crate::proofs::Passing::all_disassembled))]
 pub fn disassemble<S: Source, K: Sink>(source: &mut S, sink: &mut K) -> Result<(), DisError>
     requires is_open { S.is_open source.old }
@@ -58,9 +59,12 @@ fn pass_all<S: Source, K: Sink>(
     ensures same_source { joint.new.source.ghost_name ≡ joint.old.source.ghost_name }
     ensures same_sink { joint.new.sink.ghost_name ≡ joint.old.sink.ghost_name }
     ensures told { MatchResult result
-        (λ _. PassesAll image_parts (S.left joint.old.source.now) (S.left joint.new.source.now) (K.written joint.old.sink.now) (K.written joint.new.sink.now))
-        (Stops image_parts (S.left joint.old.source.now) (S.left joint.new.source.now) (S.faults joint.old.source.now) (S.faults joint.new.source.now)
-        (K.written joint.old.sink.now) (K.written joint.new.sink.now) (K.faults joint.old.sink.now) (K.faults joint.new.sink.now)) }
+        (λ _. PassesAll image_parts (S.left joint.old.source.now) (S.left joint.new.source.now)
+        (K.written joint.old.sink.now) (K.written joint.new.sink.now))
+        (Stops image_parts (S.left joint.old.source.now) (S.left joint.new.source.now) (S.faults joint.old.source.now)
+        (S.faults joint.new.source.now)
+        (K.written joint.old.sink.now) (K.written joint.new.sink.now) (K.faults joint.old.sink.now)
+        (K.faults joint.new.sink.now)) }
     ensures calm { OnOk result ((S.faults joint.new.source.now ≡ S.faults joint.old.source.now)
         × (K.faults joint.new.sink.now ≡ K.faults joint.old.sink.now)) }
     ensures source { S.faults joint.old.source.now ≤ S.faults joint.new.source.now }
@@ -85,9 +89,12 @@ fn pass_fields<S: Source, K: Sink>(
     ensures same_source { joint.new.source.ghost_name ≡ joint.old.source.ghost_name }
     ensures same_sink { joint.new.sink.ghost_name ≡ joint.old.sink.ghost_name }
     ensures told { MatchResult result
-        (λ _. Passes image_parts (coming reader.new.place) (S.left joint.old.source.now) (S.left joint.new.source.now) (K.written joint.old.sink.now) (K.written joint.new.sink.now))
-        (Stops image_parts (S.left joint.old.source.now) (S.left joint.new.source.now) (S.faults joint.old.source.now) (S.faults joint.new.source.now)
-        (K.written joint.old.sink.now) (K.written joint.new.sink.now) (K.faults joint.old.sink.now) (K.faults joint.new.sink.now)) }
+        (λ _. Passes image_parts (coming reader.new.place) (S.left joint.old.source.now) (S.left joint.new.source.now)
+        (K.written joint.old.sink.now) (K.written joint.new.sink.now))
+        (Stops image_parts (S.left joint.old.source.now) (S.left joint.new.source.now) (S.faults joint.old.source.now)
+        (S.faults joint.new.source.now)
+        (K.written joint.old.sink.now) (K.written joint.new.sink.now) (K.faults joint.old.sink.now)
+        (K.faults joint.new.sink.now)) }
     ensures is_open { OnOk result (S.is_open joint.new.source.now) }
     ensures calm { OnOk result ((S.faults joint.new.source.now ≡ S.faults joint.old.source.now)
         × (K.faults joint.new.sink.now ≡ K.faults joint.old.sink.now)) }
@@ -111,14 +118,18 @@ fn pass_plans<S: Source, K: Sink>(
 ) -> Result<(), DisError>
     requires is_open { S.is_open joint.old.source.now }
     requires none { (K.written joint.old.sink.now).held ≡ [] }
-    requires paced { MayGoOn S.allows (coming reader.old.place) (S.left joint.old.source.now) (S.faults joint.old.source.now)
+    requires paced { MayGoOn S.allows (coming reader.old.place) (S.left joint.old.source.now)
+        (S.faults joint.old.source.now)
         (K.written joint.old.sink.now) (K.faults joint.old.sink.now) }
     ensures same_source { joint.new.source.ghost_name ≡ joint.old.source.ghost_name }
     ensures same_sink { joint.new.sink.ghost_name ≡ joint.old.sink.ghost_name }
     ensures told { MatchResult result
-        (λ _. Passes (coming reader.old.place) (coming reader.new.place) (S.left joint.old.source.now) (S.left joint.new.source.now) (K.written joint.old.sink.now) (K.written joint.new.sink.now))
-        (Stops (coming reader.old.place) (S.left joint.old.source.now) (S.left joint.new.source.now) (S.faults joint.old.source.now) (S.faults joint.new.source.now)
-        (K.written joint.old.sink.now) (K.written joint.new.sink.now) (K.faults joint.old.sink.now) (K.faults joint.new.sink.now)) }
+        (λ _. Passes (coming reader.old.place) (coming reader.new.place) (S.left joint.old.source.now)
+        (S.left joint.new.source.now) (K.written joint.old.sink.now) (K.written joint.new.sink.now))
+        (Stops (coming reader.old.place) (S.left joint.old.source.now) (S.left joint.new.source.now)
+        (S.faults joint.old.source.now) (S.faults joint.new.source.now)
+        (K.written joint.old.sink.now) (K.written joint.new.sink.now) (K.faults joint.old.sink.now)
+        (K.faults joint.new.sink.now)) }
     ensures plans { OnOk result (reader.new.place.plans ≡ 0) }
     ensures is_open { OnOk result (S.is_open joint.new.source.now) }
     ensures calm { OnOk result ((S.faults joint.new.source.now ≡ S.faults joint.old.source.now)
@@ -146,14 +157,18 @@ fn pass_pages<S: Source, K: Sink>(
     requires plans { reader.old.place.plans ≡ 0 }
     requires is_open { S.is_open joint.old.source.now }
     requires none { (K.written joint.old.sink.now).held ≡ [] }
-    requires paced { MayGoOn S.allows (coming reader.old.place) (S.left joint.old.source.now) (S.faults joint.old.source.now)
+    requires paced { MayGoOn S.allows (coming reader.old.place) (S.left joint.old.source.now)
+        (S.faults joint.old.source.now)
         (K.written joint.old.sink.now) (K.faults joint.old.sink.now) }
     ensures same_source { joint.new.source.ghost_name ≡ joint.old.source.ghost_name }
     ensures same_sink { joint.new.sink.ghost_name ≡ joint.old.sink.ghost_name }
     ensures told { MatchResult result
-        (λ _. PassesAll (coming reader.old.place) (S.left joint.old.source.now) (S.left joint.new.source.now) (K.written joint.old.sink.now) (K.written joint.new.sink.now))
-        (Stops (coming reader.old.place) (S.left joint.old.source.now) (S.left joint.new.source.now) (S.faults joint.old.source.now) (S.faults joint.new.source.now)
-        (K.written joint.old.sink.now) (K.written joint.new.sink.now) (K.faults joint.old.sink.now) (K.faults joint.new.sink.now)) }
+        (λ _. PassesAll (coming reader.old.place) (S.left joint.old.source.now) (S.left joint.new.source.now)
+        (K.written joint.old.sink.now) (K.written joint.new.sink.now))
+        (Stops (coming reader.old.place) (S.left joint.old.source.now) (S.left joint.new.source.now)
+        (S.faults joint.old.source.now) (S.faults joint.new.source.now)
+        (K.written joint.old.sink.now) (K.written joint.new.sink.now) (K.faults joint.old.sink.now)
+        (K.faults joint.new.sink.now)) }
     ensures calm { OnOk result ((S.faults joint.new.source.now ≡ S.faults joint.old.source.now)
         × (K.faults joint.new.sink.now ≡ K.faults joint.old.sink.now)) }
     ensures source { S.faults joint.old.source.now ≤ S.faults joint.new.source.now }

@@ -1,7 +1,7 @@
 //! The lines of an image.
 ghost use Rattle.std.specs.Prelude.{◌≡◌, ◌+◌, ◌*◌, ◌≤◌, ◌++◌, ◌∷◌, length, codes, decimal};
 ghost use Rattle.arrayvec.specs.ArrayString.{array_string_len};
-ghost use Rattle.pip_model.specs.DisText.{trimmed};
+ghost use Rattle.pip_model.specs.DisText.{without_last_zeros};
 ghost use Rattle.pip_model.specs.InstrText.{word_said};
 ghost use Rattle.pip_model.specs.Text.{word_text};
 
@@ -79,7 +79,7 @@ pub fn push_word_line(text: &mut ArrayString<64>, word: u32)
 /// Words up to the last that isn't 0.
 #[tactic(auto, using(crate::proofs::Trimming::trim_zero, crate::proofs::Trimming::trim_none))]
 pub fn trim(words: &[u32]) -> &[u32]
-    ensures { result.now ≡ trimmed words.now }
+    ensures { result.now ≡ without_last_zeros words.now }
 {
     let mut rest = words;
     while let Some((last, front)) = rest.split_last() {

@@ -66,7 +66,8 @@ pub fn write_fields<K: Sink>(sink: &mut K, fields: &Fields) -> Result<(), Failed
 /// Writes the line of a plan, and settles.
 pub fn write_plan<K: Sink>(sink: &mut K, plan: &Plan) -> Result<(), Failed>
     ensures whole { OnOk result (Appends (K.written sink.old) (K.written sink.new) (parts_text (Line plan.now ∷ []))) }
-    ensures part { OnErr result (SendsPart (K.written sink.old) (K.written sink.new) (parts_text (Line plan.now ∷ []))) }
+    ensures part { OnErr result (SendsPart (K.written sink.old) (K.written sink.new)
+        (parts_text (Line plan.now ∷ []))) }
     ensures none { OnOk result ((K.written sink.new).held ≡ []) }
     ensures cause { HasCause (K.faults sink.old) (K.faults sink.new) result }
 {

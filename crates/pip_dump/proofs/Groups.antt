@@ -6,7 +6,8 @@ use Rattle.std.proofs.lemmas.Bool.{cases_eq, cases_lt}
 use Rattle.std.specs.Prelude.{codes, decimal, flat_map}
 use Rattle.std.specs.List.{list_any}
 use Rattle.pip_base.specs.Memory.{Memory, frame_at, word_at}
-use Rattle.pip_model.specs.Dump.{frame_text, group_line, group_text, headed, index_text, numbers_from, words_text}
+use Rattle.pip_model.specs.Dump.{frame_text, group_line, group_text, with_frame_line, index_text, numbers_from}
+use Rattle.pip_model.specs.Dump.{words_text}
 use Rattle.pip_model.specs.Layout.{LaysOut, layout}
 use Rattle.pip_model.specs.Text.{line_text, word_digits}
 use Rattle.pip_model.specs.Tree.{Tree}
@@ -230,12 +231,13 @@ pub frame_some : (f : ℕ) (word : ℕ → ℕ) → true ≡ list_any (λ i. not
 frame_some f word e =
     let (b, bs, same) =
     some_lines word (numbers_from 0 128) (sym (any_grouped (λ i. not (word i == 0)) 0 128) ∙ sym e) in
-    ap (λ l. line_text (codes "frame " ++ decimal f) ++ l) same ∙ sym (ap (headed f) same)
+    ap (λ l. line_text (codes "frame " ++ decimal f) ++ l) same ∙ sym (ap (with_frame_line f) same)
 
 pub frame_none : (f : ℕ) (word : ℕ → ℕ) → false ≡ list_any (λ i. not (word i == 0)) (numbers_from 0 1024)
     → [] ≡ words_text f word
 frame_none f word e =
-    sym (ap (headed f) (no_groups word (numbers_from 0 128) (sym (any_grouped (λ i. not (word i == 0)) 0 128) ∙ sym e)))
+    sym (ap (with_frame_line f) (no_groups word (numbers_from 0 128) (sym (any_grouped (λ i. not (word i == 0)) 0 128)
+    ∙ sym e)))
 
 -- two frames with the same words
 module _ (w v : ℕ → ℕ) (same : (i : ℕ) → i < 1024 → w i ≡ v i) where
@@ -263,7 +265,7 @@ module _ (w v : ℕ → ℕ) (same : (i : ℕ) → i < 1024 → w i ≡ v i) whe
 
   pub words_same : (f : ℕ) → words_text f w ≡ words_text f v
   unfolding groups_same
-  words_same f = ap (headed f) (groups_same 0 128 (omega arith))
+  words_same f = ap (with_frame_line f) (groups_same 0 128 (omega arith))
 
 -- the words that a memory has in a frame are the tree's
 pub laid_words : (t : Tree) (m : Memory) (f : ℕ) (ws : List ℕ) → LaysOut t m → f < length m → ws ≡ frame_at m f

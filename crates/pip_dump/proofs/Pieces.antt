@@ -4,9 +4,9 @@ use Rattle.std.proofs.Common.{OnOk, OnErr}
 use Rattle.pip_io.proofs.Taken.{Appends-nil, Appends-trans}
 use Rattle.std.specs.Prelude.{MatchResult}
 use Rattle.std.proofs.lemmas.List.{append-nil}
-use Rattle.pip_io.specs.Taken.{Taken, Appends, AppendsPart}
+use Rattle.pip_io.specs.Taken.{Taken, Appends, AppendsPart, Wrote}
 use Rattle.pip_io.proofs.Pieces.{left_more as rest_more}
-use Rattle.pip_dump.specs.Written.{IsLeft, Wrote}
+use Rattle.pip_dump.specs.Written.{IsLeft}
 
 pub left_start : (old : Taken) (whole : List ℕ) → IsLeft old old whole whole
 left_start old whole = record { front = []; written = Appends-nil old; same = refl }
@@ -48,7 +48,7 @@ part_after old mid new a b h (front, more, k, same, some) =
 
 -- a text after another
 pub wrote_after : {T E : Type 0} (old mid new : Taken) (a b : List ℕ) (r : Result T E) → Appends old mid a
-    → Wrote mid new r b → Wrote old new r (a ++ b)
+    → Wrote r mid new b → Wrote r old new (a ++ b)
 wrote_after old mid new a b (Ok u) h k = Appends-trans old mid new a b h k
 wrote_after old mid new a b (Err e) h k = part_after old mid new a b h k
 
@@ -58,12 +58,12 @@ part_longer old new a b (front, more, k, same, some) =
     (front, more ++ b, k, sym (append_assoc front more b) ∙ ap (λ l. l ++ b) same, rest_more more b some)
 
 pub wrote_err : {T E : Type 0} (old new : Taken) (text : List ℕ) (r : Result T E) → IsErr r → AppendsPart old new text
-    → Wrote old new r text
+    → Wrote r old new text
 wrote_err old new text (Ok u) bad h = cc
 wrote_err old new text (Err e) so h = h
 
 pub wrote_of : {T E : Type 0} (old new : Taken) (text said : List ℕ) (r : Result T E) → text ≡ said
-    → OnOk r (Appends old new text) → OnErr r (AppendsPart old new text) → Wrote old new r said
+    → OnOk r (Appends old new text) → OnErr r (AppendsPart old new text) → Wrote r old new said
 wrote_of old new text said (Ok u) e h k = subst (Appends old new) e h
 wrote_of old new text said (Err x) e h k = subst (AppendsPart old new) e k
 

@@ -1,13 +1,14 @@
 //! The text of a frame.
 ghost use Rattle.std.specs.Prelude.{◌≡◌, ◌+◌, ◌*◌, ◌<◌, ◌≤◌, ◌++◌, codes, decimal, flat_map, length, slice_index};
 ghost use Rattle.pip_io.specs.Causes.{HasCause};
-ghost use Rattle.pip_model.specs.Dump.{frame_text, frames_text, group_line, group_text, index_text, numbers_from, words_text};
+ghost use Rattle.pip_model.specs.Dump.{frame_text, frames_text, group_line, group_text, index_text, numbers_from};
+ghost use Rattle.pip_model.specs.Dump.{words_text};
 ghost use Rattle.pip_model.specs.Partitions.{IsHeld};
 ghost use Rattle.pip_model.specs.Text.{line_text};
 ghost use Rattle.pip_model.specs.Tree.{Tree};
 ghost use Rattle.pip_table.specs.NextWord.{AreZero};
 ghost use Rattle.pip_dump.specs.Groups.{IsNextGroup};
-ghost use Rattle.pip_dump.specs.Written.{Wrote};
+ghost use Rattle.pip_io.specs.Taken.{Wrote};
 
 use arrayvec::ArrayString;
 use pip_base::{Frame, Steps};
@@ -71,7 +72,7 @@ fn group_line(words: &[u32; 1024], k: u32) -> ArrayString<80>
 fn groups_text<K: Sink>(words: &[u32; 1024], first: u32, sink: &mut K) -> Result<(), Failed>
     requires most { first ≤ 128 }
     requires zeros { AreZero words.now 0 (8 * first) }
-    ensures text { Wrote (K.written sink.old) (K.written sink.new) result
+    ensures text { Wrote result (K.written sink.old) (K.written sink.new)
         (flat_map (group_text (slice_index words.now)) (numbers_from 0 128)) }
     ensures cause { HasCause (K.faults sink.old) (K.faults sink.new) result }
 {
@@ -96,7 +97,7 @@ fn frame_line(f: Frame) -> ArrayString<17>
 
 // Writes the lines of a frame with these words, none where all are 0.
 fn words_text<K: Sink>(f: Frame, words: &[u32; 1024], sink: &mut K) -> Result<(), Failed>
-    ensures text { Wrote (K.written sink.old) (K.written sink.new) result (words_text f (slice_index words.now)) }
+    ensures text { Wrote result (K.written sink.old) (K.written sink.new) (words_text f (slice_index words.now)) }
     ensures cause { HasCause (K.faults sink.old) (K.faults sink.new) result }
 {
     let Some(first) = next_group(words, 0) else {
@@ -107,8 +108,8 @@ fn words_text<K: Sink>(f: Frame, words: &[u32; 1024], sink: &mut K) -> Result<()
 }
 
 /// Writes the lines of frame `f`, none where all its words are 0 (docs/FORMATS.md, "core"). `f` is below the number of
-/// frames. Fails only where the sink's count of faults is one more; a prefix of the lines was written then. The frame is read
-/// at once, in 32 steps.
+/// frames. Fails only where the sink's count of faults is one more; a prefix of the lines was written then. The frame
+/// is read at once, in 32 steps.
 pub fn frame_text<M: Frames, K: Sink, L: Ledger>(
     mem: &M,
     f: Frame,
@@ -117,7 +118,7 @@ pub fn frame_text<M: Frames, K: Sink, L: Ledger>(
 ) -> Result<(), Failed>
     requires { f < length (M.memory mem.now) }
     ensures text { (t : Tree) → IsHeld t (M.memory mem.now) →
-        Wrote (K.written sink.old) (K.written sink.new) result (frame_text t f) }
+        Wrote result (K.written sink.old) (K.written sink.new) (frame_text t f) }
     ensures cause { HasCause (K.faults sink.old) (K.faults sink.new) result }
     ensures steps { steps.new ≤ steps.old + 32 }
 {
@@ -132,7 +133,7 @@ pub fn frames_text<M: Frames, K: Sink, L: Ledger>(
     steps: &mut Steps<L>,
 ) -> Result<(), Failed>
     ensures text { (t : Tree) → IsHeld t (M.memory mem.now) →
-        Wrote (K.written sink.old) (K.written sink.new) result (frames_text t) }
+        Wrote result (K.written sink.old) (K.written sink.new) (frames_text t) }
     ensures cause { HasCause (K.faults sink.old) (K.faults sink.new) result }
 {
     for f in 0..mem.count() {

@@ -4,8 +4,8 @@ ghost use Rattle.pip_model.specs.Lists.{In};
 ghost use Rattle.pip_model.specs.Sound.{IsSound};
 ghost use Rattle.pip_model.specs.Tree.{Node, Tree, nodes};
 
-/// The walk meets all partitions and nothing else, each once; at each of them it meets exactly the children, in the rising
-/// order of their descriptors' addresses.
+/// The walk meets all partitions and nothing else, each once; at each of them it meets exactly the children, in the
+/// rising order of their descriptors' addresses.
 pub fn law_walk()
     ensures all { (t : Tree) → IsSound t → MeetsAll t }
     ensures children { (t : Tree) (x : Node) → IsSound t → In x (nodes t) → MeetsChildren t x }

@@ -49,8 +49,8 @@ pub(crate) fn part_line(head: &Head) -> ArrayString<128>
     text
 }
 
-/// Writes the line of a row, with its newline, at the end of a text with room for it, by the words that an MMU table and its
-/// first shadow have for it. Words that are no row's have no line.
+/// Writes the line of a row, with its newline, at the end of a text with room for it, by the words that an MMU table
+/// and its first shadow have for it. Words that are no row's have no line.
 pub(crate) fn push_row(text: &mut ArrayString<64>, v: VPage, leaf: u32, given: u32)
     requires { array_string_len text.old + 53 ≤ 64 }
     ensures { (t : Tree) (x : Node) (q : TreeRow) → IsSound t → v ≡ q.at → ShowsRow t x q leaf given →

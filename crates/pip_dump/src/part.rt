@@ -1,12 +1,11 @@
 //! The text of one partition.
 ghost use Rattle.std.specs.Prelude.{◌≡◌, ℕ, ◌+◌, ◌*◌, ◌<◌, List, MatchResult, length, flat_map};
 ghost use Rattle.pip_io.specs.Causes.{HasCause};
-ghost use Rattle.pip_io.specs.Taken.{AppendsPart, Taken};
+ghost use Rattle.pip_io.specs.Taken.{AppendsPart, Taken, Wrote};
 ghost use Rattle.pip_model.specs.Dump.{depth_of, head_text, part_text, row_text};
 ghost use Rattle.pip_model.specs.Partitions.{HasPartition, InEach};
 ghost use Rattle.pip_model.specs.Tree.{Node, Tree};
 ghost use Rattle.pip_dump.specs.Tables.{AreGiven, AreLeaves, RowsLeft};
-ghost use Rattle.pip_dump.specs.Written.{Wrote};
 
 use crate::line::{Head, part_line, push_row};
 use crate::place::Place;
@@ -56,7 +55,8 @@ fn head_line<M: Frames, L: Ledger>(mem: &M, place: &Place, steps: &mut Steps<L>)
     })
 }
 
-// Writes the lines of the rows in the tables of directory index `i`, by the words of its MMU table and of its first shadow.
+// Writes the lines of the rows in the tables of directory index `i`, by the words of its MMU table and of its first
+// shadow.
 fn table_text<K: Sink>(
     i: u32,
     leaves: &[u32; 1024],
@@ -96,7 +96,7 @@ fn rows_text<M: Frames, K: Sink, L: Ledger>(
     steps: &mut Steps<L>,
 ) -> Result<(), Failed>
     requires { HasPartition (M.memory mem.now) part }
-    ensures text { InEach (M.memory mem.now) part (λ t x. Wrote (K.written sink.old) (K.written sink.new) result
+    ensures text { InEach (M.memory mem.now) part (λ t x. Wrote result (K.written sink.old) (K.written sink.new)
         (flat_map (row_text t x) x.rows)) }
     ensures cause { HasCause (K.faults sink.old) (K.faults sink.new) result }
 {
@@ -119,7 +119,7 @@ pub(crate) fn part_text<M: Frames, K: Sink, L: Ledger>(
 ) -> Result<(), Failed>
     requires { HasPartition (M.memory mem.now) place.now.part }
     ensures text { InEach (M.memory mem.now) place.now.part (λ t x. place.now.depth ≡ depth_of t x →
-        Wrote (K.written sink.old) (K.written sink.new) result (part_text t x)) }
+        Wrote result (K.written sink.old) (K.written sink.new) (part_text t x)) }
     ensures cause { HasCause (K.faults sink.old) (K.faults sink.new) result }
 {
     write_all(sink, head_line(mem, place, steps).as_bytes())?;

@@ -44,7 +44,8 @@ pub(crate) fn count_words(words: &[u32; 1024]) -> u32
     count
 }
 
-/// The first page from index `from` on that is a child's descriptor, by the words of an MMU table and of its first shadow.
+/// The first page from index `from` on that is a child's descriptor, by the words of an MMU table and of its first
+/// shadow.
 pub(crate) fn child_in(leaves: &[u32; 1024], given: &[u32; 1024], from: u32) -> Option<Frame>
     requires { from ≤ 1024 }
     ensures { (t : Tree) (x : Node) (i : ℕ) → AreLeaves t x i leaves.now → AreGiven t x i given.now →

@@ -3,7 +3,7 @@ ghost use Rattle.pip_io.specs.Causes.{HasCause};
 ghost use Rattle.pip_model.specs.Dump.{tree_text};
 ghost use Rattle.pip_model.specs.Partitions.{HasPartition, IsHeld};
 ghost use Rattle.pip_model.specs.Tree.{Tree};
-ghost use Rattle.pip_dump.specs.Written.{Wrote};
+ghost use Rattle.pip_io.specs.Taken.{Wrote};
 
 use crate::part::part_text;
 use crate::place::{first_place, next_place};
@@ -21,7 +21,7 @@ pub fn tree_text<M: Frames, K: Sink, L: Ledger>(
 ) -> Result<(), Failed>
     requires { HasPartition (M.memory mem.now) 1 }
     ensures text { (t : Tree) → IsHeld t (M.memory mem.now) →
-        Wrote (K.written sink.old) (K.written sink.new) result (tree_text t) }
+        Wrote result (K.written sink.old) (K.written sink.new) (tree_text t) }
     ensures cause { HasCause (K.faults sink.old) (K.faults sink.new) result }
 {
     let mut next = Some(first_place());

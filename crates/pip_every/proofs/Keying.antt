@@ -155,7 +155,7 @@ begun first g n words p key s frames count is =
       whole = is ∙ ap (λ v. key_words first 0 v p.memory) (sym cpus_are);
     }
 
--- the same scope
+-- scopes with the same processors, lines and first turn are one
 pub scope_is : (a b : ℕ) (ls ms : List ℕ) (f h : ℕ) → a ≡ b → ls ≡ ms → f ≡ h
     → ◌≡◌ {A = Scope} (record { cpus = a; lines = ls; from = f }) (record { cpus = b; lines = ms; from = h })
 scope_is a b ls ms f h one two three =

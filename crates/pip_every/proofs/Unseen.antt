@@ -7,10 +7,11 @@ use Rattle.pip_base.specs.declared.types.Ctx.{Ctx}
 use Rattle.pip_model.specs.Acts.{Act, Makes, Writes, after_acts}
 use Rattle.pip_model.specs.Events as E
 use Rattle.pip_model.specs.Events.{Event}
-use Rattle.pip_model.specs.Effects.{passed, word_effect}
+use Rattle.pip_model.specs.Effects.{at_next, word_effect}
 use Rattle.pip_model.specs.InstrRead.{instr_of}
-use Rattle.pip_model.specs.Turn.{arguments, call_line, effect_acts, fetch_acts, fetched, fetched_end, load_acts, moved}
-use Rattle.pip_model.specs.Turn.{outcome_of, polled, polled_end, store_acts, turn, turn_end, word_acts, world_of}
+use Rattle.pip_model.specs.Turn.{arguments, call_line, effect_acts, fetch_acts, acts_after_fetch, fetched_end}
+use Rattle.pip_model.specs.Turn.{load_acts, move_acts, outcome_of, acts_after_poll, polled_end, store_acts, turn}
+use Rattle.pip_model.specs.Turn.{turn_end, word_acts, world_of}
 use Rattle.pip_model.specs.Tree.{Tree}
 use Rattle.pip_model.specs.Worlds.{World, runs_on}
 use Rattle.pip_model.specs.declared.effect.Effect.{Effect}
@@ -59,18 +60,18 @@ effect_same w v t cpu x (F.Loads a va size) b = ap (λ o. Makes (E.Load cpu va s
     (event_same w v (E.Load cpu va size) b).0
 effect_same w v t cpu x (F.Stores va k size) b = ap (λ o. Makes (E.Store cpu va size k) ∷ store_acts t cpu x o)
     (event_same w v (E.Store cpu va size k) b).0
-effect_same w v t cpu x (F.Traps k a c) b = ap (λ o. Makes (E.Trap cpu k a c) ∷ moved t cpu o)
+effect_same w v t cpu x (F.Traps k a c) b = ap (λ o. Makes (E.Trap cpu k a c) ∷ move_acts t cpu o)
     (event_same w v (E.Trap cpu k a c) b).0
 effect_same w v t cpu x (F.Interrupts k) b =
-    let s = event_same w v (E.SetContext cpu (passed x)) b in
-    ap (λ o. Makes (E.SetContext cpu (passed x)) ∷ Makes (E.Trap cpu k 0 0) ∷ moved t cpu o)
-    (event_same (world_of w (E.SetContext cpu (passed x))) (world_of v (E.SetContext cpu (passed x)))
+    let s = event_same w v (E.SetContext cpu (at_next x)) b in
+    ap (λ o. Makes (E.SetContext cpu (at_next x)) ∷ Makes (E.Trap cpu k 0 0) ∷ move_acts t cpu o)
+    (event_same (world_of w (E.SetContext cpu (at_next x))) (world_of v (E.SetContext cpu (at_next x)))
     (E.Trap cpu k 0 0) s.1).0
 effect_same w v t cpu x (F.Calls n) b =
-    let s = event_same w v (E.SetContext cpu (passed x)) b in
-    ap (λ o. Makes (E.SetContext cpu (passed x)) ∷ Makes (E.Call cpu n (arguments x)) ∷ Writes (call_line t cpu n o)
+    let s = event_same w v (E.SetContext cpu (at_next x)) b in
+    ap (λ o. Makes (E.SetContext cpu (at_next x)) ∷ Makes (E.Call cpu n (arguments x)) ∷ Writes (call_line t cpu n o)
     ∷ [])
-    (event_same (world_of w (E.SetContext cpu (passed x))) (world_of v (E.SetContext cpu (passed x)))
+    (event_same (world_of w (E.SetContext cpu (at_next x))) (world_of v (E.SetContext cpu (at_next x)))
     (E.Call cpu n (arguments x)) s.1).0
 effect_same w v t cpu x (F.Shows k) b = refl
 
@@ -79,7 +80,8 @@ word_same : (w v : World) (t cpu k : ℕ) (o : Option Occupant) → IsBut w v
 word_same w v t cpu k None b = refl
 word_same w v t cpu k (Some r) b = effect_same w v t cpu r.ctx (word_effect r.ctx k (instr_of k)) b
 
-fetched_same : (w v : World) (t cpu : ℕ) (o : Outcome) → IsBut w v → fetched w t cpu o ≡ fetched v t cpu o
+fetched_same : (w v : World) (t cpu : ℕ) (o : Outcome) → IsBut w v → acts_after_fetch w t cpu o
+    ≡ acts_after_fetch v t cpu o
 fetched_same w v t cpu (O.Word k) b =
     word_same w v t cpu k (runs_on w cpu) b ∙ ap (word_acts v t cpu k) (runs_same w v cpu b)
 fetched_same w v t cpu O.Done b = refl
@@ -93,9 +95,10 @@ fetch_same w v t cpu b =
     let s = event_same w v (E.Fetch cpu) b in
     ap (λ es. Makes (E.Fetch cpu) ∷ es)
     (fetched_same (world_of w (E.Fetch cpu)) (world_of v (E.Fetch cpu)) t cpu (outcome_of w (E.Fetch cpu)) s.1 ∙
-    ap (fetched (world_of v (E.Fetch cpu)) t cpu) s.0)
+    ap (acts_after_fetch (world_of v (E.Fetch cpu)) t cpu) s.0)
 
-polled_same : (w v : World) (t cpu : ℕ) (o : Outcome) → IsBut w v → polled w t cpu o ≡ polled v t cpu o
+polled_same : (w v : World) (t cpu : ℕ) (o : Outcome) → IsBut w v → acts_after_poll w t cpu o
+    ≡ acts_after_poll v t cpu o
 polled_same w v t cpu (O.Word k) b = fetch_same w v t cpu b
 polled_same w v t cpu O.Done b = fetch_same w v t cpu b
 polled_same w v t cpu (O.Reply s k) b = fetch_same w v t cpu b
@@ -108,7 +111,7 @@ turn_same w v cpu t b =
     let s = event_same w v (E.Poll cpu) b in
     ap (λ es. Makes (E.Poll cpu) ∷ es)
     (polled_same (world_of w (E.Poll cpu)) (world_of v (E.Poll cpu)) t cpu (outcome_of w (E.Poll cpu)) s.1 ∙
-    ap (polled (world_of v (E.Poll cpu)) t cpu) s.0)
+    ap (acts_after_poll (world_of v (E.Poll cpu)) t cpu) s.0)
 
 end_polled : (w v : World) (cpu : ℕ) (o : Outcome) → IsBut w v → polled_end w cpu o ≡ polled_end v cpu o
 end_polled w v cpu (O.Word k) b = ap fetched_end (event_same w v (E.Fetch cpu) b).0

@@ -12,8 +12,8 @@ machine_scope p lines from = record { cpus = length p.cpus; lines = lines; from 
 abbrev pub IsAtWorld : State → World → Type 0
 IsAtWorld p w = StandsAs p (record w { caches = p.caches })
 
--- a choice was made: the frames and processors of a machine stand for the world after it, so many turns were made then,
--- and this was shown
+-- a choice was made: the frames and processors of a machine stand for the world after it; by then this many turns were
+-- made, and this was shown
 pub record HasChosen (g : Scope) (m : Moment) (choice : ℕ) (p : State) (turns : ℕ) (label : List ℕ) : Type 0 where
   pub world : StandsFor p.memory p.cpus (moment_after g m choice).world
   pub turns_are : turns ≡ (moment_after g m choice).turns

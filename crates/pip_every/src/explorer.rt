@@ -87,7 +87,8 @@ impl<F: First, L: Ledger> Explorer<F, L> {
 
     // Takes the machine to the moments that have a key, and answers how many turns were made.
     fn go_to(&mut self, key: &[u32]) -> u32
-        requires { IsKey (model_of F.words (machine_scope self.old.machine self.old.lines.items self.old.from)) key.now }
+        requires { IsKey (model_of F.words (machine_scope self.old.machine self.old.lines.items self.old.from))
+            key.now }
         ensures at { (m : Moment) →
             IsKeyOf F.words (machine_scope self.old.machine self.old.lines.items self.old.from) key.now m →
             IsAtWorld self.new.machine m.world × (result ≡ m.turns) }

@@ -19,8 +19,8 @@ use std::alloc::{AllocError, Global};
 use std::marker::Brand;
 use std::sync::ledger::{Blank, Ledger};
 
-// The same where keys compare with the words of other frames, of which there are as many; those words have a type, and a
-// ledger has a name.
+// `search` over a journal that compares with the words of the frames `later`, as many as those of the machine. The type
+// `F` stands for these words, and `L` for the ledger that counts the steps.
 fn search_from<F: First, L: Ledger>(
     alloc: Global,
     mem: RawFrames,

@@ -1,5 +1,5 @@
-//! A parent to begin with: it boots a machine, builds two children by calls of the kernel, lets one of them run, and prints what
-//! happened. It stands on the libraries alone, and no command of the program pip is in it.
+//! A parent to begin with: it boots a machine, builds two children by calls of the kernel, lets one of them run, and
+//! prints what happened. It stands on the libraries alone, and no command of the program pip is in it.
 #![tactic(auto)]
 
 ghost use Rattle.std.specs.Prelude.{◌≡◌, ◌<◌, [], ◌∷◌, IfOk, length};
@@ -13,6 +13,7 @@ use anyhow::Result;
 use pip_base::{Outcome, Size, Steps};
 use pip_frames::RawFrames;
 use pip_kern::boot_zeros;
+use pip_model::call_number::{NOT_SAVED, YIELD};
 use pip_model::{Port, law_reach};
 use pip_parent::{Want, build, need};
 use pip_switch::Machine;
@@ -43,7 +44,8 @@ fn show<L: Ledger>(rt: &(impl Print + AllocGlobal), blank: Blank) -> Result<()>
     let mut machine = new_machine(rt.alloc(), &mut steps)?;
     println!(rt; "a child with two pages takes {}", need(&WANTS))?;
 
-    // The first child is built of the root's pages from 0x401000 on. Those at places 8 and 12 become the pages that it wants.
+    // The first child is built of the root's pages from 0x401000 on. Those at places 8 and 12 become the pages that it
+    // wants.
     machine.store(0, 0x00409000, Size::Word, 42, &mut steps);
     // For vector 64 the address of a block, and in that the address at which it begins.
     machine.store(0, 0x0040d100, Size::Word, 0xfffff400, &mut steps);
@@ -69,9 +71,9 @@ fn show<L: Ledger>(rt: &(impl Print + AllocGlobal), blank: Blank) -> Result<()>
     Ok(())
 }
 
-// Lets a child run by its handler of vector 64; the caller isn't saved. What is promised here follows from the machine's contract alone,
-// whatever machine it is: the yield does what the model says, and, by a law of the model, no access of any partition of
-// the machine that is left reaches what the kernel keeps of a partition.
+// Lets a child run by its handler of vector 64; the caller isn't saved. What is promised here follows from the
+// machine's contract alone, whatever machine it is: the yield does what the model says, and, by a law of the model, no
+// access of any partition of the machine that is left reaches what the kernel keeps of a partition.
 fn let_run<P: Port, L: Ledger>(port: &mut P, child: u32, steps: &mut Steps<L>) -> Outcome
     requires { 0 < P.count port.old }
     ensures yields { Follows (P.stands port.old) (P.stands port.new)
@@ -79,7 +81,7 @@ fn let_run<P: Port, L: Ledger>(port: &mut P, child: u32, steps: &mut Steps<L>) -
     ensures isolated { StaysIsolated (P.stands port.new) }
 {
     law_reach();
-    port.call(0, 8, &[child, 64, 256, 0, 0], steps)
+    port.call(0, YIELD, &[child, 64, NOT_SAVED, 0, 0], steps)
 }
 
 // A machine of 64 frames and one processor, which runs the root. The root's pages are at 0x400000 and on.

@@ -79,7 +79,7 @@ module _ (R : RattleType) where
         use3 𝓛 (‵ (rest (set xs j w) b (o + s))) (two_in xs i j b (o + s) w (le_of_suc-le-suc li) (le_of_suc-le-suc lj)
         (λ e. ne (ap suc e))) $ move ! (1 ∷ 0 ∷ []) $ done !
 
-    -- the same for an array of n values
+    -- two values are taken out of an array of n
     module _ (n : ℕ) (xs : List X) (i j b o : ℕ) (li : i < length xs) (lj : j < length xs) (ne : i ≢ j) where
       pub array_out : Single R.mir → ent 𝓤 (sem 𝓛 (part_at (Array R n) full_share xs b o))
           (sep 𝓤 (sem 𝓛 (part (get_or xs i d) b (i * s + o))) (sep 𝓤

@@ -47,8 +47,8 @@ pub trait Frames {
         ensures steps { steps.new ≡ steps.old + 32 };
 
     /// The words of frame `read`, lent for reading, and those of frame `write`, lent for writing. The two are different
-    /// frames below the number of frames. `write` then has
-    /// what was written through the second; the other frames stay. That is 64 steps.
+    /// frames below the number of frames. `write` then has what was written through the second; the other frames stay.
+    /// That is 64 steps.
     fn pair<L: Ledger>(
         &mut self,
         read: Frame,

@@ -74,8 +74,8 @@ fn check_page<M: Frames, L: Ledger>(
     })
 }
 
-/// The pages of the chain from the address `first` on, or the status of the first test that isn't passed. There are `count`
-/// of them, 3 or 4. Word 0 of the last isn't read.
+/// The pages of the chain from the address `first` on, or the status of the first test that isn't passed. There are
+/// `count` of them, 3 or 4. Word 0 of the last isn't read.
 pub(crate) fn check_chain<M: Frames, L: Ledger>(
     mem: &M,
     caller: Frame,

@@ -1,7 +1,7 @@
 //! The calls that give a child the pages of further tables and take them back, over frames: a file each under `calls`.
 //!
-//! Each is asked of frames that lay out some sound tree which has the caller (`HasPartition`), and leaves such frames. They
-//! keep nothing beside the frames and take no memory.
+//! Each is asked of frames that lay out some sound tree which has the caller (`HasPartition`), and leaves such frames.
+//! They keep nothing beside the frames and take no memory.
 #![tactic(auto)]
 
 mod calls;

@@ -10,11 +10,11 @@ use Rattle.pip_model.specs.Answers.{Five, first_met}
 use Rattle.pip_model.specs.Events.{Event, IsEvent}
 use Rattle.pip_model.specs.Events as E
 use Rattle.pip_model.specs.Handlers.{handler, saved_to}
-use Rattle.pip_model.specs.Happens.{acted, call, event}
+use Rattle.pip_model.specs.Happens.{what_happens, call, event}
 use Rattle.pip_model.specs.Lists.{In}
 use Rattle.pip_model.specs.Poll.{occupant_name}
 use Rattle.pip_model.specs.Switching.{node_name, reply_unless, target_node, with_zeros, yield, yield_place}
-use Rattle.pip_model.specs.Switching.{yield_refusals, yielded, yielded_tree}
+use Rattle.pip_model.specs.Switching.{yield_refusals, yield_happens, yielded_tree}
 use Rattle.pip_model.specs.Tree.{ancestry, node}
 use Rattle.pip_model.specs.Worlds.{Happened, IsSoundWorld, World, runs_on}
 use Rattle.pip_model.specs.declared.processors.Occupant.{Occupant}
@@ -24,7 +24,7 @@ use Rattle.pip_model.proofs.Events.Soundness.{event-sound}
 use Rattle.pip_model.proofs.Locality.Agree.{AgreeTrees}
 use Rattle.pip_model.proofs.Locality.OneEvent.{at_set_here, own_name, to_trees, to_worlds}
 use Rattle.pip_model.proofs.Trees.Free.{IsName, node_found}
-use Rattle.pip_guests.specs.Guests.{IsSameGuest, is_of_guest, learned}
+use Rattle.pip_guests.specs.Guests.{IsSameGuest, is_of_guest, guest_learns}
 use Rattle.pip_guests.specs.Inputs.{IsAsking}
 use Rattle.pip_guests.proofs.Lines.{leaves_up, line_alike, not_top, own_line, parent_line, top_alone}
 use Rattle.pip_guests.proofs.Moves.{call_by, event_moves, yielded_same}
@@ -55,12 +55,12 @@ record Parted (p cpu : ℕ) (a b : Happened) : Type 0 where
 module _ (w : World) (p cpu x : ℕ) (r : Occupant) (a : Five) (s : IsSoundWorld w)
     (d : r.name ≢ w.tree.root.name) (k : runs_on w cpu ≡ Some r) (off : In p (ancestry w.tree x) → ⊥) where
   -- nothing is learned of it
-  accepted : (o : Outcome) → O.Switched r.name x a.x1 ≡ o → learned w.tree p o ≡ None
-  accepted o e = subst (λ o. learned w.tree p o ≡ None) e
+  accepted : (o : Outcome) → O.Switched r.name x a.x1 ≡ o → guest_learns w.tree p o ≡ None
+  accepted o e = subst (λ o. guest_learns w.tree p o ≡ None) e
       (ap (λ b. cond b (Some (O.Switched r.name x a.x1)) None) (false_from_ne_true _ (λ z. off (has_in p _ z))))
 
-  gone : (c : Ctx) (z : Occupant) → runs_on (yielded w cpu r a x (Some c)).world cpu ≡ Some z
-      → In p (ancestry (yielded w cpu r a x (Some c)).world.tree z.name) → ⊥
+  gone : (c : Ctx) (z : Occupant) → runs_on (yield_happens w cpu r a x (Some c)).world cpu ≡ Some z
+      → In p (ancestry (yield_happens w cpu r a x (Some c)).world.tree z.name) → ⊥
   gone c z e h =
       let q : Occupant = record { name = x; ctx = c } in
       let u : Some q ≡ Some z = sym (at_set_here (Some q) w.cpus cpu r k) ∙ e in
@@ -81,16 +81,17 @@ module _ (w v : World) (p cpu : ℕ) (r : Occupant) (a : Five) (s : IsSoundWorld
 
   parted : (x y : ℕ) (o o' : Option Status) (c c' : Option Ctx) → (In p (ancestry w.tree x) → ⊥)
       → (In p (ancestry v.tree y) → ⊥)
-      → (reply_unless w cpu r o (yielded w cpu r a x c)).outcome ≢ O.Idle
-      → (reply_unless v cpu r o' (yielded v cpu r a y c')).outcome ≢ O.Idle
-      → learned w.tree p (reply_unless w cpu r o (yielded w cpu r a x c)).outcome
-      ≡ learned v.tree p (reply_unless v cpu r o' (yielded v cpu r a y c')).outcome
-      → Parted p cpu (reply_unless w cpu r o (yielded w cpu r a x c)) (reply_unless v cpu r o' (yielded v cpu r a y c'))
+      → (reply_unless w cpu r o (yield_happens w cpu r a x c)).outcome ≢ O.Idle
+      → (reply_unless v cpu r o' (yield_happens v cpu r a y c')).outcome ≢ O.Idle
+      → guest_learns w.tree p (reply_unless w cpu r o (yield_happens w cpu r a x c)).outcome
+      ≡ guest_learns v.tree p (reply_unless v cpu r o' (yield_happens v cpu r a y c')).outcome
+      → Parted p cpu (reply_unless w cpu r o (yield_happens w cpu r a x c))
+      (reply_unless v cpu r o' (yield_happens v cpu r a y c'))
   parted x y (Some st) (Some st') c c' off off' i i' e =
       let same : st ≡ st' = cc in
       let z = refused_alike w v p cpu r s s' g m k h st in
-      subst (λ q. Parted p cpu (reply_unless w cpu r (Some st) (yielded w cpu r a x c))
-      (reply_unless v cpu r (Some q) (yielded v cpu r a y c'))) same (record { trees = z.trees; runs = inl z.on })
+      subst (λ q. Parted p cpu (reply_unless w cpu r (Some st) (yield_happens w cpu r a x c))
+      (reply_unless v cpu r (Some q) (yield_happens v cpu r a y c'))) same (record { trees = z.trees; runs = inl z.on })
   parted x y (Some st) None c None off off' i i' e = absurd (i' refl)
   parted x y (Some st) None c (Some q) off off' i i' e = let n = accepted v p cpu y r a s' d' k' off' _ refl in
       let u = e ∙ n in cc
@@ -117,8 +118,8 @@ call_parted w v p cpu number a s s' n m g i r k q =
     let k' = g.runs cpu r h k in
     let n' = name_after p w.tree v.tree s.tree s'.tree n (to_trees p w v g.below) in
     let m' = not_top w.tree v.tree s.tree s'.tree p m in
-    let one : acted w e ≡ yield w cpu r a = call_by w r cpu number a k ∙ ap (λ c. call c w cpu r a) i.asks.0 in
-    let two : acted v e ≡ yield v cpu r a = call_by v r cpu number a k' ∙ ap (λ c. call c v cpu r a) i.asks.0 in
+    let one : what_happens w e ≡ yield w cpu r a = call_by w r cpu number a k ∙ ap (λ c. call c w cpu r a) i.asks.0 in
+    let two : what_happens v e ≡ yield v cpu r a = call_by v r cpu number a k' ∙ ap (λ c. call c v cpu r a) i.asks.0 in
     let x = target_node w.tree r.name a.x0 in
     let y = target_node v.tree r.name a.x0 in
     let off = λ (j : In p (ancestry w.tree (node_name x))).
@@ -131,11 +132,13 @@ call_parted w v p cpu number a s s' n m g i r k q =
     λ (z : (yield w cpu r a).outcome ≡ O.Idle). calls_answer w cpu number a r k (ap (λ h. h.outcome) one ∙ z) in
     let idle' =
     λ (z : (yield v cpu r a).outcome ≡ O.Idle). calls_answer v cpu number a r k' (ap (λ h. h.outcome) two ∙ z) in
-    let same = ap (λ b. learned w.tree p b.outcome) (sym one) ∙ i.answer ∙ ap (λ b. learned v.tree p b.outcome) two in
+    let same = ap (λ b. guest_learns w.tree p b.outcome) (sym one) ∙ i.answer
+    ∙ ap (λ b. guest_learns v.tree p b.outcome) two in
     let z = parted w v p cpu r a s s' g m k h (node_name x) (node_name y) (first_met (yield_refusals w r.name a x))
     (first_met (yield_refusals v r.name a y)) (handler w.tree (node_name x) a.x1)
     (handler v.tree (node_name y) a.x1) off off' idle idle' same in
-    let t = subst (λ b. Parted p cpu b (acted v e)) (sym one) (subst (Parted p cpu (yield w cpu r a)) (sym two) z) in
+    let t = subst (λ b. Parted p cpu b (what_happens v e)) (sym one)
+    (subst (Parted p cpu (yield w cpu r a)) (sym two) z) in
     record { trees = t.trees; runs = t.runs }
 
 pub record SameAsking (p : ℕ) (e : Event) (w v : World) : Type 0 where

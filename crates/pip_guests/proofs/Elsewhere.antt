@@ -10,7 +10,7 @@ use Rattle.pip_model.specs.Deliver.{deliver}
 use Rattle.pip_model.specs.Events.{Event, IsEvent}
 use Rattle.pip_model.specs.Events as E
 use Rattle.pip_model.specs.Handlers.{handler, save_place}
-use Rattle.pip_model.specs.Happens.{acted, call, call_named, event, loaded, on_running, wrote}
+use Rattle.pip_model.specs.Happens.{what_happens, call, call_named, event, load_happens, on_running, wrote}
 use Rattle.pip_model.specs.Reach.{reach}
 use Rattle.pip_model.specs.Lists.{In, has}
 use Rattle.pip_model.specs.Local.{IsAside, IsBelow, actor, cpu_of}
@@ -133,7 +133,7 @@ kept_by : (p cpu : ℕ) (w v : World) → IsSoundWorld w → IsSoundWorld v → 
     → ((i : ℕ) → i ≢ cpu → runs_on v i ≡ runs_on w i)
     → ((z : Occupant) → runs_on w cpu ≡ Some z → In p (ancestry w.tree z.name) → ⊥)
     → ((z : Occupant) → runs_on v cpu ≡ Some z → In p (ancestry w.tree z.name) → ⊥) → Kept p w v
-kept_by p cpu w v s r n a cpus before behind = record {
+kept_by p cpu w v s r n a cpus before after = record {
   guest = record {
     below = to_worlds p w v a;
     runs = λ i z h e. elim (cases_eq i cpu) [
@@ -141,7 +141,7 @@ kept_by p cpu w v s r n a cpus before behind = record {
       | inr q ↦ cpus i q ∙ e
     ];
     runs_back = λ i z h e. elim (cases_eq i cpu) [
-      | inl q ↦ absurd (behind z (subst (λ i. runs_on v i ≡ Some z) q e)
+      | inl q ↦ absurd (after z (subst (λ i. runs_on v i ≡ Some z) q e)
           (line_alike v.tree w.tree p r.tree s.tree (agree_sym w.tree v.tree p s.tree r.tree n a) z.name h))
       | inr q ↦ sym (cpus i q) ∙ e
     ];
@@ -299,7 +299,7 @@ idle_kept : (w : World) (p : ℕ) (e : Event) → IsSoundWorld w → IsName w.tr
     → runs_on w (cpu_of e) ≡ None → Kept p w (event w e).world
 idle_kept w p e s n o k = from_acted (go e o k)
   where
-    from_acted : Kept p w (acted w e).world → Kept p w (event w e).world
+    from_acted : Kept p w (what_happens w e).world → Kept p w (event w e).world
     from_acted h = record {
       guest = record {
         below = to_worlds p w _ (to_trees p w _ h.guest.below);
@@ -310,16 +310,17 @@ idle_kept w p e s n o k = from_acted (go e o k)
     }
 
     still : (e : Event) (f : Occupant → Happened) → runs_on w (cpu_of e) ≡ None
-        → acted w e ≡ on_running w (cpu_of e) (runs_on w (cpu_of e)) f → Kept p w (acted w e).world
+        → what_happens w e ≡ on_running w (cpu_of e) (runs_on w (cpu_of e)) f → Kept p w (what_happens w e).world
     still e f k q = subst (λ h. Kept p w h.world) (sym (q ∙ ap (λ o. on_running w (cpu_of e) o f) k)) (kept_same p w n)
 
-    go : (e : Event) → is_own e ≡ true → runs_on w (cpu_of e) ≡ None → Kept p w (acted w e).world
+    go : (e : Event) → is_own e ≡ true → runs_on w (cpu_of e) ≡ None → Kept p w (what_happens w e).world
     go (E.Load cpu va z) o k =
-        still (E.Load cpu va z) (λ r. loaded w cpu r va Load z (reach w.tree r.name va Load z)) k refl
+        still (E.Load cpu va z) (λ r. load_happens w cpu r va Load z (reach w.tree r.name va Load z)) k refl
     go (E.Store cpu va z x) o k =
         still (E.Store cpu va z x) (λ r. wrote w cpu r va z x (reach w.tree r.name va Store z)) k refl
     go (E.Fetch cpu) o k =
-        still (E.Fetch cpu) (λ r. loaded w cpu r r.ctx.pc Fetch Word (reach w.tree r.name r.ctx.pc Fetch Word)) k refl
+        still (E.Fetch cpu) (λ r. load_happens w cpu r r.ctx.pc Fetch Word (reach w.tree r.name r.ctx.pc Fetch Word)) k
+        refl
     go (E.Trap cpu x a b) o k = still (E.Trap cpu x a b) (λ r. deliver w cpu r x a b) k refl
     go (E.Call cpu number a) o k = still (E.Call cpu number a) (λ r. call (call_named number) w cpu r a) k refl
     go (E.Raise j) o k = cc

@@ -16,13 +16,14 @@ use Rattle.pip_model.specs.Answers.{Answer, Five, first_met}
 use Rattle.pip_model.specs.Events.{Event, IsEvent}
 use Rattle.pip_model.specs.Events as E
 use Rattle.pip_model.specs.Handlers.{context_word, handler, saved_to, written_block}
-use Rattle.pip_model.specs.Happens.{acted, after, call, call_named, event, on_running, with_word, wrote, written_over}
+use Rattle.pip_model.specs.Happens.{what_happens, after, call, call_named, event, on_running, with_word, wrote}
+use Rattle.pip_model.specs.Happens.{written_over}
 use Rattle.pip_model.specs.Lists.{In, has}
 use Rattle.pip_model.specs.Local.{actor}
 use Rattle.pip_model.specs.Poll.{occupant_name}
 use Rattle.pip_model.specs.Reach.{Faulted, Place, Reached, reach}
-use Rattle.pip_model.specs.Switching.{node_name, replied, reply_unless, target_node, with_reply, with_zeros, yield}
-use Rattle.pip_model.specs.Switching.{yield_place, yield_refusals, yielded, yielded_tree}
+use Rattle.pip_model.specs.Switching.{node_name, reply_happens, reply_unless, target_node, with_reply, with_zeros}
+use Rattle.pip_model.specs.Switching.{yield, yield_place, yield_refusals, yield_happens, yielded_tree}
 use Rattle.pip_model.specs.Tree.{Tree, ancestry, node, row_pages, word_of}
 use Rattle.pip_model.specs.Worlds.{IsSoundWorld, World, runs_on}
 use Rattle.pip_model.specs.Sound.{IsSound}
@@ -152,8 +153,8 @@ record Entered (p q k cpu : ℕ) (w after : World) : Type 0 where
 yield_entered : (w : World) (p q k cpu n x : ℕ) (r : Occupant) (a : Five) (o : Option Status) (h : Option Ctx)
     → IsSoundWorld w → p ≢ w.tree.root.name → runs_on w cpu ≡ Some r
     → ((g i : ℕ) → yield_place w.tree r.name a.x2 ≡ Place g i → In g (row_pages (node w.tree p)) → ⊥)
-    → handler w.tree x a.x1 ≡ h → (reply_unless w cpu r o (yielded w cpu r a x h)).outcome ≡ O.Switched n q k
-    → Entered p q k cpu w (reply_unless w cpu r o (yielded w cpu r a x h)).world
+    → handler w.tree x a.x1 ≡ h → (reply_unless w cpu r o (yield_happens w cpu r a x h)).outcome ≡ O.Switched n q k
+    → Entered p q k cpu w (reply_unless w cpu r o (yield_happens w cpu r a x h)).world
 yield_entered w p q k cpu n x r a (Some st) h s m runs apart e z = cc
 yield_entered w p q k cpu n x r a None None s m runs apart e z = cc
 yield_entered w p q k cpu n x r a None (Some c) s m runs apart e z =
@@ -177,20 +178,21 @@ entered w p q k cpu number a s m en = from_acted (go (runs_on w cpu) refl)
     e : Event
     e = E.Call cpu number a
 
-    from_acted : Entered p q k cpu w (acted w e).world → Entered p q k cpu w (event w e).world
+    from_acted : Entered p q k cpu w (what_happens w e).world → Entered p q k cpu w (event w e).world
     from_acted h = record {
       trees = record { to = h.trees.to; from = h.trees.from; words = h.trees.words };
       here = h.here;
       cpus = h.cpus;
     }
 
-    go : (o : Option Occupant) → runs_on w cpu ≡ o → Entered p q k cpu w (acted w e).world
+    go : (o : Option Occupant) → runs_on w cpu ≡ o → Entered p q k cpu w (what_happens w e).world
     go None z =
         let idle = ap (λ o. (on_running w cpu o (λ r. call (call_named number) w cpu r a)).outcome) z in
         let both : O.Idle ≡ O.Switched (actor w e) q k = sym idle ∙ en.switched in cc
     go (Some r) z =
         let t = target_node w.tree r.name a.x0 in
-        let one : acted w e ≡ yield w cpu r a = call_by w r cpu number a z ∙ ap (λ c. call c w cpu r a) en.yields in
+        let one : what_happens w e ≡ yield w cpu r a = call_by w r cpu number a z
+        ∙ ap (λ c. call c w cpu r a) en.yields in
         let apart = λ (g i : ℕ) (d : yield_place w.tree r.name a.x2 ≡ Place g i).
         en.saved g i (ap (λ o. yield_place w.tree (occupant_name o) a.x2) z ∙ d) in
         subst (λ h. Entered p q k cpu w h.world) (sym one)
@@ -313,12 +315,12 @@ called w p cpu number a s c =
     from_acted (subst (λ h. Called p cpu w h.world) (sym (call_by w r cpu number a k ∙ one)) (after r b k l
     (λ h. c.outside (subst (λ n. In p (ancestry w.tree n)) (sym q) h))))
   where
-    from_acted : Called p cpu w (acted w (E.Call cpu number a)).world
+    from_acted : Called p cpu w (what_happens w (E.Call cpu number a)).world
         → Called p cpu w (event w (E.Call cpu number a)).world
     from_acted h = record { before = h.before; here = h.here; lines = h.lines; cpus = h.cpus }
 
     after : (r : Occupant) (b : Answer) → runs_on w cpu ≡ Some r → LeavesTree r.name w.tree b.tree
-        → (In p (ancestry w.tree r.name) → ⊥) → Called p cpu w (replied w cpu r b).world
+        → (In p (ancestry w.tree r.name) → ⊥) → Called p cpu w (reply_happens w cpu r b).world
     after r b k l out =
         let q : Occupant =
         record r { ctx = record r.ctx { regs = with_reply (status_number b.status) b.value r.ctx.regs } } in

@@ -19,15 +19,15 @@ use Rattle.pip_model.specs.Deliver.{deliver, deliver_to, nearest_taker}
 use Rattle.pip_model.specs.Events.{Event, IsEvent}
 use Rattle.pip_model.specs.Events as E
 use Rattle.pip_model.specs.Handlers.{handler, is_reached, save, save_place, saved_to}
-use Rattle.pip_model.specs.Happens.{IsSwitching, access_number, acted, call, call_named, event, fault_number}
-use Rattle.pip_model.specs.Happens.{fault_vector, loaded, read_of, written_over, wrote}
+use Rattle.pip_model.specs.Happens.{IsSwitching, access_number, what_happens, call, call_named, event, fault_number}
+use Rattle.pip_model.specs.Happens.{fault_vector, load_happens, read_of, written_over, wrote}
 use Rattle.pip_model.specs.Lists.{In}
 use Rattle.pip_model.specs.Local.{actor, cpu_of}
 use Rattle.pip_model.specs.Poll.{occupant_name}
 use Rattle.pip_model.specs.Reach.{Faulted, Place, Reached, reach}
 use Rattle.pip_model.specs.Sound.{IsSound}
-use Rattle.pip_model.specs.Switching.{replied, reply_unless, target_node, with_reply, with_zeros, yield, yield_place}
-use Rattle.pip_model.specs.Switching.{yield_refusals, yield_to, yielded, yielded_tree}
+use Rattle.pip_model.specs.Switching.{reply_happens, reply_unless, target_node, with_reply, with_zeros, yield}
+use Rattle.pip_model.specs.Switching.{yield_place, yield_refusals, yield_to, yield_happens, yielded_tree}
 use Rattle.pip_model.specs.Tree.{Node, Tree, ancestry, is_place}
 use Rattle.pip_model.specs.Worlds.{Happened, IsSoundWorld, World, done, with_running, runs_on, handler_context}
 use Rattle.pip_model.specs.declared.call_name.CallName.{CallName}
@@ -96,7 +96,7 @@ module _ (w v : World) (p cpu : ℕ) (r : Occupant) (s : IsSoundWorld w) (s' : I
       record { outcome = refl; trees = a; on = at_set_here z w.cpus cpu r k ∙ sym (at_set_here z v.cpus cpu r k') }
 
   pub refused_alike : (st : Status)
-      → Alike p cpu (replied w cpu r (refuse w.tree st)) (replied v cpu r (refuse v.tree st))
+      → Alike p cpu (reply_happens w cpu r (refuse w.tree st)) (reply_happens v cpu r (refuse v.tree st))
   refused_alike st = put_alike (O.Reply st 0) w.tree v.tree
       (Some (record r { ctx = record r.ctx { regs = with_reply (status_number st) 0 r.ctx.regs } })) tr
 
@@ -129,14 +129,16 @@ module _ (w v : World) (p cpu : ℕ) (r : Occupant) (s : IsSoundWorld w) (s' : I
           (Some (record { name = y.to; ctx = handler_context y.handler x a b y.born })) (saves_agree r.ctx 63))
 
   loaded_alike : (va : ℕ) (c : Access) (z : Size)
-      → StaysBelow w.tree p (loaded w cpu r va c z (reach w.tree r.name va c z)).outcome → Alike p cpu
-      (loaded w cpu r va c z (reach w.tree r.name va c z)) (loaded v cpu r va c z (reach v.tree r.name va c z))
+      → StaysBelow w.tree p (load_happens w cpu r va c z (reach w.tree r.name va c z)).outcome → Alike p cpu
+      (load_happens w cpu r va c z (reach w.tree r.name va c z))
+      (load_happens v cpu r va c z (reach v.tree r.name va c z))
   loaded_alike va c z st =
-      subst (λ q. Alike p cpu (loaded w cpu r va c z (reach w.tree r.name va c z)) (loaded v cpu r va c z q))
+      subst (λ q. Alike p cpu (load_happens w cpu r va c z (reach w.tree r.name va c z))
+      (load_happens v cpu r va c z q))
       (reach_alike w.tree v.tree r.name s.tree s'.tree n ar va c z) (go (reach w.tree r.name va c z) refl st)
     where
-      go : (q : Reached) → reach w.tree r.name va c z ≡ q → StaysBelow w.tree p (loaded w cpu r va c z q).outcome
-          → Alike p cpu (loaded w cpu r va c z q) (loaded v cpu r va c z q)
+      go : (q : Reached) → reach w.tree r.name va c z ≡ q → StaysBelow w.tree p (load_happens w cpu r va c z q).outcome
+          → Alike p cpu (load_happens w cpu r va c z q) (load_happens v cpu r va c z q)
       go (Place f i) e st = record {
         outcome = ap (λ x. O.Word (read_of va z x))
             (sym (ar.words f i (reached_row w.tree r.name va f i c z e) (reached_small w.tree r.name va f i c z e)));
@@ -169,7 +171,8 @@ module _ (w v : World) (p cpu : ℕ) (r : Occupant) (s : IsSoundWorld w) (s' : I
       (go (target_node w.tree r.name a.x0) (λ x e. target_below w v p s s' g r.name a.x0 x h d asks e))
     where
       at : (x : Node) (o : Option Status) (c : Option Ctx) → Alike p cpu
-          (reply_unless w cpu r o (yielded w cpu r a x.name c)) (reply_unless v cpu r o (yielded v cpu r a x.name c))
+          (reply_unless w cpu r o (yield_happens w cpu r a x.name c))
+          (reply_unless v cpu r o (yield_happens v cpu r a x.name c))
       at x (Some st) c = refused_alike st
       at x None None = record { outcome = refl; trees = tr; on = k ∙ sym k' }
       at x None (Some c) = put_alike (O.Switched r.name x.name a.x1) (yielded_tree w.tree r a.x2)
@@ -179,8 +182,8 @@ module _ (w v : World) (p cpu : ℕ) (r : Occupant) (s : IsSoundWorld w) (s' : I
           (sym (yielded_same v.tree r a.x2 s'.tree d')) (yields_agree (with_zeros r.ctx) a.x2)))
 
       no_target : (b : Bool) → Alike p cpu (reply_unless w cpu r (cond b (Some S.NotAligned) (Some S.NotChild))
-          (yielded w cpu r a 0 (handler w.tree 0 a.x1))) (reply_unless v cpu r
-          (cond b (Some S.NotAligned) (Some S.NotChild)) (yielded v cpu r a 0 (handler v.tree 0 a.x1)))
+          (yield_happens w cpu r a 0 (handler w.tree 0 a.x1))) (reply_unless v cpu r
+          (cond b (Some S.NotAligned) (Some S.NotChild)) (yield_happens v cpu r a 0 (handler v.tree 0 a.x1)))
       no_target true = refused_alike S.NotAligned
       no_target false = refused_alike S.NotChild
 
@@ -199,9 +202,9 @@ module _ (w v : World) (p cpu : ℕ) (r : Occupant) (s : IsSoundWorld w) (s' : I
       go None below = no_target (not (a.x0 == 1) && not (is_place a.x0))
       go (Some x) below =
           subst (λ o. Alike p cpu (yield_to w cpu r a (Some x)) (reply_unless v cpu r o
-          (yielded v cpu r a x.name (handler v.tree x.name a.x1)))) (refusals x (below x refl))
+          (yield_happens v cpu r a x.name (handler v.tree x.name a.x1)))) (refusals x (below x refl))
           (subst (λ c. Alike p cpu (yield_to w cpu r a (Some x)) (reply_unless v cpu r (first_met (yield_refusals w
-          r.name a (Some x))) (yielded v cpu r a x.name c))) (handlers w v p s s' g x.name a.x1 (below x refl))
+          r.name a (Some x))) (yield_happens v cpu r a x.name c))) (handlers w v p s s' g x.name a.x1 (below x refl))
           (at x (first_met (yield_refusals w r.name a (Some x))) (handler w.tree x.name a.x1)))
 
   -- a call that does not switch, by the law of one partition
@@ -231,17 +234,18 @@ module _ (w v : World) (p cpu : ℕ) (r : Occupant) (s : IsSoundWorld w) (s' : I
       go Unknown q = plain_alike number a ev (subst (λ c. IsSwitching c → ⊥) (sym q) (λ z. z))
       go Yields q =
           let l = yield_alike a (λ x y. asks (q, x, y)) in
-          let one : acted w (E.Call cpu number a) ≡ yield w cpu r a =
+          let one : what_happens w (E.Call cpu number a) ≡ yield w cpu r a =
           call_by w r cpu number a k ∙ ap (λ c. call c w cpu r a) q in
-          let two : acted v (E.Call cpu number a) ≡ yield v cpu r a =
+          let two : what_happens v (E.Call cpu number a) ≡ yield v cpu r a =
           call_by v r cpu number a k' ∙ ap (λ c. call c v cpu r a) q in
-          let z = subst (λ x. Alike p cpu x (acted v (E.Call cpu number a))) (sym one)
+          let z = subst (λ x. Alike p cpu x (what_happens v (E.Call cpu number a))) (sym one)
           (subst (Alike p cpu (yield w cpu r a)) (sym two) l) in
           record { outcome = z.outcome; trees = z.trees; on = z.on }
 
 module _ (w v : World) (p : ℕ) (s : IsSoundWorld w) (s' : IsSoundWorld v) (g : IsSameGuest p w v)
     (m : p ≢ w.tree.root.name) where
-  from_acted : (e : Event) → Alike p (cpu_of e) (acted w e) (acted v e) → Alike p (cpu_of e) (event w e) (event v e)
+  from_acted : (e : Event) → Alike p (cpu_of e) (what_happens w e) (what_happens v e) → Alike p (cpu_of e) (event w e)
+      (event v e)
   from_acted e z = record { outcome = z.outcome; trees = z.trees; on = z.on }
 
   event_alike : (e : Event) (r : Occupant) → IsEvent e → is_own e ≡ true → runs_on w (cpu_of e) ≡ Some r
@@ -251,28 +255,29 @@ module _ (w v : World) (p : ℕ) (s : IsSoundWorld w) (s' : IsSoundWorld v) (g :
       let e = E.Load cpu va z in
       let one = load_by w r cpu va z k in
       let two = load_by v r cpu va z (g.runs cpu r h k) in
-      from_acted e (subst (λ x. Alike p cpu x (acted v e)) (sym one)
-      (subst (Alike p cpu (loaded w cpu r va Load z (reach w.tree r.name va Load z))) (sym two)
+      from_acted e (subst (λ x. Alike p cpu x (what_happens v e)) (sym one)
+      (subst (Alike p cpu (load_happens w cpu r va Load z (reach w.tree r.name va Load z))) (sym two)
       (loaded_alike w v p cpu r s s' g m k h va Load z (subst (λ x. StaysBelow w.tree p x.outcome) one st))))
   event_alike (E.Fetch cpu) r ev o k h st asks =
       let e = E.Fetch cpu in
       let one = fetch_by w r cpu k in
       let two = fetch_by v r cpu (g.runs cpu r h k) in
-      from_acted e (subst (λ x. Alike p cpu x (acted v e)) (sym one) (subst (Alike p cpu
-      (loaded w cpu r r.ctx.pc Fetch Word (reach w.tree r.name r.ctx.pc Fetch Word))) (sym two) (loaded_alike w v p
+      from_acted e (subst (λ x. Alike p cpu x (what_happens v e)) (sym one) (subst (Alike p cpu
+      (load_happens w cpu r r.ctx.pc Fetch Word (reach w.tree r.name r.ctx.pc Fetch Word))) (sym two)
+      (loaded_alike w v p
       cpu r s s' g m k h r.ctx.pc Fetch Word (subst (λ x. StaysBelow w.tree p x.outcome) one st))))
   event_alike (E.Store cpu va z x) r ev o k h st asks =
       let e = E.Store cpu va z x in
       let one = store_by w r cpu va z x k in
       let two = store_by v r cpu va z x (g.runs cpu r h k) in
-      from_acted e (subst (λ y. Alike p cpu y (acted v e)) (sym one)
+      from_acted e (subst (λ y. Alike p cpu y (what_happens v e)) (sym one)
       (subst (Alike p cpu (wrote w cpu r va z x (reach w.tree r.name va Store z))) (sym two)
       (wrote_alike w v p cpu r s s' g m k h va z x (subst (λ y. StaysBelow w.tree p y.outcome) one st))))
   event_alike (E.Trap cpu x a b) r ev o k h st asks =
       let e = E.Trap cpu x a b in
       let one = trap_by w r cpu x a b k in
       let two = trap_by v r cpu x a b (g.runs cpu r h k) in
-      from_acted e (subst (λ y. Alike p cpu y (acted v e)) (sym one) (subst (Alike p cpu (deliver w cpu r x a b))
+      from_acted e (subst (λ y. Alike p cpu y (what_happens v e)) (sym one) (subst (Alike p cpu (deliver w cpu r x a b))
       (sym two) (deliver_alike w v p cpu r s s' g m k h x a b (subst (λ y. StaysBelow w.tree p y.outcome) one st))))
   event_alike (E.Call cpu number a) r ev o k h st asks = call_alike w v p cpu r s s' g m k h number a ev asks
   event_alike (E.Raise j) r ev o k h st asks = cc
@@ -281,7 +286,7 @@ module _ (w v : World) (p : ℕ) (s : IsSoundWorld w) (s' : IsSoundWorld v) (g :
       let e = E.SetContext cpu c in
       let one = set_by w r cpu c k in
       let two = set_by v r cpu c (g.runs cpu r h k) in
-      from_acted e (subst (λ y. Alike p cpu y (acted v e)) (sym one)
+      from_acted e (subst (λ y. Alike p cpu y (what_happens v e)) (sym one)
       (subst (Alike p cpu (done (with_running w cpu (Some (record r { ctx = c }))))) (sym two) (put_alike w v p cpu
       r s s' g m k h O.Done w.tree v.tree (Some (record r { ctx = c })) (to_trees p w v g.below))))
 

@@ -17,12 +17,12 @@ use Rattle.pip_model.specs.Deliver.{deliver_to, nearest_taker}
 use Rattle.pip_model.specs.Events.{Event}
 use Rattle.pip_model.specs.Events as E
 use Rattle.pip_model.specs.Handlers.{handler}
-use Rattle.pip_model.specs.Happens.{access_number, acted, call, call_named, event, fault_number, fault_vector, loaded}
-use Rattle.pip_model.specs.Happens.{wrote}
+use Rattle.pip_model.specs.Happens.{access_number, what_happens, call, call_named, event, fault_number, fault_vector}
+use Rattle.pip_model.specs.Happens.{load_happens, wrote}
 use Rattle.pip_model.specs.Lists.{In, has}
 use Rattle.pip_model.specs.Local.{actor, cpu_of}
 use Rattle.pip_model.specs.Reach.{Faulted, Place, Reached, reach}
-use Rattle.pip_model.specs.Switching.{node_name, reply_unless, target_node, yield, yield_refusals, yielded}
+use Rattle.pip_model.specs.Switching.{node_name, reply_unless, target_node, yield, yield_refusals, yield_happens}
 use Rattle.pip_model.specs.Tree.{Node, Tree, ancestry, is_place}
 use Rattle.pip_model.specs.Worlds.{IsSoundWorld, World, runs_on}
 use Rattle.pip_model.specs.declared.call_name.CallName.{CallName}
@@ -57,7 +57,7 @@ module _ (w : World) (cpu : ℕ) (r : Occupant) where
   deliver_tells k a b None e = cc
   deliver_tells k a b (Some y) e = cc
 
-  loaded_tells : (va : ℕ) (c : Access) (z : Size) (q : Reached) → (loaded w cpu r va c z q).outcome ≢ O.Idle
+  loaded_tells : (va : ℕ) (c : Access) (z : Size) (q : Reached) → (load_happens w cpu r va c z q).outcome ≢ O.Idle
   loaded_tells va c z (Place g i) e = cc
   loaded_tells va c z (Faulted f) e = deliver_tells (fault_vector f) va (16 * access_number c + fault_number f)
       (nearest_taker w r.name (fault_vector f)) e
@@ -118,8 +118,8 @@ yield_stays w p cpu r a s h d asks idle =
 
     go : (q : Option Node) → target_node w.tree r.name a.x0 ≡ q → (o : Option Status)
         → first_met (yield_refusals w r.name a q) ≡ o → (c : Option Ctx)
-        → (reply_unless w cpu r o (yielded w cpu r a (node_name q) c)).outcome ≢ O.Idle
-        → StaysBelow w.tree p (reply_unless w cpu r o (yielded w cpu r a (node_name q) c)).outcome
+        → (reply_unless w cpu r o (yield_happens w cpu r a (node_name q) c)).outcome ≢ O.Idle
+        → StaysBelow w.tree p (reply_unless w cpu r o (yield_happens w cpu r a (node_name q) c)).outcome
     go q e (Some st) f c i = tt
     go q e None f None i = absurd (i refl)
     go (Some x) e None f (Some c) i = target_below w w p s s (same_world p w) r.name a.x0 x h d asks e
@@ -164,7 +164,7 @@ call_known w p cpu number a s m h =
     by r k q Yields z = elim (cases_Bool (r.name == p && a.x0 == 0)) [
       | inl y ↦ inr (z, q ∙ eqb-true r.name p (both _ _ y).0, eqb-true a.x0 0 (both _ _ y).1)
       | inr y ↦
-          let one : acted w e ≡ yield w cpu r a = call_by w r cpu number a k ∙ ap (λ c. call c w cpu r a) z in
+          let one : what_happens w e ≡ yield w cpu r a = call_by w r cpu number a k ∙ ap (λ c. call c w cpu r a) z in
           let below : In p (ancestry w.tree r.name) = subst (λ b. In p (ancestry w.tree b)) q h in
           let not_root = λ (x : r.name ≡ w.tree.root.name).
           m (top_alone w.tree s.tree p (subst (λ b. In p (ancestry w.tree b)) x below)) in

@@ -10,7 +10,7 @@ use Rattle.pip_model.specs.Deliver.{deliver, deliver_to, nearest_taker}
 use Rattle.pip_model.specs.Events.{Event, IsEvent}
 use Rattle.pip_model.specs.Events as E
 use Rattle.pip_model.specs.Handlers.{save}
-use Rattle.pip_model.specs.Happens.{access_number, acted, event, fault_number, fault_vector, loaded, wrote}
+use Rattle.pip_model.specs.Happens.{access_number, what_happens, event, fault_number, fault_vector, load_happens, wrote}
 use Rattle.pip_model.specs.Lists.{In}
 use Rattle.pip_model.specs.Local.{actor, cpu_of}
 use Rattle.pip_model.specs.Poll.{occupant_name}
@@ -97,14 +97,15 @@ module _ (w v : World) (p cpu : ℕ) (r : Occupant) (s : IsSoundWorld w) (s' : I
           subst (Out w.tree p) same out (line_alike v.tree w.tree p s'.tree s.tree (trees v w p s' s back) y.to i)
 
   loaded_left : (va : ℕ) (c : Access) (z : Size)
-      → Leaves w.tree p (loaded w cpu r va c z (reach w.tree r.name va c z)).outcome → Left p cpu v.tree
-      (loaded w cpu r va c z (reach w.tree r.name va c z)) (loaded v cpu r va c z (reach v.tree r.name va c z))
-  loaded_left va c z lv = subst (λ q. Left p cpu v.tree (loaded w cpu r va c z (reach w.tree r.name va c z))
-      (loaded v cpu r va c z q)) (reach_alike w.tree v.tree r.name s.tree s'.tree (line_name w.tree r.name p h)
+      → Leaves w.tree p (load_happens w cpu r va c z (reach w.tree r.name va c z)).outcome → Left p cpu v.tree
+      (load_happens w cpu r va c z (reach w.tree r.name va c z))
+      (load_happens v cpu r va c z (reach v.tree r.name va c z))
+  loaded_left va c z lv = subst (λ q. Left p cpu v.tree (load_happens w cpu r va c z (reach w.tree r.name va c z))
+      (load_happens v cpu r va c z q)) (reach_alike w.tree v.tree r.name s.tree s'.tree (line_name w.tree r.name p h)
       (agree_below w.tree v.tree p s.tree s'.tree tr r.name h) va c z) (go (reach w.tree r.name va c z) lv)
     where
-      go : (q : Reached) → Leaves w.tree p (loaded w cpu r va c z q).outcome
-          → Left p cpu v.tree (loaded w cpu r va c z q) (loaded v cpu r va c z q)
+      go : (q : Reached) → Leaves w.tree p (load_happens w cpu r va c z q).outcome
+          → Left p cpu v.tree (load_happens w cpu r va c z q) (load_happens v cpu r va c z q)
       go (Place f i) lv = absurd lv
       go (Faulted f) lv = deliver_left (fault_vector f) va (16 * access_number c + fault_number f) lv
 
@@ -120,10 +121,10 @@ module _ (w v : World) (p cpu : ℕ) (r : Occupant) (s : IsSoundWorld w) (s' : I
       go (Place f i) lv = absurd lv
       go (Faulted f) lv = deliver_left (fault_vector f) va (16 * access_number Store + fault_number f) lv
 
-  of_event : (e : Event) (a b : Happened) → acted w e ≡ a → acted v e ≡ b → (Leaves w.tree p a.outcome
+  of_event : (e : Event) (a b : Happened) → what_happens w e ≡ a → what_happens v e ≡ b → (Leaves w.tree p a.outcome
       → Left p cpu v.tree a b) → Leaves w.tree p (event w e).outcome → Left p cpu v.tree (event w e) (event v e)
   of_event e a b one two f lv =
-      let z = subst (λ y. Left p cpu v.tree y (acted v e)) (sym one)
+      let z = subst (λ y. Left p cpu v.tree y (what_happens v e)) (sym one)
       (subst (Left p cpu v.tree a) (sym two) (f (subst (λ y. Leaves w.tree p y.outcome) one lv))) in
       record { trees = z.trees; leaves = z.leaves; off = z.off; off_there = z.off_there }
 

@@ -86,7 +86,7 @@ module _ (t : Tree) (s : IsSound t) where
   parent_line p n m =
       let f = node_found t p n in
       let i = other f.0 f.1 in
-      let (y, j, e) = parent_in t.root t.others s.parents_stand_behind (node t p) i in
+      let (y, j, e) = parent_in t.root t.others s.parents_come_first (node t p) i in
       let u : IsName t (node t p).up = subst (IsName t) (sym e) (name_in y (nodes t) j) in (
         i,
         u,

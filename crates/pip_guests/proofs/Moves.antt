@@ -16,14 +16,14 @@ use Rattle.pip_model.specs.Deliver.{deliver, deliver_to, nearest_above, nearest_
 use Rattle.pip_model.specs.Events.{Event, IsEvent}
 use Rattle.pip_model.specs.Events as E
 use Rattle.pip_model.specs.Handlers.{context_word, handler, save, save_place, saved_to, written_block}
-use Rattle.pip_model.specs.Happens.{access_number, acted, answer, call, call_named, event, fault_number, fault_vector}
-use Rattle.pip_model.specs.Happens.{loaded, on_running, wrote}
+use Rattle.pip_model.specs.Happens.{access_number, what_happens, answer, call, call_named, event, fault_number}
+use Rattle.pip_model.specs.Happens.{fault_vector, load_happens, on_running, wrote}
 use Rattle.pip_model.specs.Lists.{In, has}
 use Rattle.pip_model.specs.Local.{cpu_of}
 use Rattle.pip_model.specs.Reach.{Faulted, Place, Reached, reach}
 use Rattle.pip_model.specs.Sound.{IsSound}
 use Rattle.pip_model.specs.Switching.{node_name, parent_of, reply_unless, target_node, with_zeros, with_reply, yield}
-use Rattle.pip_model.specs.Switching.{yield_place, yield_refusals, yielded, yielded_tree}
+use Rattle.pip_model.specs.Switching.{yield_place, yield_refusals, yield_happens, yielded_tree}
 use Rattle.pip_model.specs.Tree.{Node, Tree, ancestry, chain, child_at, names_of, node, row_pages}
 use Rattle.pip_model.specs.Worlds.{IsSoundWorld, World, done, enter, masked_node, with_running, running, runs_on}
 use Rattle.pip_model.specs.Worlds.{handler_context, with_masked}
@@ -198,7 +198,7 @@ module _ (w : World) (cpu : ℕ) (r : Occupant) (s : IsSoundWorld w) (k : runs_o
       q = target_node w.tree r.name a.x0
 
       go : (o : Option Status) (h : Option Ctx)
-          → Acts r cpu w (reply_unless w cpu r o (yielded w cpu r a (node_name q) h)).world
+          → Acts r cpu w (reply_unless w cpu r o (yield_happens w cpu r a (node_name q) h)).world
       go (Some st) h =
           acts_on w cpu r (record r { ctx = record r.ctx { regs = with_reply (status_number st) 0 r.ctx.regs } }) w.tree
           s k refl (leaves_same r.name w.tree)
@@ -218,7 +218,7 @@ module _ (w : World) (cpu : ℕ) (r : Occupant) (s : IsSoundWorld w) (k : runs_o
       acts_on w cpu r _ (with_masked r.name b w.tree) s k refl (mask-leaves w.tree r.name s.tree is_name b)
   call_acts Unknown a = acts_on w cpu r _ w.tree s k refl (leaves_same r.name w.tree)
 
-  loaded_acts : (va : ℕ) (c : Access) (z : Size) (q : Reached) → Acts r cpu w (loaded w cpu r va c z q).world
+  loaded_acts : (va : ℕ) (c : Access) (z : Size) (q : Reached) → Acts r cpu w (load_happens w cpu r va c z q).world
   loaded_acts va c z (Place g i) = acts_still w cpu r s k
   loaded_acts va c z (Faulted f) = deliver_acts w cpu r (fault_vector f) va (16 * access_number c + fault_number f) k
 
@@ -239,31 +239,34 @@ module _ (w : World) (cpu : ℕ) (r : Occupant) (s : IsSoundWorld w) (k : runs_o
 -- what runs on the processor of an event acts
 module _ (w : World) (r : Occupant) where
   pub load_by : (cpu va : ℕ) (z : Size) → runs_on w cpu ≡ Some r
-      → acted w (E.Load cpu va z) ≡ loaded w cpu r va Load z (reach w.tree r.name va Load z)
-  load_by cpu va z k = ap (λ o. on_running w cpu o (λ r. loaded w cpu r va Load z (reach w.tree r.name va Load z))) k
+      → what_happens w (E.Load cpu va z) ≡ load_happens w cpu r va Load z (reach w.tree r.name va Load z)
+  load_by cpu va z k = ap (λ o. on_running w cpu o (λ r. load_happens w cpu r va Load z
+      (reach w.tree r.name va Load z))) k
 
   pub store_by : (cpu va : ℕ) (z : Size) (x : ℕ) → runs_on w cpu ≡ Some r
-      → acted w (E.Store cpu va z x) ≡ wrote w cpu r va z x (reach w.tree r.name va Store z)
+      → what_happens w (E.Store cpu va z x) ≡ wrote w cpu r va z x (reach w.tree r.name va Store z)
   store_by cpu va z x k = ap (λ o. on_running w cpu o (λ r. wrote w cpu r va z x (reach w.tree r.name va Store z))) k
 
   pub fetch_by : (cpu : ℕ) → runs_on w cpu ≡ Some r
-      → acted w (E.Fetch cpu) ≡ loaded w cpu r r.ctx.pc Fetch Word (reach w.tree r.name r.ctx.pc Fetch Word)
+      → what_happens w (E.Fetch cpu) ≡ load_happens w cpu r r.ctx.pc Fetch Word
+      (reach w.tree r.name r.ctx.pc Fetch Word)
   fetch_by cpu k =
-      ap (λ o. on_running w cpu o (λ r. loaded w cpu r r.ctx.pc Fetch Word (reach w.tree r.name r.ctx.pc Fetch Word))) k
+      ap (λ o. on_running w cpu o (λ r. load_happens w cpu r r.ctx.pc Fetch Word
+      (reach w.tree r.name r.ctx.pc Fetch Word))) k
 
-  pub trap_by : (cpu v a b : ℕ) → runs_on w cpu ≡ Some r → acted w (E.Trap cpu v a b) ≡ deliver w cpu r v a b
+  pub trap_by : (cpu v a b : ℕ) → runs_on w cpu ≡ Some r → what_happens w (E.Trap cpu v a b) ≡ deliver w cpu r v a b
   trap_by cpu v a b k = ap (λ o. on_running w cpu o (λ r. deliver w cpu r v a b)) k
 
   pub call_by : (cpu number : ℕ) (a : Five) → runs_on w cpu ≡ Some r
-      → acted w (E.Call cpu number a) ≡ call (call_named number) w cpu r a
+      → what_happens w (E.Call cpu number a) ≡ call (call_named number) w cpu r a
   call_by cpu number a k = ap (λ o. on_running w cpu o (λ r. call (call_named number) w cpu r a)) k
 
   pub set_by : (cpu : ℕ) (c : Ctx) → runs_on w cpu ≡ Some r
-      → acted w (E.SetContext cpu c) ≡ done (with_running w cpu (Some (record r { ctx = c })))
+      → what_happens w (E.SetContext cpu c) ≡ done (with_running w cpu (Some (record r { ctx = c })))
   set_by cpu c k = ap (λ o. on_running w cpu o (λ r. done (with_running w cpu (Some (record r { ctx = c }))))) k
 
 own_acts : (w : World) (e : Event) (r : Occupant) → IsSoundWorld w → is_own e ≡ true → runs_on w (cpu_of e) ≡ Some r
-    → r.name ≢ w.tree.root.name → Acts r (cpu_of e) w (acted w e).world
+    → r.name ≢ w.tree.root.name → Acts r (cpu_of e) w (what_happens w e).world
 own_acts w (E.Load cpu va z) r s o k d = subst (λ h. Acts r cpu w h.world) (sym (load_by w r cpu va z k))
     (loaded_acts w cpu r s k d va Load z (reach w.tree r.name va Load z))
 own_acts w (E.Store cpu va z x) r s o k d = subst (λ h. Acts r cpu w h.world) (sym (store_by w r cpu va z x k))

@@ -8,14 +8,15 @@ use Rattle.pip_base.specs.declared.outcome.Outcome.{Outcome}
 use Rattle.pip_base.specs.declared.outcome.Outcome.TheVariants as O
 use Rattle.pip_base.specs.declared.types.Ctx.{Ctx}
 use Rattle.pip_model.specs.Acts.{Act, Makes, Writes, after_acts, events_made}
-use Rattle.pip_model.specs.Effects.{passed, word_effect}
+use Rattle.pip_model.specs.Effects.{at_next, word_effect}
 use Rattle.pip_model.specs.Events.{Event, IsEvent}
 use Rattle.pip_model.specs.Events as E
 use Rattle.pip_model.specs.Happens.{after}
 use Rattle.pip_model.specs.InstrRead.{instr_of}
 use Rattle.pip_model.specs.Text.{word_text}
-use Rattle.pip_model.specs.Turn.{arguments, call_line, head, park_text, switch_text, effect_acts, fetch_acts, fetched}
-use Rattle.pip_model.specs.Turn.{load_acts, moved, outcome_of, polled, store_acts, turn, word_acts, world_of}
+use Rattle.pip_model.specs.Turn.{arguments, call_line, head, park_text, switch_text, effect_acts, fetch_acts}
+use Rattle.pip_model.specs.Turn.{acts_after_fetch, load_acts, move_acts, outcome_of, acts_after_poll, store_acts, turn}
+use Rattle.pip_model.specs.Turn.{word_acts, world_of}
 use Rattle.pip_model.specs.Worlds.{World, runs_on}
 use Rattle.pip_model.specs.declared.effect.Effect.{Effect}
 use Rattle.pip_model.specs.declared.effect.Effect.TheVariants as F
@@ -43,7 +44,7 @@ module _ (cpu t r : ℕ) where
   heads : (x : List ℕ) → drop (length (head t cpu)) (head t cpu ++ x) ≡ drop (length (head r cpu)) (head r cpu ++ x)
   heads x = drop-append_seam (head t cpu) x ∙ sym (drop-append_seam (head r cpu) x)
 
-  -- the same of lines that are a head and a rest
+  -- two lines, each a head and one rest, are equal after their heads
   heads_of : (x y rest : List ℕ) → x ≡ head t cpu ++ rest → y ≡ head r cpu ++ rest
       → drop (length (head t cpu)) x ≡ drop (length (head r cpu)) y
   heads_of x y rest e f = ap (drop (length (head t cpu))) e ∙ heads rest ∙ sym (ap (drop (length (head r cpu))) f)
@@ -57,7 +58,8 @@ module _ (cpu t r : ℕ) where
   writes : {x y : List ℕ} → x ≡ y → ◌≡◌ {A = List Act} (Writes x ∷ []) (Writes y ∷ [])
   writes e = ap (λ l. Writes l ∷ []) e
 
-  moved_bare : (o : Outcome) → map (without_head here) (moved t cpu o) ≡ map (without_head there) (moved r cpu o)
+  moved_bare : (o : Outcome) → map (without_head here) (move_acts t cpu o) ≡ map (without_head there)
+      (move_acts r cpu o)
   moved_bare (O.Switched from to k) = writes (heads (switch_text from to k))
   moved_bare (O.Parked from k) = writes (heads (park_text from k))
   moved_bare (O.Word u) = writes no_heads
@@ -110,11 +112,11 @@ module _ (cpu t r : ℕ) where
       ap (λ l. Makes (E.Store cpu va z n) ∷ l) (store_bare x (outcome_of w (E.Store cpu va z n)))
   effect_bare w x (F.Traps k a b) =
       ap (λ l. Makes (E.Trap cpu k a b) ∷ l) (moved_bare (outcome_of w (E.Trap cpu k a b)))
-  effect_bare w x (F.Interrupts k) = ap (λ l. Makes (E.SetContext cpu (passed x)) ∷ Makes (E.Trap cpu k 0 0)
-      ∷ l) (moved_bare (outcome_of (world_of w (E.SetContext cpu (passed x))) (E.Trap cpu k 0 0)))
-  effect_bare w x (F.Calls n) = ap (λ l. Makes (E.SetContext cpu (passed x)) ∷ Makes (E.Call cpu n (arguments x))
-      ∷ l) (call_bare n (outcome_of (world_of w (E.SetContext cpu (passed x))) (E.Call cpu n (arguments x))))
-  effect_bare w x (F.Shows n) = ap (λ l. Writes l ∷ Makes (E.SetContext cpu (passed x))
+  effect_bare w x (F.Interrupts k) = ap (λ l. Makes (E.SetContext cpu (at_next x)) ∷ Makes (E.Trap cpu k 0 0)
+      ∷ l) (moved_bare (outcome_of (world_of w (E.SetContext cpu (at_next x))) (E.Trap cpu k 0 0)))
+  effect_bare w x (F.Calls n) = ap (λ l. Makes (E.SetContext cpu (at_next x)) ∷ Makes (E.Call cpu n (arguments x))
+      ∷ l) (call_bare n (outcome_of (world_of w (E.SetContext cpu (at_next x))) (E.Call cpu n (arguments x))))
+  effect_bare w x (F.Shows n) = ap (λ l. Writes l ∷ Makes (E.SetContext cpu (at_next x))
       ∷ []) (heads_of _ _ _ (after_head_3 (head t cpu) (codes " out ") (word_text n) (codes "\n"))
       (after_head_3 (head r cpu) (codes " out ") (word_text n) (codes "\n")))
 
@@ -124,7 +126,7 @@ module _ (cpu t r : ℕ) where
   word_bare w u (Some q) = effect_bare w q.ctx (word_effect q.ctx u (instr_of u))
 
   fetched_bare : (w : World) (o : Outcome)
-      → map (without_head here) (fetched w t cpu o) ≡ map (without_head there) (fetched w r cpu o)
+      → map (without_head here) (acts_after_fetch w t cpu o) ≡ map (without_head there) (acts_after_fetch w r cpu o)
   fetched_bare w (O.Word u) = word_bare w u (runs_on w cpu)
   fetched_bare w O.Done = moved_bare O.Done
   fetched_bare w (O.Reply s u) = moved_bare (O.Reply s u)
@@ -138,7 +140,7 @@ module _ (cpu t r : ℕ) where
       ap (λ l. Makes (E.Fetch cpu) ∷ l) (fetched_bare (world_of w (E.Fetch cpu)) (outcome_of w (E.Fetch cpu)))
 
   polled_bare : (w : World) (o : Outcome)
-      → map (without_head here) (polled w t cpu o) ≡ map (without_head there) (polled w r cpu o)
+      → map (without_head here) (acts_after_poll w t cpu o) ≡ map (without_head there) (acts_after_poll w r cpu o)
   polled_bare w (O.Switched from to k) = moved_bare (O.Switched from to k)
   polled_bare w O.Idle = refl
   polled_bare w (O.Word u) = fetch_bare w

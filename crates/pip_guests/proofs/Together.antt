@@ -20,8 +20,8 @@ use Rattle.pip_model.proofs.Trees.Ancestors.{name_in}
 use Rattle.pip_model.proofs.Trees.Free.{IsName, node_found}
 use Rattle.pip_guests.specs.Guests.{AllStayOrLeave, Among, AreOwnOrApart, GuestsDependOnThemselves}
 use Rattle.pip_guests.specs.Guests.{GuestsLeaveOthersAlone, GuestsRunAsAlone, IsElsewhere, IsSameGuest, Leaves}
-use Rattle.pip_guests.specs.Guests.{OthersDoNotMatterToGuests, StaysBelow, StaysOrLeaves, is_of_guest, is_own, learned}
-use Rattle.pip_guests.specs.Guests.{learns, learns_all, learns_own, left, none, only_guest, right}
+use Rattle.pip_guests.specs.Guests.{OthersDoNotMatterToGuests, StaysBelow, StaysOrLeaves, is_of_guest, is_own}
+use Rattle.pip_guests.specs.Guests.{guest_learns, learns, learns_all, learns_own, left, none, only_guest, right}
 use Rattle.pip_guests.proofs.Lines.{leaves_up, line_name, line_trans, lines_meet, not_top, own_line, root_line}
 use Rattle.pip_guests.proofs.Lines.{top_alone}
 use Rattle.pip_guests.proofs.Moves.{event_moves}
@@ -51,7 +51,7 @@ pub guest_of : (w : World) (p : ℕ) (e : Event) → StaysOrLeaves p w e → is_
 guest_of w p e i = ap₂ (λ a b. a && b) (guest_own w p e i) (in_has p _ (guest_below w p e i))
 
 -- all is learned of an outcome after which control is inside, and nothing where it left
-learned_inside : (t : Tree) (p : ℕ) (o : Outcome) → StaysBelow t p o → learned t p o ≡ Some o
+learned_inside : (t : Tree) (p : ℕ) (o : Outcome) → StaysBelow t p o → guest_learns t p o ≡ Some o
 learned_inside t p (O.Word x) h = refl
 learned_inside t p O.Done h = refl
 learned_inside t p (O.Reply s x) h = refl
@@ -59,7 +59,7 @@ learned_inside t p (O.Switched from to k) h = ap (λ b. cond b (Some (O.Switched
 learned_inside t p (O.Parked from k) h = absurd h
 learned_inside t p O.Idle h = absurd h
 
-learned_left : (t : Tree) (p : ℕ) (o : Outcome) → Leaves t p o → learned t p o ≡ None
+learned_left : (t : Tree) (p : ℕ) (o : Outcome) → Leaves t p o → guest_learns t p o ≡ None
 learned_left t p (O.Word x) h = absurd h
 learned_left t p O.Done h = absurd h
 learned_left t p (O.Reply s x) h = absurd h
@@ -198,7 +198,7 @@ pub record Both (p q : ℕ) (w u v : World) : Type 0 where
   pub left_guest : IsSameGuest p u w
   pub right_guest : IsSameGuest q v w
 
--- the same, the second guest first
+-- two guests in a world, the second first
 pub turned : (p q : ℕ) (w u v : World) → Both p q w u v → Both q p w v u
 turned p q w u v b = record {
   sound = b.sound;

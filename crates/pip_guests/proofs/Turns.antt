@@ -8,10 +8,10 @@ use Rattle.pip_base.specs.declared.types.Access.TheVariants.{Fetch}
 use Rattle.pip_base.specs.declared.types.Ctx.{Ctx}
 use Rattle.pip_base.specs.declared.types.Size.TheVariants.{Word}
 use Rattle.pip_model.specs.Acts.{Makes, Writes, after_acts, events_made}
-use Rattle.pip_model.specs.Effects.{passed, word_effect}
+use Rattle.pip_model.specs.Effects.{at_next, word_effect}
 use Rattle.pip_model.specs.Events.{Event, IsEvent}
 use Rattle.pip_model.specs.Events as E
-use Rattle.pip_model.specs.Happens.{acted, after, event}
+use Rattle.pip_model.specs.Happens.{what_happens, after, event}
 use Rattle.pip_model.specs.InstrRead.{instr_of}
 use Rattle.pip_model.specs.Lists.{In}
 use Rattle.pip_model.specs.Local.{Succeeded}
@@ -19,8 +19,8 @@ use Rattle.pip_model.specs.Poll.{lowest_line, may_take, none_taken, occupant_nam
 use Rattle.pip_model.specs.Reach.{reach}
 use Rattle.pip_model.specs.Sound.{IsSound}
 use Rattle.pip_model.specs.Tree.{Tree, ancestry}
-use Rattle.pip_model.specs.Turn.{arguments, call_line, effect_acts, fetch_acts, fetched, load_acts, moved, outcome_of}
-use Rattle.pip_model.specs.Turn.{polled, store_acts, turn, word_acts, world_of}
+use Rattle.pip_model.specs.Turn.{arguments, call_line, effect_acts, fetch_acts, acts_after_fetch, load_acts, move_acts}
+use Rattle.pip_model.specs.Turn.{outcome_of, acts_after_poll, store_acts, turn, word_acts, world_of}
 use Rattle.pip_model.specs.Worlds.{IsSoundWorld, World, runs_on, with_caches}
 use Rattle.pip_model.specs.declared.effect.Effect.{Effect}
 use Rattle.pip_model.specs.declared.effect.Effect.TheVariants as F
@@ -84,7 +84,7 @@ poll_vain w cpu r k e = ap (with_caches w.caches) (go (may_take w cpu (runs_on w
 
 -- after such a poll a turn goes on to its fetch
 pub turn_fetches : (w : World) (cpu t : ℕ) → PollsInVain w cpu → turn w cpu t ≡ Makes (E.Poll cpu) ∷ fetch_acts w t cpu
-turn_fetches w cpu t vain = ap (λ h. Makes (E.Poll cpu) ∷ polled h.world t cpu h.outcome) vain
+turn_fetches w cpu t vain = ap (λ h. Makes (E.Poll cpu) ∷ acts_after_poll h.world t cpu h.outcome) vain
 
 pub after_turn : (w : World) (cpu t : ℕ) → PollsInVain w cpu
     → after_acts w (turn w cpu t) ≡ after w (events_made (fetch_acts w t cpu))
@@ -95,7 +95,7 @@ after_turn w cpu t vain =
 
 -- a fetch that gives a word leaves the tree and what runs there
 pub fetch_stays : (w : World) (cpu u : ℕ) (r : Occupant) → runs_on w cpu ≡ Some r
-    → (event w (E.Fetch cpu)).outcome ≡ O.Word u → (acted w (E.Fetch cpu)).world ≡ w
+    → (event w (E.Fetch cpu)).outcome ≡ O.Word u → (what_happens w (E.Fetch cpu)).world ≡ w
 fetch_stays w cpu u r k e =
     let l = fetch_by w r cpu k in
     let q = ap (λ h. h.outcome) (sym l) ∙ e in
@@ -126,14 +126,14 @@ module _ (p cpu t : ℕ) where
       (inside_same w v p (E.Load cpu va z) s s' all.0 m g i.0).outcome
   effect_same w v x (F.Stores va n z) s s' m g all i = ap (λ o. Makes (E.Store cpu va z n) ∷ store_acts t cpu x o)
       (inside_same w v p (E.Store cpu va z n) s s' all.0 m g i.0).outcome
-  effect_same w v x (F.Traps k a b) s s' m g all i = ap (λ o. Makes (E.Trap cpu k a b) ∷ moved t cpu o)
+  effect_same w v x (F.Traps k a b) s s' m g all i = ap (λ o. Makes (E.Trap cpu k a b) ∷ move_acts t cpu o)
       (inside_same w v p (E.Trap cpu k a b) s s' all.0 m g i.0).outcome
   effect_same w v x (F.Interrupts k) s s' m g all i =
-      let a = E.SetContext cpu (passed x) in
+      let a = E.SetContext cpu (at_next x) in
       let e = E.Trap cpu k 0 0 in
-      ap (λ o. Makes a ∷ Makes e ∷ moved t cpu o) (second_same w v p a e s s' m g all.0 all.1.0 i.0 i.1.0)
+      ap (λ o. Makes a ∷ Makes e ∷ move_acts t cpu o) (second_same w v p a e s s' m g all.0 all.1.0 i.0 i.1.0)
   effect_same w v x (F.Calls n) s s' m g all i =
-      let a = E.SetContext cpu (passed x) in
+      let a = E.SetContext cpu (at_next x) in
       let e = E.Call cpu n (arguments x) in
       ap (λ o. Makes a ∷ Makes e ∷ Writes (call_line t cpu n o)
       ∷ []) (second_same w v p a e s s' m g all.0 all.1.0 i.0 i.1.0)
@@ -144,7 +144,7 @@ module _ (p cpu t : ℕ) where
       → AllByRecursion IsEvent (events_made (fetch_acts w t cpu)) → AllStayInside p w (events_made (fetch_acts w t cpu))
       → fetch_acts w t cpu ≡ fetch_acts v t cpu
   fetch_same w v r k h s s' m g all i = ap (λ l. Makes (E.Fetch cpu)
-      ∷ l) (go (outcome_of w (E.Fetch cpu)) refl all.1 i.1 ∙ ap (fetched there t cpu) z.outcome)
+      ∷ l) (go (outcome_of w (E.Fetch cpu)) refl all.1 i.1 ∙ ap (acts_after_fetch there t cpu) z.outcome)
     where
       here : World
       here = world_of w (E.Fetch cpu)
@@ -155,8 +155,10 @@ module _ (p cpu t : ℕ) where
       z : IsSameInside p (E.Fetch cpu) w v
       z = inside_same w v p (E.Fetch cpu) s s' all.0 m g i.0
 
-      go : (o : Outcome) → outcome_of w (E.Fetch cpu) ≡ o → AllByRecursion IsEvent (events_made (fetched here t cpu o))
-          → AllStayInside p here (events_made (fetched here t cpu o)) → fetched here t cpu o ≡ fetched there t cpu o
+      go : (o : Outcome) → outcome_of w (E.Fetch cpu) ≡ o → AllByRecursion IsEvent
+          (events_made (acts_after_fetch here t cpu o))
+          → AllStayInside p here (events_made (acts_after_fetch here t cpu o)) → acts_after_fetch here t cpu o
+          ≡ acts_after_fetch there t cpu o
       go (O.Word u) q all i =
           let stays = fetch_stays w cpu u r k q in
           let k1 : runs_on here cpu ≡ Some r = ap (λ x. runs_on x cpu) stays ∙ k in

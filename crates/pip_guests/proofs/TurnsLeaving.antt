@@ -6,7 +6,7 @@ use Rattle.pip_base.specs.declared.outcome.Outcome.{Outcome}
 use Rattle.pip_base.specs.declared.outcome.Outcome.TheVariants as O
 use Rattle.pip_base.specs.declared.types.Ctx.{Ctx}
 use Rattle.pip_model.specs.Acts.{after_acts, events_made}
-use Rattle.pip_model.specs.Effects.{passed, with_register, word_effect}
+use Rattle.pip_model.specs.Effects.{at_next, with_register, word_effect}
 use Rattle.pip_model.specs.Events.{Event, IsEvent}
 use Rattle.pip_model.specs.Events as E
 use Rattle.pip_model.specs.Happens.{after, event}
@@ -14,15 +14,15 @@ use Rattle.pip_model.specs.InstrRead.{instr_of}
 use Rattle.pip_model.specs.Lists.{In, has}
 use Rattle.pip_model.specs.Poll.{occupant_name}
 use Rattle.pip_model.specs.Tree.{Tree, ancestry}
-use Rattle.pip_model.specs.Turn.{effect_acts, fetch_acts, fetched, load_acts, outcome_of, store_acts, turn, word_acts}
-use Rattle.pip_model.specs.Turn.{world_of}
+use Rattle.pip_model.specs.Turn.{effect_acts, fetch_acts, acts_after_fetch, load_acts, outcome_of, store_acts, turn}
+use Rattle.pip_model.specs.Turn.{word_acts, world_of}
 use Rattle.pip_model.specs.Worlds.{IsSoundWorld, World, runs_on}
 use Rattle.pip_model.specs.declared.effect.Effect.{Effect}
 use Rattle.pip_model.specs.declared.effect.Effect.TheVariants as F
 use Rattle.pip_model.specs.declared.processors.Occupant.{Occupant}
 use Rattle.pip_model.proofs.Events.Soundness.{event-sound}
 use Rattle.pip_model.proofs.Locality.OneEvent.{to_trees}
-use Rattle.pip_guests.specs.Guests.{AllStayOrLeave, IsSameGuest, Leaves, learned}
+use Rattle.pip_guests.specs.Guests.{AllStayOrLeave, IsSameGuest, Leaves, guest_learns}
 use Rattle.pip_guests.specs.Programs.{TurnsLeaveAlike}
 use Rattle.pip_guests.proofs.Lines.{line_alike, not_top}
 use Rattle.pip_guests.proofs.Inside.{actor_runs, inside_same}
@@ -56,11 +56,11 @@ module _ (p cpu t : ℕ) where
   loaded_events x a _ = []
 
   stored_events : Ctx → Option Outcome → List Event
-  stored_events x (Some O.Done) = E.SetContext cpu (passed x) ∷ []
+  stored_events x (Some O.Done) = E.SetContext cpu (at_next x) ∷ []
   stored_events x _ = []
 
   loads : (u : Tree) (x : Ctx) (a : ℕ) (o : Outcome)
-      → events_made (load_acts t cpu x a o) ≡ loaded_events x a (learned u p o)
+      → events_made (load_acts t cpu x a o) ≡ loaded_events x a (guest_learns u p o)
   unfolding loaded_events
   loads u x a (O.Word v) = refl
   loads u x a O.Done = refl
@@ -73,7 +73,8 @@ module _ (p cpu t : ℕ) where
   loads u x a (O.Parked from k) = refl
   loads u x a O.Idle = refl
 
-  stores : (u : Tree) (x : Ctx) (o : Outcome) → events_made (store_acts t cpu x o) ≡ stored_events x (learned u p o)
+  stores : (u : Tree) (x : Ctx) (o : Outcome) → events_made (store_acts t cpu x o) ≡ stored_events x
+      (guest_learns u p o)
   unfolding stored_events
   stores u x (O.Word v) = refl
   stores u x O.Done = refl
@@ -109,7 +110,7 @@ module _ (p cpu t : ℕ) where
       ∙ sym (stores v.tree x (outcome_of v e)))
 
   -- nothing follows a fetch that leaves
-  left_events : (w : World) (u : Tree) (o : Outcome) → Leaves u p o → events_made (fetched w t cpu o) ≡ []
+  left_events : (w : World) (u : Tree) (o : Outcome) → Leaves u p o → events_made (acts_after_fetch w t cpu o) ≡ []
   left_events w u (O.Word v) h = absurd h
   left_events w u O.Done h = absurd h
   left_events w u (O.Reply s v) h = absurd h
@@ -124,7 +125,7 @@ module _ (p cpu t : ℕ) where
   fetch_events w v r k h s s' m g i = ap (λ l. E.Fetch cpu ∷ l) (elim i.0 [
     | inl j ↦ let z = inside_same w v p (E.Fetch cpu) s s' tt m g j in
         go z.guest (outcome_of w (E.Fetch cpu)) refl (fetch_are w cpu t s).1 i.1
-        ∙ ap (λ o. events_made (fetched there t cpu o)) z.outcome
+        ∙ ap (λ o. events_made (acts_after_fetch there t cpu o)) z.outcome
     | inr j ↦ let z = guests_are_left_alike w v p (E.Fetch cpu) s s' tt m g j in
         left_events here w.tree (outcome_of w (E.Fetch cpu)) j.leaves
         ∙ sym (left_events there v.tree (outcome_of v (E.Fetch cpu)) z.leaving.leaves)
@@ -137,8 +138,9 @@ module _ (p cpu t : ℕ) where
       there = world_of v (E.Fetch cpu)
 
       go : IsSameGuest p here there → (o : Outcome) → outcome_of w (E.Fetch cpu) ≡ o → AllByRecursion IsEvent
-          (events_made (fetched here t cpu o)) → AllStayOrLeave p here (events_made (fetched here t cpu o))
-          → events_made (fetched here t cpu o) ≡ events_made (fetched there t cpu o)
+          (events_made (acts_after_fetch here t cpu o)) → AllStayOrLeave p here
+          (events_made (acts_after_fetch here t cpu o))
+          → events_made (acts_after_fetch here t cpu o) ≡ events_made (acts_after_fetch there t cpu o)
       go same (O.Word u) q all i =
           let stays = fetch_stays w cpu u r k q in
           let k1 : runs_on here cpu ≡ Some r = ap (λ x. runs_on x cpu) stays ∙ k in

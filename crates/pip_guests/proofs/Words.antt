@@ -18,11 +18,11 @@ use Rattle.pip_base.specs.declared.types.Ctx.{Ctx}
 use Rattle.pip_base.specs.declared.types.Size.{Size}
 use Rattle.pip_base.specs.declared.types.Size.TheVariants.{Byte, Word}
 use Rattle.pip_model.specs.Acts.{events_made}
-use Rattle.pip_model.specs.Effects.{bit, branch, divided, effect, next, register, shift_signed, signed, with_high}
-use Rattle.pip_model.specs.Effects.{word_effect, word_of_signed}
+use Rattle.pip_model.specs.Effects.{bit, branch, traps_at_zero, effect, next, register, shift_signed, signed_word}
+use Rattle.pip_model.specs.Effects.{with_high, word_effect, word_of_signed}
 use Rattle.pip_model.specs.Events.{IsEvent, below_of}
 use Rattle.pip_model.specs.Events as E
-use Rattle.pip_model.specs.Happens.{access_number, fault_number, fault_vector, loaded, on_running, read_of}
+use Rattle.pip_model.specs.Happens.{access_number, fault_number, fault_vector, load_happens, on_running, read_of}
 use Rattle.pip_model.specs.InstrRead.{instr_of, read_row}
 use Rattle.pip_model.specs.InstrWords.{Opcode, fits, opcode_at, opcode_of, opcodes, reg_a, reg_b, reg_c}
 use Rattle.pip_model.specs.InstrWords.{signed_immediate}
@@ -30,8 +30,8 @@ use Rattle.pip_model.specs.Local.{Succeeded}
 use Rattle.pip_model.specs.Reach.{Faulted, Place, Reached, reach, word_reached}
 use Rattle.pip_model.specs.Sound.{IsContext, IsWord}
 use Rattle.pip_model.specs.Tree.{word_of}
-use Rattle.pip_model.specs.Turn.{effect_acts, fetch_acts, fetched, load_acts, outcome_of, store_acts, word_acts}
-use Rattle.pip_model.specs.Turn.{world_of}
+use Rattle.pip_model.specs.Turn.{effect_acts, fetch_acts, acts_after_fetch, load_acts, outcome_of, store_acts}
+use Rattle.pip_model.specs.Turn.{word_acts, world_of}
 use Rattle.pip_model.specs.Worlds.{IsSoundWorld, World, runs_on}
 use Rattle.pip_model.specs.declared.effect.Effect.{Effect}
 use Rattle.pip_model.specs.declared.effect.Effect.TheVariants as F
@@ -92,7 +92,7 @@ branches x b z = either b _ _ (wraps _) (wraps _)
 bits : (b : Bool) → IsWord (bit b)
 bits b = either b 1 0 (omega arith) (omega arith)
 
-divides : (x : Ctx) (c : ℕ) (e : Effect) → IsContext x → HasWords e → HasWords (divided x c e)
+divides : (x : Ctx) (c : ℕ) (e : Effect) → IsContext x → HasWords e → HasWords (traps_at_zero x c e)
 divides x c e k h = go (c == 0)
   where
     go : (b : Bool) → HasWords (cond b (F.Traps 0 x.pc 0) e)
@@ -103,13 +103,13 @@ below : (a b : ℕ) → a ≤ b → IsWord b → IsWord a
 below a b l h = omega (arith, l, h)
 
 shifts : (a s : ℕ) → IsWord a → IsWord (shift_signed a s)
-shifts a s h = go (signed a) refl
+shifts a s h = go (signed_word a) refl
   where
-    go : (z : ℤ) → signed a ≡ z → IsWord (word_of_signed (shr_z z (2 ^ s)))
+    go : (z : ℤ) → signed_word a ≡ z → IsWord (word_of_signed (shr_z z (2 ^ s)))
     go (pos n) e =
         let f : IsWord n =
-        subst (λ z. IsWord (word_of_signed z)) e (Fits-lt-pow {w = w32} {n = word_of_signed (signed a)}
-        (Fits-of_z {w = w32} {z = signed a} (sfits_to_z {w = w32} {n = a} (Fits-of_lt {w = w32} {n = a} h)))) in
+        subst (λ z. IsWord (word_of_signed z)) e (Fits-lt-pow {w = w32} {n = word_of_signed (signed_word a)}
+        (Fits-of_z {w = w32} {z = signed_word a} (sfits_to_z {w = w32} {n = a} (Fits-of_lt {w = w32} {n = a} h)))) in
         below (n / 2 ^ s) n (div-le_self n (2 ^ s)) f
     go (negsuc n) e = omega arith
 
@@ -263,7 +263,7 @@ words_read x u k h = go (opcode_at (opcode_of u)) refl
 
 -- what a load or a fetch gives
 loaded_word : (w : World) (cpu : ℕ) (r : Occupant) (va : ℕ) (c : Access) (z : Size) (q : Reached) (v : ℕ)
-    → IsSoundWorld w → reach w.tree r.name va c z ≡ q → (loaded w cpu r va c z q).outcome ≡ O.Word v → IsWord v
+    → IsSoundWorld w → reach w.tree r.name va c z ≡ q → (load_happens w cpu r va c z q).outcome ≡ O.Word v → IsWord v
 loaded_word w cpu r va c z (Faulted f) v s e o = absurd (deliver-fails w cpu r (fault_vector f) va
     (16 * access_number c + fault_number f) (subst Succeeded (sym o) tt))
 loaded_word w cpu r va c z (Place g i) v s e o =
@@ -281,7 +281,8 @@ load_word w cpu va z v s e = go (runs_on w cpu) refl
   where
     go : (o : Option Occupant) → runs_on w cpu ≡ o → IsWord v
     go None k = let d =
-        ap (λ o. (on_running w cpu o (λ r. loaded w cpu r va Load z (reach w.tree r.name va Load z))).outcome) k in
+        ap (λ o. (on_running w cpu o (λ r. load_happens w cpu r va Load z (reach w.tree r.name va Load z))).outcome) k
+        in
         let idle : O.Idle ≡ O.Word v = sym d ∙ e in cc
     go (Some r) k = loaded_word w cpu r va Load z (reach w.tree r.name va Load z) v s refl
         (ap (λ h. h.outcome) (sym (load_by w r cpu va z k)) ∙ e)
@@ -291,7 +292,7 @@ fetch_word w cpu v s e = go (runs_on w cpu) refl
   where
     go : (o : Option Occupant) → runs_on w cpu ≡ o → IsWord v
     go None k = let d = ap (λ o. (on_running w cpu o
-        (λ r. loaded w cpu r r.ctx.pc Fetch Word (reach w.tree r.name r.ctx.pc Fetch Word))).outcome) k in
+        (λ r. load_happens w cpu r r.ctx.pc Fetch Word (reach w.tree r.name r.ctx.pc Fetch Word))).outcome) k in
         let idle : O.Idle ≡ O.Word v = sym d ∙ e in cc
     go (Some r) k = loaded_word w cpu r r.ctx.pc Fetch Word (reach w.tree r.name r.ctx.pc Fetch Word) v s refl
         (ap (λ h. h.outcome) (sym (fetch_by w r cpu k)) ∙ e)
@@ -342,7 +343,8 @@ fetch_are w cpu t s = (tt, go (outcome_of w (E.Fetch cpu)) refl)
     runs u (Some r) h e = let k = sound.contexts cpu r e in
         effect_are after cpu t r.ctx sound k (word_effect r.ctx u (instr_of u)) (words_read r.ctx u k h)
 
-    go : (o : Outcome) → outcome_of w (E.Fetch cpu) ≡ o → AllByRecursion IsEvent (events_made (fetched after t cpu o))
+    go : (o : Outcome) → outcome_of w (E.Fetch cpu) ≡ o → AllByRecursion IsEvent
+        (events_made (acts_after_fetch after t cpu o))
     go (O.Word u) e = runs u (runs_on after cpu) (fetch_word w cpu u s e) refl
     go O.Done e = tt
     go (O.Reply st v) e = tt

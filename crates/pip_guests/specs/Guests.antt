@@ -187,17 +187,17 @@ EventsAreKnown = (w : World) (p : ℕ) (e : Event) → IsSoundWorld w → p ≢ 
     → In p (ancestry w.tree (actor w e)) → StaysOrLeaves p w e ⊎ AsksParent p (actor w e) e
 
 -- what the guest p learns of an outcome: nothing where control leaves it, else all
-abbrev pub learned : Tree → ℕ → Outcome → Option Outcome
-learned t p (O.Word w) = Some (O.Word w)
-learned t p O.Done = Some O.Done
-learned t p (O.Reply s v) = Some (O.Reply s v)
-learned t p (O.Switched from to k) = cond (has (ancestry t to) p) (Some (O.Switched from to k)) None
-learned t p (O.Parked from k) = None
-learned t p O.Idle = None
+abbrev pub guest_learns : Tree → ℕ → Outcome → Option Outcome
+guest_learns t p (O.Word w) = Some (O.Word w)
+guest_learns t p O.Done = Some O.Done
+guest_learns t p (O.Reply s v) = Some (O.Reply s v)
+guest_learns t p (O.Switched from to k) = cond (has (ancestry t to) p) (Some (O.Switched from to k)) None
+guest_learns t p (O.Parked from k) = None
+guest_learns t p O.Idle = None
 
 -- what it learns of an event
 abbrev pub learns : ℕ → World → Event → Option Outcome
-learns p w e = learned w.tree p (event w e).outcome
+learns p w e = guest_learns w.tree p (event w e).outcome
 
 -- what it learns of all events of a list
 abbrev pub learns_all : ℕ → World → List Event → List (Option Outcome)

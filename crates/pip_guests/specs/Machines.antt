@@ -12,7 +12,7 @@ use Rattle.pip_model.specs.Worlds.{World}
 use Rattle.pip_switch.specs.Isolation.{Takes, TakesAll}
 use Rattle.pip_switch.specs.Standing.{StandsAs, State}
 use Rattle.pip_guests.specs.Guests.{AllStayOrLeave, Among, AreOwnOrApart, IsElsewhere, IsInside, IsLeaving, IsSameGuest}
-use Rattle.pip_guests.specs.Guests.{Leaves, LeavesAside, is_of_guest, is_own, learned, only_guest}
+use Rattle.pip_guests.specs.Guests.{Leaves, LeavesAside, is_of_guest, is_own, guest_learns, only_guest}
 use Rattle.pip_guests.specs.Inputs.{RunAlike}
 
 -- an event of a guest leaves alone what it is not to change, whatever comes of it
@@ -53,13 +53,13 @@ MachinesLeaveGuestsAlone = (m n : State) (e : Event) (o : Outcome) (p : ℕ) →
 abbrev pub told_all : ℕ → World → List Event → List Outcome → List (Option Outcome)
 told_all p w [] os = []
 told_all p w (e ∷ es) [] = []
-told_all p w (e ∷ es) (o ∷ os) = learned w.tree p o ∷ told_all p (event w e).world es os
+told_all p w (e ∷ es) (o ∷ os) = guest_learns w.tree p o ∷ told_all p (event w e).world es os
 
 -- what the guest learns of the answers to its own events of a list
 abbrev pub told_own : ℕ → World → List Event → List Outcome → List (Option Outcome)
 told_own p w [] os = []
 told_own p w (e ∷ es) [] = []
-told_own p w (e ∷ es) (o ∷ os) = cond (is_of_guest p w e) (learned w.tree p o ∷ told_own p (event w e).world es os)
+told_own p w (e ∷ es) (o ∷ os) = cond (is_of_guest p w e) (guest_learns w.tree p o ∷ told_own p (event w e).world es os)
     (told_own p (event w e).world es os)
 
 -- one machine takes all events, another, which begins as the first does, those of the guest alone

@@ -30,8 +30,8 @@ pub record IsInsideTurn (p : ℕ) (w : World) (cpu step : ℕ) : Type 0 where
   pub below : In p (ancestry w.tree (actor w (E.Poll cpu)))
   pub inside : AllStayInside p w (events_made (fetch_acts w step cpu))
 
--- the turn is the same in both worlds, event by event and line by line, stays inside in v, too, and leaves the guest
--- the same
+-- the turn is one and the same in both worlds, event by event and line by line, stays inside in v, too, and leaves the
+-- guest the same
 pub record IsSameTurn (p cpu step : ℕ) (w v : World) : Type 0 where
   pub acts : turn w cpu step ≡ turn v cpu step
   pub inside : IsInsideTurn p v cpu step

@@ -1,11 +1,18 @@
 //! The laws of whole guests: docs/GUARANTEES.md, "Whole guests". They compute nothing: what each says is its contract.
 #![tactic(auto)]
 
-ghost use Rattle.pip_guests.specs.Guests.{EventsAreKnown, GuestsAreLeftAlike, GuestsDependOnThemselves, GuestsLeaveOthersAlone, GuestsRunAsAlone, IsInside, OthersDoNotMatterToGuests, OthersLeaveGuestsAlone};
-ghost use Rattle.pip_guests.specs.Inputs.{CallsAreInputs, EntriesAreInputs, GuestsDependOnInputs, InterruptsAreInputs, StoresAreInputs};
+ghost use Rattle.pip_guests.specs.Guests.{EventsAreKnown, GuestsAreLeftAlike, GuestsDependOnThemselves};
+ghost use Rattle.pip_guests.specs.Guests.{GuestsLeaveOthersAlone, GuestsRunAsAlone, IsInside};
+ghost use Rattle.pip_guests.specs.Guests.{OthersDoNotMatterToGuests, OthersLeaveGuestsAlone};
+ghost use Rattle.pip_guests.specs.Inputs.{CallsAreInputs, EntriesAreInputs, GuestsDependOnInputs, InterruptsAreInputs};
+ghost use Rattle.pip_guests.specs.Inputs.{StoresAreInputs};
 ghost use Rattle.pip_guests.specs.Limits.{AsksIsNotInside, OutcomesDepend, ParkedIsNotInside, PollsAreNotApart};
-ghost use Rattle.pip_guests.specs.Machines.{MachinesAreLeftAlike, MachinesDependOnGuests, MachinesDependOnInputs, MachinesKeepGuestsApart, MachinesLeaveGuestsAlone, MachinesLeaveOtherGuestsAlone, MachinesRunGuestsAsAlone};
-ghost use Rattle.pip_guests.specs.Programs.{LinesDoNotMatter, OtherTurnsDoNotMatter, ProgramsDependOnInputs, ProgramsRunAsAlone, QuietPolls, RunsAreSteps, RunsGoOn, StepsDoNotMatter, TurnsDependOnGuests, TurnsLeaveAlike};
+ghost use Rattle.pip_guests.specs.Machines.{MachinesAreLeftAlike, MachinesDependOnGuests, MachinesDependOnInputs};
+ghost use Rattle.pip_guests.specs.Machines.{MachinesKeepGuestsApart, MachinesLeaveGuestsAlone};
+ghost use Rattle.pip_guests.specs.Machines.{MachinesLeaveOtherGuestsAlone, MachinesRunGuestsAsAlone};
+ghost use Rattle.pip_guests.specs.Programs.{LinesDoNotMatter, OtherTurnsDoNotMatter, ProgramsDependOnInputs};
+ghost use Rattle.pip_guests.specs.Programs.{ProgramsRunAsAlone, QuietPolls, RunsAreSteps, RunsGoOn, StepsDoNotMatter};
+ghost use Rattle.pip_guests.specs.Programs.{TurnsDependOnGuests, TurnsLeaveAlike};
 
 /// What a guest leaves alone, and what it depends on, in the model.
 pub fn law_guests()

@@ -8,11 +8,12 @@ use Rattle.pip_base.specs.declared.types.Plan.{Plan}
 use Rattle.pip_model.specs.declared.image.ImageError.{ImageError}
 use Rattle.pip_model.specs.Boot.{boot_tree, frame_of_root}
 use Rattle.pip_model.specs.Images.{Image, Page, Line, Holds, PartsRead, goes_on, has_row, image, image_from}
-use Rattle.pip_model.specs.Images.{image_parts, imaged, is_seen, front_page, page_parts, plan_parts, part_before}
+use Rattle.pip_model.specs.Images.{image_parts, image_or_fault, is_seen, front_page, page_parts, plan_parts}
+use Rattle.pip_model.specs.Images.{part_before}
 use Rattle.pip_model.specs.Layout.{LaysOut}
 use Rattle.pip_model.specs.Tree.{Tree}
 use Rattle.pip_image.specs.Coming.{IsAfter, coming, header_parts}
-use Rattle.pip_image.specs.Reading.{TakesParts, EndsInput, Refuses, parts_then, ended}
+use Rattle.pip_image.specs.Reading.{TakesParts, EndsInput, Refuses, parts_then, no_more_parts}
 use Rattle.pip_image.specs.Loading.{AreWords, IsLoaded, Loads, LoadsAll, LoadsUpTo, tree_with, with_page}
 use Rattle.pip_image.specs.declared.header.Header.{Header}
 use Rattle.pip_image.specs.declared.place.Place.{Place}
@@ -111,14 +112,14 @@ count_pages n seen at (suc k) bs ps e f = more n seen at k (front_page n seen at
     more n seen at k (Ok x) (q ∷ qs) next g f = ap suc (next x.0 x.1 qs (ap (drop 1) g) f)
 
 pub count_coming : (h : Header) (p : Place) → IsAfter h p → p.plans ≡ 0 → (bs : List ℕ) (ps : List Page)
-    → coming p bs ≡ parts_then (map Holds ps) ended → length ps ≡ h.pages
+    → coming p bs ≡ parts_then (map Holds ps) no_more_parts → length ps ≡ h.pages
 count_coming h p b none bs ps is =
-    let all_parts : page_parts p.frames p.seen.items p.at p.pages bs ≡ parts_then (map Holds ps) ended =
+    let all_parts : page_parts p.frames p.seen.items p.at p.pages bs ≡ parts_then (map Holds ps) no_more_parts =
     subst (λ k. plan_parts p.at p.line k bs (λ at rest. page_parts p.frames p.seen.items at p.pages rest)
-    ≡ parts_then (map Holds ps) ended) none is in
+    ≡ parts_then (map Holds ps) no_more_parts) none is in
     count_pages p.frames p.seen.items p.at p.pages bs ps
-    (ap (λ t. t.parts) all_parts ∙ after_parts (map Holds ps) ended ∙ append-nil (map Holds ps))
-    (ap (λ t. t.fault) all_parts ∙ after_fault (map Holds ps) ended)
+    (ap (λ t. t.parts) all_parts ∙ after_parts (map Holds ps) no_more_parts ∙ append-nil (map Holds ps))
+    (ap (λ t. t.fault) all_parts ∙ after_fault (map Holds ps) no_more_parts)
     ∙ b.pages
 
 -- what `header` and then `load_image` took is an image, and its pages are in memory
@@ -135,7 +136,7 @@ pub image_loaded : (p : Place) (h : Header) (a b c : Option (List ℕ)) (m : Lis
     → TakesParts image_parts (coming p) (header_parts h) a b → LoadsAll h.frames (coming p) b c m → Holding a c h m
 image_loaded p h a b c m at_pages none x l =
     let all_parts : image_parts (x.bytes ++ l.bytes) ≡ parts_then (header_parts h)
-    (parts_then (map Holds l.pages) ended) =
+    (parts_then (map Holds l.pages) no_more_parts) =
     x.is l.bytes ∙ ap (parts_then (header_parts h)) l.is in
     record {
       input = x.bytes ++ l.bytes;
@@ -143,16 +144,19 @@ image_loaded p h a b c m at_pages none x l =
       whole = l.whole;
       pages = l.pages;
       count = count_coming h p at_pages none l.bytes l.pages l.is;
-      is = ap (λ t. imaged t.parts t.fault) all_parts ∙ (λ j. imaged (parts j) (fault j)) ∙ ap Ok
+      is = ap (λ t. image_or_fault t.parts t.fault) all_parts ∙ (λ j. image_or_fault (parts j) (fault j)) ∙ ap Ok
           (ap {A = Image} (λ i. record i { frames = h.frames; cpus = h.cpus }) (from_plans h.plans.items l.pages));
       loaded = l.loaded;
     }
   where
-    parts : (parts_then (header_parts h) (parts_then (map Holds l.pages) ended)).parts ≡ header_parts h ++ map Holds
+    parts : (parts_then (header_parts h) (parts_then (map Holds l.pages) no_more_parts)).parts
+        ≡ header_parts h ++ map Holds
         l.pages
-    parts = after_parts (header_parts h) (parts_then (map Holds l.pages) ended)
-        ∙ ap (λ ps. header_parts h ++ ps) (after_parts (map Holds l.pages) ended ∙ append-nil (map Holds l.pages))
+    parts = after_parts (header_parts h) (parts_then (map Holds l.pages) no_more_parts)
+        ∙ ap (λ ps. header_parts h ++ ps) (after_parts (map Holds l.pages) no_more_parts
+        ∙ append-nil (map Holds l.pages))
 
-    fault : (parts_then (header_parts h) (parts_then (map Holds l.pages) ended)).fault ≡ None
-    fault = after_fault (header_parts h) (parts_then (map Holds l.pages) ended) ∙ after_fault (map Holds l.pages)
-        ended
+    fault : (parts_then (header_parts h) (parts_then (map Holds l.pages) no_more_parts)).fault ≡ None
+    fault = after_fault (header_parts h) (parts_then (map Holds l.pages) no_more_parts)
+        ∙ after_fault (map Holds l.pages)
+        no_more_parts

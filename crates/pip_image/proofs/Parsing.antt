@@ -10,9 +10,9 @@ use Rattle.byteorder.specs.Numbers.{little_from-append}
 use Rattle.pip_base.specs.declared.types.Plan.{Plan}
 use Rattle.pip_model.specs.declared.image.ImageError.{ImageError}
 use Rattle.pip_model.specs.declared.image.ImageError.TheVariants as F
-use Rattle.pip_model.specs.Images.{◌>>=◌, magic, old_magic, word_of_bytes, words_in, Fields, Page, tested, front_word}
-use Rattle.pip_model.specs.Images.{magic_of, frames_at, cpus_at, plans_at, pages_at, fields_of, plan_at, front_page}
-use Rattle.pip_model.specs.Images.{has_row, is_seen}
+use Rattle.pip_model.specs.Images.{◌>>=◌, magic, old_magic, word_of_bytes, words_in, Fields, Page, pass_test}
+use Rattle.pip_model.specs.Images.{front_word, magic_of, frames_at, cpus_at, plans_at, pages_at, fields_of, plan_at}
+use Rattle.pip_model.specs.Images.{front_page, has_row, is_seen}
 use Rattle.pip_image.specs.Sought.{is_fault}
 use Rattle.pip_image.proofs.Fronts.{drop_less, words_front}
 
@@ -91,9 +91,9 @@ page_of n seen at w bs = cond (is_seen w seen) (Err (F.Twice at))
     (cond (has_row n w) (cond (nat_lt (length bs) 4100) (Err (F.Short (at + length bs)))
     (Ok (record { vpage = w; words = words_in 1024 (drop 4 bs) }, drop 4100 bs))) (Err (F.Page at)))
 
-page_behind : (n : ℕ) (seen : List ℕ) (at w : ℕ) (bs rest : List ℕ) → 4 ≤ length bs
+page_after : (n : ℕ) (seen : List ℕ) (at w : ℕ) (bs rest : List ℕ) → 4 ≤ length bs
     → Goes 4100 (length bs) rest (page_of n seen at w bs) (page_of n seen at w (bs ++ rest))
-page_behind n seen at w bs rest l =
+page_after n seen at w bs rest l =
     goes_if 4100 (length bs) rest (is_seen w seen) _ _ _ _ (λ _. refl)
     (λ _. goes_if 4100 (length bs) rest (has_row n w) _ _ _ _
     (λ _. goes_short 4100 (length bs) (at + length bs) rest (nat_lt (length bs) 4100)
@@ -120,7 +120,7 @@ page_goes n seen at bs rest =
     (λ h. let k = less _ 4 h in omega arith) (still 4 bs rest)
     (λ long. let l : 4 ≤ length bs = not_less _ 4 long in
     subst (λ v. Goes 4100 (length bs) rest (page_of n seen at (word_of_bytes bs) bs) (page_of n seen at v
-    (bs ++ rest))) (sym (word_front bs rest l)) (page_behind n seen at (word_of_bytes bs) bs rest l))
+    (bs ++ rest))) (sym (word_front bs rest l)) (page_after n seen at (word_of_bytes bs) bs rest l))
 
 -- where the vpage alone has a fault
 fault_if : {A : Type 0} (short seen row few : Bool) (a b c : ℕ) (r : Result A ImageError) → is_fault r ≡ false
@@ -181,7 +181,8 @@ goes_then k j n rest f (Err (F.Long at)) s h g = ap (λ s. s >>= f) g
 
 -- a test after a parser
 tested_goes : (test : ℕ → Bool) (e : ImageError) → ((n : ℕ) (rest : List ℕ) → Goes {A = ℕ} 0 n rest (Err e) (Err e))
-    → (x : ℕ) (a rest : List ℕ) → Goes 0 (length a) rest (tested (test x) e (x, a)) (tested (test x) e (x, a ++ rest))
+    → (x : ℕ) (a rest : List ℕ) → Goes 0 (length a) rest (pass_test (test x) e (x, a))
+    (pass_test (test x) e (x, a ++ rest))
 tested_goes test e h x a rest =
     goes_if 0 (length a) rest (test x) _ _ _ _ (λ _. (refl, omega arith)) (λ _. h (length a) rest)
 

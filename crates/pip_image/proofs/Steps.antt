@@ -10,9 +10,8 @@ use Rattle.pip_model.specs.declared.image.ImageError.{ImageError}
 use Rattle.pip_model.specs.declared.image.ImageError.TheVariants as F
 use Rattle.pip_model.specs.Images.{Part, PartsRead, part_before, goes_on}
 use Rattle.pip_image.specs.Pacing.{IsFaultless, IsPartless}
-use Rattle.pip_image.specs.Reading.{TakesParts, EndsInput, Refuses, IsCut, IsFault, EndsAtMost, parts_then, ended}
-use Rattle.pip_image.specs.Reading.{stopped, by_read}
-use Rattle.pip_image.specs.Reading.{fault_of}
+use Rattle.pip_image.specs.Reading.{TakesParts, EndsInput, Refuses, IsCut, IsFault, EndsAtMost, parts_then}
+use Rattle.pip_image.specs.Reading.{no_more_parts, only_fault, by_read, fault_of}
 use Rattle.pip_image.specs.Sought.{is_fault}
 use Rattle.pip_image.proofs.Parsing.{Goes, Parses}
 
@@ -67,7 +66,7 @@ part_refused {A} k p part next e failed bytes left left' before now parses h tak
     spared false right calm = calm refl
 
     why : (e : ImageError) (failed : Bool) → ((rest : List ℕ) → Goes k (length bytes) rest (Err e) (p (bytes ++ rest)))
-        → one_part p part next bytes ≡ stopped e → (failed ≡ false → length bytes < k
+        → one_part p part next bytes ≡ only_fault e → (failed ≡ false → length bytes < k
         → is_fault {X = A × List ℕ} (Err e) ≡ false → IsAtEnd left') → (failed ≡ true → RoseByOne before now)
         → (failed ≡ true → is_fault {X = A × List ℕ} (Err e) ≡ false) → (failed ≡ false → now ≡ before)
         → by_read (fault_of e failed) (IsCut (one_part p part next) [] bytes before now)
@@ -116,7 +115,7 @@ part_open {A} k p part next bytes parses few right = go (p bytes) refl
         let g = subst (λ s. Goes k (length bytes) [] s (p (bytes ++ []))) h (parses bytes []) in
         absurd (omega (arith, few, g.1))
     go (Err e) h =
-        let part_before : one_part p part next bytes ≡ stopped e =
+        let part_before : one_part p part next bytes ≡ only_fault e =
         ap (λ s. goes_on s (λ x rest. part_before (part x) (next x rest))) h in (
           ap (λ t. t.parts) part_before,
           subst (λ t. EndsAtMost t.fault) (sym part_before) (at_most e (sym (ap is_fault h) ∙ right)),
@@ -187,14 +186,14 @@ takes_refused t u ps qs a b c m n k e same x y =
         → ((rest : List ℕ) → t (bs ++ rest) ≡ parts_then ps (u rest)) → t (bs ++ cs) ≡ parts_then ps (u cs)
         → IsFault u qs cs c e → IsFault t (ps ++ qs) (bs ++ cs) c e
     fault t u ps qs bs cs c e is joined (inl g) = inl (λ rest. ap t (append_assoc bs cs rest) ∙ is (cs ++ rest)
-        ∙ ap (parts_then ps) (g rest) ∙ sym (after_append ps qs (stopped e)))
+        ∙ ap (parts_then ps) (g rest) ∙ sym (after_append ps qs (only_fault e)))
     fault t u ps qs bs cs c e is joined (inr g) =
-        inr (joined ∙ ap (parts_then ps) g.0 ∙ sym (after_append ps qs (stopped e)), g.1)
+        inr (joined ∙ ap (parts_then ps) g.0 ∙ sym (after_append ps qs (only_fault e)), g.1)
 
 -- an image that was taken whole
 pub takes_whole : (t u : List ℕ → PartsRead) (ps : List Part) (a b c : Option (List ℕ)) → TakesParts t u ps a b →
     EndsInput u b c
-    → (bytes : List ℕ) × Consumes a c bytes × IsAtEnd c × (t bytes ≡ parts_then ps ended)
+    → (bytes : List ℕ) × Consumes a c bytes × IsAtEnd c × (t bytes ≡ parts_then ps no_more_parts)
 takes_whole t u ps a b c x y =
     (x.bytes ++ [], Consumes-trans _ _ _ _ _ x.taken y.taken, y.over, x.is [] ∙ ap (parts_then ps) y.is)
 

@@ -8,7 +8,7 @@ use Rattle.pip_model.specs.Images.{Page, Holds, PartsRead, image_word}
 use Rattle.pip_model.specs.Layout.{LaysOut}
 use Rattle.pip_model.specs.Sound.{IsWord}
 use Rattle.pip_model.specs.Tree.{Tree, word_of}
-use Rattle.pip_image.specs.Reading.{TakesParts, Refuses, parts_then, ended}
+use Rattle.pip_image.specs.Reading.{TakesParts, Refuses, parts_then, no_more_parts}
 
 -- the boot tree of n frames with the words of some pages
 abbrev pub tree_with : ℕ → List Page → Tree
@@ -58,7 +58,7 @@ pub record LoadsAll (n : ℕ) (tell : List ℕ → PartsRead) (left left' : Opti
   pub bytes : List ℕ
   pub read : Consumes left left' bytes
   pub whole : IsAtEnd left'
-  pub is : tell bytes ≡ parts_then (map Holds pages) ended
+  pub is : tell bytes ≡ parts_then (map Holds pages) no_more_parts
   pub loaded : IsLoaded n pages m
 
 -- A fault after some pages, which are in memory

@@ -12,12 +12,12 @@ parts_then [] t = t
 parts_then (p ∷ ps) t = part_before p (parts_then ps t)
 
 -- no part more: the end of the image, or a fault
-abbrev pub ended : PartsRead
-ended = record { parts = []; fault = None }
+abbrev pub no_more_parts : PartsRead
+no_more_parts = record { parts = []; fault = None }
 
 -- no part, and this fault
-abbrev pub stopped : ImageError → PartsRead
-stopped e = record { parts = []; fault = Some e }
+abbrev pub only_fault : ImageError → PartsRead
+only_fault e = record { parts = []; fault = Some e }
 
 -- Bytes that were `tell` are these parts, and then what `tell'` is of the bytes after them, whatever stands there
 pub record TakesParts (tell tell' : List ℕ → PartsRead) (parts : List Part) (left left' : Option (List ℕ)) : Type 0
@@ -30,7 +30,7 @@ pub record TakesParts (tell tell' : List ℕ → PartsRead) (parts : List Part) 
 pub record EndsInput (tell : List ℕ → PartsRead) (left left' : Option (List ℕ)) : Type 0 where
   pub taken : Consumes left left' []
   pub over : IsAtEnd left'
-  pub is : tell [] ≡ ended
+  pub is : tell [] ≡ no_more_parts
 
 -- no fault but the end of the bytes
 abbrev pub EndsAtMost : Option ImageError → Type 0
@@ -52,8 +52,8 @@ pub record IsCut (tell : List ℕ → PartsRead) (parts : List Part) (bytes : Li
 
 -- the fault after the parts, whatever follows the bytes, or where the input ends with them
 abbrev pub IsFault : (List ℕ → PartsRead) → List Part → List ℕ → Option (List ℕ) → ImageError → Type 0
-IsFault tell parts bytes left' e = ((rest : List ℕ) → tell (bytes ++ rest) ≡ parts_then parts (stopped e))
-    ⊎ ((tell bytes ≡ parts_then parts (stopped e)) × IsAtEnd left')
+IsFault tell parts bytes left' e = ((rest : List ℕ) → tell (bytes ++ rest) ≡ parts_then parts (only_fault e))
+    ⊎ ((tell bytes ≡ parts_then parts (only_fault e)) × IsAtEnd left')
 
 -- After these parts comes this fault. Where it is in the bytes, no read failed
 pub record Refuses (tell : List ℕ → PartsRead) (parts : List Part) (left left' : Option (List ℕ))

@@ -16,9 +16,9 @@ use pip_frames::Frames;
 use pip_io::{Joint, Sink, Source};
 use pip_model::{ImageError, root_frame};
 
-/// Reads the pages of an image into the frames that the root has at their vpages. The memory is that of a machine that has
-/// just begun; the reader's `header` answered `head`, and no page was read yet. After an error the pages before it are
-/// loaded.
+/// Reads the pages of an image into the frames that the root has at their vpages. The memory is that of a machine that
+/// has just begun; the reader's `header` answered `head`, and no page was read yet. After an error the pages before it
+/// are loaded.
 pub fn load_image<S: Source, K: Sink, M: Frames>(
     reader: &mut ImageReader,
     joint: &mut Joint<'_, S, K>,
@@ -26,7 +26,7 @@ pub fn load_image<S: Source, K: Sink, M: Frames>(
     mem: &mut M,
 ) -> Result<(), ImageError>
     requires plans { reader.old.place.plans ≡ 0 }
-    requires behind { IsAfter head.now reader.old.place }
+    requires after { IsAfter head.now reader.old.place }
     requires boot { LaysOut (boot_tree head.now.frames) (M.memory mem.old) }
     requires is_open { S.is_open joint.old.source.now }
     requires settled { (K.written joint.old.sink.now).held ≡ [] }
@@ -35,7 +35,8 @@ pub fn load_image<S: Source, K: Sink, M: Frames>(
     ensures same_source { joint.new.source.ghost_name ≡ joint.old.source.ghost_name }
     ensures sink { joint.new.sink ≡ joint.old.sink }
     ensures loaded { MatchResult result
-        (λ _. LoadsAll head.now.frames (coming reader.old.place) (S.left joint.old.source.now) (S.left joint.new.source.now) (M.memory mem.new))
+        (λ _. LoadsAll head.now.frames (coming reader.old.place) (S.left joint.old.source.now)
+        (S.left joint.new.source.now) (M.memory mem.new))
         (LoadsUpTo head.now.frames (coming reader.old.place) (S.left joint.old.source.now) (S.left joint.new.source.now)
         (S.faults joint.old.source.now) (S.faults joint.new.source.now) (M.memory mem.new)) }
     ensures later { S.faults joint.old.source.now ≤ S.faults joint.new.source.now }

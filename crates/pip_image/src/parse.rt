@@ -1,6 +1,7 @@
 //! Parts of an image, read from slices.
 ghost use Rattle.std.specs.Prelude.{◌≡◌, ◌+◌, ◌<◌, ◌≤◌, ◌^◌, length, drop, IfOk, IsTrue, true, false};
-ghost use Rattle.pip_model.specs.Images.{words_in, front_word, magic_of, frames_at, cpus_at, plans_at, pages_at, fields_of, plan_at, front_page, has_row, is_seen};
+ghost use Rattle.pip_model.specs.Images.{words_in, front_word, magic_of, frames_at, cpus_at, plans_at, pages_at};
+ghost use Rattle.pip_model.specs.Images.{fields_of, plan_at, front_page, has_row, is_seen};
 ghost use Rattle.pip_image.specs.Sought.{is_fault};
 ghost use Rattle.pip_image.specs.Taking.{seen, fields_seen, HasFieldsWithin};
 

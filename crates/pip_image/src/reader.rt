@@ -17,8 +17,8 @@ use pip_base::{Plan, VPage};
 use pip_io::{Joint, Sink, Source};
 use pip_model::ImageError;
 
-/// Reads an image: first the fields, then the plans, then the pages. Each call is given the source, with a sink that holds
-/// nothing, and reads no further than its part needs.
+/// Reads an image: first the fields, then the plans, then the pages. Each call is given the source, with a sink that
+/// holds nothing, and reads no further than its part needs.
 #[derive(Drop)]
 pub struct ImageReader {
     place: Place,
@@ -34,8 +34,8 @@ impl ImageReader {
         }
     }
 
-    /// All that stands before the pages, and the first call of a reader. After an error, which stands there too, nothing more
-    /// may be read.
+    /// All that stands before the pages, and the first call of a reader. After an error, which stands there too,
+    /// nothing more may be read.
     pub fn header<S: Source, K: Sink>(
         &mut self,
         joint: &mut Joint<'_, S, K>,
@@ -88,7 +88,8 @@ impl ImageReader {
         requires new { IsNew self.old.place }
         requires is_open { S.is_open joint.old.source.now }
         requires settled { (K.written joint.old.sink.now).held ≡ [] }
-        requires paced { MayRead S.allows (IsPartless image_parts) (S.left joint.old.source.now) (S.faults joint.old.source.now)
+        requires paced { MayRead S.allows (IsPartless image_parts) (S.left joint.old.source.now)
+            (S.faults joint.old.source.now)
             (K.written joint.old.sink.now) (K.faults joint.old.sink.now) }
         ensures same_source { joint.new.source.ghost_name ≡ joint.old.source.ghost_name }
         ensures sink { joint.new.sink ≡ joint.old.sink }
@@ -125,7 +126,8 @@ impl ImageReader {
         requires plans { 0 < self.old.place.plans }
         requires is_open { S.is_open joint.old.source.now }
         requires settled { (K.written joint.old.sink.now).held ≡ [] }
-        requires paced { MayRead S.allows (IsPartless (coming self.old.place)) (S.left joint.old.source.now) (S.faults joint.old.source.now)
+        requires paced { MayRead S.allows (IsPartless (coming self.old.place)) (S.left joint.old.source.now)
+            (S.faults joint.old.source.now)
             (K.written joint.old.sink.now) (K.faults joint.old.sink.now) }
         ensures same_source { joint.new.source.ghost_name ≡ joint.old.source.ghost_name }
         ensures sink { joint.new.sink ≡ joint.old.sink }
@@ -167,14 +169,16 @@ impl ImageReader {
         requires plans { self.old.place.plans ≡ 0 }
         requires is_open { S.is_open joint.old.source.now }
         requires settled { (K.written joint.old.sink.now).held ≡ [] }
-        requires paced { MayRead S.allows (IsPartless (coming self.old.place)) (S.left joint.old.source.now) (S.faults joint.old.source.now)
+        requires paced { MayRead S.allows (IsPartless (coming self.old.place)) (S.left joint.old.source.now)
+            (S.faults joint.old.source.now)
             (K.written joint.old.sink.now) (K.faults joint.old.sink.now) }
         ensures same_source { joint.new.source.ghost_name ≡ joint.old.source.ghost_name }
         ensures sink { joint.new.sink ≡ joint.old.sink }
         ensures reads { MatchResult result
             (λ r. MatchOption r
             (EndsInput (coming self.old.place) (S.left joint.old.source.now) (S.left joint.new.source.now))
-            (λ v. TakesParts (coming self.old.place) (coming self.new.place) (Holds (record { vpage = v; words = words.new }) ∷ [])
+            (λ v. TakesParts (coming self.old.place) (coming self.new.place)
+            (Holds (record { vpage = v; words = words.new }) ∷ [])
             (S.left joint.old.source.now) (S.left joint.new.source.now)))
             (Refuses (coming self.old.place) [] (S.left joint.old.source.now) (S.left joint.new.source.now)
             (S.faults joint.old.source.now) (S.faults joint.new.source.now)) }
@@ -200,7 +204,8 @@ impl ImageReader {
         requires pages { self.old.place.pages ≡ 0 }
         requires is_open { S.is_open joint.old.source.now }
         requires settled { (K.written joint.old.sink.now).held ≡ [] }
-        requires paced { MayRead S.allows (IsPartless (coming self.old.place)) (S.left joint.old.source.now) (S.faults joint.old.source.now)
+        requires paced { MayRead S.allows (IsPartless (coming self.old.place)) (S.left joint.old.source.now)
+            (S.faults joint.old.source.now)
             (K.written joint.old.sink.now) (K.faults joint.old.sink.now) }
         ensures same_source { joint.new.source.ghost_name ≡ joint.old.source.ghost_name }
         ensures sink { joint.new.sink ≡ joint.old.sink }
@@ -230,12 +235,14 @@ impl ImageReader {
         requires pages { 0 < self.old.place.pages }
         requires is_open { S.is_open joint.old.source.now }
         requires settled { (K.written joint.old.sink.now).held ≡ [] }
-        requires paced { MayRead S.allows (IsPartless (coming self.old.place)) (S.left joint.old.source.now) (S.faults joint.old.source.now)
+        requires paced { MayRead S.allows (IsPartless (coming self.old.place)) (S.left joint.old.source.now)
+            (S.faults joint.old.source.now)
             (K.written joint.old.sink.now) (K.faults joint.old.sink.now) }
         ensures same_source { joint.new.source.ghost_name ≡ joint.old.source.ghost_name }
         ensures sink { joint.new.sink ≡ joint.old.sink }
         ensures reads { MatchResult result
-            (λ v. TakesParts (coming self.old.place) (coming self.new.place) (Holds (record { vpage = v; words = words.new }) ∷ [])
+            (λ v. TakesParts (coming self.old.place) (coming self.new.place)
+            (Holds (record { vpage = v; words = words.new }) ∷ [])
             (S.left joint.old.source.now) (S.left joint.new.source.now))
             (Refuses (coming self.old.place) [] (S.left joint.old.source.now) (S.left joint.new.source.now)
             (S.faults joint.old.source.now) (S.faults joint.new.source.now)) }

@@ -9,9 +9,9 @@ use Rattle.std.proofs.lemmas.List.{take-append-le}
 use borrow.Rule.Slice.PartMut.{put_mid, post_of}
 
 -- the bytes after the first n of a part
-pub part_behind : (n s e : ℕ) (xs : List ℕ) → s ≤ e → n ≤ e - s
+pub part_after : (n s e : ℕ) (xs : List ℕ) → s ≤ e → n ≤ e - s
     → take (e - (s + n)) (drop (s + n) xs) ≡ drop n (take (e - s) (drop s xs))
-part_behind n s e xs h few =
+part_after n s e xs h few =
     let same : e - (s + n) ≡ e - s - n = omega arith in
     let all : n + (e - s - n) ≡ e - s = omega arith in
     ap (λ k. take k (drop (s + n) xs)) same
@@ -40,13 +40,13 @@ module _ (s e : ℕ) (xs : List ℕ) (h : s ≤ e) (fits : e ≤ length xs) wher
       → take (e - s) (drop s xs) ≡ held
       → take (e - s + n - 0) (put_mid (e - s) (e - s + m - (e - s)) buf new) ≡ held ++ take n new
   read_ahead n m buf new held is few part =
-      let behind = post_of (e - s) (e - s + m - (e - s)) buf in
+      let after = post_of (e - s) (e - s + m - (e - s)) buf in
       let room : e - s ≤ length buf = subst (λ b. e - s ≤ length b) (sym is) moved_size in
       let size : length (take (e - s) buf) ≡ e - s = length-take-le (e - s) buf room in
       let count : e - s + n - 0 ≡ length (take (e - s) buf) + n = omega arith in
-      ap (λ k. take k (take (e - s) buf ++ (new ++ behind))) count
-      ∙ take-append-add (take (e - s) buf) (new ++ behind) n
-      ∙ ap (λ r. take (e - s) buf ++ r) (take-append-le n new behind few)
+      ap (λ k. take k (take (e - s) buf ++ (new ++ after))) count
+      ∙ take-append-add (take (e - s) buf) (new ++ after) n
+      ∙ ap (λ r. take (e - s) buf ++ r) (take-append-le n new after few)
       ∙ ap (λ f. f ++ take n new) (ap (take (e - s)) is ∙ moved ∙ part)
 
 -- what is held and what is left are together as before

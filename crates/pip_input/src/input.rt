@@ -6,21 +6,18 @@ ghost use Rattle.pip_io.specs.Causes.{HasCause};
 ghost use Rattle.pip_io.specs.Pacing.{MayRead};
 ghost use Rattle.pip_input.specs.Lines.{BeginsLine, HasNoNewline, HoldsLine, HoldsPart, IsLineless, ReadsOn, still};
 
-use pip_base::MAX_INPUT;
+use pip_base::{MAX_INPUT, MAX_LINE};
 use pip_io::{Failed, Joint, Sink, Source, find_newline};
 use std::marker::Model;
 
 /// How many bytes are held at most. A line with its newline fits.
 const HELD: usize = 16384;
 
-/// The greatest number of bytes of a line, its newline left off.
-const MAX_LINE: usize = 120;
-
-/// What was read of a source and not yet taken, in order, and how many bytes may still be read. All that was taken, what is
-/// held and what may still be read are together as many bytes as the input may have.
+/// What was read of a source and not yet taken, in order, and how many bytes may still be read. All that was taken,
+/// what is held and what may still be read are together as many bytes as the input may have.
 #[derive(Drop)]
 pub struct Input {
-    bytes: [u8; 16384],
+    bytes: [u8; HELD],
     start: usize,
     end: usize,
     room: u32,
@@ -29,12 +26,13 @@ pub struct Input {
 impl Model for Input {
     ghost use Rattle.std.specs.Prelude.{◌≤◌, ◌-◌, take, drop};
     ghost use Rattle.pip_input.specs.Held.{Held};
+    ghost use Rattle.pip_input.specs.declared.input.TheConstants.{HELD};
 
     ghost Value = { Held };
 
     ghost view = { λ i. record { bytes = take (i.end - i.start) (drop i.start i.bytes); room = i.room } };
 
-    ghost invariant = { λ i. (i.start ≤ i.end) × (i.end ≤ 16384) };
+    ghost invariant = { λ i. (i.start ≤ i.end) × (i.end ≤ HELD) };
 }
 
 /// What stands at the head of the bytes that are held.
@@ -67,14 +65,15 @@ impl Input {
         ensures room { result.room ≡ room }
     {
         Input {
-            bytes: [0; 16384],
+            bytes: [0; HELD],
             start: 0,
             end: 0,
             room,
         }
     }
 
-    /// What stands at the head of the bytes that are held, or `None` where more has to be read to tell. Nothing is taken.
+    /// What stands at the head of the bytes that are held, or `None` where more has to be read to tell. Nothing is
+    /// taken.
     pub fn line_ahead(&self) -> Option<LineEnd>
         ensures { MatchOption result (HoldsPart (still self.now) self.now)
             (λ end. (left : Option (List ℕ)) → HoldsLine (still self.now) self.now left end) }
@@ -94,7 +93,8 @@ impl Input {
         requires part { HoldsPart (still self.old) self.old }
         requires is_open { S.is_open joint.old.source.now }
         requires settled { (K.written joint.old.sink.now).held ≡ [] }
-        requires paced { MayRead S.allows (IsLineless self.old) (S.left joint.old.source.now) (S.faults joint.old.source.now)
+        requires paced { MayRead S.allows (IsLineless self.old) (S.left joint.old.source.now)
+            (S.faults joint.old.source.now)
             (K.written joint.old.sink.now) (K.faults joint.old.sink.now) }
         ensures same_source { joint.new.source.ghost_name ≡ joint.old.source.ghost_name }
         ensures sink { joint.new.sink ≡ joint.old.sink }

@@ -28,12 +28,12 @@ sends_trans (Some xs) (Some ys) (Some zs) a b c t u p q = (
       ∙ append_assoc a t u,
 )
 
-part_behind : (x y z : Option (List ℕ)) (a b t u : List ℕ) → Sends x y (a ++ t) b → GrowsInPart y z (b ++ u)
+part_after : (x y z : Option (List ℕ)) (a b t u : List ℕ) → Sends x y (a ++ t) b → GrowsInPart y z (b ++ u)
     → GrowsInPart x z (a ++ (t ++ u))
-part_behind None y z a b t u p q = tt
-part_behind (Some xs) None z a b t u p q = absurd p
-part_behind (Some xs) (Some ys) None a b t u p q = absurd q
-part_behind (Some xs) (Some ys) (Some zs) a b t u p q = (
+part_after None y z a b t u p q = tt
+part_after (Some xs) None z a b t u p q = absurd p
+part_after (Some xs) (Some ys) None a b t u p q = absurd q
+part_after (Some xs) (Some ys) (Some zs) a b t u p q = (
   p.0 ++ q.0,
   q.1,
   q.2 ∙ ap (λ l. l ++ q.0) p.1 ∙ append_assoc xs p.0 q.0,
@@ -88,8 +88,8 @@ pub Appends-kept : (a b c : Taken) (t : List ℕ) → Appends a b t → Keeps b 
 Appends-kept a b c t p q = subst (Appends a c) (append-nil t) (Appends-trans a b c t [] p q)
 
 -- a text after one that was taken
-pub SendsPart-behind : (a b c : Taken) (t u : List ℕ) → Appends a b t → SendsPart b c u → SendsPart a c (t ++ u)
-SendsPart-behind a b c t u p q = record { grows = part_behind a.out b.out c.out a.held b.held t u p.sends q.grows }
+pub SendsPart-after : (a b c : Taken) (t u : List ℕ) → Appends a b t → SendsPart b c u → SendsPart a c (t ++ u)
+SendsPart-after a b c t u p q = record { grows = part_after a.out b.out c.out a.held b.held t u p.sends q.grows }
 
 -- a part of a longer text
 pub SendsPart-more : (a b : Taken) (t more : List ℕ) → SendsPart a b t → SendsPart a b (t ++ more)
@@ -132,8 +132,8 @@ past_after (Some xs) (Some ys) (Some zs) a b t u p q = (
 pub past_sent : (a b c : Taken) (t u : List ℕ) → Appends a b t → b.held ≡ [] → SendsPart b c u → SendsPast a c t
 past_sent a b c t u p none q = record { grows = past_part a.out b.out c.out a.held b.held t u p.sends none q.grows }
 
-pub SendsPast-behind : (a b c : Taken) (t u : List ℕ) → Appends a b t → SendsPast b c u → SendsPast a c (t ++ u)
-SendsPast-behind a b c t u p q = record { grows = past_after a.out b.out c.out a.held b.held t u p.sends q.grows }
+pub SendsPast-after : (a b c : Taken) (t u : List ℕ) → Appends a b t → SendsPast b c u → SendsPast a c (t ++ u)
+SendsPast-after a b c t u p q = record { grows = past_after a.out b.out c.out a.held b.held t u p.sends q.grows }
 
 -- a fact serves where it is asked at an error alone
 pub on_err : {T E : Type 0} (r : Result T E) (P : Type 0) → P → OnErr r P

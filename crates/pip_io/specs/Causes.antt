@@ -4,12 +4,12 @@ use Rattle.std.specs.Prelude.{is_err}
 use Rattle.std.specs.List.{list_any}
 
 -- one more, where a count stands still at 2^64 - 1
-abbrev pub counted : ℕ → ℕ
-counted count = min (count + 1) (2 ^ 64 - 1)
+abbrev pub next_count : ℕ → ℕ
+next_count count = min (count + 1) (2 ^ 64 - 1)
 
 -- a count is one more than before, as far as it goes
 abbrev pub RoseByOne : ℕ → ℕ → Type 0
-RoseByOne before now = now ≡ counted before
+RoseByOne before now = now ≡ next_count before
 
 -- the count of faults has not fallen, it is one more where a call failed, and one that succeeded left it as it was
 pub record HasCause {T E : Type 0} (before now : ℕ) (result : Result T E) : Type 0 where
@@ -19,7 +19,7 @@ pub record HasCause {T E : Type 0} (before now : ℕ) (result : Result T E) : Ty
 
 -- the count of faults after a call: one more exactly where it failed
 abbrev pub faults_after : {T E : Type 0} → Result T E → ℕ → ℕ
-faults_after result before = if is_err result then counted before else before
+faults_after result before = if is_err result then next_count before else before
 
 -- whether a call's number is in the list of those that fail
 abbrev pub is_listed : List ℕ → ℕ → Bool

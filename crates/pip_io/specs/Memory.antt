@@ -1,6 +1,6 @@
 -- What a source and a sink in memory hold.
 use Rattle.std.specs.Prelude.{ℕ, List, Bool, ◌||◌, nat_lt}
-use Rattle.pip_io.specs.Causes.{counted, is_listed}
+use Rattle.pip_io.specs.Causes.{next_count, is_listed}
 use Rattle.pip_io.specs.declared.memory.SureSource.{SureSource}
 use Rattle.pip_io.specs.declared.memory.MemSource.{MemSource}
 use Rattle.pip_io.specs.declared.memory.MemSink.{MemSink}
@@ -27,7 +27,7 @@ source_failing s = s.calls.failing.now
 
 -- whether the next read fails: its number is listed
 abbrev pub read_fails : MemSource → Bool
-read_fails s = is_listed (source_failing s) (counted (source_calls s))
+read_fails s = is_listed (source_failing s) (next_count (source_calls s))
 
 -- the bytes that were written
 abbrev pub sink_bytes : MemSink → List ℕ
@@ -52,4 +52,4 @@ sink_failing s = s.calls.failing.now
 -- whether the next write, of that many bytes, fails: its number is listed, or the room is less
 abbrev pub write_fails : MemSink → ℕ → Bool
 write_fails s count =
-    is_listed (sink_failing s) (counted (sink_calls s)) || nat_lt (sink_room s) count
+    is_listed (sink_failing s) (next_count (sink_calls s)) || nat_lt (sink_room s) count

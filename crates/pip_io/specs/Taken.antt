@@ -33,6 +33,10 @@ abbrev pub AppendsPart : Taken → Taken → List ℕ → Type 0
 AppendsPart old new text =
     (front : List ℕ) × (rest : List ℕ) × Appends old new front × (front ++ rest ≡ text) × (rest ≢ [])
 
+-- what a call wrote of a text: all of it at Ok, and a part of it at Err
+abbrev pub Wrote : {T E : Type 0} → Result T E → Taken → Taken → List ℕ → Type 0
+Wrote result old new text = MatchResult result (λ v. Appends old new text) (λ e. AppendsPart old new text)
+
 -- known bytes grow by a part of `all`, and not by the whole
 abbrev pub GrowsInPart : Option (List ℕ) → Option (List ℕ) → List ℕ → Type 0
 GrowsInPart None after all = Unit {0}

@@ -1,11 +1,11 @@
 //! The calls of a source or a sink in memory, counted, with those that fail.
 ghost use Rattle.std.specs.Prelude.{◌≡◌, ◌≤◌};
-ghost use Rattle.pip_io.specs.Causes.{counted, is_listed};
+ghost use Rattle.pip_io.specs.Causes.{next_count, is_listed};
 
 use crate::Failed;
 
-/// The calls made so far and those that failed; the counts stand still at 2^64 - 1. Call k, the first being 1, fails where
-/// `failing` has k.
+/// The calls made so far and those that failed; the counts stand still at 2^64 - 1. Call k, the first being 1, fails
+/// where `failing` has k.
 #[derive(Debug, Drop)]
 pub struct Calls<'a> {
     failing: &'a [u32],
@@ -29,7 +29,7 @@ impl<'a> Calls<'a> {
 
     /// Counts one more call, and tells whether its number is listed.
     pub fn make(&mut self) -> bool
-        ensures made { self.new ≡ record self.old { made = counted self.old.made } }
+        ensures made { self.new ≡ record self.old { made = next_count self.old.made } }
         ensures listed { result ≡ is_listed self.old.failing.now self.new.made }
     {
         self.made = self.made.saturating_add(1);
@@ -39,7 +39,7 @@ impl<'a> Calls<'a> {
 
     /// Counts one more fault.
     pub fn fail(&mut self) -> Failed
-        ensures failed { self.new ≡ record self.old { failed = counted self.old.failed } }
+        ensures failed { self.new ≡ record self.old { failed = next_count self.old.failed } }
         ensures later { self.old.failed ≤ self.new.failed }
     {
         self.failed = self.failed.saturating_add(1);

@@ -4,22 +4,23 @@ ghost use Rattle.std.specs.Io.{WritesAtMost};
 ghost use Rattle.pip_io.specs.Causes.{HasCause};
 ghost use Rattle.pip_io.specs.Gathering.{between};
 ghost use Rattle.pip_io.specs.Taken.{Appends, Keeps, WriteTakes, over};
+ghost use Rattle.pip_io.specs.declared.gather.TheConstants.{HELD};
 
 use crate::{Failed, Sink};
 
 /// How many bytes are held at most.
 const HELD: usize = 16384;
 
-/// A sink over another one. It holds up to 16384 bytes, and writes them where no more fit or it is told to. What it holds
-/// when it is given up is lost.
+/// A sink over another one. It holds up to 16384 bytes, and writes them where no more fit or it is told to. What it
+/// holds when it is given up is lost.
 #[derive(Drop)]
 pub struct Gatherer<K> {
     sink: K,
-    bytes: [u8; 16384],
+    bytes: [u8; HELD],
     start: usize,
     end: usize,
     ghost order: { start ≤ end },
-    ghost fits: { end ≤ 16384 },
+    ghost fits: { end ≤ HELD },
 }
 
 impl<K: Sink> Gatherer<K> {
@@ -30,7 +31,7 @@ impl<K: Sink> Gatherer<K> {
     {
         Gatherer {
             sink,
-            bytes: [0; 16384],
+            bytes: [0; HELD],
             start: 0,
             end: 0,
         }
@@ -75,8 +76,8 @@ impl<K: Sink> Sink for Gatherer<K> {
 
     ghost faults = { λ g. K.faults g.sink };
 
-    /// Holds as much of the piece as fits. What is held is written first where the piece doesn't fit, and only then does
-    /// it fail.
+    /// Holds as much of the piece as fits. What is held is written first where the piece doesn't fit, and only then
+    /// does it fail.
     fn write(&mut self, piece: &[u8]) -> Result<usize, Failed>
         requires { 0 < length piece.now }
         ensures bound { WritesAtMost result piece.now }
@@ -118,12 +119,12 @@ impl<K: Sink> Sink for Gatherer<K> {
 // Writes the bytes of a buffer from one place to another, until a write fails. It answers to which place it came too.
 fn write_between<K: Sink>(
     sink: &mut K,
-    bytes: &[u8; 16384],
+    bytes: &[u8; HELD],
     start: usize,
     end: usize,
 ) -> (usize, Result<(), Failed>)
     requires order { start ≤ end }
-    requires fits { end ≤ 16384 }
+    requires fits { end ≤ HELD }
     ensures least { start ≤ result.0 }
     ensures most { result.0 ≤ end }
     ensures all { OnOk result.1 (result.0 ≡ end) }

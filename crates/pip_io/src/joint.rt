@@ -29,7 +29,8 @@ impl<'a, S: Source, K: Sink> Joint<'a, S, K> {
         requires some { 0 < length buf.old }
         requires is_open { S.is_open self.old.source.now }
         requires settled { (K.written self.old.sink.now).held ≡ [] }
-        requires allowed { S.allows (S.left self.old.source.now) (S.faults self.old.source.now) (K.written self.old.sink.now)
+        requires allowed { S.allows (S.left self.old.source.now) (S.faults self.old.source.now)
+            (K.written self.old.sink.now)
             (K.faults self.old.sink.now) }
         ensures same_source { self.new.source.ghost_name ≡ self.old.source.ghost_name }
         ensures sink { self.new.sink ≡ self.old.sink }

@@ -3,7 +3,7 @@ ghost use Rattle.std.specs.Prelude.{◌≡◌, ◌+◌, ◌-◌, ◌<◌, ◌≤
 ghost use Rattle.std.specs.Prelude.{Some, None, IfOk, is_ok, is_err, vec_len, vec_capacity};
 ghost use Rattle.std.specs.Io.{ReadsAtMost, WritesAtMost};
 ghost use Rattle.std.specs.Io.KnownBytes.{ReadConsumes};
-ghost use Rattle.pip_io.specs.Causes.{HasCause, counted, faults_after};
+ghost use Rattle.pip_io.specs.Causes.{HasCause, next_count, faults_after};
 ghost use Rattle.pip_io.specs.Taken.{WriteTakes, plain};
 
 use crate::calls::Calls;
@@ -96,7 +96,7 @@ impl Source for MemSource<'_> {
         ensures gives { IfOk result (λ n.
             n ≡ min (length (source_left self.old)) (length buf.old)) }
 
-        ensures calls { source_calls self.new ≡ counted (source_calls self.old) }
+        ensures calls { source_calls self.new ≡ next_count (source_calls self.old) }
         ensures faults { source_faults self.new ≡ faults_after result (source_faults self.old) }
         ensures failing { source_failing self.new ≡ source_failing self.old }
     {
@@ -169,7 +169,7 @@ impl Sink for MemSink<'_> {
 
         ensures room { sink_room self.new ≡
             (if is_ok result then sink_room self.old - length piece.now else sink_room self.old) }
-        ensures calls { sink_calls self.new ≡ counted (sink_calls self.old) }
+        ensures calls { sink_calls self.new ≡ next_count (sink_calls self.old) }
         ensures faults { sink_faults self.new ≡ faults_after result (sink_faults self.old) }
         ensures failing { sink_failing self.new ≡ sink_failing self.old }
     {

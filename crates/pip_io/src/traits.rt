@@ -20,13 +20,13 @@ pub trait Source {
     /// How many faults it has counted. The count never falls.
     ghost faults: { Self → ℕ };
 
-    /// Whether a `Joint` with a sink may read more where these bytes are left, that many reads failed, this was written, and
-    /// that many writes failed. It asks for nothing unless a source says so: what reads through a `Joint` proves it of any source,
-    /// and so can't read at another moment than those that its own contract allows.
+    /// Whether a `Joint` with a sink may read more where these bytes are left, that many reads failed, this was
+    /// written, and that many writes failed. It asks for nothing unless a source says so: what reads through a `Joint`
+    /// proves it of any source, and so can't read at another moment than those that its own contract allows.
     ghost allows: { Option (List ℕ) → ℕ → Taken → ℕ → Type 0 } = { λ _ _ _ _. Unit {0} };
 
-    /// Whether it may be read. A read that gave bytes leaves it so. Of one that answered 0 or failed nothing is known, unless a
-    /// source says so: what is written for any source asks for the end once, and reads nothing after a fault.
+    /// Whether it may be read. A read that gave bytes leaves it so. Of one that answered 0 or failed nothing is known,
+    /// unless a source says so: what is written for any source asks for the end once, and reads nothing after a fault.
     ghost is_open: { Self → Type 0 } = { λ _. Unit {0} };
 
     /// Reads into the front of a buffer that isn't empty, and answers how many bytes it read, 0 only

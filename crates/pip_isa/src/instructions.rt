@@ -1,8 +1,8 @@
 //! The instructions: the one table from which words are read and written, and mnemonics found.
 
-// A row for each instruction, in the order of the opcodes: its opcode, its mnemonic as a text and as bytes, the form of its
-// words, and its name and operands in `Instr`. `instructions!(name ..)` calls the macro of this name, with the rows after
-// what stands there.
+// A row for each instruction, in the order of the opcodes: its opcode, its mnemonic as a text and as bytes, the form of
+// its words, and its name and operands in `Instr`. `instructions!(name ..)` calls the macro of this name, with the rows
+// after what stands there.
 macro_rules! instructions {
     ($then:ident $($argument:tt)*) => {
         $then! {

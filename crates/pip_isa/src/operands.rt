@@ -1,5 +1,5 @@
-//! The operands of each form of words, read from a word and made into one. Reading gives None where a field that the form
-//! doesn't use isn't 0, or its immediate is out of range.
+//! The operands of each form of words, read from a word and made into one. Reading gives None where a field that the
+//! form doesn't use isn't 0, or its immediate is out of range.
 ghost use Rattle.std.specs.Prelude.{◌≡◌, ◌<◌, ◌^◌, ◌/◌, IfSome, IfNone, false};
 ghost use Rattle.pip_model.specs.InstrWords.{word_from, low16, fits};
 ghost use Rattle.pip_model.specs.declared.form.Form.TheVariants as F;

@@ -22,8 +22,8 @@ pub fn encode(instr: &Instr) -> u32
     instructions!(match_instr instr)
 }
 
-/// The instruction whose word this is, or None where it is the word of none: its opcode is in no row of the table, a field
-/// that its form doesn't use isn't 0, or its immediate is out of range.
+/// The instruction whose word this is, or None where it is the word of none: its opcode is in no row of the table, a
+/// field that its form doesn't use isn't 0, or its immediate is out of range.
 #[tactic(auto, using(crate::proofs::Laws::words_read, crate::proofs::Laws::read_none))]
 #[inline(always)]
 pub fn decode(word: u32) -> Option<Instr>

@@ -16,8 +16,8 @@ use std::alloc::{AllocError, Global};
 use std::marker::PhantomData;
 use std::sync::ledger::Ledger;
 
-/// Frames beside their first words. A frame that was not opened since they were last rewound has its first words, and so
-/// has each part of a frame that was not opened. Of new frames all are opened.
+/// Frames beside their first words. A frame that was not opened since they were last rewound has its first words, and
+/// so has each part of a frame that was not opened. Of new frames all are opened.
 #[derive(Drop)]
 pub struct Journal<F: First> {
     frames: RawFrames,

@@ -9,7 +9,7 @@ pub(crate) const PART: usize = 32;
 /// Whether each part of a frame was opened.
 pub(crate) type Parts = [bool; 32];
 
-/// The same for all parts.
+/// Parts that are all opened, or all not.
 pub(crate) fn all_parts(opened: bool) -> Parts
     ensures { result ≡ replicate 32 opened }
 {

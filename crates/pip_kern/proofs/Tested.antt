@@ -9,7 +9,7 @@ use Rattle.pip_base.specs.declared.outcome.Status.TheVariants as S
 use Rattle.pip_model.specs.Lists.{In}
 use Rattle.pip_model.proofs.Trees.Free.{not_false}
 use Rattle.pip_model.proofs.OnLists.Members.{any_none}
-use Rattle.pip_model.specs.Answers.{first_met, some_null, mapped, page_of, writable}
+use Rattle.pip_model.specs.Answers.{first_met, some_null, is_mapped, page_of, writable}
 use Rattle.pip_model.specs.FullRows.{FullRow, full_row, full_rows, given_word}
 use Rattle.pip_model.specs.Sound.{IsSound}
 use Rattle.pip_model.specs.Tree.{Node, Row, Tree, find_node, free, holder, is_free_row, is_place, row_at, vpage}
@@ -59,7 +59,7 @@ module _ (t : Tree) (s : IsSound t) (p : ℕ) (x : Node) (found : find_node t p 
   some_full (Some q) = refl
 
   -- a page is mapped where there is a row
-  pub mapped-row : (v : ℕ) → mapped t p v ≡ is_some (full_rows t x v)
+  pub mapped-row : (v : ℕ) → is_mapped t p v ≡ is_some (full_rows t x v)
   mapped-row v =
       ap (λ z. is_some (row_at z.rows v)) (node_is t p x found)
       ∙ (some_full (row_at x.rows v) ∙ sym (ap is_some (full-at t x v (row_at x.rows v) refl)))

@@ -1,5 +1,5 @@
-//! Pages hidden from the user, and opened again. All is asked in the middle of a call: the memory holds the caller and its
-//! ancestors, with rows that are the tree's but for user bits and for whom a page is given to.
+//! Pages hidden from the user, and opened again. All is asked in the middle of a call: the memory holds the caller and
+//! its ancestors, with rows that are the tree's but for user bits and for whom a page is given to.
 ghost use Rattle.std.specs.Prelude.{◌≡◌, ◌<◌, ◌^◌, true, false, Option, Some, length};
 ghost use Rattle.pip_base.specs.Memory.{word_at};
 ghost use Rattle.pip_entry.specs.Sh2.{packed_sh2};

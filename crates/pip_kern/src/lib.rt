@@ -1,8 +1,8 @@
-//! What the kernel's calls are made of, over frames: the boot tree, partitions by their parents and children, pages hidden
-//! from the user, given to children and taken back.
+//! What the kernel's calls are made of, over frames: the boot tree, partitions by their parents and children, pages
+//! hidden from the user, given to children and taken back.
 //!
-//! What names a partition is asked of frames that lay out some sound tree which has it (`HasPartition`); what hides, gives or
-//! takes a page is asked in the middle of a call.
+//! What names a partition is asked of frames that lay out some sound tree which has it (`HasPartition`); what hides,
+//! gives or takes a page is asked in the middle of a call.
 #![tactic(auto)]
 
 mod hiding;

@@ -66,8 +66,8 @@ pub fn child_at<M: Frames, L: Ledger>(
     }
 }
 
-/// Whether a partition is `top` or below it: `top` is on the chain of its parents. No chain has as many partitions as the
-/// memory has frames, so the climb ends at `top` or at the root.
+/// Whether a partition is `top` or below it: `top` is on the chain of its parents. No chain has as many partitions as
+/// the memory has frames, so the climb ends at `top` or at the root.
 pub fn is_below<M: Frames, L: Ledger>(
     mem: &M,
     part: Frame,

@@ -123,7 +123,8 @@ fn add_pages<M: Frames, L: Ledger>(mem: &mut M, first: u32, n: u32, steps: &mut 
     map(mem, root, VPage::new(VIDT), &user_row(n - 1), steps);
 }
 
-/// Makes frames that hold zeros alone, as new memory does, those of the boot tree: docs/FORMATS.md, "Boot with n frames".
+/// Makes frames that hold zeros alone, as new memory does, those of the boot tree: docs/FORMATS.md, "Boot with n
+/// frames".
 pub fn boot_zeros<M: Frames, L: Ledger>(mem: &mut M, steps: &mut Steps<L>)
     requires { M.memory mem.old ≡ replicate (length (M.memory mem.old)) (zeros 1024) }
     ensures layout { LaysOut (boot_tree (length (M.memory mem.old))) (M.memory mem.new) }

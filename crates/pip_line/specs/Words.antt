@@ -4,6 +4,6 @@ use Rattle.pip_model.specs.Grammar.{words_of}
 use denote.Ref.{Bor}
 
 -- none where the line ends with the word
-abbrev pub words_behind : Option (Bor (List ℕ)) → List (List ℕ)
-words_behind None = []
-words_behind (Some text) = words_of text.now
+abbrev pub words_left : Option (Bor (List ℕ)) → List (List ℕ)
+words_left None = []
+words_left (Some text) = words_of text.now

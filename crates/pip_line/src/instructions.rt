@@ -4,7 +4,7 @@ ghost use Rattle.pip_model.specs.AsmWords.{register_of, by_form, made, nil, inst
 ghost use Rattle.pip_line.specs.Seen.{IsInRange, cell_seen, statement_seen};
 ghost use Rattle.pip_model.specs.AsmLines.{held};
 ghost use Rattle.pip_model.specs.InstrWords.{opcodes};
-ghost use Rattle.pip_line.specs.Words.{words_behind};
+ghost use Rattle.pip_line.specs.Words.{words_left};
 ghost use Rattle.pip_model.specs.declared.form.Form.TheVariants as F;
 
 use crate::cell::{Cell, NameUse, Statement};
@@ -83,7 +83,7 @@ fn made<'a>(
 fn two<'a>(op: u32, name: &[u8], operands: Option<&'a [u8]>) -> Result<Statement<'a>, AsmKind>
     requires { op ≤ length opcodes }
     ensures within { IfOk result IsInRange }
-    ensures same { statement_seen result ≡ held (by_form op name.now F.Two (words_behind operands.entry)) }
+    ensures same { statement_seen result ≡ held (by_form op name.now F.Two (words_left operands.entry)) }
 {
     match two_words(operands) {
         None => Err(AsmKind::Operand),
@@ -95,7 +95,7 @@ fn two<'a>(op: u32, name: &[u8], operands: Option<&'a [u8]>) -> Result<Statement
 fn three<'a>(op: u32, name: &[u8], operands: Option<&'a [u8]>) -> Result<Statement<'a>, AsmKind>
     requires { op ≤ length opcodes }
     ensures within { IfOk result IsInRange }
-    ensures same { statement_seen result ≡ held (by_form op name.now F.Three (words_behind operands.entry)) }
+    ensures same { statement_seen result ≡ held (by_form op name.now F.Three (words_left operands.entry)) }
 {
     match three_words(operands) {
         None => Err(AsmKind::Operand),
@@ -111,7 +111,7 @@ fn unsigned_form<'a>(
 ) -> Result<Statement<'a>, AsmKind>
     requires { op ≤ length opcodes }
     ensures within { IfOk result IsInRange }
-    ensures same { statement_seen result ≡ held (by_form op name.now F.TwoAndValue (words_behind operands.entry)) }
+    ensures same { statement_seen result ≡ held (by_form op name.now F.TwoAndValue (words_left operands.entry)) }
 {
     match three_words(operands) {
         None => Err(AsmKind::Operand),
@@ -133,7 +133,7 @@ fn shift_form<'a>(
 ) -> Result<Statement<'a>, AsmKind>
     requires { op ≤ length opcodes }
     ensures within { IfOk result IsInRange }
-    ensures same { statement_seen result ≡ held (by_form op name.now F.TwoAndShift (words_behind operands.entry)) }
+    ensures same { statement_seen result ≡ held (by_form op name.now F.TwoAndShift (words_left operands.entry)) }
 {
     match three_words(operands) {
         None => Err(AsmKind::Operand),
@@ -155,7 +155,7 @@ fn signed_form<'a>(
 ) -> Result<Statement<'a>, AsmKind>
     requires { op ≤ length opcodes }
     ensures within { IfOk result IsInRange }
-    ensures same { statement_seen result ≡ held (by_form op name.now F.TwoAndOffset (words_behind operands.entry)) }
+    ensures same { statement_seen result ≡ held (by_form op name.now F.TwoAndOffset (words_left operands.entry)) }
 {
     match three_words(operands) {
         None => Err(AsmKind::Operand),
@@ -167,7 +167,7 @@ fn signed_form<'a>(
 fn load_form<'a>(op: u32, name: &[u8], operands: Option<&'a [u8]>) -> Result<Statement<'a>, AsmKind>
     requires { op ≤ length opcodes }
     ensures within { IfOk result IsInRange }
-    ensures same { statement_seen result ≡ held (by_form op name.now F.OneAndValue (words_behind operands.entry)) }
+    ensures same { statement_seen result ≡ held (by_form op name.now F.OneAndValue (words_left operands.entry)) }
 {
     match two_words(operands) {
         None => Err(AsmKind::Operand),
@@ -185,7 +185,7 @@ fn load_form<'a>(op: u32, name: &[u8], operands: Option<&'a [u8]>) -> Result<Sta
 fn jump_form<'a>(op: u32, name: &[u8], operands: Option<&'a [u8]>) -> Result<Statement<'a>, AsmKind>
     requires { op ≤ length opcodes }
     ensures within { IfOk result IsInRange }
-    ensures same { statement_seen result ≡ held (by_form op name.now F.OneAndOffset (words_behind operands.entry)) }
+    ensures same { statement_seen result ≡ held (by_form op name.now F.OneAndOffset (words_left operands.entry)) }
 {
     match two_words(operands) {
         None => Err(AsmKind::Operand),
@@ -197,7 +197,7 @@ fn jump_form<'a>(op: u32, name: &[u8], operands: Option<&'a [u8]>) -> Result<Sta
 fn one<'a>(op: u32, name: &[u8], operands: Option<&'a [u8]>) -> Result<Statement<'a>, AsmKind>
     requires { op ≤ length opcodes }
     ensures within { IfOk result IsInRange }
-    ensures same { statement_seen result ≡ held (by_form op name.now F.One (words_behind operands.entry)) }
+    ensures same { statement_seen result ≡ held (by_form op name.now F.One (words_left operands.entry)) }
 {
     match one_word(operands) {
         None => Err(AsmKind::Operand),
@@ -213,7 +213,7 @@ fn number_form<'a>(
 ) -> Result<Statement<'a>, AsmKind>
     requires { op ≤ length opcodes }
     ensures within { IfOk result IsInRange }
-    ensures same { statement_seen result ≡ held (by_form op name.now F.Value (words_behind operands.entry)) }
+    ensures same { statement_seen result ≡ held (by_form op name.now F.Value (words_left operands.entry)) }
 {
     match one_word(operands) {
         None => Err(AsmKind::Operand),
@@ -229,7 +229,7 @@ fn vector_form<'a>(
 ) -> Result<Statement<'a>, AsmKind>
     requires { op ≤ length opcodes }
     ensures within { IfOk result IsInRange }
-    ensures same { statement_seen result ≡ held (by_form op name.now F.Vector (words_behind operands.entry)) }
+    ensures same { statement_seen result ≡ held (by_form op name.now F.Vector (words_left operands.entry)) }
 {
     match one_word(operands) {
         None => Err(AsmKind::Operand),
@@ -246,7 +246,7 @@ fn by_word_form<'a>(
 ) -> Result<Statement<'a>, AsmKind>
     requires { op ≤ length opcodes }
     ensures within { IfOk result IsInRange }
-    ensures same { statement_seen result ≡ held (by_form op name.now form (words_behind operands.entry)) }
+    ensures same { statement_seen result ≡ held (by_form op name.now form (words_left operands.entry)) }
 {
     match form {
         Form::Two => two(op, name, operands),
@@ -266,7 +266,7 @@ fn by_word_form<'a>(
 #[tactic(auto, using(crate::proofs::Mnemonics::no_mnemonic, crate::proofs::Mnemonics::no_opcode, crate::proofs::Mnemonics::by_opcode))]
 pub fn instruction<'a>(name: &[u8], operands: Option<&'a [u8]>) -> Result<Statement<'a>, AsmKind>
     ensures within { IfOk result IsInRange }
-    ensures same { statement_seen result ≡ held (instruction name.now (words_behind operands.entry)) }
+    ensures same { statement_seen result ≡ held (instruction name.now (words_left operands.entry)) }
 {
     match opcode_named(name) {
         None => Err(AsmKind::Unknown),

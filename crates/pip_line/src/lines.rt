@@ -2,19 +2,20 @@
 ghost use Rattle.std.specs.Prelude.{◌≡◌, ◌∷◌, ◌<◌, length, IfOk, option_map};
 ghost use Rattle.pip_model.specs.Grammar.{lines_of, number_of, words_of};
 ghost use Rattle.pip_model.specs.AsmLines.{word_operand};
-ghost use Rattle.pip_model.specs.AsmLines.{statement, assembly_phrase, phrase_of, frames_line, cpus_line, plan_line, page_line, word_line, zero_line, label_of, name_line, other_line};
+ghost use Rattle.pip_model.specs.AsmLines.{statement, assembly_phrase, phrase_of, frames_line, cpus_line, plan_line};
+ghost use Rattle.pip_model.specs.AsmLines.{page_line, word_line, zero_line, label_of, name_line, other_line};
 ghost use Rattle.pip_model.specs.declared.assembly.Stage.TheVariants.{Start, Framed, Header, InPage};
 ghost use Rattle.pip_line.specs.Seen.{HasRoomFor, IsInRange, cell_seen, statement_seen};
-ghost use Rattle.pip_line.specs.Words.{words_behind};
+ghost use Rattle.pip_line.specs.Words.{words_left};
 
 use crate::cell::{Cell, NameUse, Statement};
 use crate::instructions::instruction;
 use crate::operands::is_a_name;
 use crate::words::{cut_word, one_word, three_words};
-use pip_base::{LINES, MAX_CPUS, MAX_FRAMES, MIN_FRAMES, Plan};
+use pip_base::{LINES, MAX_CPUS, MAX_FRAMES, MAX_LINE, MIN_FRAMES, Plan};
 use pip_io::find_newline;
 use pip_model::{AsmKind, Stage};
-use pip_script::{MAX_LINE, read_number};
+use pip_script::read_number;
 
 /// The first line, its newline left off, and what follows it.
 pub fn cut_line(text: &[u8]) -> (&[u8], &[u8])
@@ -23,8 +24,8 @@ pub fn cut_line(text: &[u8]) -> (&[u8], &[u8])
     ensures shorter { length result.1.now < length text.now }
 {
     // An empty line needs no search.
-    if let [b'\n', behind @ ..] = text {
-        return (&text[..0], behind);
+    if let [b'\n', after @ ..] = text {
+        return (&text[..0], after);
     }
     match find_newline(text) {
         Some(at) => (&text[..at], &text[at + 1..]),
@@ -63,7 +64,7 @@ fn phrase<'a>(stage: Stage, line: &'a [u8]) -> Result<Statement<'a>, AsmKind>
 }
 
 fn start_line<'a>(name: &'a [u8], operands: Option<&'a [u8]>) -> Result<Statement<'a>, AsmKind>
-    ensures same { statement_seen result ≡ phrase_of Start name.now (words_behind operands.entry) }
+    ensures same { statement_seen result ≡ phrase_of Start name.now (words_left operands.entry) }
     ensures within { IfOk result IsInRange }
 {
     if name == b".frames".as_slice() {
@@ -74,7 +75,7 @@ fn start_line<'a>(name: &'a [u8], operands: Option<&'a [u8]>) -> Result<Statemen
 }
 
 fn framed_line<'a>(name: &'a [u8], operands: Option<&'a [u8]>) -> Result<Statement<'a>, AsmKind>
-    ensures same { statement_seen result ≡ phrase_of Framed name.now (words_behind operands.entry) }
+    ensures same { statement_seen result ≡ phrase_of Framed name.now (words_left operands.entry) }
     ensures within { IfOk result IsInRange }
 {
     if name == b".cpus".as_slice() {
@@ -85,7 +86,7 @@ fn framed_line<'a>(name: &'a [u8], operands: Option<&'a [u8]>) -> Result<Stateme
 }
 
 fn header_line<'a>(name: &'a [u8], operands: Option<&'a [u8]>) -> Result<Statement<'a>, AsmKind>
-    ensures same { statement_seen result ≡ phrase_of Header name.now (words_behind operands.entry) }
+    ensures same { statement_seen result ≡ phrase_of Header name.now (words_left operands.entry) }
     ensures within { IfOk result IsInRange }
 {
     match name {
@@ -96,7 +97,7 @@ fn header_line<'a>(name: &'a [u8], operands: Option<&'a [u8]>) -> Result<Stateme
 }
 
 fn inner_line<'a>(name: &'a [u8], operands: Option<&'a [u8]>) -> Result<Statement<'a>, AsmKind>
-    ensures same { statement_seen result ≡ phrase_of InPage name.now (words_behind operands.entry) }
+    ensures same { statement_seen result ≡ phrase_of InPage name.now (words_left operands.entry) }
     ensures within { IfOk result IsInRange }
 {
     match name {
@@ -109,7 +110,7 @@ fn inner_line<'a>(name: &'a [u8], operands: Option<&'a [u8]>) -> Result<Statemen
 
 #[tactic(auto, using(crate::proofs::Counts::miscounted))]
 fn frames_line(operands: Option<&[u8]>) -> Result<Statement<'static>, AsmKind>
-    ensures same { statement_seen result ≡ frames_line (words_behind operands.entry) }
+    ensures same { statement_seen result ≡ frames_line (words_left operands.entry) }
     ensures within { IfOk result IsInRange }
 {
     let Some(text) = one_word(operands) else {
@@ -129,7 +130,7 @@ fn frames_line(operands: Option<&[u8]>) -> Result<Statement<'static>, AsmKind>
 
 #[tactic(auto, using(crate::proofs::Counts::miscounted))]
 fn cpus_line(operands: Option<&[u8]>) -> Result<Statement<'static>, AsmKind>
-    ensures same { statement_seen result ≡ cpus_line (words_behind operands.entry) }
+    ensures same { statement_seen result ≡ cpus_line (words_left operands.entry) }
     ensures within { IfOk result IsInRange }
 {
     let Some(text) = one_word(operands) else {
@@ -149,7 +150,7 @@ fn cpus_line(operands: Option<&[u8]>) -> Result<Statement<'static>, AsmKind>
 
 #[tactic(auto, using(crate::proofs::Counts::miscounted))]
 fn page_line(operands: Option<&[u8]>) -> Result<Statement<'static>, AsmKind>
-    ensures same { statement_seen result ≡ page_line (words_behind operands.entry) }
+    ensures same { statement_seen result ≡ page_line (words_left operands.entry) }
     ensures within { IfOk result IsInRange }
 {
     let Some(text) = one_word(operands) else {
@@ -169,7 +170,7 @@ fn page_line(operands: Option<&[u8]>) -> Result<Statement<'static>, AsmKind>
 
 #[tactic(auto, using(crate::proofs::Counts::miscounted))]
 fn plan_line(operands: Option<&[u8]>) -> Result<Statement<'static>, AsmKind>
-    ensures same { statement_seen result ≡ plan_line (words_behind operands.entry) }
+    ensures same { statement_seen result ≡ plan_line (words_left operands.entry) }
     ensures within { IfOk result IsInRange }
 {
     let Some((line, first, period)) = three_words(operands) else {
@@ -193,7 +194,7 @@ fn plan_line(operands: Option<&[u8]>) -> Result<Statement<'static>, AsmKind>
 
 #[tactic(auto, using(crate::proofs::Counts::miscounted))]
 fn zero_line(operands: Option<&[u8]>) -> Result<Statement<'static>, AsmKind>
-    ensures same { statement_seen result ≡ zero_line (words_behind operands.entry) }
+    ensures same { statement_seen result ≡ zero_line (words_left operands.entry) }
     ensures within { IfOk result IsInRange }
 {
     let Some(text) = one_word(operands) else {
@@ -235,7 +236,7 @@ fn word_operand(text: &[u8]) -> Result<Cell<'_>, AsmKind>
 
 #[tactic(auto, using(crate::proofs::Counts::miscounted))]
 fn word_line<'a>(operands: Option<&'a [u8]>) -> Result<Statement<'a>, AsmKind>
-    ensures same { statement_seen result ≡ word_line (words_behind operands.entry) }
+    ensures same { statement_seen result ≡ word_line (words_left operands.entry) }
     ensures within { IfOk result IsInRange }
 {
     let Some(text) = one_word(operands) else {
@@ -260,7 +261,7 @@ fn label(name: &[u8]) -> Option<&[u8]>
 
 #[tactic(auto, using(crate::proofs::Cutting::has_word))]
 fn name_line<'a>(name: &'a [u8], operands: Option<&'a [u8]>) -> Result<Statement<'a>, AsmKind>
-    ensures same { statement_seen result ≡ name_line name.now (words_behind operands.entry) }
+    ensures same { statement_seen result ≡ name_line name.now (words_left operands.entry) }
     ensures within { IfOk result IsInRange }
 {
     if !is_a_name(name) {
@@ -273,7 +274,7 @@ fn name_line<'a>(name: &'a [u8], operands: Option<&'a [u8]>) -> Result<Statement
 }
 
 fn other_line<'a>(name: &'a [u8], operands: Option<&'a [u8]>) -> Result<Statement<'a>, AsmKind>
-    ensures same { statement_seen result ≡ other_line name.now (words_behind operands.entry) (label_of name.now) }
+    ensures same { statement_seen result ≡ other_line name.now (words_left operands.entry) (label_of name.now) }
     ensures within { IfOk result IsInRange }
 {
     match label(name) {

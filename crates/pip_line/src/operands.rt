@@ -2,7 +2,8 @@
 ghost use Rattle.std.specs.Prelude.{◌≡◌, ◌<◌, ◌≤◌, ◌&&◌, ◌||◌, IfOk};
 ghost use Rattle.std.specs.Char.{is_ascii_digit};
 ghost use Rattle.std.specs.List.{list_all};
-ghost use Rattle.pip_model.specs.AsmWords.{by_name, is_letter, is_name, unsigned_field, negative_of, negative_field, signed_field, may_half, may_distance, unsigned_of, signed_of};
+ghost use Rattle.pip_model.specs.AsmWords.{by_name, is_letter, is_name, unsigned_field, negative_of, negative_field};
+ghost use Rattle.pip_model.specs.AsmWords.{signed_field, may_half, may_distance, unsigned_of, signed_of};
 ghost use Rattle.pip_line.specs.Seen.{cell_seen, use_seen};
 
 use crate::cell::{Cell, NameUse};

@@ -1,4 +1,5 @@
-//! Interrupt plans, each kept with a callback that is asked when it is due, and the steps of a run (docs/MODEL.md, "A run").
+//! Interrupt plans, each kept with a callback that is asked when it is due, and the steps of a run (docs/MODEL.md, "A
+//! run").
 #![tactic(auto)]
 
 mod callback;

@@ -16,8 +16,8 @@ use pip_model::Port;
 use std::sync::ledger::Ledger;
 
 /// Makes the steps 0 to `count` - 1 of a run: at each the lines that are due are raised, and the processor that the
-/// generator draws takes its turn. The generator begins at `seed`, which is not 0. It fails only where the sink's count of
-/// faults is one more; all was done then up to the line that was not written whole.
+/// generator draws takes its turn. The generator begins at `seed`, which is not 0. It fails only where the sink's count
+/// of faults is one more; all was done then up to the line that was not written whole.
 pub fn run_lines<P: Port, K: Sink, F: Callback, L: Ledger>(
     port: &mut P,
     lines: &[Line<F>],
@@ -40,7 +40,8 @@ pub fn run_lines<P: Port, K: Sink, F: Callback, L: Ledger>(
     run_scheduled(port, lines, count, &mut Drawn::new(seed, cpus), sink, steps)
 }
 
-// Makes the steps by a schedule. It is compiled for each kind of schedule, so that a processor that is alone is known to be number 0.
+// Makes the steps by a schedule. It is compiled for each kind of schedule, so that a processor that is alone is known
+// to be number 0.
 fn run_scheduled<P: Port, K: Sink, F: Callback, S: Schedule, L: Ledger>(
     port: &mut P,
     lines: &[Line<F>],
@@ -60,10 +61,7 @@ fn run_scheduled<P: Port, K: Sink, F: Callback, S: Schedule, L: Ledger>(
     for i in 0..count {
         let t = i as u64;
         raise_due(port, lines, t, steps);
-        match turn::<S, P, K, L>(port, schedule.next(), t, sink, steps) {
-            Ok(_) => {}
-            Err(failed) => return Err(failed),
-        }
+        turn::<S, P, K, L>(port, schedule.next(), t, sink, steps)?;
     }
     Ok(())
 }

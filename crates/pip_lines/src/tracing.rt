@@ -1,7 +1,8 @@
 //! The trace of a run: the line of the image, the lines of the steps, the last line.
 ghost use Rattle.std.specs.Prelude.{◌≡◌, ◌≢◌, ◌<◌, length};
 ghost use Rattle.std.specs.List.{AllByRecursion};
-ghost use Rattle.pip_cpu.specs.Made.{Acts, WroteLine};
+ghost use Rattle.pip_io.specs.Taken.{Wrote};
+ghost use Rattle.pip_cpu.specs.Made.{Acts};
 ghost use Rattle.pip_io.specs.Causes.{HasCause};
 ghost use Rattle.pip_model.specs.Run.{end_line, trace_image_line, trace as trace_acts};
 
@@ -17,9 +18,9 @@ use pip_model::Port;
 use pip_script::push_decimal;
 use std::sync::ledger::Ledger;
 
-/// The whole trace of an image of that many frames, with that many pages, whose plans are those of `lines`: its first line, the
-/// steps as `run_lines` makes them, the last line (docs/FORMATS.md, "Trace lines"). It fails only where the sink's count of
-/// faults is one more; all was done then up to the line that was not written whole.
+/// The whole trace of an image of that many frames, with that many pages, whose plans are those of `lines`: its first
+/// line, the steps as `run_lines` makes them, the last line (docs/FORMATS.md, "Trace lines"). It fails only where the
+/// sink's count of faults is one more; all was done then up to the line that was not written whole.
 pub fn trace<P: Port, K: Sink, F: Callback, L: Ledger>(
     port: &mut P,
     lines: &[Line<F>],
@@ -33,18 +34,14 @@ pub fn trace<P: Port, K: Sink, F: Callback, L: Ledger>(
     requires below { AllByRecursion (λ p. p.line < 16) lines.now }
     requires seed { seed ≢ 0 }
     ensures acts { Acts result (P.stands port.old) (P.stands port.new) (K.written sink.old) (K.written sink.new)
-        (λ w. trace_acts w (trace_image_line frames (P.count port.old) (length lines.now) pages) lines.now seed (P.count port.old) count) }
+        (λ w. trace_acts w (trace_image_line frames (P.count port.old) (length lines.now) pages) lines.now seed
+        (P.count port.old) count) }
     ensures cause { HasCause (K.faults sink.old) (K.faults sink.new) result }
     ensures count { P.count port.new ≡ P.count port.old }
 {
-    match write_image(frames, port.cpus(), lines.len() as u64, pages, sink) {
-        Ok(()) => {}
-        Err(failed) => return Err(failed),
-    }
-    match run_lines(port, lines, count, seed, sink, steps) {
-        Ok(()) => write_end(sink, count),
-        Err(failed) => Err(failed),
-    }
+    write_image(frames, port.cpus(), lines.len() as u64, pages, sink)?;
+    run_lines(port, lines, count, seed, sink, steps)?;
+    write_end(sink, count)
 }
 
 /// Writes the first line: frames, processors, plans, pages.
@@ -55,7 +52,7 @@ pub fn write_image<K: Sink>(
     pages: u32,
     sink: &mut K,
 ) -> Result<(), Failed>
-    ensures wrote { WroteLine result (K.written sink.old) (K.written sink.new) (trace_image_line frames cpus plans pages) }
+    ensures wrote { Wrote result (K.written sink.old) (K.written sink.new) (trace_image_line frames cpus plans pages) }
     ensures cause { HasCause (K.faults sink.old) (K.faults sink.new) result }
 {
     let mut buffer = Buffer::new();
@@ -74,7 +71,7 @@ pub fn write_image<K: Sink>(
 
 /// Writes the last line of a run of that many steps.
 pub fn write_end<K: Sink>(sink: &mut K, count: u32) -> Result<(), Failed>
-    ensures wrote { WroteLine result (K.written sink.old) (K.written sink.new) (end_line count) }
+    ensures wrote { Wrote result (K.written sink.old) (K.written sink.new) (end_line count) }
     ensures cause { HasCause (K.faults sink.old) (K.faults sink.new) result }
 {
     let mut line: ArrayString<16> = ArrayString::new();

@@ -11,8 +11,8 @@ use Rattle.pip_base.specs.declared.types.Size.TheVariants.{Byte}
 use Rattle.pip_entry.specs.declared.leaf.Leaf.{Leaf}
 use Rattle.pip_entry.specs.declared.leaf.Leaf.TheVariants.{Empty, Page}
 use Rattle.pip_model.specs.declared.cached.Entry.{Entry}
-use Rattle.pip_model.specs.Cache.{Places, IsUsable, Agrees, accessed, cache_at, cached, counted_lookup, with_new_entry}
-use Rattle.pip_model.specs.Cache.{filled_on_miss, no_places, of_page, page_and_rights}
+use Rattle.pip_model.specs.Cache.{Places, IsUsable, Agrees, places_after_access, cache_at, cache_after_access}
+use Rattle.pip_model.specs.Cache.{counted_lookup, with_new_entry, filled_on_miss, no_places, of_page, page_and_rights}
 use Rattle.pip_model.specs.FullRows.{full_row, full_rows}
 use Rattle.pip_model.specs.Reach.{Fault, Faulted, Place, Reached, is_misaligned, reach}
 use Rattle.pip_model.specs.Tree.{Node, Row, Tree, find_node, hidden, node, row_at, vpage}
@@ -173,10 +173,10 @@ usable_stored t va size x (Place g i) e u =
 
 -- the caches after an access are those with the processor's as the access leaves it
 pub accessed_is : (t : Tree) (cs : List Places) (cpu p va : ℕ) (a : Access) (size : Size)
-    → slice_set cs cpu (after_access t (cache_at cs cpu) p va a size) ≡ accessed t cs cpu p va a size
+    → slice_set cs cpu (after_access t (cache_at cs cpu) p va a size) ≡ places_after_access t cs cpu p va a size
 accessed_is t cs cpu p va a size = at_once (is_misaligned va size)
   where
-    at_once : (b : Bool) → slice_set cs cpu (cond b (cache_at cs cpu) (cached t (cache_at cs cpu) p va a))
-        ≡ cond b cs (slice_set cs cpu (cached t (cache_at cs cpu) p va a))
+    at_once : (b : Bool) → slice_set cs cpu (cond b (cache_at cs cpu) (cache_after_access t (cache_at cs cpu) p va a))
+        ≡ cond b cs (slice_set cs cpu (cache_after_access t (cache_at cs cpu) p va a))
     at_once true = set-get_or cs cpu no_places
     at_once false = refl

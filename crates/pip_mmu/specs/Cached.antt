@@ -3,7 +3,7 @@ use Rattle.std.specs.Prelude.{ℕ, if◌then◌else◌}
 use Rattle.pip_base.specs.declared.types.Access.{Access}
 use Rattle.pip_base.specs.declared.types.Size.{Size}
 use Rattle.pip_base.specs.Memory.{Memory}
-use Rattle.pip_model.specs.Cache.{Agrees, Places, cached}
+use Rattle.pip_model.specs.Cache.{Agrees, Places, cache_after_access}
 use Rattle.pip_model.specs.Partitions.{HasPartition}
 use Rattle.pip_model.specs.Reach.{is_misaligned}
 use Rattle.pip_model.specs.Tree.{Tree}
@@ -14,4 +14,4 @@ HasCached m part c = (s : HasPartition m part) × Agrees s.tree c
 
 -- the cache after an access; one that isn't aligned looks nothing up
 abbrev pub after_access : Tree → Places → ℕ → ℕ → Access → Size → Places
-after_access t c part va access size = if is_misaligned va size then c else cached t c part va access
+after_access t c part va access size = if is_misaligned va size then c else cache_after_access t c part va access

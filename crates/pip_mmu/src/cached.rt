@@ -1,6 +1,6 @@
 //! Translations, loads, stores and fetches that ask a cache first: docs/MODEL.md, "Translation caches".
 ghost use Rattle.std.specs.Prelude.{◌≡◌, ◌≢◌, ◌+◌, ◌<◌, ◌≤◌, IfOk, IsSome, None, OnErr, length};
-ghost use Rattle.pip_model.specs.Cache.{Agrees, cached, holding, filled_on_miss};
+ghost use Rattle.pip_model.specs.Cache.{Agrees, cache_after_access, holding, filled_on_miss};
 ghost use Rattle.pip_model.specs.Events.{below_of};
 ghost use Rattle.pip_model.specs.Partitions.{HasPartition, InEach, IsHeld};
 ghost use Rattle.pip_model.specs.Reach.{reach};
@@ -31,7 +31,8 @@ fn after_miss<M: Frames, L: Ledger>(
     ensures reached { InEach (M.memory mem.now) part (λ t x.
         reached_of (word_in va result) ≡ reach t part va access Size.Byte) }
     ensures cache { InEach (M.memory mem.now) part (λ t x.
-        cache.new ≡ filled_on_miss cache.old part (vpage va) None (row_at (node t part).rows (vpage va)) (reach t part va access Size.Byte)) }
+        cache.new ≡ filled_on_miss cache.old part (vpage va) None (row_at (node t part).rows (vpage va))
+        (reach t part va access Size.Byte)) }
     ensures agrees { InEach (M.memory mem.now) part (λ t x. Agrees t cache.old → Agrees t cache.new) }
     ensures steps { steps.new ≤ steps.old + 3 }
 {
@@ -73,7 +74,7 @@ fn page_through<M: Frames, L: Ledger>(
     requires { HasPartition (M.memory mem.now) part }
     ensures reached { InEach (M.memory mem.now) part (λ t x.
         Agrees t cache.old → reached_of (word_in va result) ≡ reach t part va access Size.Byte) }
-    ensures cache { InEach (M.memory mem.now) part (λ t x. cache.new ≡ cached t cache.old part va access) }
+    ensures cache { InEach (M.memory mem.now) part (λ t x. cache.new ≡ cache_after_access t cache.old part va access) }
     ensures agrees { InEach (M.memory mem.now) part (λ t x. Agrees t cache.old → Agrees t cache.new) }
     ensures steps { steps.new ≤ steps.old + 3 }
     ensures hit { IsSome (holding cache.old part (vpage va)) → steps.new ≡ steps.old }
@@ -95,8 +96,8 @@ fn page_through<M: Frames, L: Ledger>(
     }
 }
 
-/// What [`translate`](crate::translate) gives, from the cache where it holds the page. Each entry of the cache has to be
-/// the row that its partition has now (`Agrees`), and this stays so. A hit takes no step.
+/// What [`translate`](crate::translate) gives, from the cache where it holds the page. Each entry of the cache has to
+/// be the row that its partition has now (`Agrees`), and this stays so. A hit takes no step.
 pub fn translate_cached<M: Frames, L: Ledger>(
     mem: &M,
     cache: &mut Cache,
@@ -108,7 +109,7 @@ pub fn translate_cached<M: Frames, L: Ledger>(
     requires { HasPartition (M.memory mem.now) part }
     ensures reached { InEach (M.memory mem.now) part (λ t x.
         Agrees t cache.old → reached_of result ≡ reach t part va access Size.Byte) }
-    ensures cache { InEach (M.memory mem.now) part (λ t x. cache.new ≡ cached t cache.old part va access) }
+    ensures cache { InEach (M.memory mem.now) part (λ t x. cache.new ≡ cache_after_access t cache.old part va access) }
     ensures agrees { InEach (M.memory mem.now) part (λ t x. Agrees t cache.old → Agrees t cache.new) }
     ensures steps { steps.new ≤ steps.old + 3 }
     ensures hit { IsSome (holding cache.old part (vpage va)) → steps.new ≡ steps.old }
@@ -145,9 +146,9 @@ fn locate_through<M: Frames, L: Ledger>(
     by_translation(page_through(mem, cache, part, va, access, steps))
 }
 
-/// What [`load`](crate::load) gives, by what the cache holds where it holds the page. Each entry of the cache is the row
-/// that its partition has now, and this stays so. An access that isn't aligned leaves the cache as it is. A hit takes one
-/// step at most.
+/// What [`load`](crate::load) gives, by what the cache holds where it holds the page. Each entry of the cache is the
+/// row that its partition has now, and this stays so. An access that isn't aligned leaves the cache as it is. A hit
+/// takes one step at most.
 #[inline(always)]
 pub fn load_through<M: Frames, L: Ledger>(
     mem: &M,
@@ -218,9 +219,9 @@ fn fetch_and_keep<M: Frames, L: Ledger>(
     fetched
 }
 
-/// Does what [`store`](crate::store) does, by what the cache holds where it holds the page. Each entry of the cache is the
-/// row that its partition has now, and this stays so. An access that isn't aligned leaves the cache as it is. A hit takes
-/// one step at most.
+/// Does what [`store`](crate::store) does, by what the cache holds where it holds the page. Each entry of the cache is
+/// the row that its partition has now, and this stays so. An access that isn't aligned leaves the cache as it is. A hit
+/// takes one step at most.
 #[inline(always)]
 pub fn store_through<M: Frames, L: Ledger>(
     mem: &mut M,
@@ -236,7 +237,8 @@ pub fn store_through<M: Frames, L: Ledger>(
     ensures answer { InEach (M.memory mem.old) part (λ t x.
         Agrees t cache.old → result ≡ store_answer (reach t part va Access.Store size)) }
     ensures tree { InEach (M.memory mem.old) part (λ t x.
-        Agrees t cache.old → IsHeld (tree_stored t va size word (reach t part va Access.Store size)) (M.memory mem.new)) }
+        Agrees t cache.old → IsHeld (tree_stored t va size word (reach t part va Access.Store size))
+        (M.memory mem.new)) }
     ensures cache { InEach (M.memory mem.old) part (λ t x. cache.new
         ≡ after_access t cache.old part va Access.Store size) }
     ensures agrees { InEach (M.memory mem.old) part (λ t x.

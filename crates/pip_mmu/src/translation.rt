@@ -78,7 +78,8 @@ pub(crate) fn through(entry: Leaf, access: Access) -> Result<Frame, MmuFault>
     }
 }
 
-/// The page that an access of `part` reaches at address `va`, or the first fault that applies. The alignment isn't tested.
+/// The page that an access of `part` reaches at address `va`, or the first fault that applies. The alignment isn't
+/// tested.
 #[inline(always)]
 pub(crate) fn page_of<M: Frames, L: Ledger>(
     mem: &M,

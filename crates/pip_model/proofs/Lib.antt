@@ -10,3 +10,5 @@ pub mod Nodes
 pub mod Frames
 -- Reading a tree off a memory
 pub mod Audit
+-- Texts of numbers
+pub mod Texts

@@ -4,7 +4,7 @@ use Rattle.pip_base.specs.declared.outcome.Status.{Status}
 use Rattle.pip_base.specs.declared.outcome.Status.TheVariants as S
 use Rattle.pip_model.specs.Tree.{Row, Node, Tree, change_node, row_at, free, has_table, vpage}
 use Rattle.pip_model.specs.Answers.{Answer, accept, first_met, answer_unless, some_unaligned, some_null, no_child}
-use Rattle.pip_model.specs.Answers.{child_of, child_name, mapped, rights_at, page_of}
+use Rattle.pip_model.specs.Answers.{child_of, child_name, is_mapped, rights_at, page_of}
 
 -- the rights lack READ, have a bit above 2, or have one that p's row lacks
 abbrev pub exceeds : ℕ → ℕ → Bool
@@ -17,7 +17,7 @@ add_refusals t p v d cv rights =
     some_unaligned (v ∷ d ∷ cv ∷ [])
     ∷ some_null (v ∷ d ∷ cv ∷ [])
     ∷ no_child t p d
-    ∷ (not (mapped t p (vpage v)), S.NotMapped)
+    ∷ (not (is_mapped t p (vpage v)), S.NotMapped)
     ∷ (not (free t p (vpage v)), S.NotFree)
     ∷ (exceeds rights (rights_at t p (vpage v)), S.NoRight)
     ∷ (not (has_table (child_of t p d) (vpage cv)), S.NoTable)

@@ -92,8 +92,8 @@ abbrev pub child_name : Tree → ℕ → ℕ → ℕ
 child_name t p d = unwrap_or (option_map (λ x. x.name) (child_at t p d)) 0
 
 -- p has a row at vpage v
-abbrev pub mapped : Tree → ℕ → ℕ → Bool
-mapped t p v = is_some (row_at (node t p).rows v)
+abbrev pub is_mapped : Tree → ℕ → ℕ → Bool
+is_mapped t p v = is_some (row_at (node t p).rows v)
 
 -- the rights of p's row at vpage v
 abbrev pub rights_at : Tree → ℕ → ℕ → ℕ

@@ -101,8 +101,8 @@ made op (Some a) (Some b) (Some c) (Err k) = Err k
 made op a b c i = Err K.Operand
 
 -- a field that the form doesn't use
-abbrev pub unused : Option ℕ
-unused = Some 0
+abbrev pub no_field : Option ℕ
+no_field = Some 0
 
 -- the immediate of a form that has none
 abbrev pub nil : Result Cell AsmKind
@@ -122,20 +122,21 @@ with_operands k xs r = if length xs == k then r else Err K.Operand
 
 -- by the form of the opcode, where m is the mnemonic
 abbrev pub by_form : ℕ → List ℕ → Form → List (List ℕ) → Result Cell AsmKind
-by_form op m F.Two xs = with_operands 2 xs (made op (reg_at xs 0) (reg_at xs 1) unused nil)
+by_form op m F.Two xs = with_operands 2 xs (made op (reg_at xs 0) (reg_at xs 1) no_field nil)
 by_form op m F.Three xs = with_operands 3 xs (made op (reg_at xs 0) (reg_at xs 1) (reg_at xs 2) nil)
 by_form op m F.TwoAndValue xs =
-    with_operands 3 xs (made op (reg_at xs 0) (reg_at xs 1) unused (unsigned_of m 0 65535 (text_at xs 2)))
+    with_operands 3 xs (made op (reg_at xs 0) (reg_at xs 1) no_field (unsigned_of m 0 65535 (text_at xs 2)))
 by_form op m F.TwoAndShift xs =
-    with_operands 3 xs (made op (reg_at xs 0) (reg_at xs 1) unused (unsigned_of m 0 31 (text_at xs 2)))
+    with_operands 3 xs (made op (reg_at xs 0) (reg_at xs 1) no_field (unsigned_of m 0 31 (text_at xs 2)))
 by_form op m F.TwoAndOffset xs =
-    with_operands 3 xs (made op (reg_at xs 0) (reg_at xs 1) unused (signed_of m (text_at xs 2)))
+    with_operands 3 xs (made op (reg_at xs 0) (reg_at xs 1) no_field (signed_of m (text_at xs 2)))
 by_form op m F.OneAndValue xs =
-    with_operands 2 xs (made op (reg_at xs 0) unused unused (unsigned_of m 0 65535 (text_at xs 1)))
-by_form op m F.OneAndOffset xs = with_operands 2 xs (made op (reg_at xs 0) unused unused (signed_of m (text_at xs 1)))
-by_form op m F.One xs = with_operands 1 xs (made op (reg_at xs 0) unused unused nil)
-by_form op m F.Value xs = with_operands 1 xs (made op unused unused unused (unsigned_of m 0 65535 (text_at xs 0)))
-by_form op m F.Vector xs = with_operands 1 xs (made op unused unused unused (unsigned_of m 64 255 (text_at xs 0)))
+    with_operands 2 xs (made op (reg_at xs 0) no_field no_field (unsigned_of m 0 65535 (text_at xs 1)))
+by_form op m F.OneAndOffset xs =
+    with_operands 2 xs (made op (reg_at xs 0) no_field no_field (signed_of m (text_at xs 1)))
+by_form op m F.One xs = with_operands 1 xs (made op (reg_at xs 0) no_field no_field nil)
+by_form op m F.Value xs = with_operands 1 xs (made op no_field no_field no_field (unsigned_of m 0 65535 (text_at xs 0)))
+by_form op m F.Vector xs = with_operands 1 xs (made op no_field no_field no_field (unsigned_of m 64 255 (text_at xs 0)))
 
 -- the instruction of a row of the opcode table; a mnemonic without a row is unknown
 abbrev pub by_row : ℕ → List ℕ → List (List ℕ) → Option Opcode → Result Cell AsmKind

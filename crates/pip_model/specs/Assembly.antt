@@ -13,12 +13,12 @@ use Rattle.pip_model.specs.declared.assembly.Stage.{Stage}
 use Rattle.pip_model.specs.declared.assembly.Stage.TheVariants.{Start, Framed, Header, InPage}
 
 -- a line, counted from 1, and what is wrong with it
-pub record Fault : Type 0 where
+pub record LineFault : Type 0 where
   pub line : ℕ
   pub kind : AsmKind
 
 -- what a line gives, and then what the further lines make of it
-abbrev pub at_line : {A B : Type 0} → ℕ → Result A AsmKind → (A → Result B Fault) → Result B Fault
+abbrev pub at_line : {A B : Type 0} → ℕ → Result A AsmKind → (A → Result B LineFault) → Result B LineFault
 at_line n (Ok x) rest = rest x
 at_line n (Err k) rest = Err (record { line = n; kind = k })
 
@@ -65,39 +65,40 @@ abbrev pub grown : AssemblyState → ℕ → Result AssemblyState AsmKind
 grown s k = if nat_le (s.size + k) 1024 then Ok (record s { size = s.size + k }) else Err K.Size
 
 -- what a line makes of it
-abbrev pub placed : AssemblyState → Statement → Result AssemblyState AsmKind
-placed s Blank = Ok s
-placed s (Frames n) = Ok (record s { stage = Framed; frames = n })
-placed s (Cpus c) = Ok (record s { stage = Header; cpus = c })
-placed s (Plans p) = if nat_le s.least p.line then Ok (record s { least = p.line + 1; plans = s.plans ++ p ∷ [] })
+abbrev pub place_statement : AssemblyState → Statement → Result AssemblyState AsmKind
+place_statement s Blank = Ok s
+place_statement s (Frames n) = Ok (record s { stage = Framed; frames = n })
+place_statement s (Cpus c) = Ok (record s { stage = Header; cpus = c })
+place_statement s (Plans p) = if nat_le s.least p.line
+    then Ok (record s { least = p.line + 1; plans = s.plans ++ p ∷ [] })
     else Err K.Range
-placed s (Begins v) =
+place_statement s (Begins v) =
     if has_row s.frames v then (if is_seen v s.pages then Err K.Twice
     else Ok (record s { stage = InPage; pages = s.pages ++ v ∷ []; at = v * 4096; size = 0 }))
     else Err K.Range
-placed s (Holds c) = grown s 1
-placed s (Zeros k) = grown s k
-placed s (Names t) = if is_some (s.names t) then Err K.Twice
+place_statement s (Holds c) = grown s 1
+place_statement s (Zeros k) = grown s k
+place_statement s (Names t) = if is_some (s.names t) then Err K.Twice
     else Ok (record s { names = with_name t ((s.at + 4 * s.size) % 2 ^ 32) s.names })
 
 -- a text may end once both header lines were read
-abbrev pub end_of_text : Stage → AssemblyState → ℕ → Result AssemblyState Fault
+abbrev pub end_of_text : Stage → AssemblyState → ℕ → Result AssemblyState LineFault
 end_of_text Start s n = Err (record { line = n; kind = K.Unknown })
 end_of_text Framed s n = Err (record { line = n; kind = K.Unknown })
 end_of_text Header s n = Ok s
 end_of_text InPage s n = Ok s
 
 -- lines of which the first has number n
-abbrev pub first_pass : AssemblyState → ℕ → List (List ℕ) → Result AssemblyState Fault
+abbrev pub first_pass : AssemblyState → ℕ → List (List ℕ) → Result AssemblyState LineFault
 first_pass s n [] = end_of_text s.stage s n
-first_pass s n (l ∷ ls) = at_line n (and_then (statement s.stage l) (placed s)) (λ t. first_pass t (n + 1) ls)
+first_pass s n (l ∷ ls) = at_line n (and_then (statement s.stage l) (place_statement s)) (λ t. first_pass t (n + 1) ls)
 
 -- ---- the second pass: the words of the pages
 
 -- the address of a name, put to use; a name that no line defines is an error
-abbrev pub named : Option ℕ → (ℕ → Result ℕ AsmKind) → Result ℕ AsmKind
-named None f = Err K.Label
-named (Some a) f = f a
+abbrev pub with_address : Option ℕ → (ℕ → Result ℕ AsmKind) → Result ℕ AsmKind
+with_address None f = Err K.Label
+with_address (Some a) f = f a
 
 -- a word with the distance from the next instruction to an address, in words, in its low 16 bits
 abbrev pub apart : ℕ → ℕ → ℕ → Result ℕ AsmKind
@@ -109,10 +110,10 @@ apart w next a =
 -- from a name is free
 abbrev pub word_of_cell : (List ℕ → Option ℕ) → ℕ → ℕ → Use → Result ℕ AsmKind
 word_of_cell names next w Nothing = Ok w
-word_of_cell names next w (Address t) = named (names t) (λ a. Ok a)
-word_of_cell names next w (Low t) = named (names t) (λ a. Ok (w + a % 65536))
-word_of_cell names next w (High t) = named (names t) (λ a. Ok (w + a / 65536))
-word_of_cell names next w (Distance t) = named (names t) (apart w next)
+word_of_cell names next w (Address t) = with_address (names t) (λ a. Ok a)
+word_of_cell names next w (Low t) = with_address (names t) (λ a. Ok (w + a % 65536))
+word_of_cell names next w (High t) = with_address (names t) (λ a. Ok (w + a / 65536))
+word_of_cell names next w (Distance t) = with_address (names t) (apart w next)
 
 -- the zeros after the words of a page of which `size` are there
 abbrev pub padding : Stage → ℕ → List ℕ
@@ -147,12 +148,12 @@ given names g at size (Zeros k) = Ok (record { words = replicate k 0; stage = g;
 given names g at size (Names t) = Ok (record { words = []; stage = g; at = at; size = size })
 
 -- some words in front
-abbrev pub words_before : List ℕ → Result (List ℕ) Fault → Result (List ℕ) Fault
+abbrev pub words_before : List ℕ → Result (List ℕ) LineFault → Result (List ℕ) LineFault
 words_before ws (Ok vs) = Ok (ws ++ vs)
 words_before ws (Err e) = Err e
 
 -- lines of which the first has number n
-abbrev pub second_pass : (List ℕ → Option ℕ) → Stage → ℕ → ℕ → ℕ → List (List ℕ) → Result (List ℕ) Fault
+abbrev pub second_pass : (List ℕ → Option ℕ) → Stage → ℕ → ℕ → ℕ → List (List ℕ) → Result (List ℕ) LineFault
 second_pass names g at size n [] = Ok (padding g size)
 second_pass names g at size n (l ∷ ls) = at_line n (and_then (statement g l) (given names g at size))
     (λ t. words_before t.words (second_pass names t.stage t.at t.size (n + 1) ls))
@@ -169,11 +170,11 @@ abbrev pub head_words : AssemblyState → List ℕ
 head_words s = s.frames ∷ s.cpus ∷ length s.plans ∷ length s.pages ∷ plan_words s.plans
 
 -- words after the magic
-abbrev pub as_image : List ℕ → Result (List ℕ) Fault → Result (List ℕ) Fault
+abbrev pub as_image : List ℕ → Result (List ℕ) LineFault → Result (List ℕ) LineFault
 as_image head (Ok ws) = Ok (magic ++ bytes_of (head ++ ws))
 as_image head (Err e) = Err e
 
 -- the image that a text is assembled to, as bytes, or the first fault
-abbrev pub assembly : List ℕ → Result (List ℕ) Fault
+abbrev pub assembly : List ℕ → Result (List ℕ) LineFault
 assembly text = and_then (first_pass first_state 1 (lines_of text))
     (λ s. as_image (head_words s) (second_pass s.names Start 0 0 1 (lines_of text)))

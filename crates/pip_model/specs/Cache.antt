@@ -48,16 +48,16 @@ counted_lookup c (Some e) = record c { hits = one_more c.hits }
 counted_lookup c None = record c { misses = one_more c.misses }
 
 -- the cache after partition p was looked up in it at vpage v: a hit or a miss more
-abbrev pub looked : Places → ℕ → ℕ → Places
-looked c p v = counted_lookup c (holding c p v)
+abbrev pub after_lookup : Places → ℕ → ℕ → Places
+after_lookup c p v = counted_lookup c (holding c p v)
 
 -- the place of an entry's vpage holds it
 abbrev pub with_new_entry : Places → Entry → Places
 with_new_entry c e = record c { at = slice_set c.at (e.vpage % 64) (Some e) }
 
 -- all places are empty, and the counts stay
-abbrev pub emptied : Places → Places
-emptied c = record c { at = no_entries }
+abbrev pub without_entries : Places → Places
+without_entries c = record c { at = no_entries }
 
 -- after a miss, an access that reaches a word fills the place with the row
 abbrev pub filled_on_miss : Places → ℕ → ℕ → Option Entry → Option Row → Reached → Places
@@ -66,8 +66,8 @@ filled_on_miss c p v None (Some r) (Place g i) =
 filled_on_miss c p v _ _ _ = c
 
 -- the cache after an access of p at address va, which is aligned
-abbrev pub cached : Tree → Places → ℕ → ℕ → Access → Places
-cached t c p va access = filled_on_miss (looked c p (vpage va)) p (vpage va) (holding c p (vpage va))
+abbrev pub cache_after_access : Tree → Places → ℕ → ℕ → Access → Places
+cache_after_access t c p va access = filled_on_miss (after_lookup c p (vpage va)) p (vpage va) (holding c p (vpage va))
     (row_at (node t p).rows (vpage va)) (reach t p va access Byte)
 
 -- ---- the caches of all processors
@@ -83,12 +83,12 @@ cache_at cs cpu = slice_index_or cs cpu no_places
 
 -- the caches of all processors, emptied
 abbrev pub all_emptied : List Places → List Places
-all_emptied cs = map emptied cs
+all_emptied cs = map without_entries cs
 
 -- after an access on a processor; one that isn't aligned looks nothing up
-abbrev pub accessed : Tree → List Places → ℕ → ℕ → ℕ → Access → Size → List Places
-accessed t cs cpu p va access size = if is_misaligned va size then cs
-    else slice_set cs cpu (cached t (cache_at cs cpu) p va access)
+abbrev pub places_after_access : Tree → List Places → ℕ → ℕ → ℕ → Access → Size → List Places
+places_after_access t cs cpu p va access size = if is_misaligned va size then cs
+    else slice_set cs cpu (cache_after_access t (cache_at cs cpu) p va access)
 
 -- ---- what is always true of them
 

@@ -6,7 +6,7 @@ use Rattle.pip_base.specs.declared.outcome.Status.TheVariants as S
 use Rattle.pip_model.specs.Lists.{repeats}
 use Rattle.pip_model.specs.Tree.{Node, Tree, config, free, vpage}
 use Rattle.pip_model.specs.Answers.{Answer, accept, first_met, answer_unless, Five, list_of, some_unaligned, some_null}
-use Rattle.pip_model.specs.Answers.{mapped, writable, page_of, pair_at, words_without}
+use Rattle.pip_model.specs.Answers.{is_mapped, writable, page_of, pair_at, words_without}
 
 -- why createPartition refuses p's five pages, in the order of the tests
 abbrev pub create_refusals : Tree → ℕ → Five → List (Bool × Status)
@@ -14,7 +14,7 @@ create_refusals t p a =
     some_unaligned (list_of a)
     ∷ some_null (list_of a)
     ∷ (repeats (list_of a), S.Repeated)
-    ∷ (list_any (λ x. not (mapped t p (vpage x))) (list_of a), S.NotMapped)
+    ∷ (list_any (λ x. not (is_mapped t p (vpage x))) (list_of a), S.NotMapped)
     ∷ (list_any (λ x. not (free t p (vpage x))) (list_of a), S.NotFree)
     ∷ (list_any (λ x. not (writable t p (vpage x))) (list_of a), S.NoRight)
     ∷ []

@@ -10,15 +10,15 @@ trim_on w [] = if w == 0 then [] else w ∷ []
 trim_on w (v ∷ vs) = w ∷ v ∷ vs
 
 -- a list of words without the zeros at its end
-abbrev pub trimmed : List ℕ → List ℕ
-trimmed [] = []
-trimmed (w ∷ ws) = trim_on w (trimmed ws)
+abbrev pub without_last_zeros : List ℕ → List ℕ
+without_last_zeros [] = []
+without_last_zeros (w ∷ ws) = trim_on w (without_last_zeros ws)
 
 -- the lines of a part: of a page its address, and one line a word up to the last that isn't 0
 abbrev pub part_lines : Part → List (List ℕ)
 part_lines (Head f) = (codes ".frames " ++ decimal f.frames) ∷ (codes ".cpus " ++ decimal f.cpus) ∷ []
 part_lines (Line p) = (codes ".line " ++ (decimal p.line ++ 32 ∷ (decimal p.first ++ 32 ∷ decimal p.period))) ∷ []
-part_lines (Holds p) = (codes ".page " ++ word_text (p.vpage * 4096)) ∷ map word_said (trimmed p.words)
+part_lines (Holds p) = (codes ".page " ++ word_text (p.vpage * 4096)) ∷ map word_said (without_last_zeros p.words)
 
 -- the lines of several parts, one after the other
 abbrev pub parts_lines : List Part → List (List ℕ)

@@ -113,13 +113,13 @@ abbrev pub group_text : (ℕ → ℕ) → ℕ → List ℕ
 group_text word k = if list_any (λ i. not (word i == 0)) (numbers_from (8 * k) 8) then group_line word k else []
 
 -- the lines of a frame's groups under its own line; where there are none, nothing
-abbrev pub headed : ℕ → List ℕ → List ℕ
-headed f [] = []
-headed f (b ∷ bs) = line_text (codes "frame " ++ decimal f) ++ b ∷ bs
+abbrev pub with_frame_line : ℕ → List ℕ → List ℕ
+with_frame_line f [] = []
+with_frame_line f (b ∷ bs) = line_text (codes "frame " ++ decimal f) ++ b ∷ bs
 
 -- the lines of frame f with these words
 abbrev pub words_text : ℕ → (ℕ → ℕ) → List ℕ
-words_text f word = headed f (flat_map (group_text word) (numbers_from 0 128))
+words_text f word = with_frame_line f (flat_map (group_text word) (numbers_from 0 128))
 
 -- the lines of frame f, as the tree lays it out
 abbrev pub frame_text : Tree → ℕ → List ℕ

@@ -26,12 +26,12 @@ abbrev pub word_of_signed : ℤ → ℕ
 word_of_signed z = cast_unsigned w32 z
 
 -- a word as a signed number: the words from 2^31 on are the negative ones
-abbrev pub signed : ℕ → ℤ
-signed a = cast_signed w32 a
+abbrev pub signed_word : ℕ → ℤ
+signed_word a = cast_signed w32 a
 
 -- a is less than b, as signed numbers
 abbrev pub below_signed : ℕ → ℕ → Bool
-below_signed a b = int_lt (signed a) (signed b)
+below_signed a b = int_lt (signed_word a) (signed_word b)
 
 -- a comparison as a word
 abbrev pub bit : Bool → ℕ
@@ -47,7 +47,7 @@ shift_right a s = a / 2 ^ s
 
 -- a signed number shifted right by less than 32 places and rounded down: its top bit comes in
 abbrev pub shift_signed : ℕ → ℕ → ℕ
-shift_signed a s = word_of_signed (shr_z (signed a) (2 ^ s))
+shift_signed a s = word_of_signed (shr_z (signed_word a) (2 ^ s))
 
 -- the upper half of a word is replaced
 abbrev pub with_high : ℕ → ℕ → ℕ
@@ -64,16 +64,16 @@ abbrev pub next : Ctx → ℕ
 next x = plus x.pc 4
 
 -- the context at the next instruction
-abbrev pub passed : Ctx → Ctx
-passed x = record x { pc = next x }
+abbrev pub at_next : Ctx → Ctx
+at_next x = record x { pc = next x }
 
 -- the context at the next instruction, with a value in register a
 abbrev pub with_register : Ctx → ℕ → ℕ → Ctx
 with_register x a v = record { pc = next x; regs = slice_set x.regs a v }
 
 -- the context elsewhere, with the address of the next instruction in register a
-abbrev pub linked : Ctx → ℕ → ℕ → Ctx
-linked x a pc = record { pc = pc; regs = slice_set x.regs a (next x) }
+abbrev pub with_link : Ctx → ℕ → ℕ → Ctx
+with_link x a pc = record { pc = pc; regs = slice_set x.regs a (next x) }
 
 -- where a branch by z instructions leads
 abbrev pub target : Ctx → ℤ → ℕ
@@ -90,8 +90,8 @@ abbrev pub branch : Ctx → Bool → ℤ → Effect
 branch x b z = F.Goes (if b then target x z else next x)
 
 -- the divisor 0 traps
-abbrev pub divided : Ctx → ℕ → Effect → Effect
-divided x c e = if c == 0 then F.Traps 0 x.pc 0 else e
+abbrev pub traps_at_zero : Ctx → ℕ → Effect → Effect
+traps_at_zero x c e = if c == 0 then F.Traps 0 x.pc 0 else e
 
 -- what an instruction does with a context
 abbrev pub effect : Ctx → Instr → Effect
@@ -101,8 +101,8 @@ effect x (I.LiHigh a i) = F.Sets a (with_high (register x a) i)
 effect x (I.Add a b c) = F.Sets a (plus (register x b) (register x c))
 effect x (I.Sub a b c) = F.Sets a (minus (register x b) (register x c))
 effect x (I.Mul a b c) = F.Sets a ((register x b * register x c) % 2 ^ 32)
-effect x (I.Div a b c) = divided x (register x c) (F.Sets a (register x b / register x c))
-effect x (I.Rem a b c) = divided x (register x c) (F.Sets a (register x b % register x c))
+effect x (I.Div a b c) = traps_at_zero x (register x c) (F.Sets a (register x b / register x c))
+effect x (I.Rem a b c) = traps_at_zero x (register x c) (F.Sets a (register x b % register x c))
 effect x (I.And a b c) = F.Sets a (bit_and (register x b) (register x c))
 effect x (I.Or a b c) = F.Sets a (bit_or (register x b) (register x c))
 effect x (I.Xor a b c) = F.Sets a (bit_xor (register x b) (register x c))

@@ -20,7 +20,7 @@ use Rattle.pip_model.specs.AddVAddr.{add_vaddr}
 use Rattle.pip_model.specs.RemoveVAddr.{remove_vaddr}
 use Rattle.pip_model.specs.MappedInChild.{mapped_in_child}
 use Rattle.pip_model.specs.Reach.{Fault, Alignment, Unmapped, Hidden, Right, Reached, Place, Faulted, reach}
-use Rattle.pip_model.specs.Cache.{Places, accessed, all_emptied}
+use Rattle.pip_model.specs.Cache.{Places, places_after_access, all_emptied}
 use Rattle.pip_model.specs.Worlds.{World, Happened, with_caches, nothing, done, runs_on, running, with_running}
 use Rattle.pip_model.specs.Worlds.{with_masked, with_pending}
 use Rattle.pip_model.specs.declared.call_name.CallName.{CallName}
@@ -31,7 +31,7 @@ use Rattle.pip_model.specs.declared.call_name.MemoryCall.TheVariants.{Prepare, C
 use Rattle.pip_model.specs.declared.call_name.MemoryCall.TheVariants.{MappedInChild}
 use Rattle.pip_model.specs.declared.processors.Occupant.{Occupant}
 use Rattle.pip_model.specs.Deliver.{deliver}
-use Rattle.pip_model.specs.Switching.{replied, yield}
+use Rattle.pip_model.specs.Switching.{reply_happens, yield}
 use Rattle.pip_model.specs.Poll.{lines_with, poll}
 use Rattle.pip_model.specs.Events as E
 use Rattle.pip_model.specs.Events.{Event}
@@ -78,10 +78,10 @@ abbrev pub deliver_fault : World → ℕ → Occupant → ℕ → Access → Fau
 deliver_fault w cpu r va access f = deliver w cpu r (fault_vector f) va (16 * access_number access + fault_number f)
 
 -- what a load or a fetch answers, by what it reached
-abbrev pub loaded : World → ℕ → Occupant → ℕ → Access → Size → Reached → Happened
-loaded w cpu r va access size (Place g i) =
+abbrev pub load_happens : World → ℕ → Occupant → ℕ → Access → Size → Reached → Happened
+load_happens w cpu r va access size (Place g i) =
     record { outcome = O.Word (read_of va size (word_of (w.tree.words g) i)); world = w }
-loaded w cpu r va access size (Faulted f) = deliver_fault w cpu r va access f
+load_happens w cpu r va access size (Faulted f) = deliver_fault w cpu r va access f
 
 -- what a store answers and changes, by what it reached
 abbrev pub wrote : World → ℕ → Occupant → ℕ → Size → ℕ → Reached → Happened
@@ -125,10 +125,10 @@ answer MappedInChild w p a = mapped_in_child w.tree p a.x0
 
 -- r runs on cpu and calls
 abbrev pub call : CallName → World → ℕ → Occupant → Five → Happened
-call (OnMemory c) w cpu r a = replied w cpu r (answer c w r.name a)
+call (OnMemory c) w cpu r a = reply_happens w cpu r (answer c w r.name a)
 call Yields w cpu r a = yield w cpu r a
-call (Masks b) w cpu r a = replied w cpu r (accept 0 (with_masked r.name b w.tree))
-call Unknown w cpu r a = replied w cpu r (refuse w.tree S.UnknownCall)
+call (Masks b) w cpu r a = reply_happens w cpu r (accept 0 (with_masked r.name b w.tree))
+call Unknown w cpu r a = reply_happens w cpu r (refuse w.tree S.UnknownCall)
 
 -- the call switches control, where it is accepted
 abbrev pub IsSwitching : CallName → Type 0
@@ -145,22 +145,23 @@ on_running w cpu None f = nothing w
 on_running w cpu (Some r) f = f r
 
 -- what runs on cpu, if anything, makes the call of this name
-abbrev pub called : CallName → World → ℕ → Five → Happened
-called name w cpu a = on_running w cpu (runs_on w cpu) (λ r. call name w cpu r a)
+abbrev pub call_happens : CallName → World → ℕ → Five → Happened
+call_happens name w cpu a = on_running w cpu (runs_on w cpu) (λ r. call name w cpu r a)
 
 -- what an event answers, and what it makes of the tree and the processors
-abbrev pub acted : World → Event → Happened
-acted w (E.Load cpu va size) =
-    on_running w cpu (runs_on w cpu) (λ r. loaded w cpu r va Load size (reach w.tree r.name va Load size))
-acted w (E.Store cpu va size x) =
+abbrev pub what_happens : World → Event → Happened
+what_happens w (E.Load cpu va size) =
+    on_running w cpu (runs_on w cpu) (λ r. load_happens w cpu r va Load size (reach w.tree r.name va Load size))
+what_happens w (E.Store cpu va size x) =
     on_running w cpu (runs_on w cpu) (λ r. wrote w cpu r va size x (reach w.tree r.name va Store size))
-acted w (E.Fetch cpu) =
-    on_running w cpu (runs_on w cpu) (λ r. loaded w cpu r r.ctx.pc Fetch Word (reach w.tree r.name r.ctx.pc Fetch Word))
-acted w (E.Trap cpu k a b) = on_running w cpu (runs_on w cpu) (λ r. deliver w cpu r k a b)
-acted w (E.Call cpu number a) = called (call_named number) w cpu a
-acted w (E.Raise j) = done (record w { tree = with_pending (lines_with j w.tree.root.pending) w.tree })
-acted w (E.Poll cpu) = poll w cpu (runs_on w cpu)
-acted w (E.SetContext cpu c) =
+what_happens w (E.Fetch cpu) =
+    on_running w cpu (runs_on w cpu)
+    (λ r. load_happens w cpu r r.ctx.pc Fetch Word (reach w.tree r.name r.ctx.pc Fetch Word))
+what_happens w (E.Trap cpu k a b) = on_running w cpu (runs_on w cpu) (λ r. deliver w cpu r k a b)
+what_happens w (E.Call cpu number a) = call_happens (call_named number) w cpu a
+what_happens w (E.Raise j) = done (record w { tree = with_pending (lines_with j w.tree.root.pending) w.tree })
+what_happens w (E.Poll cpu) = poll w cpu (runs_on w cpu)
+what_happens w (E.SetContext cpu c) =
     on_running w cpu (runs_on w cpu) (λ r. done (with_running w cpu (Some (record r { ctx = c }))))
 
 -- ---- caches
@@ -196,11 +197,11 @@ by_runner cs (Some r) f = f r
 -- the caches after an event. What the kernel itself reads of handlers and saves of contexts uses none
 abbrev pub caches_after : World → Event → List Places
 caches_after w (E.Load cpu va size) =
-    by_runner w.caches (runs_on w cpu) (λ r. accessed w.tree w.caches cpu r.name va Load size)
+    by_runner w.caches (runs_on w cpu) (λ r. places_after_access w.tree w.caches cpu r.name va Load size)
 caches_after w (E.Store cpu va size x) =
-    by_runner w.caches (runs_on w cpu) (λ r. accessed w.tree w.caches cpu r.name va Store size)
+    by_runner w.caches (runs_on w cpu) (λ r. places_after_access w.tree w.caches cpu r.name va Store size)
 caches_after w (E.Fetch cpu) =
-    by_runner w.caches (runs_on w cpu) (λ r. accessed w.tree w.caches cpu r.name r.ctx.pc Fetch Word)
+    by_runner w.caches (runs_on w cpu) (λ r. places_after_access w.tree w.caches cpu r.name r.ctx.pc Fetch Word)
 caches_after w (E.Trap cpu k a b) = w.caches
 caches_after w (E.Call cpu number a) = by_runner w.caches (runs_on w cpu)
     (λ r. if empties (call_named number) w r.name a then all_emptied w.caches else w.caches)
@@ -212,7 +213,7 @@ caches_after w (E.SetContext cpu c) = w.caches
 
 -- what an event answers, and the world after it with its caches
 abbrev pub event : World → Event → Happened
-event w e = with_caches (caches_after w e) (acted w e)
+event w e = with_caches (caches_after w e) (what_happens w e)
 
 -- the world after a list of events, and what they answer
 abbrev pub after : World → List Event → World

@@ -63,32 +63,32 @@ magic_of bs = if nat_lt (length bs) 8 then Err (F.Short (length bs)) else if byt
     then Ok (drop 8 bs) else if bytes_eq (take 8 bs) old_magic then Err (F.OldVersion 0) else Err (F.Magic 0)
 
 -- a number that passes its test
-abbrev pub tested : Bool → ImageError → ℕ × List ℕ → Result (ℕ × List ℕ) ImageError
-tested good fault w = if good then Ok w else Err fault
+abbrev pub pass_test : Bool → ImageError → ℕ × List ℕ → Result (ℕ × List ℕ) ImageError
+pass_test good fault w = if good then Ok w else Err fault
 
 -- the number of frames, from 16 to 4096, and the bytes after it
 unfoldable pub frames_at : List ℕ → Result (ℕ × List ℕ) ImageError
 frames_at bs = do
   w ← front_word 8 bs
-  tested (nat_le 16 w.0 && nat_le w.0 4096) (F.Frames 8) w
+  pass_test (nat_le 16 w.0 && nat_le w.0 4096) (F.Frames 8) w
 
 -- the number of processors, from 1 to 4, and the bytes after it
 unfoldable pub cpus_at : List ℕ → Result (ℕ × List ℕ) ImageError
 cpus_at bs = do
   w ← front_word 12 bs
-  tested (nat_le 1 w.0 && nat_le w.0 4) (F.Cpus 12) w
+  pass_test (nat_le 1 w.0 && nat_le w.0 4) (F.Cpus 12) w
 
 -- the number of plans, at most 16, and the bytes after it
 unfoldable pub plans_at : List ℕ → Result (ℕ × List ℕ) ImageError
 plans_at bs = do
   w ← front_word 16 bs
-  tested (nat_le w.0 16) (F.Plan 16) w
+  pass_test (nat_le w.0 16) (F.Plan 16) w
 
 -- the number of pages, at most 4096, and the bytes after it
 unfoldable pub pages_at : List ℕ → Result (ℕ × List ℕ) ImageError
 pages_at bs = do
   w ← front_word 20 bs
-  tested (nat_le w.0 4096) (F.Page 20) w
+  pass_test (nat_le w.0 4096) (F.Page 20) w
 
 -- the head of an image, and the bytes after it
 unfoldable pub fields_of : List ℕ → Result (Fields × List ℕ) ImageError
@@ -193,13 +193,13 @@ image_from [] = record { frames = 0; cpus = 0; plans = []; pages = [] }
 image_from (p ∷ ps) = with_part p (image_from ps)
 
 -- the image of these parts, or the fault that came after them
-abbrev pub imaged : List Part → Option ImageError → Result Image ImageError
-imaged ps None = Ok (image_from ps)
-imaged ps (Some e) = Err e
+abbrev pub image_or_fault : List Part → Option ImageError → Result Image ImageError
+image_or_fault ps None = Ok (image_from ps)
+image_or_fault ps (Some e) = Err e
 
 -- the image that the bytes are, or the first fault
 abbrev pub image : List ℕ → Result Image ImageError
-image bs = imaged (image_parts bs).parts (image_parts bs).fault
+image bs = image_or_fault (image_parts bs).parts (image_parts bs).fault
 
 -- ---- the words of the root's pages
 

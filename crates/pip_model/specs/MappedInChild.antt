@@ -3,12 +3,12 @@ use Rattle.std.specs.Prelude.{ℕ, Bool, not, List, [], ◌∷◌, Option, Some,
 use Rattle.pip_base.specs.declared.outcome.Status.{Status}
 use Rattle.pip_base.specs.declared.outcome.Status.TheVariants as S
 use Rattle.pip_model.specs.Tree.{Node, Tree, holder, vpage}
-use Rattle.pip_model.specs.Answers.{Answer, accept, first_met, answer_unless, some_unaligned, some_null, mapped}
+use Rattle.pip_model.specs.Answers.{Answer, accept, first_met, answer_unless, some_unaligned, some_null, is_mapped}
 use Rattle.pip_model.specs.Answers.{page_of}
 
 -- why mappedInChild refuses p's address v, in the order of the tests
 abbrev pub find_refusals : Tree → ℕ → ℕ → List (Bool × Status)
-find_refusals t p v = some_unaligned (v ∷ []) ∷ some_null (v ∷ []) ∷ (not (mapped t p (vpage v)), S.NotMapped) ∷ []
+find_refusals t p v = some_unaligned (v ∷ []) ∷ some_null (v ∷ []) ∷ (not (is_mapped t p (vpage v)), S.NotMapped) ∷ []
 
 -- the address of the child's descriptor, 0 where no child holds the page
 abbrev pub holder_born : Option Node → ℕ

@@ -7,7 +7,7 @@ use Rattle.pip_base.specs.declared.outcome.Status.TheVariants as S
 use Rattle.pip_model.specs.Lists.{has}
 use Rattle.pip_model.specs.Tree.{Table, Node, Tree, change_node, free, dir, vpage, word_of}
 use Rattle.pip_model.specs.Answers.{Answer, refuse, accept, first_met, answer_unless, some_unaligned, some_null}
-use Rattle.pip_model.specs.Answers.{child_of, child_name, mapped, writable, page_of, pair_at, pair_frames}
+use Rattle.pip_model.specs.Answers.{child_of, child_name, is_mapped, writable, page_of, pair_at, pair_frames}
 use Rattle.pip_model.specs.Answers.{words_without}
 use Rattle.pip_model.specs.CountToMap.{pages_needed, count_refusals}
 
@@ -26,7 +26,7 @@ page_refusals t p seen a =
     some_unaligned (a ∷ [])
     ∷ some_null (a ∷ [])
     ∷ (has seen a, S.Repeated)
-    ∷ (not (mapped t p (vpage a)), S.NotMapped)
+    ∷ (not (is_mapped t p (vpage a)), S.NotMapped)
     ∷ (not (free t p (vpage a)), S.NotFree)
     ∷ (not (writable t p (vpage a)), S.NoRight)
     ∷ []

@@ -33,9 +33,9 @@ gather f from zero = []
 gather f from (suc n) = with_first (f from) (gather f (from + 1) n)
 
 -- the values of a function at a number of numbers, from one on
-unfoldable pub listed : {A : Type 0} → (ℕ → A) → ℕ → ℕ → List A
-listed f from zero = []
-listed f from (suc n) = f from ∷ listed f (from + 1) n
+unfoldable pub values_from : {A : Type 0} → (ℕ → A) → ℕ → ℕ → List A
+values_from f from zero = []
+values_from f from (suc n) = f from ∷ values_from f (from + 1) n
 
 -- ---- where reading stops
 
@@ -95,7 +95,7 @@ table_read m base more j = table_from m base.mmu.frame (slot_page base.list more
 
 -- the tables in the first slots of a configuration list
 abbrev pub tables_read : List (List ℕ) → Base → List Pair → ℕ → List Table
-tables_read m base more count = listed (table_read m base more) 0 count
+tables_read m base more count = values_from (table_read m base more) 0 count
 
 -- the word of a vpage in the tables of a level; 0 where it has no table
 abbrev pub cell_in : List (List ℕ) → Level → ℕ → Option Table → ℕ
@@ -121,7 +121,7 @@ table_rows m d (Some b) = gather (λ v. row_of_word v (word_at m b.mmu.frame (v 
 
 -- all rows that the page tables have, in the order of their vpages
 unfoldable pub rows_read : List (List ℕ) → List Table → List Row
-rows_read m ts = flat_map (λ d. table_rows m d (table_at ts d)) (listed (λ d. d) 0 1024)
+rows_read m ts = flat_map (λ d. table_rows m d (table_at ts d)) (values_from (λ d. d) 0 1024)
 
 -- the lines of the low bits of a word, from a line on
 unfoldable pub lines_read : ℕ → ℕ → ℕ → List ℕ

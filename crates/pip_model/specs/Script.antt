@@ -5,7 +5,7 @@ use Rattle.pip_model.specs.declared.script.Said.TheVariants.{Booted, Came, Peeke
 use Rattle.pip_model.specs.declared.script.ScriptLine.{ScriptLine}
 use Rattle.pip_model.specs.declared.script.ScriptLine.TheVariants as L
 use Rattle.pip_model.specs.Answers.{five_of}
-use Rattle.pip_model.specs.Views.{peeked, register_or_pc}
+use Rattle.pip_model.specs.Views.{peek_word, register_or_pc}
 use Rattle.pip_model.specs.Events as E
 use Rattle.pip_model.specs.Events.{Event}
 use Rattle.pip_model.specs.Happens.{event}
@@ -38,7 +38,7 @@ verdict_in w (L.Trap cpu vector a b) = happens (event w (E.Trap cpu vector a b))
 verdict_in w (L.Call cpu number args) = happens (event w (E.Call cpu number (five_of args)))
 verdict_in w (L.Raise line) = happens (event w (E.Raise line))
 verdict_in w (L.Poll cpu) = happens (event w (E.Poll cpu))
-verdict_in w (L.Peek frame index) = says (Peeked (peeked w frame index)) w
+verdict_in w (L.Peek frame index) = says (Peeked (peek_word w frame index)) w
 verdict_in w (L.Reg cpu reg) = says (Shown (option_map (register_or_pc reg) (runs_on w cpu))) w
 verdict_in w (L.SetPc cpu va) = happens (with_pc w cpu va (runs_on w cpu))
 

@@ -107,7 +107,7 @@ EachSiblings R t = (x y : Node) → In x t.others → In y t.others → x.up ≡
 
 -- A sound tree. Part 8: no line is pending in any node but the root
 pub record IsSound (t : Tree) : Type 0 where
-  pub parents_stand_behind : IsRooted t.root t.others
+  pub parents_come_first : IsRooted t.root t.others
   pub boot_root : HasBootRoot t
   pub pages_apart : EachNode KeepsPagesApart t
   pub lent : EachChild IsLentBy t

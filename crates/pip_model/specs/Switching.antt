@@ -20,8 +20,8 @@ with_reply s v (r0 ∷ r1 ∷ rs) = s ∷ v ∷ rs
 with_reply s v rs = rs
 
 -- a call is answered with a reply, and the caller runs on
-abbrev pub replied : World → ℕ → Occupant → Answer → Happened
-replied w cpu r a = record {
+abbrev pub reply_happens : World → ℕ → Occupant → Answer → Happened
+reply_happens w cpu r a = record {
   outcome = O.Reply a.status a.value;
   world = with_running (record w { tree = a.tree }) cpu
       (Some (record r { ctx = record r.ctx { regs = with_reply (status_number a.status) a.value r.ctx.regs } }));
@@ -30,7 +30,7 @@ replied w cpu r a = record {
 -- what a call does, unless it is refused
 abbrev pub reply_unless : World → ℕ → Occupant → Option Status → Happened → Happened
 reply_unless w cpu r None h = h
-reply_unless w cpu r (Some s) h = replied w cpu r (refuse w.tree s)
+reply_unless w cpu r (Some s) h = reply_happens w cpu r (refuse w.tree s)
 
 -- the name of a node; 0 where there is none
 abbrev pub node_name : Option Node → ℕ
@@ -70,9 +70,9 @@ yielded_tree t r s = with_masked t.root.name
     (if r.name == t.root.name then false else t.root.masked) (saved_to t (with_zeros r.ctx) (yield_place t r.name s))
 
 -- q runs with the words of its handler as they were before the save. (None does not come: condition 16)
-abbrev pub yielded : World → ℕ → Occupant → Five → ℕ → Option Ctx → Happened
-yielded w cpu r a q None = nothing w
-yielded w cpu r a q (Some c) = record {
+abbrev pub yield_happens : World → ℕ → Occupant → Five → ℕ → Option Ctx → Happened
+yield_happens w cpu r a q None = nothing w
+yield_happens w cpu r a q (Some c) = record {
   outcome = O.Switched r.name q a.x1;
   world = enter (record w { tree = yielded_tree w.tree r a.x2 }) cpu q c;
 }
@@ -81,7 +81,7 @@ yielded w cpu r a q (Some c) = record {
 abbrev pub yield_to : World → ℕ → Occupant → Five → Option Node → Happened
 yield_to w cpu r a q =
     reply_unless w cpu r (first_met (yield_refusals w r.name a q))
-    (yielded w cpu r a (node_name q) (handler w.tree (node_name q) a.x1))
+    (yield_happens w cpu r a (node_name q) (handler w.tree (node_name q) a.x1))
 
 -- yield: another partition runs, or the caller elsewhere, with the context in a block of its own
 abbrev pub yield : World → ℕ → Occupant → Five → Happened

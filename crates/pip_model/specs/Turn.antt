@@ -6,7 +6,7 @@ use Rattle.pip_base.specs.declared.outcome.Outcome.{Outcome}
 use Rattle.pip_base.specs.declared.outcome.Outcome.TheVariants as O
 use Rattle.pip_model.specs.Acts.{Act, Makes, Writes}
 use Rattle.pip_model.specs.Answers.{Five}
-use Rattle.pip_model.specs.Effects.{linked, passed, with_register, word_effect}
+use Rattle.pip_model.specs.Effects.{with_link, at_next, with_register, word_effect}
 use Rattle.pip_model.specs.Events as E
 use Rattle.pip_model.specs.Events.{Event}
 use Rattle.pip_model.specs.Happens.{event}
@@ -68,12 +68,12 @@ load_acts t cpu x a o = Writes (moved_line t cpu o) ∷ []
 
 -- the acts after a store: only where it was done does the pc go on
 abbrev pub store_acts : ℕ → ℕ → Ctx → Outcome → List Act
-store_acts t cpu x O.Done = Makes (E.SetContext cpu (passed x)) ∷ []
+store_acts t cpu x O.Done = Makes (E.SetContext cpu (at_next x)) ∷ []
 store_acts t cpu x o = Writes (moved_line t cpu o) ∷ []
 
 -- the act after another event that may move control
-abbrev pub moved : ℕ → ℕ → Outcome → List Act
-moved t cpu o = Writes (moved_line t cpu o) ∷ []
+abbrev pub move_acts : ℕ → ℕ → Outcome → List Act
+move_acts t cpu o = Writes (moved_line t cpu o) ∷ []
 
 -- a call has its arguments in r1 to r5
 abbrev pub arguments : Ctx → Five
@@ -90,18 +90,18 @@ arguments x = record {
 abbrev pub effect_acts : World → ℕ → ℕ → Ctx → Effect → List Act
 effect_acts w t cpu x (F.Sets a v) = Makes (E.SetContext cpu (with_register x a v)) ∷ []
 effect_acts w t cpu x (F.Goes pc) = Makes (E.SetContext cpu (record x { pc = pc })) ∷ []
-effect_acts w t cpu x (F.Links a pc) = Makes (E.SetContext cpu (linked x a pc)) ∷ []
+effect_acts w t cpu x (F.Links a pc) = Makes (E.SetContext cpu (with_link x a pc)) ∷ []
 effect_acts w t cpu x (F.Loads a va size) =
     Makes (E.Load cpu va size) ∷ load_acts t cpu x a (outcome_of w (E.Load cpu va size))
 effect_acts w t cpu x (F.Stores va v size) =
     Makes (E.Store cpu va size v) ∷ store_acts t cpu x (outcome_of w (E.Store cpu va size v))
-effect_acts w t cpu x (F.Traps k a b) = Makes (E.Trap cpu k a b) ∷ moved t cpu (outcome_of w (E.Trap cpu k a b))
-effect_acts w t cpu x (F.Interrupts k) = Makes (E.SetContext cpu (passed x)) ∷ Makes (E.Trap cpu k 0 0)
-    ∷ moved t cpu (outcome_of (world_of w (E.SetContext cpu (passed x))) (E.Trap cpu k 0 0))
-effect_acts w t cpu x (F.Calls n) = Makes (E.SetContext cpu (passed x)) ∷ Makes (E.Call cpu n (arguments x))
-    ∷ Writes (call_line t cpu n (outcome_of (world_of w (E.SetContext cpu (passed x))) (E.Call cpu n (arguments x))))
+effect_acts w t cpu x (F.Traps k a b) = Makes (E.Trap cpu k a b) ∷ move_acts t cpu (outcome_of w (E.Trap cpu k a b))
+effect_acts w t cpu x (F.Interrupts k) = Makes (E.SetContext cpu (at_next x)) ∷ Makes (E.Trap cpu k 0 0)
+    ∷ move_acts t cpu (outcome_of (world_of w (E.SetContext cpu (at_next x))) (E.Trap cpu k 0 0))
+effect_acts w t cpu x (F.Calls n) = Makes (E.SetContext cpu (at_next x)) ∷ Makes (E.Call cpu n (arguments x))
+    ∷ Writes (call_line t cpu n (outcome_of (world_of w (E.SetContext cpu (at_next x))) (E.Call cpu n (arguments x))))
     ∷ []
-effect_acts w t cpu x (F.Shows v) = Writes (out_line t cpu v) ∷ Makes (E.SetContext cpu (passed x)) ∷ []
+effect_acts w t cpu x (F.Shows v) = Writes (out_line t cpu v) ∷ Makes (E.SetContext cpu (at_next x)) ∷ []
 
 -- ---- a turn
 
@@ -111,23 +111,24 @@ word_acts w t cpu v None = []
 word_acts w t cpu v (Some r) = effect_acts w t cpu r.ctx (word_effect r.ctx v (instr_of v))
 
 -- by the outcome of the fetch: where it gave no word the turn ends
-abbrev pub fetched : World → ℕ → ℕ → Outcome → List Act
-fetched w t cpu (O.Word v) = word_acts w t cpu v (runs_on w cpu)
-fetched w t cpu o = moved t cpu o
+abbrev pub acts_after_fetch : World → ℕ → ℕ → Outcome → List Act
+acts_after_fetch w t cpu (O.Word v) = word_acts w t cpu v (runs_on w cpu)
+acts_after_fetch w t cpu o = move_acts t cpu o
 
 -- the acts of a fetch and of what comes of it
 abbrev pub fetch_acts : World → ℕ → ℕ → List Act
-fetch_acts w t cpu = Makes (E.Fetch cpu) ∷ fetched (world_of w (E.Fetch cpu)) t cpu (outcome_of w (E.Fetch cpu))
+fetch_acts w t cpu =
+    Makes (E.Fetch cpu) ∷ acts_after_fetch (world_of w (E.Fetch cpu)) t cpu (outcome_of w (E.Fetch cpu))
 
 -- by the outcome of the poll: where it switched, or nothing runs, the turn ends
-abbrev pub polled : World → ℕ → ℕ → Outcome → List Act
-polled w t cpu (O.Switched from to k) = moved t cpu (O.Switched from to k)
-polled w t cpu O.Idle = []
-polled w t cpu o = fetch_acts w t cpu
+abbrev pub acts_after_poll : World → ℕ → ℕ → Outcome → List Act
+acts_after_poll w t cpu (O.Switched from to k) = move_acts t cpu (O.Switched from to k)
+acts_after_poll w t cpu O.Idle = []
+acts_after_poll w t cpu o = fetch_acts w t cpu
 
 -- a turn of a processor at step t: it polls, fetches, and does what the instruction says
 abbrev pub turn : World → ℕ → ℕ → List Act
-turn w cpu t = Makes (E.Poll cpu) ∷ polled (world_of w (E.Poll cpu)) t cpu (outcome_of w (E.Poll cpu))
+turn w cpu t = Makes (E.Poll cpu) ∷ acts_after_poll (world_of w (E.Poll cpu)) t cpu (outcome_of w (E.Poll cpu))
 
 -- how a turn ends
 abbrev pub fetched_end : Outcome → TurnEnd

@@ -5,8 +5,8 @@ use Rattle.pip_model.specs.Worlds.{World}
 use Rattle.pip_model.specs.declared.processors.Occupant.{Occupant}
 
 -- none where there is no such frame or no such word
-abbrev pub peeked : World → ℕ → ℕ → Option ℕ
-peeked w f i = if nat_lt f w.tree.frames && nat_lt i 1024 then Some (layout w.tree f i) else None
+abbrev pub peek_word : World → ℕ → ℕ → Option ℕ
+peek_word w f i = if nat_lt f w.tree.frames && nat_lt i 1024 then Some (layout w.tree f i) else None
 
 -- register 16 is the pc
 abbrev pub register_or_pc : ℕ → Occupant → ℕ

@@ -1,8 +1,8 @@
 //! The instructions of the machine.
 use crate::operands::{Register, Shift, Vector};
 
-/// One instruction (docs/FORMATS.md, "Instructions"). a, b and c are registers. Sums, differences and addresses wrap at 2^32.
-/// A branch sets pc to `next + 4 * offset`, where `next` is the address after the instruction.
+/// One instruction (docs/FORMATS.md, "Instructions"). a, b and c are registers. Sums, differences and addresses wrap at
+/// 2^32. A branch sets pc to `next + 4 * offset`, where `next` is the address after the instruction.
 #[derive(Clone, Copy)]
 pub enum Instr {
     /// a becomes b.

@@ -1,7 +1,10 @@
 //! The laws of the model. They compute nothing: what each says is its contract.
 ghost use Rattle.pip_model.specs.Audit.{FoundAreLayouts, LayoutsAreFound};
 ghost use Rattle.pip_model.specs.GiveBack.{GivesBack};
-ghost use Rattle.pip_model.specs.Laws.{AncestorsAreInLine, BootIsCached, BootIsSound, CachesTellNothing, CommonPagesRelate, ConfigStandsAbove, EventsKeepCaches, EventsKeepSound, FramesTellTree, LayoutTellsTree, NumbersAreWords, PlacesAreOpen, RunsKeepSound, TreesShowAlike};
+ghost use Rattle.pip_model.specs.Laws.{AncestorsAreInLine, BootIsCached, BootIsSound, CachesTellNothing};
+ghost use Rattle.pip_model.specs.Laws.{CommonPagesRelate, ConfigStandsAbove, EventsKeepCaches, EventsKeepSound};
+ghost use Rattle.pip_model.specs.Laws.{FramesTellTree, LayoutTellsTree, NumbersAreWords, PlacesAreOpen, RunsKeepSound};
+ghost use Rattle.pip_model.specs.Laws.{TreesShowAlike};
 ghost use Rattle.pip_model.specs.Local.{DependsOnBelow, LeavesOthersAlone, OthersDoNotMatter};
 
 /// Every world that events lead to is sound.

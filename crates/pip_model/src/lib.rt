@@ -8,6 +8,7 @@
 mod assembly;
 mod cached;
 mod call_name;
+pub mod call_number;
 mod effect;
 mod form;
 mod image;

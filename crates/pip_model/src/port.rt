@@ -4,15 +4,15 @@ ghost use Rattle.pip_model.specs.Events as E;
 ghost use Rattle.pip_model.specs.Events.{below_of};
 ghost use Rattle.pip_model.specs.Port.{Changes, Follows, StandsForSome};
 ghost use Rattle.pip_model.specs.Answers.{five_of};
-ghost use Rattle.pip_model.specs.Views.{peeked};
+ghost use Rattle.pip_model.specs.Views.{peek_word};
 ghost use Rattle.pip_model.specs.Worlds.{IsSoundWorld, World, runs_on};
 
 use crate::operands::Register;
 use pip_base::{Ctx, Outcome, Size, Steps};
 use std::sync::ledger::Ledger;
 
-/// A machine, by the events that happen to it. It stands for worlds of the model. For every world that it stands for, an
-/// event has the model's outcome, and the machine then stands for the model's next world.
+/// A machine, by the events that happen to it. It stands for worlds of the model. For every world that it stands for,
+/// an event has the model's outcome, and the machine then stands for the model's next world.
 pub trait Port {
     /// The worlds that it stands for: one, up to the order of the partitions.
     ghost stands: { Self → World → Type 0 };
@@ -115,7 +115,7 @@ pub trait Port {
 
     /// Word `index` of a frame. None exactly where there is no such frame or no such word.
     fn peek<L: Ledger>(&self, frame: u32, index: u32, steps: &mut Steps<L>) -> Option<u32>
-        ensures { (w : World) → stands self.now w → result ≡ peeked w frame index };
+        ensures { (w : World) → stands self.now w → result ≡ peek_word w frame index };
 
     /// There is always a world that it stands for.
     ghost world: { (p : Self) → StandsForSome (stands p) };

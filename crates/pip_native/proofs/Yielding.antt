@@ -10,7 +10,7 @@ use Rattle.pip_base.specs.declared.outcome.Outcome.TheVariants as O
 use Rattle.pip_model.specs.Answers.{Five, first_met}
 use Rattle.pip_model.specs.Handlers.{handler}
 use Rattle.pip_model.specs.Happens.{event, on_running}
-use Rattle.pip_model.specs.Switching.{node_name, reply_unless, target_node, yield, yield_refusals, yielded}
+use Rattle.pip_model.specs.Switching.{node_name, reply_unless, target_node, yield, yield_refusals, yield_happens}
 use Rattle.pip_model.specs.Worlds.{World, Happened, runs_on}
 use Rattle.pip_model.specs.declared.processors.Occupant.{Occupant}
 use Rattle.pip_native.specs.declared.decision.Decision.TheVariants as D
@@ -24,7 +24,7 @@ IsAnswered (O.Reply status value) = Unit {0}
 IsAnswered o = HasSwitched o
 
 yielded-answered : (w : World) (cpu : ℕ) (r : Occupant) (a : Five) (q : ℕ) (o : Option Ctx) → is_none o ≡ false
-    → IsAnswered (yielded w cpu r a q o).outcome
+    → IsAnswered (yield_happens w cpu r a q o).outcome
 yielded-answered w cpu r a q None e = cc
 yielded-answered w cpu r a q (Some c) e = tt
 

@@ -1,8 +1,8 @@
 //! What chooses the next child.
 ghost use Rattle.std.specs.Prelude.{ℕ};
 
-/// A choice of the next child, by the bits of the children that are alive and the place of the one that was chosen last. Each
-/// closure that takes these two words and answers a place is one.
+/// A choice of the next child, by the bits of the children that are alive and the place of the one that was chosen
+/// last. Each closure that takes these two words and answers a place is one.
 pub trait Chooser {
     /// It may be asked of these.
     ghost may_choose: { Self → ℕ → ℕ → Type 0 };

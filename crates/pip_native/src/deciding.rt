@@ -3,17 +3,19 @@ ghost use Rattle.std.specs.Prelude.{◌≡◌, ◌≢◌, ◌<◌, ◌↔◌, Is
 ghost use Rattle.pip_model.specs.Acts.{after_acts};
 ghost use Rattle.pip_model.specs.Happens.{event};
 ghost use Rattle.pip_model.specs.Worlds.{World, runs_on};
-ghost use Rattle.pip_native.specs.Monitoring.{RunsChild, HasSwitched, choice, decision_in, monitor_after, visit, visit_acts};
+ghost use Rattle.pip_native.specs.Monitoring.{RunsChild, HasSwitched, choice, decision_in, monitor_after, visit};
+ghost use Rattle.pip_native.specs.Monitoring.{visit_acts};
 
 use crate::chooser::Chooser;
 use crate::decision::Decision;
 use crate::monitor::Monitor;
 use pip_base::{Outcome, Steps};
 use pip_model::Port;
+use pip_model::call_number::{NOT_SAVED, SAVED, YIELD};
 use std::sync::ledger::Ledger;
 
-/// The parent that runs on a processor yields to the child that its monitor chooses, by call 8 with vector 63, and saves
-/// nothing. Nothing happens where no child is alive. A child whose call is refused is dropped.
+/// The parent that runs on a processor yields to the child that its monitor chooses, by call 8 with vector 63, and
+/// saves nothing. Nothing happens where no child is alive. A child whose call is refused is dropped.
 pub fn decide<P: Port, F: Chooser, L: Ledger>(
     port: &mut P,
     cpu: u32,
@@ -34,7 +36,12 @@ pub fn decide<P: Port, F: Chooser, L: Ledger>(
     if i == monitor.count() {
         return Decision::Nobody;
     }
-    match port.call(cpu, 8, &[monitor.child(i), 63, 256, 0, 0], steps) {
+    match port.call(
+        cpu,
+        YIELD,
+        &[monitor.child(i), SAVED, NOT_SAVED, 0, 0],
+        steps,
+    ) {
         Outcome::Reply { status, .. } => {
             monitor.dropped(i);
             Decision::Dropped { child: i, status }

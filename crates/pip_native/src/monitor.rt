@@ -27,8 +27,8 @@ impl<F: Chooser> Model for Monitor<F> {
 }
 
 impl<F: Chooser> Monitor<F> {
-    /// At first all children are alive, and the last of them counts as chosen last. The callback may be asked of all sets of
-    /// children and answers the next one that is alive, in their order and round it.
+    /// At first all children are alive, and the last of them counts as chosen last. The callback may be asked of all
+    /// sets of children and answers the next one that is alive, in their order and round it.
     pub fn new(children: ArrayVec<u32, 8>, chooser: F) -> Monitor<F>
         requires some { 1 ≤ length children.items }
         requires few { length children.items ≤ 8 }

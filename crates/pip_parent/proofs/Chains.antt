@@ -77,14 +77,14 @@ module _ (ws : List Want) (i : ℕ) where
       → next ≡ last (λ w. chain_of_want w == chain_of_want (want_at ws j)) ws j → IsLeft next
   next_left at j next left e other q =
       left_of (chain_of_want (want_at ws j)) j next (left.ours j e) (let l = left.low in
-      omega (arith, l, e)) (behind ∙ left.same) q
+      omega (arith, l, e)) (after ∙ left.same) q
     where
       or_false : (b : Bool) → b ≡ (b || false)
       or_false true = refl
       or_false false = refl
 
-      behind : earlier same_address ws j ≡ earlier same_address ws at
-      behind = or_false (earlier same_address ws j) ∙ ap (λ b. earlier same_address ws j || b) (sym other)
+      after : earlier same_address ws j ≡ earlier same_address ws at
+      after = or_false (earlier same_address ws j) ∙ ap (λ b. earlier same_address ws j || b) (sym other)
           ∙ ap (earlier same_address ws) (let k : suc j ≡ at = omega (arith, e) in k)
 
   pub next_smaller : (at j next : ℕ) → at ≡ j + 1

@@ -11,7 +11,7 @@ use Rattle.pip_model.specs.Tree.{vpage}
 use Rattle.pip_model.proofs.OnLists.Members.{In-append_cases, In-map_from, find_in, flat_append}
 use Rattle.pip_model.proofs.Calls.Add.{insert-in}
 use Rattle.pip_parent.specs.declared.wants.Want.{Want}
-use Rattle.pip_parent.specs.Wants.{want_at, dir_of, earlier, opens, opened_before, used, place}
+use Rattle.pip_parent.specs.Wants.{want_at, dir_of, earlier, opens, opened_before, pages_used, place}
 use Rattle.pip_parent.specs.Pool.{pool_at}
 use Rattle.pip_parent.specs.Built.{child_with, lists_more, more_of, pairs_from, want_row, want_rows, pool_table}
 use Rattle.pip_parent.specs.Built.{tables_of}
@@ -41,50 +41,54 @@ module _ (t : Tree) (p : ℕ) (pool : List ℕ) where
 
   module _ (ws : List Want) where
     -- where want i opens a table, the places before its own
-    tables_next : (i : ℕ) (g : Pair) → (In g (flat_map table_pairs (tables_of t p pool ws i)) → IsPair (used ws i) g)
+    tables_next : (i : ℕ) (g : Pair) → (In g (flat_map table_pairs (tables_of t p pool ws i))
+        → IsPair (pages_used ws i) g)
         → In g (flat_map table_pairs (tables_of t p pool ws (suc i))) → IsPair (place ws i) g
     tables_next i g ih h = go (opens ws i) refl ih h
       where
         go : (b : Bool) → opens ws i ≡ b → (In g (flat_map table_pairs (tables_of t p pool ws i))
-            → IsPair (used ws i) g) → In g (flat_map table_pairs (cond b (tables_of t p pool ws i ++ pool_table t p pool
-            (used ws i) (dir_of (want_at ws i)) ∷ []) (tables_of t p pool ws i))) → IsPair (place ws i) g
-        go false o ih h = more_pair (used ws i) (place ws i) g (used_before ws i) (ih h)
+            → IsPair (pages_used ws i) g) → In g (flat_map table_pairs
+            (cond b (tables_of t p pool ws i ++ pool_table t p pool
+            (pages_used ws i) (dir_of (want_at ws i)) ∷ []) (tables_of t p pool ws i))) → IsPair (place ws i) g
+        go false o ih h = more_pair (pages_used ws i) (place ws i) g (used_before ws i) (ih h)
         go true o ih h =
-            let b = pool_table t p pool (used ws i) (dir_of (want_at ws i)) in
+            let b = pool_table t p pool (pages_used ws i) (dir_of (want_at ws i)) in
             let e = place_opens ws i o in
             elim (In-append_cases g (flat_map table_pairs (tables_of t p pool ws i)) (flat_map table_pairs
             (b ∷ [])) (subst (In g) (flat_append table_pairs (tables_of t p pool ws i) (b ∷ [])) h)) [
-              | inl j ↦ more_pair (used ws i) (place ws i) g (used_before ws i) (ih j)
-              | inr j ↦ more_pair (used ws i + 3) (place ws i) g
-                  (omega (arith, e)) (table_in (used ws i) (dir_of (want_at ws i)) g j)
+              | inl j ↦ more_pair (pages_used ws i) (place ws i) g (used_before ws i) (ih j)
+              | inr j ↦ more_pair (pages_used ws i + 3) (place ws i) g
+                  (omega (arith, e)) (table_in (pages_used ws i) (dir_of (want_at ws i)) g j)
             ]
 
-    tables_step : (i : ℕ) (g : Pair) → In g (flat_map table_pairs (tables_of t p pool ws i)) → IsPair (used ws i) g
+    tables_step : (i : ℕ) (g : Pair) → In g (flat_map table_pairs (tables_of t p pool ws i))
+        → IsPair (pages_used ws i) g
     tables_step zero g i = absurd i
     tables_step (suc n) g i = let q = place_next ws n in
-        more_pair (place ws n) (used ws (suc n)) g (omega (arith, q)) (tables_next n g (tables_step n g) i)
+        more_pair (place ws n) (pages_used ws (suc n)) g (omega (arith, q)) (tables_next n g (tables_step n g) i)
 
-    more_next : (i : ℕ) (g : Pair) → (In g (more_of t p pool ws i) → IsPair (used ws i) g)
+    more_next : (i : ℕ) (g : Pair) → (In g (more_of t p pool ws i) → IsPair (pages_used ws i) g)
         → In g (more_of t p pool ws (suc i)) → IsPair (place ws i) g
     more_next i g ih h = go (opens ws i) refl ih h
       where
-        go : (b : Bool) → opens ws i ≡ b → (In g (more_of t p pool ws i) → IsPair (used ws i) g)
-            → In g (cond b (more_of t p pool ws i ++ pairs_from t p pool (suc (suc (suc (used ws i))))
+        go : (b : Bool) → opens ws i ≡ b → (In g (more_of t p pool ws i) → IsPair (pages_used ws i) g)
+            → In g (cond b (more_of t p pool ws i ++ pairs_from t p pool (suc (suc (suc (pages_used ws i))))
             (lists_more (opened_before ws i))) (more_of t p pool ws i)) → IsPair (place ws i) g
-        go false o ih h = more_pair (used ws i) (place ws i) g (used_before ws i) (ih h)
+        go false o ih h = more_pair (pages_used ws i) (place ws i) g (used_before ws i) (ih h)
         go true o ih h =
             let e = place_opens ws i o in
             elim (In-append_cases g (more_of t p pool ws i)
-            (pairs_from t p pool (suc (suc (suc (used ws i)))) (lists_more (opened_before ws i))) h) [
-              | inl j ↦ more_pair (used ws i) (place ws i) g (used_before ws i) (ih j)
-              | inr j ↦ more_pair (suc (suc (suc (used ws i))) + lists_more (opened_before ws i)) (place ws i) g
-                  (omega (arith, e)) (pairs_in (suc (suc (suc (used ws i)))) (lists_more (opened_before ws i)) g j)
+            (pairs_from t p pool (suc (suc (suc (pages_used ws i)))) (lists_more (opened_before ws i))) h) [
+              | inl j ↦ more_pair (pages_used ws i) (place ws i) g (used_before ws i) (ih j)
+              | inr j ↦ more_pair (suc (suc (suc (pages_used ws i))) + lists_more (opened_before ws i)) (place ws i) g
+                  (omega (arith, e)) (pairs_in (suc (suc (suc (pages_used ws i)))) (lists_more (opened_before ws i)) g
+                  j)
             ]
 
-    more_step : (i : ℕ) (g : Pair) → In g (more_of t p pool ws i) → IsPair (used ws i) g
+    more_step : (i : ℕ) (g : Pair) → In g (more_of t p pool ws i) → IsPair (pages_used ws i) g
     more_step zero g i = absurd i
     more_step (suc n) g i = let q = place_next ws n in
-        more_pair (place ws n) (used ws (suc n)) g (omega (arith, q)) (more_next n g (more_step n g) i)
+        more_pair (place ws n) (pages_used ws (suc n)) g (omega (arith, q)) (more_next n g (more_step n g) i)
 
     -- a row is that of a want
     pub rows_in : (j : ℕ) (r : Row) → In r (want_rows t p pool ws j) → (m : ℕ) × (m < j) × (r ≡ want_row t p pool ws m)
@@ -119,7 +123,7 @@ module _ (t : Tree) (p : ℕ) (pool : List ℕ) where
     -- what the child holds is in the pool below a bound
     module _ (i j bound : ℕ) (least : 5 ≤ bound) (of_tables : (q : Pair)
         → In q (flat_map table_pairs (tables_of t p pool ws i)) → IsPair bound q)
-        (of_more : (q : Pair) → In q (more_of t p pool ws i) → IsPair bound q) (of_rows : used ws j ≤ bound) where
+        (of_more : (q : Pair) → In q (more_of t p pool ws i) → IsPair bound q) (of_rows : pages_used ws j ≤ bound) where
       of_base : (q : Pair) → In q (base_pairs (child_with t p pool ws i j).base) → IsPair bound q
       of_base q (inl e) = (0, omega (arith, least), e)
       of_base q (inr (inl e)) = (1, omega (arith, least), e)
@@ -160,6 +164,7 @@ module _ (t : Tree) (p : ℕ) (pool : List ℕ) where
         (λ q k. more_next i q (more_step i q) k) b g h
 
     -- before want i has its table: below what is used
-    pub holds_used : (i g : ℕ) → In g (held_pages (child_with t p pool ws i i)) → IsPage (used ws i) g
+    pub holds_used : (i g : ℕ) → In g (held_pages (child_with t p pool ws i i)) → IsPage (pages_used ws i) g
     holds_used i g h =
-        held_in i i (used ws i) (used_least ws i) (λ q k. tables_step i q k) (λ q k. more_step i q k) (omega arith) g h
+        held_in i i (pages_used ws i) (used_least ws i) (λ q k. tables_step i q k) (λ q k. more_step i q k)
+        (omega arith) g h

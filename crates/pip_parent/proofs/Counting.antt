@@ -4,24 +4,24 @@ use Rattle.std.proofs.Common.{◌++◌, length, refl, sym, ap, ◌∙◌, subst,
 use Rattle.std.specs.List.{list_any}
 use Rattle.pip_model.specs.Tree.{Tree}
 use Rattle.pip_parent.specs.declared.wants.Want.{Want}
-use Rattle.pip_parent.specs.Wants.{want_at, dir_of, earlier, opens, opened_before, used, place, need}
+use Rattle.pip_parent.specs.Wants.{want_at, dir_of, earlier, opens, opened_before, pages_used, place, need}
 use Rattle.pip_parent.specs.Built.{lists_more, pool_table, tables_of}
 
 pub used_opens : (ws : List Want) (i : ℕ) → opens ws i ≡ true
-    → used ws (suc i) ≡ used ws i + 4 + lists_more (opened_before ws i)
+    → pages_used ws (suc i) ≡ pages_used ws i + 4 + lists_more (opened_before ws i)
 used_opens ws i e = let q : opened_before ws (suc i) ≡ opened_before ws i + 1 =
     ap (λ b. opened_before ws i + cond b 1 0) e in omega (arith, q)
 
-pub used_stays : (ws : List Want) (i : ℕ) → opens ws i ≡ false → used ws (suc i) ≡ used ws i + 1
+pub used_stays : (ws : List Want) (i : ℕ) → opens ws i ≡ false → pages_used ws (suc i) ≡ pages_used ws i + 1
 used_stays ws i e = let q : opened_before ws (suc i) ≡ opened_before ws i + 0 =
     ap (λ b. opened_before ws i + cond b 1 0) e in omega (arith, q)
 
 pub place_opens : (ws : List Want) (i : ℕ) → opens ws i ≡ true
-    → place ws i ≡ used ws i + 3 + lists_more (opened_before ws i)
+    → place ws i ≡ pages_used ws i + 3 + lists_more (opened_before ws i)
 place_opens ws i e = let q : opened_before ws (suc i) ≡ opened_before ws i + 1 =
     ap (λ b. opened_before ws i + cond b 1 0) e in omega (arith, q)
 
-pub place_stays : (ws : List Want) (i : ℕ) → opens ws i ≡ false → place ws i ≡ used ws i
+pub place_stays : (ws : List Want) (i : ℕ) → opens ws i ≡ false → place ws i ≡ pages_used ws i
 place_stays ws i e = let q : opened_before ws (suc i) ≡ opened_before ws i + 0 =
     ap (λ b. opened_before ws i + cond b 1 0) e in omega (arith, q)
 
@@ -32,31 +32,32 @@ pub opened_stays : (ws : List Want) (i : ℕ) → opens ws i ≡ false → opene
 opened_stays ws i e = let q : opened_before ws (suc i) ≡ opened_before ws i + 0 =
     ap (λ b. opened_before ws i + cond b 1 0) e in omega (arith, q)
 
-pub place_next : (ws : List Want) (i : ℕ) → used ws (suc i) ≡ place ws i + 1
+pub place_next : (ws : List Want) (i : ℕ) → pages_used ws (suc i) ≡ place ws i + 1
 place_next ws i = omega arith
 
-pub used_least : (ws : List Want) (i : ℕ) → 5 ≤ used ws i
+pub used_least : (ws : List Want) (i : ℕ) → 5 ≤ pages_used ws i
 used_least ws i = omega arith
 
-pub used_before : (ws : List Want) (i : ℕ) → used ws i ≤ place ws i
+pub used_before : (ws : List Want) (i : ℕ) → pages_used ws i ≤ place ws i
 used_before ws i = go (opens ws i) refl
   where
-    go : (b : Bool) → opens ws i ≡ b → used ws i ≤ place ws i
+    go : (b : Bool) → opens ws i ≡ b → pages_used ws i ≤ place ws i
     go true e = let q = place_opens ws i e in omega (arith, q)
     go false e = let q = place_stays ws i e in omega (arith, q)
 
-pub used_rises : (ws : List Want) (i k : ℕ) → used ws i ≤ used ws (i + k)
-used_rises ws i zero = let e : used ws (i + 0) ≡ used ws i = ap (used ws) (omega arith) in omega (arith, e)
+pub used_rises : (ws : List Want) (i k : ℕ) → pages_used ws i ≤ pages_used ws (i + k)
+used_rises ws i zero = let e : pages_used ws (i + 0) ≡ pages_used ws i = ap (pages_used ws) (omega arith) in omega
+    (arith, e)
 used_rises ws i (suc k) =
     let q = used_rises ws i k in
     let r = used_before ws (i + k) in
     let s = place_next ws (i + k) in
-    let e : used ws (i + suc k) ≡ used ws (suc (i + k)) = ap (used ws) (omega arith) in
+    let e : pages_used ws (i + suc k) ≡ pages_used ws (suc (i + k)) = ap (pages_used ws) (omega arith) in
     omega (arith, q, r, s, e)
 
-pub used_within : (ws : List Want) (i j : ℕ) → i ≤ j → used ws i ≤ used ws j
+pub used_within : (ws : List Want) (i j : ℕ) → i ≤ j → pages_used ws i ≤ pages_used ws j
 used_within ws i j h = let q = used_rises ws i (j - i) in
-    let e : used ws (i + (j - i)) ≡ used ws j = ap (used ws) (omega arith) in omega (arith, q, e)
+    let e : pages_used ws (i + (j - i)) ≡ pages_used ws j = ap (pages_used ws) (omega arith) in omega (arith, q, e)
 
 -- a want's page is within what is needed
 pub place_within : (ws : List Want) (i : ℕ) → i < length ws → place ws i < need ws
@@ -100,13 +101,13 @@ tables_known t p pool ws v (suc i) = go (opens ws i) refl (tables_known t p pool
         ≡ (earlier (λ w. dir_of w == v) ws i || (dir_of (want_at ws i) == v))
     go true o ih =
         ap (λ b. list_any (λ b. b.index == v) (cond b (tables_of t p pool ws i
-        ++ pool_table t p pool (used ws i) (dir_of (want_at ws i)) ∷ []) (tables_of t p pool ws i))) o
+        ++ pool_table t p pool (pages_used ws i) (dir_of (want_at ws i)) ∷ []) (tables_of t p pool ws i))) o
         ∙ any_last (λ b. b.index == v) (tables_of t p pool ws i)
-        (pool_table t p pool (used ws i) (dir_of (want_at ws i)))
+        (pool_table t p pool (pages_used ws i) (dir_of (want_at ws i)))
         ∙ ap (λ b. b || (dir_of (want_at ws i) == v)) ih
     go false o ih =
         ap (λ b. list_any (λ b. b.index == v) (cond b (tables_of t p pool ws i
-        ++ pool_table t p pool (used ws i) (dir_of (want_at ws i)) ∷ []) (tables_of t p pool ws i))) o
+        ++ pool_table t p pool (pages_used ws i) (dir_of (want_at ws i)) ∷ []) (tables_of t p pool ws i))) o
         ∙ ih ∙ same (dir_of (want_at ws i) == v) refl o
 
 -- there are as many as directory indexes
@@ -116,9 +117,10 @@ tables_count t p pool ws zero = refl
 tables_count t p pool ws (suc i) = go (opens ws i) (tables_count t p pool ws i)
   where
     go : (b : Bool) → length (tables_of t p pool ws i) ≡ opened_before ws i
-        → length (cond b (tables_of t p pool ws i ++ pool_table t p pool (used ws i) (dir_of (want_at ws i))
+        → length (cond b (tables_of t p pool ws i ++ pool_table t p pool (pages_used ws i) (dir_of (want_at ws i))
         ∷ []) (tables_of t p pool ws i)) ≡ opened_before ws i + cond b 1 0
-    go true ih = length-append (tables_of t p pool ws i) (pool_table t p pool (used ws i) (dir_of (want_at ws i)) ∷ [])
+    go true ih = length-append (tables_of t p pool ws i) (pool_table t p pool (pages_used ws i) (dir_of (want_at ws i))
+        ∷ [])
         ∙ ap (λ n. n + 1) ih
     go false ih = ih ∙ omega arith
 

@@ -15,7 +15,7 @@ use Rattle.pip_model.proofs.OnLists.Members.{count, count-in, has_in, in-count, 
 use Rattle.pip_model.proofs.Trees.Free.{IsName, tests_agree}
 use Rattle.pip_model.proofs.Calls.Prepare.{times_with}
 use Rattle.pip_parent.specs.declared.wants.Want.{Want}
-use Rattle.pip_parent.specs.Wants.{want_at, dir_of, is_bad, opens, opened_before, used, place, need}
+use Rattle.pip_parent.specs.Wants.{want_at, dir_of, is_bad, opens, opened_before, pages_used, place, need}
 use Rattle.pip_parent.specs.Pool.{HasPool, pool_at}
 use Rattle.pip_parent.specs.Built.{built_before, child_with, lacks_right, lists_more, pairs_from, pool_table}
 use Rattle.pip_parent.specs.Stages.{link_words}
@@ -59,56 +59,60 @@ module _ (t : Tree) (p : ℕ) (pool : List ℕ) (ws : List Want) (s : IsSound t)
     count_of = suc (suc (suc (lists_more (opened_before ws i))))
 
     abbrev taken : List Pair
-    taken = pairs_from t p pool (used ws i) count_of
+    taken = pairs_from t p pool (pages_used ws i) count_of
 
     abbrev links : ℕ → ℕ → Option (ℕ → ℕ)
-    links c = link_words now p pool (used ws i) c
+    links c = link_words now p pool (pages_used ws i) c
 
     page_same : (a : ℕ) → page_of now p a ≡ page_of t p a
     page_same a = same_page t p before now.words (new_other t p pool ws s n h room i i) refl a
 
-    inside : used ws i + count_of ≤ length pool
+    inside : pages_used ws i + count_of ≤ length pool
     inside = let q = place_within ws i low in let r = place_opens ws i o in omega (arith, q, r, room)
 
     -- other pages keep their words
     links_other : (c g : ℕ) → c < count_of → has (pair_frames taken) g ≡ false → links c g ≡ now.words g
     links_other zero g l e = refl
     links_other (suc c) g l e =
-        let a = page_of now p (pool_at pool (used ws i + c)) in
+        let a = page_of now p (pool_at pool (pages_used ws i + c)) in
         let d : g ≢ a = λ q. let f : has (pair_frames taken) g ≡ true =
-        subst (λ z. has (pair_frames taken) z ≡ true) (sym (q ∙ page_same (pool_at pool (used ws i + c)))) (in_has _
-        (pair_frames taken) (pairs_have t p pool (used ws i) count_of c (omega (arith, l)))) in
+        subst (λ z. has (pair_frames taken) z ≡ true) (sym (q ∙ page_same (pool_at pool (pages_used ws i + c))))
+        (in_has _
+        (pair_frames taken) (pairs_have t p pool (pages_used ws i) count_of c (omega (arith, l)))) in
         absurd (grind (arith, e, f)) in
-        ap (λ b. cond b (Some (λ j. cond (j == 0) (pool_at pool (suc (used ws i + c))) (word_of (links c a) j)))
+        ap (λ b. cond b (Some (λ j. cond (j == 0) (pool_at pool (suc (pages_used ws i + c))) (word_of (links c a) j)))
         (links c g)) (ne_eqb g a d)
         ∙ links_other c g (omega (arith, l)) e
 
     abbrev a : ℕ → ℕ
-    a z = page_of now p (pool_at pool (used ws i + z))
+    a z = page_of now p (pool_at pool (pages_used ws i + z))
 
     -- each page but the last names the next
     links_on : (c m : ℕ) → c < count_of → m < c
-        → word_of (links c (page_of now p (pool_at pool (used ws i + m)))) 0 ≡ pool_at pool (suc (used ws i + m))
+        → word_of (links c (page_of now p (pool_at pool (pages_used ws i + m)))) 0
+        ≡ pool_at pool (suc (pages_used ws i + m))
     links_on zero m l k = absurd (let z : ⊥ = omega (arith, k) in z)
     links_on (suc c) m l k = go (m == c) refl (λ d. links_on c m (omega (arith, l)) d)
       where
-        go : (b : Bool) → (m == c) ≡ b → (m < c → word_of (links c (a m)) 0 ≡ pool_at pool (suc (used ws i + m)))
+        go : (b : Bool) → (m == c) ≡ b → (m < c → word_of (links c (a m)) 0 ≡ pool_at pool (suc (pages_used ws i + m)))
             → word_of (cond (a m == a c) (Some (λ j. cond (j == 0) (pool_at pool
-            (suc (used ws i + c))) (word_of (links c (a c)) j))) (links c (a m))) 0 ≡ pool_at pool (suc (used ws i + m))
+            (suc (pages_used ws i + c))) (word_of (links c (a c)) j))) (links c (a m))) 0
+            ≡ pool_at pool (suc (pages_used ws i + m))
         go true q ih =
             let e : m ≡ c = eqb-true m c q in
             ap (λ b. word_of (cond b (Some (λ j. cond (j == 0) (pool_at pool
-            (suc (used ws i + c))) (word_of (links c (a c)) j))) (links c (a m))) 0) (eq-eqb (a m) (a c) (ap a e))
-            ∙ ap (λ z. pool_at pool (suc (used ws i + z))) (sym e)
+            (suc (pages_used ws i + c))) (word_of (links c (a c)) j))) (links c (a m))) 0) (eq-eqb (a m) (a c) (ap a e))
+            ∙ ap (λ z. pool_at pool (suc (pages_used ws i + z))) (sym e)
         go false q ih =
             let d : m ≢ c = eqb-false m c q in
             let low : m < c = omega (arith, d, k) in
             let apart : a m ≢ a c = λ e. let r = inside in
-            let same = page_apart t p pool ws s n h room (used ws i + m) (used ws i
-            + c) (omega (arith, r, l, k)) (omega (arith, r, l)) (sym (page_same (pool_at pool (used ws i + m))) ∙ e
-            ∙ page_same (pool_at pool (used ws i + c))) in let z : ⊥ = omega (arith, same, d) in z in
+            let same = page_apart t p pool ws s n h room (pages_used ws i + m) (pages_used ws i
+            + c) (omega (arith, r, l, k)) (omega (arith, r, l)) (sym (page_same (pool_at pool (pages_used ws i + m)))
+            ∙ e
+            ∙ page_same (pool_at pool (pages_used ws i + c))) in let z : ⊥ = omega (arith, same, d) in z in
             ap (λ b. word_of (cond b (Some (λ j. cond (j == 0) (pool_at pool
-            (suc (used ws i + c))) (word_of (links c (a c)) j))) (links c (a m))) 0) (ne_eqb (a m) (a c) apart)
+            (suc (pages_used ws i + c))) (word_of (links c (a c)) j))) (links c (a m))) 0) (ne_eqb (a m) (a c) apart)
             ∙ ih low
 
     abbrev stores : ℕ
@@ -126,8 +130,8 @@ module _ (t : Tree) (p : ℕ) (pool : List ℕ) (ws : List Want) (s : IsSound t)
         key : count g (config (child_with t p pool ws (suc i) i))
             ≡ count g (config before) + count g (pair_frames taken)
         key = ap (λ x. count g (config x)) (a_table t p pool ws s n h room now.words i low fits o)
-            ∙ times_with g before (pool_table t p pool (used ws i) (dir_of (want_at ws i)))
-            (pairs_from t p pool (suc (suc (suc (used ws i)))) (lists_more (opened_before ws i)))
+            ∙ times_with g before (pool_table t p pool (pages_used ws i) (dir_of (want_at ws i)))
+            (pairs_from t p pool (suc (suc (suc (pages_used ws i)))) (lists_more (opened_before ws i)))
 
         fore : (b : Bool) → has (pair_frames taken) g ≡ b → 1 ≤ count g (config (child_with t p pool ws (suc i) i))
             → (b || has (config before) g) ≡ true
@@ -158,13 +162,13 @@ module _ (t : Tree) (p : ℕ) (pool : List ℕ) (ws : List Want) (s : IsSound t)
 
     -- prepare in the tree with the links
     pub prepares_now : prepare (record now { words = links stores }) p (pool_at pool 0) (want_at ws i).va
-        (pool_at pool (used ws i)) ≡ accept count_of (with_child t (child_with t p pool ws (suc i) i)
+        (pool_at pool (pages_used ws i)) ≡ accept count_of (with_child t (child_with t p pool ws (suc i) i)
         (words_without (config (child_with t p pool ws (suc i) i)) t.words))
     prepares_now =
         prepares t p pool ws s n h room (links stores) i low fits o
         (λ m a b. subst (λ z. word_of (links stores (page_of now p (pool_at pool z))) 0 ≡ pool_at pool (suc z))
-        (let e : used ws i + (m - used ws i) ≡ m = omega (arith, a) in
-        e) (links_on stores (m - used ws i) (omega arith) (omega (arith, a, b))))
+        (let e : pages_used ws i + (m - pages_used ws i) ≡ m = omega (arith, a) in
+        e) (links_on stores (m - pages_used ws i) (omega arith) (omega (arith, a, b))))
         ∙ ap (λ ws'. accept count_of (with_child t (child_with t p pool ws (suc i) i) ws')) words_next
 
     -- and then addVAddr

@@ -4,7 +4,7 @@ use Rattle.std.proofs.Common.{arith, length, None}
 use Rattle.std.specs.List.{list_any}
 use Rattle.std.proofs.lemmas.Bool.{ne_eqb}
 use Rattle.pip_base.specs.declared.outcome.Status.TheVariants as S
-use Rattle.pip_model.specs.Answers.{accept, answer_unless, first_met, list_of, mapped, writable}
+use Rattle.pip_model.specs.Answers.{accept, answer_unless, first_met, list_of, is_mapped, writable}
 use Rattle.pip_model.specs.CreatePartition.{create_partition, create_refusals}
 use Rattle.pip_model.specs.Lists.{repeats}
 use Rattle.pip_model.specs.Sound.{IsSound}
@@ -68,7 +68,7 @@ module _ (t : Tree) (p : ℕ) (pool : List ℕ) (ws : List Want) (s : IsSound t)
       (each (λ x. not (is_place x)) (λ k l. ap not (h.places k l)))
       (each (λ x. x == 0) (λ k l. ne_eqb (pool_at pool k) 0 (nonzero_at t p pool ws s n h room k l)))
       differ
-      (each (λ x. not (mapped t p (vpage x))) (λ k l. ap not (h.mapped k l)))
+      (each (λ x. not (is_mapped t p (vpage x))) (λ k l. ap not (h.mapped k l)))
       (each (λ x. not (free t p (vpage x))) (λ k l. ap not (h.free k l)))
       (each (λ x. not (writable t p (vpage x))) (λ k l. ap not (h.writable k l)))
 

@@ -12,7 +12,7 @@ use Rattle.pip_model.specs.declared.processors.Occupant.{Occupant}
 use Rattle.pip_parent.specs.declared.wants.Want.{Want}
 use Rattle.pip_parent.specs.Wants.{want_at, is_bad, need, place}
 use Rattle.pip_parent.specs.Pool.{pool_at}
-use Rattle.pip_parent.specs.Built.{built_before, lacks_right, tabled}
+use Rattle.pip_parent.specs.Built.{built_before, lacks_right, built_with_table}
 use Rattle.pip_parent.specs.Stages.{Called, IsBuilder, caches_before, caches_with, met_world, replying, tabled_world}
 use Rattle.pip_parent.specs.Stages.{value_of, world_at}
 use Rattle.pip_parent.proofs.Lent.{lends}
@@ -30,16 +30,17 @@ module _ (A B : World → Type 0) (w : World) (cpu : ℕ) (r : Occupant) (pool :
   -- by whether a right is lacked
   abbrev lent_by : Bool → Answer
   lent_by c =
-      cond c (refuse (tabled w.tree r.name pool ws i) S.NoRight) (accept 0 (built_before w.tree r.name pool ws (suc i)))
-
-  abbrev lent : Answer
-  lent = cond (lacks_right w.tree r.name pool ws i) (refuse (tabled w.tree r.name pool ws i) S.NoRight)
+      cond c (refuse (built_with_table w.tree r.name pool ws i) S.NoRight)
       (accept 0 (built_before w.tree r.name pool ws (suc i)))
 
-  lent_is : add_vaddr (tabled w.tree r.name pool ws i) r.name (pool_at pool (place ws i)) (pool_at pool 0)
+  abbrev lent : Answer
+  lent = cond (lacks_right w.tree r.name pool ws i) (refuse (built_with_table w.tree r.name pool ws i) S.NoRight)
+      (accept 0 (built_before w.tree r.name pool ws (suc i)))
+
+  lent_is : add_vaddr (built_with_table w.tree r.name pool ws i) r.name (pool_at pool (place ws i)) (pool_at pool 0)
       (want_at ws i).va (want_at ws i).rights ≡ lent
   lent_is = lends w.tree r.name pool ws b.world.tree (its_name w cpu r pool b) b.pool room
-      (tabled w.tree r.name pool ws i).words i low fits
+      (built_with_table w.tree r.name pool ws i).words i low fits
 
   met_here : Called A B cpu AddVAddr
       (λ t p. add_vaddr t p (pool_at pool (place ws i)) (pool_at pool 0) (want_at ws i).va (want_at ws i).rights)
@@ -48,10 +49,10 @@ module _ (A B : World → Type 0) (w : World) (cpu : ℕ) (r : Occupant) (pool :
   met_here called accepts a =
       let here = tabled_world w cpu r pool ws i 0 (value_of ws i) in
       let caches = caches_before w cpu r.name pool ws (suc i) in
-      let runs = runs_at w cpu r (tabled w.tree r.name pool ws i) caches 0 (value_of ws i) b.runs in
+      let runs = runs_at w cpu r (built_with_table w.tree r.name pool ws i) caches 0 (value_of ws i) b.runs in
       let one = accepts here a (replying r 0 (value_of ws i)) runs ∙ ap (λ x. is_accepted x.status) lent_is in
-      let two = subst B (again AddVAddr w cpu r (tabled w.tree r.name pool ws i) caches 0 (value_of ws i)
-      (add_vaddr (tabled w.tree r.name pool ws i) r.name (pool_at pool (place ws i)) (pool_at pool 0)
+      let two = subst B (again AddVAddr w cpu r (built_with_table w.tree r.name pool ws i) caches 0 (value_of ws i)
+      (add_vaddr (built_with_table w.tree r.name pool ws i) r.name (pool_at pool (place ws i)) (pool_at pool 0)
       (want_at ws i).va (want_at ws i).rights)
       ∙ ap (λ x. world_at w cpu r x.tree (caches_with AddVAddr caches x) (status_number x.status) x.value) lent_is)
       (called here a (replying r 0 (value_of ws i)) runs) in

@@ -11,9 +11,9 @@ use Rattle.pip_model.specs.declared.processors.Occupant.{Occupant}
 use Rattle.pip_model.proofs.Trees.Free.{IsName}
 use Rattle.pip_model.proofs.Events.Soundness.{runs_named}
 use Rattle.pip_parent.specs.declared.wants.Want.{Want}
-use Rattle.pip_parent.specs.Wants.{want_at, is_bad, need, opened_before, opens, used}
+use Rattle.pip_parent.specs.Wants.{want_at, is_bad, need, opened_before, opens, pages_used}
 use Rattle.pip_parent.specs.Pool.{pool_at}
-use Rattle.pip_parent.specs.Built.{built_before, lists_more, tabled, tree_with_child}
+use Rattle.pip_parent.specs.Built.{built_before, lists_more, built_with_table, tree_with_child}
 use Rattle.pip_parent.specs.Stages.{Called, CanLink, IsBuilder, caches_before, caches_with, link_caches, link_words}
 use Rattle.pip_parent.specs.Stages.{replying, tabled_world, value_of, world_at, world_before}
 use Rattle.pip_parent.proofs.Linked.{prepares_now}
@@ -39,42 +39,44 @@ module _ (w : World) (cpu : ℕ) (r : Occupant) (pool : List ℕ) (ws : List Wan
       no_table w.tree r.name pool ws b.world.tree (its_name w cpu r pool b) b.pool room w.tree.words i low fits o in
       subst A (ap₂ (λ x c. world_at w cpu r (tree_with_child w.tree x) (cond c
       (all_emptied (link_caches (built_before w.tree r.name pool ws i) (caches_before w cpu r.name pool ws i) cpu
-      r.name pool (used ws i) (suc (suc (lists_more (opened_before ws i)))))) (caches_before w cpu r.name pool ws
+      r.name pool (pages_used ws i) (suc (suc (lists_more (opened_before ws i)))))) (caches_before w cpu r.name pool ws
       i)) 0 (cond c (suc (suc (suc (lists_more (opened_before ws i))))) 0)) (sym e) (sym o)) a
 
   opened_here : (A B C : World → Type 0) → opens ws i ≡ true
-      → Linked A B cpu pool (used ws i) (suc (suc (lists_more (opened_before ws i))))
-      → Called B C cpu Prepare (λ t p. prepare t p (pool_at pool 0) (want_at ws i).va (pool_at pool (used ws i)))
+      → Linked A B cpu pool (pages_used ws i) (suc (suc (lists_more (opened_before ws i))))
+      → Called B C cpu Prepare (λ t p. prepare t p (pool_at pool 0) (want_at ws i).va (pool_at pool (pages_used ws i)))
       → A (world_before w cpu r pool ws i) → C (tabled_world w cpu r pool ws i 0 (value_of ws i))
   opened_here A B C o linked called a =
       let s = b.world.tree in
       let n = its_name w cpu r pool b in
       let now = built_before w.tree r.name pool ws i in
       let count = suc (suc (lists_more (opened_before ws i))) in
-      let words = link_words now r.name pool (used ws i) count in
+      let words = link_words now r.name pool (pages_used ws i) count in
       let before = caches_before w cpu r.name pool ws i in
-      let caches = link_caches now before cpu r.name pool (used ws i) count in
+      let caches = link_caches now before cpu r.name pool (pages_used ws i) count in
       let runs = runs_at w cpu r now before 0 0 b.runs in
       let one = linked (world_at w cpu r now before 0 0) a (replying r 0 0) runs
       (can_link w.tree r.name pool ws s n b.pool room i low fits o) in
       let two = called (world_at w cpu r (record now { words = words }) caches 0 0) one (replying r 0 0)
       (runs_at w cpu r (record now { words = words }) caches 0 0 b.runs) in
       subst C (again Prepare w cpu r (record now { words = words }) caches 0 0
-      (prepare (record now { words = words }) r.name (pool_at pool 0) (want_at ws i).va (pool_at pool (used ws i)))
+      (prepare (record now { words = words }) r.name (pool_at pool 0) (want_at ws i).va
+      (pool_at pool (pages_used ws i)))
       ∙ ap (λ x. world_at w cpu r x.tree (caches_with Prepare caches x) (status_number x.status) x.value)
       (prepares_now w.tree r.name pool ws s n b.pool room i low fits o)
-      ∙ ap (λ b. world_at w cpu r (tabled w.tree r.name pool ws i) (cond (not b) (all_emptied caches) caches) 0
+      ∙ ap (λ b. world_at w cpu r (built_with_table w.tree r.name pool ws i) (cond (not b) (all_emptied caches) caches)
+      0
       (suc count)) (ne_eqb (suc count) 0 (λ e. let z : ⊥ = omega (arith, e) in z))
-      ∙ ap (λ c. world_at w cpu r (tabled w.tree r.name pool ws i) (cond c (all_emptied caches) before) 0
+      ∙ ap (λ c. world_at w cpu r (built_with_table w.tree r.name pool ws i) (cond c (all_emptied caches) before) 0
       (cond c (suc count) 0)) (sym o)) two
 
-  pub opened_world : (A B C : World → Type 0) (first stores : ℕ) → first ≡ used ws i
+  pub opened_world : (A B C : World → Type 0) (first stores : ℕ) → first ≡ pages_used ws i
       → stores ≡ suc (suc (lists_more (opened_before ws i))) → opens ws i ≡ true → Linked A B cpu pool first stores
       → Called B C cpu Prepare (λ t p. prepare t p (pool_at pool 0) (want_at ws i).va (pool_at pool first))
       → A (world_before w cpu r pool ws i) → C (tabled_world w cpu r pool ws i 0 (value_of ws i))
   opened_world A B C first stores e f o linked called a =
       opened_here A B C o
-      (subst (λ y. Linked A B cpu pool (used ws i) y) f (subst (λ x. Linked A B cpu pool x stores) e linked))
+      (subst (λ y. Linked A B cpu pool (pages_used ws i) y) f (subst (λ x. Linked A B cpu pool x stores) e linked))
       (subst (λ x. Called B C cpu Prepare (λ t p. prepare t p (pool_at pool 0) (want_at ws i).va (pool_at pool x))) e
       called)
       a

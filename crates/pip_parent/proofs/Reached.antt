@@ -15,7 +15,7 @@ use Rattle.pip_model.proofs.OnLists.Members.{In-append_left, find_in, has_in, in
 use Rattle.pip_model.proofs.Trees.Free.{IsName, hidden_from, node_found, unheld-config}
 use Rattle.pip_model.proofs.Trees.Numbers.{node-numbers}
 use Rattle.pip_parent.specs.declared.wants.Want.{Want}
-use Rattle.pip_parent.specs.Wants.{is_bad, need, opened_before, opens, used}
+use Rattle.pip_parent.specs.Wants.{is_bad, need, opened_before, opens, pages_used}
 use Rattle.pip_parent.specs.Pool.{HasPool, pool_at}
 use Rattle.pip_parent.specs.Built.{built_before, child_with, lists_more}
 use Rattle.pip_parent.specs.Stages.{CanLink}
@@ -44,7 +44,7 @@ module _ (t : Tree) (p : ℕ) (pool : List ℕ) (ws : List Want) (s : IsSound t)
   abbrev before : Node
   before = child_with t p pool ws i i
 
-  not_hidden : (k : ℕ) → used ws i ≤ k → k < length pool → hidden now (page_of t p (pool_at pool k)) ≡ false
+  not_hidden : (k : ℕ) → pages_used ws i ≤ k → k < length pool → hidden now (page_of t p (pool_at pool k)) ≡ false
   not_hidden k a b = parts (has (config t.root) (page_of t p (pool_at pool k))) (has (config before)
       (page_of t p (pool_at pool k))) (list_any (λ x. has (config x) (page_of t p (pool_at pool k))) t.others) old
       (new (has (config before) (page_of t p (pool_at pool k))) refl)
@@ -74,7 +74,7 @@ module _ (t : Tree) (p : ℕ) (pool : List ℕ) (ws : List Want) (s : IsSound t)
               absurd (unheld-config t p (page_of t p (pool_at pool k)) s (node t p) f.0 f.1 u.row u.unheld x j c)
 
   -- the page of a row
-  reached : (k : ℕ) → used ws i ≤ k → k < length pool
+  reached : (k : ℕ) → pages_used ws i ≤ k → k < length pool
       → reach now p (pool_at pool k) Store Word ≡ Place (page_of now p (pool_at pool k)) 0
   reached k a b =
       let al = eqb-true (pool_at pool k % 4096) 0 (h.places k b) in
@@ -106,6 +106,6 @@ module _ (t : Tree) (p : ℕ) (pool : List ℕ) (ws : List Want) (s : IsSound t)
           cond x (Faulted Hidden) (cond (not y) (Faulted Right) (Place q.frame (pool_at pool k % 4096 / 4)))) f w2
           ∙ ap₂ (λ x y. Place x y) (sym g) index
 
-  pub can_link : opens ws i ≡ true → CanLink now p pool (used ws i) (suc (suc (lists_more (opened_before ws i))))
+  pub can_link : opens ws i ≡ true → CanLink now p pool (pages_used ws i) (suc (suc (lists_more (opened_before ws i))))
   can_link o m l = let q = place_within ws i low in let r = place_opens ws i o in
-      reached (used ws i + m) (omega arith) (omega (arith, q, r, room, l))
+      reached (pages_used ws i + m) (omega arith) (omega (arith, q, r, room, l))

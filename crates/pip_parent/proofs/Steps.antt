@@ -10,7 +10,7 @@ use Rattle.pip_model.specs.Tree.{Tree}
 use Rattle.pip_model.specs.Worlds.{World, runs_on}
 use Rattle.pip_model.specs.declared.processors.Occupant.{Occupant}
 use Rattle.pip_model.proofs.Locality.OneEvent.{at_set_here}
-use Rattle.pip_parent.specs.Stages.{answered, caches_with, replying, world_at}
+use Rattle.pip_parent.specs.Stages.{world_after_answer, caches_with, replying, world_at}
 
 set_twice : (x y : Option Occupant) (cs : List (Option Occupant)) (i : ℕ)
     → slice_set (slice_set cs i x) i y ≡ slice_set cs i y
@@ -28,7 +28,7 @@ pub runs_at : (w : World) (cpu : ℕ) (r : Occupant) (t : Tree) (cs : List Place
 runs_at w cpu r t cs s v e = at_set_here (Some (replying r s v)) w.cpus cpu r e
 
 pub again : (c : MemoryCall) (w : World) (cpu : ℕ) (r : Occupant) (t : Tree) (cs : List Places) (s v : ℕ) (a : Answer)
-    → answered c (world_at w cpu r t cs s v) cpu (replying r s v) a
+    → world_after_answer c (world_at w cpu r t cs s v) cpu (replying r s v) a
     ≡ world_at w cpu r a.tree (caches_with c cs a) (status_number a.status) a.value
 again c w cpu r t cs s v a =
     ap (λ ps. record { tree = a.tree; cpus = ps; caches = caches_with c cs a }) (set_twice (Some (replying r s v))

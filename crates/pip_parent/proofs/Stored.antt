@@ -2,7 +2,7 @@
 use Rattle.std.proofs.Common.{◌≡◌, ℕ, suc, ◌+◌, List, ap, ◌∙◌, arith, Option, Some}
 use Rattle.pip_base.specs.declared.types.Access.TheVariants.{Store}
 use Rattle.pip_base.specs.declared.types.Size.TheVariants.{Word}
-use Rattle.pip_model.specs.Cache.{Places, accessed}
+use Rattle.pip_model.specs.Cache.{Places, places_after_access}
 use Rattle.pip_model.specs.Events as E
 use Rattle.pip_model.specs.Happens.{by_runner, event, on_running, with_word, wrote}
 use Rattle.pip_model.specs.Reach.{Place, reach}
@@ -18,12 +18,13 @@ with_words w words cs = record w { tree = record w.tree { words = words }; cache
 pub store_next : (w : World) (words : ℕ → Option (ℕ → ℕ)) (cs : List Places) (r : Occupant) (cpu va x g : ℕ)
     → runs_on w cpu ≡ Some r → reach w.tree r.name va Store Word ≡ Place g 0
     → (event (with_words w words cs) (E.Store cpu va Word x)).world ≡ with_words w
-    (with_word (record w.tree { words = words }) g 0 x).words (accessed w.tree cs cpu r.name va Store Word)
+    (with_word (record w.tree { words = words }) g 0 x).words (places_after_access w.tree cs cpu r.name va Store Word)
 store_next w words cs r cpu va x g runs at =
     ap (λ o.
-    (with_caches (by_runner cs o (λ r. accessed w.tree cs cpu r.name va Store Word)) (on_running (with_words w words
+    (with_caches (by_runner cs o (λ r. places_after_access w.tree cs cpu r.name va Store Word))
+    (on_running (with_words w words
     cs) cpu o (λ r. wrote (with_words w words cs) cpu r va Word x (reach w.tree r.name va Store Word)))).world) runs
-    ∙ ap (λ z. (with_caches (accessed w.tree cs cpu r.name va Store Word)
+    ∙ ap (λ z. (with_caches (places_after_access w.tree cs cpu r.name va Store Word)
     (wrote (with_words w words cs) cpu r va Word x z)).world) at
 
 abbrev pub linked_world : World → Occupant → ℕ → List ℕ → ℕ → ℕ → World

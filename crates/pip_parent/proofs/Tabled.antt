@@ -20,7 +20,7 @@ use Rattle.pip_model.proofs.OnLists.Members.{has_in}
 use Rattle.pip_model.proofs.Trees.ChangeNode.{change-else, change-here}
 use Rattle.pip_model.proofs.Trees.Free.{IsName}
 use Rattle.pip_parent.specs.declared.wants.Want.{Want}
-use Rattle.pip_parent.specs.Wants.{want_at, dir_of, earlier, is_bad, opens, opened_before, used, need}
+use Rattle.pip_parent.specs.Wants.{want_at, dir_of, earlier, is_bad, opens, opened_before, pages_used, need}
 use Rattle.pip_parent.specs.Pool.{HasPool, pool_at}
 use Rattle.pip_parent.specs.Built.{child_with, lists_more, more_of, pairs_from, pool_table, tables_of}
 use Rattle.pip_parent.proofs.Counting.{place_opens, place_within, tables_count, tables_known}
@@ -64,7 +64,7 @@ module _ (t : Tree) (p : ℕ) (pool : List ℕ) (ws : List Want) (s : IsSound t)
   abbrev with_it : Tree
   with_it = with_child t before words
 
-  pub not_in : (k : ℕ) → used ws i ≤ k → k < length pool → holds before (page_of t p (pool_at pool k)) ≡ false
+  pub not_in : (k : ℕ) → pages_used ws i ≤ k → k < length pool → holds before (page_of t p (pool_at pool k)) ≡ false
   not_in k a b = go (holds before (page_of t p (pool_at pool k))) refl
     where
       go : (c : Bool) → holds before (page_of t p (pool_at pool k)) ≡ c → c ≡ false
@@ -86,7 +86,7 @@ module _ (t : Tree) (p : ℕ) (pool : List ℕ) (ws : List Want) (s : IsSound t)
           let same = h.differ k m b (omega (arith, l, b)) q in
           absurd (let z : ⊥ = omega (arith, l, same) in z)
 
-  page_fits : (k : ℕ) (seen : List ℕ) → used ws i ≤ k → k < length pool → ((z : ℕ) → In z seen
+  page_fits : (k : ℕ) (seen : List ℕ) → pages_used ws i ≤ k → k < length pool → ((z : ℕ) → In z seen
       → (m : ℕ) × (m < k) × (z ≡ pool_at pool m)) → first_met (page_refusals with_it p seen (pool_at pool k)) ≡ None
   page_fits k seen a b f =
       page_met _ _ _ _ _ _
@@ -106,7 +106,7 @@ module _ (t : Tree) (p : ℕ) (pool : List ℕ) (ws : List Want) (s : IsSound t)
   more_seen k seen f z (inl e) = (k, omega arith, e)
   more_seen k seen f z (inr j) = let (m, l, q) = f z j in (m, omega (arith, l), q)
 
-  chain_runs : (c k : ℕ) (seen : List ℕ) → k + c ≤ length pool → used ws i ≤ k
+  chain_runs : (c k : ℕ) (seen : List ℕ) → k + c ≤ length pool → pages_used ws i ≤ k
       → ((z : ℕ) → In z seen → (m : ℕ) × (m < k) × (z ≡ pool_at pool m))
       → ((m : ℕ) → k ≤ m → suc m < k + c → next_in_chain with_it p (pool_at pool m) ≡ pool_at pool (suc m))
       → page_chain with_it p c seen (pool_at pool k) ≡ Pages (pairs_from t p pool k c)
@@ -128,10 +128,11 @@ module _ (t : Tree) (p : ℕ) (pool : List ℕ) (ws : List Want) (s : IsSound t)
   -- where want i needs no table, the child is that with the tables up to it
   pub no_table : opens ws i ≡ false → child_with t p pool ws (suc i) i ≡ before
   no_table o = ap (λ b. record before {
-    tables = cond b (tables_of t p pool ws i ++ pool_table t p pool (used ws i) (dir_of (want_at ws i))
+    tables = cond b (tables_of t p pool ws i ++ pool_table t p pool (pages_used ws i) (dir_of (want_at ws i))
         ∷ []) (tables_of t p pool ws i);
     more = cond b (more_of t p pool ws i
-        ++ pairs_from t p pool (suc (suc (suc (used ws i)))) (lists_more (opened_before ws i))) (more_of t p pool ws i);
+        ++ pairs_from t p pool (suc (suc (suc (pages_used ws i)))) (lists_more (opened_before ws i)))
+        (more_of t p pool ws i);
   }) o
 
   module _ (o : opens ws i ≡ true) where
@@ -139,10 +140,10 @@ module _ (t : Tree) (p : ℕ) (pool : List ℕ) (ws : List Want) (s : IsSound t)
     va = (want_at ws i).va
 
     abbrev table : Table
-    table = pool_table t p pool (used ws i) (dir_of (want_at ws i))
+    table = pool_table t p pool (pages_used ws i) (dir_of (want_at ws i))
 
     abbrev rest : List Pair
-    rest = pairs_from t p pool (suc (suc (suc (used ws i)))) (lists_more (opened_before ws i))
+    rest = pairs_from t p pool (suc (suc (suc (pages_used ws i)))) (lists_more (opened_before ws i))
 
     pub a_table : child_with t p pool ws (suc i) i
         ≡ record before { tables = tables_of t p pool ws i ++ table ∷ []; more = more_of t p pool ws i ++ rest }
@@ -173,7 +174,7 @@ module _ (t : Tree) (p : ℕ) (pool : List ℕ) (ws : List Want) (s : IsSound t)
     first : 0 < length pool
     first = let f = has_five t p pool ws s n h room in omega (arith, f)
 
-    enough : used ws i + count ≤ length pool
+    enough : pages_used ws i + count ≤ length pool
     enough =
         let q = place_within ws i low in
         let r = place_opens ws i o in
@@ -190,7 +191,7 @@ module _ (t : Tree) (p : ℕ) (pool : List ℕ) (ws : List Want) (s : IsSound t)
     stays y k = change-else before.name (with_table table rest) y (new_name t p pool ws s n h room i i y k)
 
     abbrev taken : List Pair
-    taken = pairs_from t p pool (used ws i) count
+    taken = pairs_from t p pool (pages_used ws i) count
 
     grown : tree_with_table with_it before.name (dir (vpage va)) taken
         ≡ with_child t (child_with t p pool ws (suc i) i) (words_without (pair_frames taken) words)
@@ -201,15 +202,17 @@ module _ (t : Tree) (p : ℕ) (pool : List ℕ) (ws : List Want) (s : IsSound t)
         (change-here before.name (with_table table rest) before refl ∙ sym a_table)
 
     -- prepare for want i
-    pub prepares : ((m : ℕ) → used ws i ≤ m → suc m < used ws i + count → next_in_chain with_it p (pool_at pool m)
-        ≡ pool_at pool (suc m)) → prepare with_it p (pool_at pool 0) va (pool_at pool (used ws i))
+    pub prepares : ((m : ℕ) → pages_used ws i ≤ m → suc m < pages_used ws i + count → next_in_chain with_it p
+        (pool_at pool m)
+        ≡ pool_at pool (suc m)) → prepare with_it p (pool_at pool 0) va (pool_at pool (pages_used ws i))
         ≡ accept count (with_child t (child_with t p pool ws (suc i) i) (words_without (pair_frames taken) words))
     prepares links =
         ap₂ (λ q c. answer_unless with_it q (let k = pages_needed (unwrap_or c nobody) (vpage va) in
         prepare_with with_it (unwrap_or (option_map (λ x. x.name) c) 0) (vpage va) k
-        (page_chain with_it p k [] (pool_at pool (used ws i))))) no_refusal is_child
-        ∙ ap (λ k. prepare_with with_it before.name (vpage va) k (page_chain with_it p k [] (pool_at pool (used ws i))))
+        (page_chain with_it p k [] (pool_at pool (pages_used ws i))))) no_refusal is_child
+        ∙ ap (λ k. prepare_with with_it before.name (vpage va) k
+        (page_chain with_it p k [] (pool_at pool (pages_used ws i))))
         needed
         ∙ ap (prepare_with with_it before.name (vpage va) count)
-        (chain_runs count (used ws i) [] enough (omega arith) (λ z j. absurd j) links)
+        (chain_runs count (pages_used ws i) [] enough (omega arith) (λ z j. absurd j) links)
         ∙ ap (accept count) grown

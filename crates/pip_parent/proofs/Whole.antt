@@ -18,12 +18,12 @@ use Rattle.pip_model.specs.declared.processors.Occupant.{Occupant}
 use Rattle.pip_model.proofs.Locality.OneEvent.{names_set}
 use Rattle.pip_model.proofs.OnLists.Members.{In-map_from, has_in}
 use Rattle.pip_parent.specs.declared.wants.Want.{Want}
-use Rattle.pip_parent.specs.Wants.{need, used}
+use Rattle.pip_parent.specs.Wants.{need, pages_used}
 use Rattle.pip_parent.specs.Pool.{first_five, pool_at}
-use Rattle.pip_parent.specs.Built.{child_with, tabled}
+use Rattle.pip_parent.specs.Built.{child_with, built_with_table}
 use Rattle.pip_parent.specs.Contract.{CanBuild}
-use Rattle.pip_parent.specs.Stages.{Called, CalledIn, IsBuilder, answered, caches_before, caches_with, met_world}
-use Rattle.pip_parent.specs.Stages.{replying, tabled_world, undone_world, world_at, world_before}
+use Rattle.pip_parent.specs.Stages.{Called, CalledIn, IsBuilder, world_after_answer, caches_before, caches_with}
+use Rattle.pip_parent.specs.Stages.{met_world, replying, tabled_world, undone_world, world_at, world_before}
 use Rattle.pip_parent.proofs.Counting.{opened_most}
 use Rattle.pip_parent.proofs.Deleted.{deletes}
 use Rattle.pip_parent.proofs.Lent.{has_five, new_name, new_other, nonzero_at}
@@ -31,7 +31,7 @@ use Rattle.pip_parent.proofs.Made.{makes}
 use Rattle.pip_parent.proofs.Opening.{its_name}
 use Rattle.pip_parent.proofs.Steps.{again, runs_at}
 
-pub used_most : (ws : List Want) (i : ℕ) → i ≤ 4096 → used ws i ≤ 100000
+pub used_most : (ws : List Want) (i : ℕ) → i ≤ 4096 → pages_used ws i ≤ 100000
 used_most ws i l = let m = opened_most ws i in omega (arith, l, m)
 
 pub not_said : (b : Bool) → false ≡ not b → b ≡ true
@@ -68,7 +68,7 @@ module _ (A B : World → Type 0) (w : World) (cpu : ℕ) (r : Occupant) (pool :
     (b : IsBuilder w cpu r pool) (room : need ws ≤ length pool) where
   pub created_world : Called A B cpu CreatePartition (λ t p. create_partition t p (first_five pool)) → A w
       → B (world_before w cpu r pool ws 0)
-  created_world called a = subst B (ap (λ x. answered CreatePartition w cpu r x)
+  created_world called a = subst B (ap (λ x. world_after_answer CreatePartition w cpu r x)
       (makes w.tree r.name pool ws b.world.tree (its_name w cpu r pool b) b.pool room)) (called w a r b.runs)
 
   pub undone_after : (i : ℕ)
@@ -80,17 +80,19 @@ module _ (A B : World → Type 0) (w : World) (cpu : ℕ) (r : Occupant) (pool :
       let s = b.world.tree in
       let n = its_name w cpu r pool b in
       let first : 0 < length pool = let f = has_five w.tree r.name pool ws s n b.pool room in omega (arith, f) in
-      subst B (again DeletePartition w cpu r (tabled w.tree r.name pool ws i) caches (status_number S.NoRight) 0
-      (delete_partition (tabled w.tree r.name pool ws i) (running here) r.name (pool_at pool 0))
+      subst B (again DeletePartition w cpu r (built_with_table w.tree r.name pool ws i) caches (status_number S.NoRight)
+      0
+      (delete_partition (built_with_table w.tree r.name pool ws i) (running here) r.name (pool_at pool 0))
       ∙ ap (λ x. world_at w cpu r x.tree (caches_with DeletePartition caches x) (status_number x.status) x.value)
-      (deletes w.tree r.name (child_with w.tree r.name pool ws (suc i) i) (tabled w.tree r.name pool ws i).words
+      (deletes w.tree r.name (child_with w.tree r.name pool ws (suc i) i)
+      (built_with_table w.tree r.name pool ws i).words
       (new_other w.tree r.name pool ws s n b.pool room (suc i) i) refl
       (new_name w.tree r.name pool ws s n b.pool room (suc i) i) (running here) idle (b.pool.places 0 first)
       (ne_eqb (pool_at pool 0) 0 (nonzero_at w.tree r.name pool ws s n b.pool room 0 first)))
       ∙ ap (λ words. world_at w cpu r (record w.tree { words = words }) (all_emptied caches) 0 0)
       (cleared (config (child_with w.tree r.name pool ws (suc i) i)) w.tree.words))
       (called here a (replying r (status_number S.NoRight) 0)
-      (runs_at w cpu r (tabled w.tree r.name pool ws i) caches (status_number S.NoRight) 0 b.runs))
+      (runs_at w cpu r (built_with_table w.tree r.name pool ws i) caches (status_number S.NoRight) 0 b.runs))
     where
       idle : has (running (tabled_world w cpu r pool ws i (status_number S.NoRight) 0))
           (child_with w.tree r.name pool ws (suc i) i).name ≡ false

@@ -8,7 +8,7 @@ use Rattle.pip_model.specs.Answers.{page_of, pair_at, rights_at, words_cleared, 
 use Rattle.pip_model.specs.CreatePartition.{newborn}
 use Rattle.pip_model.specs.Tree.{Row, Table, Node, Tree, config, lists, vpage}
 use Rattle.pip_parent.specs.declared.wants.Want.{Want}
-use Rattle.pip_parent.specs.Wants.{want_at, dir_of, opens, opened_before, used, place}
+use Rattle.pip_parent.specs.Wants.{want_at, dir_of, opens, opened_before, pages_used, place}
 use Rattle.pip_parent.specs.Pool.{pool_at, first_five}
 
 -- the pairs of a number of addresses from place k on
@@ -33,13 +33,15 @@ lists_more d = lists (d + 1) - lists d
 abbrev pub tables_of : Tree → ℕ → List ℕ → List Want → ℕ → List Table
 tables_of t p pool ws zero = []
 tables_of t p pool ws (suc i) = if opens ws i then tables_of t p pool ws i
-    ++ pool_table t p pool (used ws i) (dir_of (want_at ws i)) ∷ [] else tables_of t p pool ws i
+    ++ pool_table t p pool (pages_used ws i) (dir_of (want_at ws i)) ∷ [] else tables_of t p pool ws i
 
 -- the further list pages of the wants before i: each directly after the table that needs it
 abbrev pub more_of : Tree → ℕ → List ℕ → List Want → ℕ → List Pair
 more_of t p pool ws zero = []
-more_of t p pool ws (suc i) = if opens ws i then more_of t p pool ws i
-    ++ pairs_from t p pool (suc (suc (suc (used ws i)))) (lists_more (opened_before ws i)) else more_of t p pool ws i
+more_of t p pool ws (suc i) = if opens ws i
+    then more_of t p pool ws i
+    ++ pairs_from t p pool (suc (suc (suc (pages_used ws i)))) (lists_more (opened_before ws i))
+    else more_of t p pool ws i
 
 -- the row of want i in the child
 abbrev pub want_row : Tree → ℕ → List ℕ → List Want → ℕ → Row
@@ -75,8 +77,8 @@ abbrev pub built : Tree → ℕ → List ℕ → List Want → Tree
 built t p pool ws = built_before t p pool ws (length ws)
 
 -- the tree after the wants before i, where want i has its table, too, but not its page
-abbrev pub tabled : Tree → ℕ → List ℕ → List Want → ℕ → Tree
-tabled t p pool ws i = tree_with_child t (child_with t p pool ws (suc i) i)
+abbrev pub built_with_table : Tree → ℕ → List ℕ → List Want → ℕ → Tree
+built_with_table t p pool ws i = tree_with_child t (child_with t p pool ws (suc i) i)
 
 -- the rights of want i exceed those of p's row at its place
 abbrev pub lacks_right : Tree → ℕ → List ℕ → List Want → ℕ → Bool
@@ -84,5 +86,6 @@ lacks_right t p pool ws i =
     not (bit_and (want_at ws i).rights (rights_at t p (vpage (pool_at pool (place ws i)))) == (want_at ws i).rights)
 
 -- the tree where the child was deleted that has the table of want i, but not its row: the pages that it had are zero
-abbrev pub undone : Tree → ℕ → List ℕ → List Want → ℕ → Tree
-undone t p pool ws i = record t { words = words_cleared (config (child_with t p pool ws (suc i) i)) t.words }
+abbrev pub tree_without_child : Tree → ℕ → List ℕ → List Want → ℕ → Tree
+tree_without_child t p pool ws i =
+    record t { words = words_cleared (config (child_with t p pool ws (suc i) i)) t.words }

@@ -6,7 +6,7 @@ use Rattle.pip_parent.specs.declared.directories.Directories.{Directories}
 use Rattle.pip_parent.specs.declared.taken.Taken.{Taken}
 use Rattle.pip_parent.specs.declared.wants.Want.{Want}
 use Rattle.pip_model.specs.Tree.{vpage}
-use Rattle.pip_parent.specs.Wants.{dir_of, earlier, opened_before, used, want_at}
+use Rattle.pip_parent.specs.Wants.{dir_of, earlier, opened_before, pages_used, want_at}
 
 -- a directory index is known exactly where a want before i has it
 abbrev pub KnowsDirectories : Directories → List Want → ℕ → Type 0
@@ -29,7 +29,7 @@ pub record KnowsAddresses (a : Addresses) (ws : List Want) (i : ℕ) : Type 0 wh
 
 -- what the child and the wants before i have taken
 pub record CountsTaken (taken : Taken) (ws : List Want) (i : ℕ) : Type 0 where
-  pub pages : taken.pages ≡ used ws i
+  pub pages : taken.pages ≡ pages_used ws i
   pub tables : taken.tables ≡ opened_before ws i
   pub directories : KnowsDirectories taken.directories ws i
 

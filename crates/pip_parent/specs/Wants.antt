@@ -27,12 +27,12 @@ opened_before ws zero = 0
 opened_before ws (suc i) = opened_before ws i + (if opens ws i then 1 else 0)
 
 -- how many pages the child and the wants before i take
-abbrev pub used : List Want → ℕ → ℕ
-used ws i = 5 + i + 3 * opened_before ws i + lists (opened_before ws i) - 1
+abbrev pub pages_used : List Want → ℕ → ℕ
+pages_used ws i = 5 + i + 3 * opened_before ws i + lists (opened_before ws i) - 1
 
 -- how many pages of the pool the child and all its wants take
 abbrev pub need : List Want → ℕ
-need ws = used ws (length ws)
+need ws = pages_used ws (length ws)
 
 -- the place in the pool of the page for want i
 abbrev pub place : List Want → ℕ → ℕ

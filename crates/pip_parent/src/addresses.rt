@@ -4,9 +4,10 @@ ghost use Rattle.pip_parent.specs.Seen.{chain_of_want as chain_number};
 
 use crate::wants::Want;
 
-/// The wants so far by their addresses: a hash table of 4096 chains, by the vpage and its directory index. At most 257 addresses
-/// share one, and next to none of neighbouring pages, or of pages at one place in several directories. So a want looks at few
-/// others, and no memory is taken: the table is 16 KiB of the stack, where a bit for each of the 2^20 vpages would be 128.
+/// The wants so far by their addresses: a hash table of 4096 chains, by the vpage and its directory index. At most 257
+/// addresses share one, and next to none of neighbouring pages, or of pages at one place in several directories. So a
+/// want looks at few others, and no memory is taken: the table is 16 KiB of the stack, where a bit for each of the 2^20
+/// vpages would be 128.
 #[derive(Drop)]
 pub struct Addresses {
     /// For each chain the place of its latest want, plus 1; 0 where it has none.

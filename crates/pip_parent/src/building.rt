@@ -15,12 +15,12 @@ use pip_base::Steps;
 use pip_model::{Port, lists};
 use std::sync::ledger::Ledger;
 
-/// Builds a child for what runs on processor `cpu`: makes it of the pool's first five pages, and meets the wants in their order,
-/// each by a table of the next pages where it is the first in its directory, and by the page after them, which is lent. It
-/// takes `need(wants)` pages. There are at most 4096 wants.
+/// Builds a child for what runs on processor `cpu`: makes it of the pool's first five pages, and meets the wants in
+/// their order, each by a table of the next pages where it is the first in its directory, and by the page after them,
+/// which is lent. It takes `need(wants)` pages. There are at most 4096 wants.
 ///
-/// The pool's addresses are to be pages', none twice, at each of which the caller has a free page with the rights READ and WRITE.
-/// Where it isn't so, `Want` and `Short` are answered as ever, and nothing is said of the child.
+/// The pool's addresses are to be pages', none twice, at each of which the caller has a free page with the rights READ
+/// and WRITE. Where it isn't so, `Want` and `Short` are answered as ever, and nothing is said of the child.
 pub fn build<P: Port, L: Ledger>(
     port: &mut P,
     cpu: u32,
@@ -91,8 +91,8 @@ fn meet<P: Port, L: Ledger>(
     )
 }
 
-// Opens the table for want i, where it is the first in its directory: the pages for it, each of which names the next in its
-// first word. Answers the place of the want's own page in the pool.
+// Opens the table for want i, where it is the first in its directory: the pages for it, each of which names the next in
+// its first word. Answers the place of the want's own page in the pool.
 fn open_table<P: Port, L: Ledger>(
     port: &mut P,
     cpu: u32,

@@ -4,25 +4,18 @@ ghost use Rattle.pip_model.specs.AddVAddr.{add_vaddr};
 ghost use Rattle.pip_model.specs.CreatePartition.{create_partition};
 ghost use Rattle.pip_model.specs.DeletePartition.{delete_partition};
 ghost use Rattle.pip_model.specs.Happens.{is_accepted as is_ok};
-ghost use Rattle.pip_model.specs.declared.call_name.MemoryCall.TheVariants.{AddVAddr, CreatePartition, DeletePartition, Prepare};
+ghost use Rattle.pip_model.specs.declared.call_name.MemoryCall.TheVariants.{AddVAddr, CreatePartition, DeletePartition};
+ghost use Rattle.pip_model.specs.declared.call_name.MemoryCall.TheVariants.{Prepare};
 ghost use Rattle.pip_model.specs.Prepare.{prepare};
 ghost use Rattle.pip_model.specs.Worlds.{World, running, runs_on};
 ghost use Rattle.pip_model.specs.declared.processors.Occupant.{Occupant};
 ghost use Rattle.pip_parent.specs.Pool.{first_five};
-ghost use Rattle.pip_parent.specs.Stages.{Called, CalledIn, CanLink, accepted, link_caches, link_words};
+ghost use Rattle.pip_parent.specs.Stages.{Called, CalledIn, CanLink, is_accepted_reply, link_caches, link_words};
 
 use pip_base::{Outcome, Size, Status, Steps};
 use pip_model::Port;
+use pip_model::call_number::{ADD_VADDR, CREATE_PARTITION, DELETE_PARTITION, PREPARE};
 use std::sync::ledger::Ledger;
-
-// The numbers of the calls: docs/FORMATS.md, "Calls by number".
-const CREATE_PARTITION: u32 = 0;
-
-const DELETE_PARTITION: u32 = 1;
-
-const PREPARE: u32 = 3;
-
-const ADD_VADDR: u32 = 5;
 
 /// Word 0 of `stores` pages of the pool, from place `first` on, becomes the address of the next.
 pub fn link<P: Port, L: Ledger>(
@@ -111,7 +104,7 @@ pub fn delete<P: Port, L: Ledger>(port: &mut P, cpu: u32, child: u32, steps: &mu
 }
 
 fn is_accepted(outcome: Outcome) -> bool
-    ensures { result ≡ accepted outcome }
+    ensures { result ≡ is_accepted_reply outcome }
 {
     match outcome {
         Outcome::Reply {

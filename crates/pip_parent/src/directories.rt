@@ -29,7 +29,8 @@ impl Directories {
         }
     }
 
-    /// Whether want i is the first in its directory, where the wants so far are those before i. It is one of them from now on.
+    /// Whether want i is the first in its directory, where the wants so far are those before i. It is one of them from
+    /// now on.
     pub fn opens(&mut self, wants: &[Want], i: usize) -> bool
         requires low { i < length wants.now }
         requires known { KnowsDirectories self.old wants.now i }

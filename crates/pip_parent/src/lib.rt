@@ -1,5 +1,6 @@
-//! Building a child: the calls of a machine that give it exactly the pages that are wanted, in page tables made of a pool of
-//! pages. No memory is taken. What is built is defined in specs/Built, and what [`build`] says of it in specs/Contract.
+//! Building a child: the calls of a machine that give it exactly the pages that are wanted, in page tables made of a
+//! pool of pages. No memory is taken. What is built is defined in specs/Built, and what [`build`] says of it in
+//! specs/Contract.
 #![tactic(auto)]
 
 mod addresses;

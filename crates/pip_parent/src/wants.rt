@@ -36,8 +36,9 @@ fn is_malformed(want: Want) -> bool
     want.va == 0 || want.va % 4096 != 0 || 1 & want.rights != 1 || 7 < want.rights
 }
 
-/// How many pages a child with these wants takes: five of its own, one for each want, three for each table, and the list
-/// pages beyond the first, which is one of the five. There are at most 4096 wants, each in one of 1024 directories.
+/// How many pages a child with these wants takes: five of its own, one for each want, three for each table, and the
+/// list pages beyond the first, which is one of the five. There are at most 4096 wants, each in one of 1024
+/// directories.
 pub fn need(wants: &[Want]) -> u32
     requires { length wants.now ≤ 4096 }
     ensures { result ≡ needed wants.now }

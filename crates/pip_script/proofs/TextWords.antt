@@ -7,15 +7,15 @@ use Rattle.pip_model.specs.Grammar.{words_of}
 use Rattle.pip_script.specs.Words.{first_word, after_word}
 
 -- the words after a space at the front
-abbrev pub words_behind : List ℕ → List (List ℕ)
-words_behind [] = []
-words_behind (b ∷ bs) = words_of bs
+abbrev pub words_after : List ℕ → List (List ℕ)
+words_after [] = []
+words_after (b ∷ bs) = words_of bs
 
-pub words_split : (xs : List ℕ) → words_of xs ≡ first_word xs ∷ words_behind (after_word xs)
+pub words_split : (xs : List ℕ) → words_of xs ≡ first_word xs ∷ words_after (after_word xs)
 words_split [] = refl
 words_split (b ∷ bs) =
     elim (b == 32) as (λ t. cond t ([] ∷ words_of bs) (onto_first b (words_of bs))
-    ≡ cond t [] (b ∷ first_word bs) ∷ words_behind (cond t (b ∷ bs) (after_word bs))) [
+    ≡ cond t [] (b ∷ first_word bs) ∷ words_after (cond t (b ∷ bs) (after_word bs))) [
       | true ↦ refl
       | false ↦ ap (onto_first b) (words_split bs)
     ]
@@ -25,14 +25,14 @@ abbrev pub tail_of : List ℕ → List ℕ
 tail_of xs = take (length xs - 1) (drop 1 xs)
 
 words_from_drop : (xs : List ℕ) → 1 ≤ length xs
-    → words_behind xs ≡ first_word (drop 1 xs) ∷ words_behind (after_word (drop 1 xs))
+    → words_after xs ≡ first_word (drop 1 xs) ∷ words_after (after_word (drop 1 xs))
 words_from_drop [] h = absurd (omega arith)
 words_from_drop (b ∷ bs) h = words_split bs
 
 -- the words from a space on
 pub words_from : (xs : List ℕ) → 1 ≤ length xs
-    → words_behind xs ≡ first_word (tail_of xs) ∷ words_behind (after_word (tail_of xs))
-words_from xs h = subst (λ t. words_behind xs ≡ first_word t ∷ words_behind (after_word t)) (sym (take_rest xs 1))
+    → words_after xs ≡ first_word (tail_of xs) ∷ words_after (after_word (tail_of xs))
+words_from xs h = subst (λ t. words_after xs ≡ first_word t ∷ words_after (after_word t)) (sym (take_rest xs 1))
     (words_from_drop xs h)
 
 pub take_word : (xs : List ℕ) → take (length (first_word xs)) xs ≡ first_word xs

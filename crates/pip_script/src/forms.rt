@@ -1,7 +1,8 @@
 //! The forms of lines, by the numbers after the first word.
 ghost use Rattle.std.specs.Prelude.{◌≡◌, ◌-◌, ◌<◌, ◌≤◌, ◌↔◌, ◌++◌, IsTrue, length, replicate, IfSome};
 ghost use Rattle.pip_model.specs.Events.{below_of};
-ghost use Rattle.pip_model.specs.Grammar.{form, boot_form, load_form, store_form, fetch_form, trap_form, call_form, raise_form, poll_form, peek_form, reg_form, pc_form};
+ghost use Rattle.pip_model.specs.Grammar.{form, boot_form, load_form, store_form, fetch_form, trap_form, call_form};
+ghost use Rattle.pip_model.specs.Grammar.{raise_form, poll_form, peek_form, reg_form, pc_form};
 ghost use Rattle.pip_model.specs.Worlds.{World};
 ghost use Rattle.pip_script.specs.Proper.{CanBoot, IsProperEvent};
 ghost use Rattle.pip_script.specs.Replies.{RepliesTo};

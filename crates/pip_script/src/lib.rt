@@ -10,7 +10,7 @@ mod numbers;
 mod text;
 
 pub use generator::Generator;
-pub use lines::{MAX_LINE, answer_line, is_blank, read_line, read_phrase};
+pub use lines::{answer_line, is_blank, read_line, read_phrase};
 pub use numbers::read_number;
 pub use pip_model::{Said, ScriptLine};
 pub use text::{

@@ -11,12 +11,9 @@ ghost use Rattle.pip_script.specs.Words.{first_word};
 use crate::forms::{answer_form, read_form};
 use crate::numbers::take_number;
 use arrayvec::ArrayVec;
-use pip_base::Steps;
+use pip_base::{MAX_LINE, Steps};
 use pip_model::{Port, Said, ScriptLine};
 use std::sync::ledger::Ledger;
-
-/// The greatest number of bytes of a line, its newline left off.
-pub const MAX_LINE: usize = 120;
 
 /// Whether a line is blank, its newline left off: empty, or a remark.
 #[inline(always)]

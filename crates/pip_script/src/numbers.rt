@@ -45,7 +45,8 @@ pub fn take_number(text: &[u8]) -> Option<Number<'_>>
 #[inline(always)]
 fn take_decimal(text: &[u8]) -> Option<Number<'_>>
     ensures { MatchOption result (decimal_from 0 (first_word text.now) ≡ None)
-        (λ n. (decimal_from 0 (first_word text.now) ≡ value_before n.rest.now n.value) × (after_word n.rest.now ≡ after_word text.now)) }
+        (λ n. (decimal_from 0 (first_word text.now) ≡ value_before n.rest.now n.value)
+        × (after_word n.rest.now ≡ after_word text.now)) }
 {
     let mut value = 0u32;
     let mut rest = text;
@@ -64,7 +65,8 @@ fn take_decimal(text: &[u8]) -> Option<Number<'_>>
 #[inline(always)]
 fn take_hex(text: &[u8]) -> Option<Number<'_>>
     ensures { MatchOption result (after_zero (120 ∷ first_word text.now) ≡ None)
-        (λ n. (after_zero (120 ∷ first_word text.now) ≡ value_before n.rest.now n.value) × (after_word n.rest.now ≡ after_word text.now)) }
+        (λ n. (after_zero (120 ∷ first_word text.now) ≡ value_before n.rest.now n.value)
+        × (after_word n.rest.now ≡ after_word text.now)) }
 {
     let mut value = 0;
     let mut rest = text;

@@ -8,6 +8,25 @@ use itoa::Buffer;
 use pip_base::Outcome;
 use pip_model::Said;
 
+// Bytes with the eight hexadecimal digits of a word among them. Bytes in their places take 40 instructions less than a
+// text of them, or than an array of digits that is copied.
+macro_rules! with_digits {
+    ([$($before:expr),*], $w:expr, [$($after:expr),*]) => {
+        [
+            $($before,)*
+            digit($w >> 28),
+            digit($w >> 24),
+            digit($w >> 20),
+            digit($w >> 16),
+            digit($w >> 12),
+            digit($w >> 8),
+            digit($w >> 4),
+            digit($w),
+            $($after),*
+        ]
+    };
+}
+
 /// The text of an event's answer, without a newline: at most 39 bytes (docs/FORMATS.md, "Outcome texts").
 pub fn outcome_text(o: &Outcome) -> ArrayString<64>
     ensures bytes { result.bytes ≡ outcome_text o.now }
@@ -109,24 +128,12 @@ pub fn push_word<const N: usize>(text: &mut ArrayString<N>, w: u32)
     push_digits(text, w);
 }
 
-/// The line of a word: its text and a newline. Bytes in their places take 40 instructions less than a text of them.
+/// The line of a word: its text and a newline.
 #[inline(always)]
 pub fn word_line(w: u32) -> [u8; 11]
     ensures { result ≡ line_text (word_text w) }
 {
-    [
-        b'0',
-        b'x',
-        hex_digit(w >> 28) as u8,
-        hex_digit(w >> 24) as u8,
-        hex_digit(w >> 20) as u8,
-        hex_digit(w >> 16) as u8,
-        hex_digit(w >> 12) as u8,
-        hex_digit(w >> 8) as u8,
-        hex_digit(w >> 4) as u8,
-        hex_digit(w) as u8,
-        b'\n',
-    ]
+    with_digits!([b'0', b'x'], w, [b'\n'])
 }
 
 /// The line of a reply with a status of one digit, below 10, as bytes in their places.
@@ -135,36 +142,32 @@ pub fn reply_line(status: u32, value: u32) -> [u8; 19]
     requires { status < 10 }
     ensures { result ≡ line_text (codes "reply " ++ decimal status ++ codes " " ++ word_text value) }
 {
-    [
-        b'r',
-        b'e',
-        b'p',
-        b'l',
-        b'y',
-        b' ',
-        hex_digit(status) as u8,
-        b' ',
-        b'0',
-        b'x',
-        hex_digit(value >> 28) as u8,
-        hex_digit(value >> 24) as u8,
-        hex_digit(value >> 20) as u8,
-        hex_digit(value >> 16) as u8,
-        hex_digit(value >> 12) as u8,
-        hex_digit(value >> 8) as u8,
-        hex_digit(value >> 4) as u8,
-        hex_digit(value) as u8,
-        b'\n',
-    ]
+    let digit_of_status = digit(status);
+    with_digits!(
+        [
+            b'r',
+            b'e',
+            b'p',
+            b'l',
+            b'y',
+            b' ',
+            digit_of_status,
+            b' ',
+            b'0',
+            b'x'
+        ],
+        value,
+        [b'\n']
+    )
 }
 
 // The last hexadecimal digit of a word.
 #[inline(always)]
-fn hex_digit(w: u32) -> char
+fn digit(w: u32) -> u8
     ensures value { result ≡ hex_digit (w % 16) }
     ensures ascii { result < 128 }
 {
-    char::from_digit(w % 16, 16).unwrap()
+    char::from_digit(w % 16, 16).unwrap() as u8
 }
 
 /// Writes the eight hexadecimal digits of a word at the end of a text with room for them.
@@ -189,7 +192,7 @@ fn push_digit<const N: usize>(text: &mut ArrayString<N>, w: u32)
     ensures bytes { text.new.bytes ≡ text.old.bytes ++ hex_digit (w % 16) ∷ [] }
     ensures length { array_string_len text.new ≡ array_string_len text.old + 1 }
 {
-    text.push(hex_digit(w));
+    text.push(digit(w) as char);
 }
 
 /// Writes a number in decimal, at most ten bytes, at the end of a text with room for them.

@@ -3,7 +3,7 @@ use Rattle.std.proofs.Common.{◌≡◌, ◌≢◌, ℕ, zero, suc, ◌+◌, ◌
 use Rattle.std.proofs.Common.{Some, slice_get, refl, ap, sym, subst, ◌∙◌, arith, append_assoc}
 use Rattle.std.proofs.lemmas.Bool.{cases_eq}
 use Rattle.std.proofs.lemmas.Bool.Decides.{nat_tests}
-use Rattle.pip_search.specs.Ways.{AreRuns, AreTraced, run_before, run_of, runs_of, unfolded, way_to}
+use Rattle.pip_search.specs.Ways.{AreRuns, AreTraced, run_before, run_of, runs_of, choices_of, way_to}
 use Rattle.pip_search.specs.declared.visits.Visit.{Visit}
 use Rattle.pip_search.specs.declared.found.Found.{Found}
 use Rattle.pip_search.specs.declared.ways.Run.{Run}
@@ -74,18 +74,18 @@ runs_first c cs = sym (runs_more c cs)
 
 -- ---- they are runs of this list
 
-unfolded_before : (c : ℕ) (rs : List Run) → unfolded (run_before (run_of c 1) rs) ≡ c ∷ unfolded rs
-unfolding unfolded
-unfolded_before c [] = ap unfolded (before_none (run_of c 1))
+unfolded_before : (c : ℕ) (rs : List Run) → choices_of (run_before (run_of c 1) rs) ≡ c ∷ choices_of rs
+unfolding choices_of
+unfolded_before c [] = ap choices_of (before_none (run_of c 1))
 unfolded_before c (q ∷ qs) = elim (cases_eq c q.choice) [
-  | inl same ↦ ap unfolded (before_same (run_of c 1) q qs same)
-      ∙ ap (λ n. replicate n c ++ unfolded qs) (let e : 1 + q.count ≡ suc q.count = omega arith in e)
-      ∙ ap (λ d. c ∷ (replicate q.count d ++ unfolded qs)) same
-  | inr other ↦ ap unfolded (before_other (run_of c 1) q qs other)
+  | inl same ↦ ap choices_of (before_same (run_of c 1) q qs same)
+      ∙ ap (λ n. replicate n c ++ choices_of qs) (let e : 1 + q.count ≡ suc q.count = omega arith in e)
+      ∙ ap (λ d. c ∷ (replicate q.count d ++ choices_of qs)) same
+  | inr other ↦ ap choices_of (before_other (run_of c 1) q qs other)
 ]
 
-pub unfolded_runs : (cs : List ℕ) → unfolded (runs_of cs) ≡ cs
-unfolding unfolded runs_of
+pub unfolded_runs : (cs : List ℕ) → choices_of (runs_of cs) ≡ cs
+unfolding choices_of runs_of
 unfolded_runs [] = refl
 unfolded_runs (c ∷ cs) = unfolded_before c (runs_of cs) ∙ ap (λ x. c ∷ x) (unfolded_runs cs)
 

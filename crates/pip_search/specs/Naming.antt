@@ -6,18 +6,18 @@ use Rattle.pip_search.specs.Filing.{IsFiled}
 use Rattle.pip_search.specs.declared.index.Index.{Index}
 
 -- a hash and one more number
-abbrev pub stirred : ℕ → ℕ → ℕ
-stirred sum k = (bit_xor sum k * 0x9e3779b97f4a7c15) % 2 ^ 64
+abbrev pub hash_step : ℕ → ℕ → ℕ
+hash_step sum k = (bit_xor sum k * 0x9e3779b97f4a7c15) % 2 ^ 64
 
 -- a hash and more bytes, one by one
 unfoldable pub hash_after : ℕ → List ℕ → ℕ
 hash_after sum [] = sum
-hash_after sum (k ∷ ks) = hash_after (stirred sum k) ks
+hash_after sum (k ∷ ks) = hash_after (hash_step sum k) ks
 
 -- a hash and more bytes, eight at a time while there are eight
 unfoldable pub hash_by_eights : ℕ → List ℕ → ℕ
 hash_by_eights sum (a ∷ b ∷ c ∷ d ∷ e ∷ f ∷ g ∷ h ∷ ks) =
-    hash_by_eights (stirred sum (from_le_bytes w64 (a ∷ b ∷ c ∷ d ∷ e ∷ f ∷ g ∷ h ∷ []))) ks
+    hash_by_eights (hash_step sum (from_le_bytes w64 (a ∷ b ∷ c ∷ d ∷ e ∷ f ∷ g ∷ h ∷ []))) ks
 hash_by_eights sum ks = hash_after sum ks
 
 -- the hash of bytes: the upper half of the sum

@@ -37,7 +37,7 @@ pub record IsAway (m : Model) (s : m.State) (key : List ℕ) (n : ℕ) : Type 0 
   pub stands : m.stands key (after_choices m s choices)
   pub fewest : (cs : List ℕ) → AreChoices m cs → m.stands key (after_choices m s cs) → n ≤ length cs
 
--- one of these keys is of a state that is so many choices away
+-- one of these keys is of a state that is n choices away
 pub record HasAway (m : Model) (s : m.State) (keys : List (List ℕ)) (n : ℕ) : Type 0 where
   pub place : ℕ
   pub key : List ℕ

@@ -58,9 +58,9 @@ runs_of [] = []
 runs_of (c ∷ cs) = run_before (run_of c 1) (runs_of cs)
 
 -- what runs are made of
-unfoldable pub unfolded : List Run → List ℕ
-unfolded [] = []
-unfolded (r ∷ rs) = replicate r.count r.choice ++ unfolded rs
+unfoldable pub choices_of : List Run → List ℕ
+choices_of [] = []
+choices_of (r ∷ rs) = replicate r.count r.choice ++ choices_of rs
 
 -- runs have choices, and neighbours differ
 abbrev pub AreRuns : List Run → Type 0

@@ -1,10 +1,10 @@
 //! Hashes of bytes. What the search promises doesn't depend on which they are.
 ghost use Rattle.std.specs.Prelude.{◌≡◌};
-ghost use Rattle.pip_search.specs.Naming.{hash_after, hash_by_eights, hash_of, stirred};
+ghost use Rattle.pip_search.specs.Naming.{hash_after, hash_by_eights, hash_of, hash_step};
 
 // A hash and one more number.
 fn stir(sum: u64, number: u64) -> u64
-    ensures { result ≡ stirred sum number }
+    ensures { result ≡ hash_step sum number }
 {
     (sum ^ number).wrapping_mul(0x9e3779b97f4a7c15)
 }

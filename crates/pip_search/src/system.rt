@@ -30,6 +30,7 @@ pub trait System {
     ) -> Result<(), AllocError>
         requires key { IsKey (model (base self.old)) from.now }
         requires choice { choice < (model (base self.old)).choices }
-        ensures leads { IfOk result (λ x. LeadsOn (model (base self.old)) from.now choice to.new.items shown.new.items) }
+        ensures leads { IfOk result (λ x. LeadsOn (model (base self.old)) from.now choice to.new.items
+            shown.new.items) }
         ensures base { base self.new ≡ base self.old };
 }

@@ -1,6 +1,6 @@
 //! The ways on which labels were found.
 ghost use Rattle.std.specs.Prelude.{◌≡◌, ◌<◌, IfOk, Some, length, reverse, slice_get};
-ghost use Rattle.pip_search.specs.Ways.{AreRuns, AreTraced, found_way, runs_of, unfolded};
+ghost use Rattle.pip_search.specs.Ways.{AreRuns, AreTraced, found_way, runs_of, choices_of};
 ghost use Rattle.pip_search.specs.declared.found.Found.{Found};
 
 use crate::searching::Search;
@@ -21,7 +21,7 @@ pub fn runs(alloc: Global, search: &Search, k: usize) -> Result<Vec<Run>, AllocE
     ensures way { IfOk result (λ rs. (f : Found) → slice_get search.now.found.items k ≡ Some f
         → rs.items ≡ reverse (runs_of (found_way search.now.visits.items f))) }
     ensures unfolds { IfOk result (λ rs. (f : Found) → slice_get search.now.found.items k ≡ Some f
-        → unfolded (reverse rs.items) ≡ found_way search.now.visits.items f) }
+        → choices_of (reverse rs.items) ≡ found_way search.now.visits.items f) }
     ensures differ { IfOk result (λ rs. AreRuns (reverse rs.items)) }
 {
     let found = &search.found[k];

@@ -2,10 +2,9 @@
 use Rattle.std.proofs.Common.{◌≡◌, ℕ, zero, suc, ◌+◌, ◌<◌, List, ◌++◌, refl, ap, append_assoc, arith, Result}
 use Rattle.std.specs.Prelude.{codes, count_by, decimal, flat_map, slice_index}
 use Rattle.pip_io.proofs.Taken.{Appends-trans}
-use Rattle.pip_io.specs.Taken.{Taken, Appends, AppendsPart}
+use Rattle.pip_io.specs.Taken.{Taken, Appends, AppendsPart, Wrote}
 use Rattle.pip_base.specs.declared.outcome.Outcome.{Outcome}
 use Rattle.pip_dump.specs.Totals.{TotalsOf}
-use Rattle.pip_dump.specs.Written.{Wrote}
 use Rattle.pip_dump.specs.declared.numbers.Totals.{Totals}
 use Rattle.pip_dump.proofs.Pieces.{part_after, part_longer, wrote_after}
 use Rattle.pip_model.specs.Dump.{numbers_from}
@@ -61,5 +60,5 @@ module _ (a b c : List ℕ) where
   second_of_three old mid new h k = part_longer old new (a ++ b) c (part_after old mid new a b h k)
 
   pub all_of_three : {T E : Type 0} (old mid late new : Taken) (r : Result T E) → Appends old mid a → Appends mid late b
-      → Wrote late new r c → Wrote old new r (a ++ b ++ c)
+      → Wrote r late new c → Wrote r old new (a ++ b ++ c)
   all_of_three old mid late new r h k l = wrote_after old late new (a ++ b) c r (Appends-trans old mid late a b h k) l

@@ -3,10 +3,15 @@ ghost use Rattle.std.specs.Prelude.{◌≡◌, ℕ, ◌+◌, ◌*◌, ◌<◌, [
 ghost use Rattle.pip_base.specs.declared.types.Size.TheVariants.{Word};
 ghost use Rattle.pip_model.specs.Events as E;
 ghost use Rattle.pip_model.specs.Answers.{five_of};
-ghost use Rattle.pip_model.specs.Soak.{Drawn, by_kind, draw, draw_both, draw_goal, draw_page, draw_place, drawn, drawn_call, drawn_poll, drawn_prepare, five, soak_step};
+ghost use Rattle.pip_model.specs.Soak.{Drawn, by_kind, draw, draw_both, draw_goal, draw_page, draw_place, drawn};
+ghost use Rattle.pip_model.specs.Soak.{drawn_call, drawn_poll, drawn_prepare, five, soak_step};
 ghost use Rattle.pip_soak.specs.Asks.{AreAsksOf, IsDrawn, events_of};
 
 use crate::asks::{Ask, Step};
+use pip_model::call_number::{
+    ADD_VADDR, COLLECT, COUNT_TO_MAP, CREATE_PARTITION, DELETE_PARTITION, MAPPED_IN_CHILD,
+    NOT_SAVED, REMOVE_VADDR, SAVED, YIELD,
+};
 use pip_script::Generator;
 
 /// The first address of the root's pages.
@@ -17,25 +22,6 @@ const PLACES: u32 = 0x1000_0000;
 
 /// The address of a child's handlers.
 const HANDLERS: u32 = 0xffff_f000;
-
-/// Numbers of the kernel's calls.
-const CREATE_PARTITION: u32 = 0;
-
-const DELETE_PARTITION: u32 = 1;
-
-const COUNT_TO_MAP: u32 = 2;
-
-pub(crate) const PREPARE: u32 = 3;
-
-const COLLECT: u32 = 4;
-
-const ADD_VADDR: u32 = 5;
-
-const REMOVE_VADDR: u32 = 6;
-
-const MAPPED_IN_CHILD: u32 = 7;
-
-const YIELD: u32 = 8;
 
 // The address of one of the root's first 16 pages.
 fn draw_page(generator: &mut Generator) -> u32
@@ -179,7 +165,7 @@ fn draw_handing_on(generator: &mut Generator, cpu: u32) -> Step
         generator.old generator.new result }
 {
     let goal = draw_goal(generator);
-    call(cpu, YIELD, [goal, 64, 63, 0, 0])
+    call(cpu, YIELD, [goal, 64, SAVED, 0, 0])
 }
 
 // Control goes back to another partition, where it was saved, and the caller isn't saved.
@@ -190,7 +176,7 @@ fn draw_giving_up(generator: &mut Generator, cpu: u32) -> Step
         generator.old generator.new result }
 {
     let goal = draw_goal(generator);
-    call(cpu, YIELD, [goal, 63, 256, 0, 0])
+    call(cpu, YIELD, [goal, SAVED, NOT_SAVED, 0, 0])
 }
 
 // What is drawn for a kind below 16.

@@ -10,9 +10,10 @@ ghost use Rattle.pip_soak.specs.Counts.{CountsOf, MakesAll};
 
 use crate::asks::{Ask, Step, make_event};
 use crate::counts::Counts;
-use crate::draws::{PREPARE, draw_step};
+use crate::draws::draw_step;
 use pip_base::{Size, Steps};
 use pip_model::Port;
+use pip_model::call_number::PREPARE;
 use pip_script::Generator;
 use std::sync::ledger::Ledger;
 
@@ -107,9 +108,10 @@ fn make_stores<P: Port, L: Ledger>(port: &mut P, steps: &mut Steps<L>)
     store(port, 0x4100fc, 0xffff_f444, steps);
 }
 
-/// Makes the load of `count` steps that the number `seed` draws (docs/FORMATS.md, "soak"), after seven stores that are not
-/// counted, and counts the outcomes. `seed` is not 0; the machine has two processors at least. For every world that the
-/// machine stands for, these are the counts of the model's outcomes from there, and it stands for the model's last world.
+/// Makes the load of `count` steps that the number `seed` draws (docs/FORMATS.md, "soak"), after seven stores that are
+/// not counted, and counts the outcomes. `seed` is not 0; the machine has two processors at least. For every world that
+/// the machine stands for, these are the counts of the model's outcomes from there, and it stands for the model's last
+/// world.
 pub fn soak_load<P: Port, L: Ledger>(
     port: &mut P,
     count: u32,

@@ -1,6 +1,6 @@
 //! The text of a load: a count a line.
 ghost use Rattle.std.specs.Prelude.{◌≤◌, ◌++◌, codes, decimal, length};
-ghost use Rattle.pip_dump.specs.Written.{Wrote};
+ghost use Rattle.pip_io.specs.Taken.{Wrote};
 ghost use Rattle.pip_io.specs.Causes.{HasCause};
 ghost use Rattle.pip_model.specs.Soak.{counted_text};
 ghost use Rattle.pip_soak.specs.LoadText.{kinds_text, load_text, replies_text, sums_text};
@@ -21,7 +21,7 @@ struct Line<'a> {
 // Writes a line.
 fn write_line<K: Sink>(line: &Line<'_>, sink: &mut K) -> Result<(), Failed>
     requires { length line.now.name.now ≤ 16 }
-    ensures text { Wrote (K.written sink.old) (K.written sink.new) result
+    ensures text { Wrote result (K.written sink.old) (K.written sink.new)
         (counted_text line.now.name.now line.now.count) }
     ensures cause { HasCause (K.faults sink.old) (K.faults sink.new) result }
 {
@@ -43,7 +43,7 @@ fn write_three<K: Sink>(
     requires first { length first.now.name.now ≤ 16 }
     requires second { length second.now.name.now ≤ 16 }
     requires third { length third.now.name.now ≤ 16 }
-    ensures text { Wrote (K.written sink.old) (K.written sink.new) result
+    ensures text { Wrote result (K.written sink.old) (K.written sink.new)
         (counted_text first.now.name.now first.now.count ++ counted_text second.now.name.now second.now.count ++
         counted_text third.now.name.now third.now.count) }
     ensures cause { HasCause (K.faults sink.old) (K.faults sink.new) result }
@@ -55,7 +55,7 @@ fn write_three<K: Sink>(
 
 // Writes the lines of all events and of the outcomes but replies.
 fn write_outcomes<K: Sink>(counts: &Counts, sink: &mut K) -> Result<(), Failed>
-    ensures text { Wrote (K.written sink.old) (K.written sink.new) result (kinds_text counts.now) }
+    ensures text { Wrote result (K.written sink.old) (K.written sink.new) (kinds_text counts.now) }
     ensures cause { HasCause (K.faults sink.old) (K.faults sink.new) result }
 {
     write_three(
@@ -92,7 +92,7 @@ fn write_outcomes<K: Sink>(counts: &Counts, sink: &mut K) -> Result<(), Failed>
 
 // Writes the line of the replies with a status, below 19, by its number.
 fn write_reply<K: Sink>(status: u32, count: u32, sink: &mut K) -> Result<(), Failed>
-    ensures text { Wrote (K.written sink.old) (K.written sink.new) result
+    ensures text { Wrote result (K.written sink.old) (K.written sink.new)
         (counted_text (codes "reply " ++ decimal status) count) }
     ensures cause { HasCause (K.faults sink.old) (K.faults sink.new) result }
 {
@@ -110,7 +110,7 @@ fn write_reply<K: Sink>(status: u32, count: u32, sink: &mut K) -> Result<(), Fai
 
 // Writes the lines of all replies by their statuses.
 fn write_replies<K: Sink>(replies: &[u32; 19], sink: &mut K) -> Result<(), Failed>
-    ensures text { Wrote (K.written sink.old) (K.written sink.new) result (replies_text replies.now) }
+    ensures text { Wrote result (K.written sink.old) (K.written sink.new) (replies_text replies.now) }
     ensures cause { HasCause (K.faults sink.old) (K.faults sink.new) result }
 {
     for s in 0..19 {
@@ -121,7 +121,7 @@ fn write_replies<K: Sink>(replies: &[u32; 19], sink: &mut K) -> Result<(), Faile
 
 // Writes the lines of the totals.
 fn write_totals<K: Sink>(totals: &Totals, sink: &mut K) -> Result<(), Failed>
-    ensures text { Wrote (K.written sink.old) (K.written sink.new) result (sums_text totals.now) }
+    ensures text { Wrote result (K.written sink.old) (K.written sink.new) (sums_text totals.now) }
     ensures cause { HasCause (K.faults sink.old) (K.faults sink.new) result }
 {
     write_three(
@@ -142,14 +142,15 @@ fn write_totals<K: Sink>(totals: &Totals, sink: &mut K) -> Result<(), Failed>
 }
 
 /// Writes the text of a load: the counts, the totals of the machine's tree, and a last line with the number of steps
-/// (docs/FORMATS.md, "soak"). Fails only where the sink's count of faults is one more; a prefix of the text was written then.
+/// (docs/FORMATS.md, "soak"). Fails only where the sink's count of faults is one more; a prefix of the text was written
+/// then.
 pub fn load_text<K: Sink>(
     counts: &Counts,
     totals: &Totals,
     count: u32,
     sink: &mut K,
 ) -> Result<(), Failed>
-    ensures text { Wrote (K.written sink.old) (K.written sink.new) result (load_text counts.now totals.now count) }
+    ensures text { Wrote result (K.written sink.old) (K.written sink.new) (load_text counts.now totals.now count) }
     ensures cause { HasCause (K.faults sink.old) (K.faults sink.new) result }
 {
     write_outcomes(counts, sink)?;

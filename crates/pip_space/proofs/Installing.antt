@@ -31,8 +31,8 @@ use Rattle.pip_model.proofs.Nodes.Roles.{descriptor_role_back, directory_role_ba
 use Rattle.pip_model.proofs.Nodes.Roles.{role_of_directory, role_of_list, role_of_table, table_role_back}
 use Rattle.pip_space.specs.Lists.{CanAddPage, IsOutsideList}
 use Rattle.pip_model.specs.Prepare.{with_table}
-use Rattle.pip_space.specs.Tables.{AreHeads, AreInPages, CanInstall, page_list}
-use Rattle.pip_space.specs.declared.heads.Heads.{Heads}
+use Rattle.pip_space.specs.Tables.{AreTableRoots, AreInPages, CanInstall, page_list}
+use Rattle.pip_space.specs.declared.table_roots.TableRoots.{TableRoots}
 use Rattle.pip_space.proofs.Change.{changed}
 use Rattle.pip_space.proofs.Entered.{Entered, entered}
 
@@ -294,7 +294,7 @@ module _ (m : Memory) (x : Node) (cells : TableLevel → ℕ → ℕ) (n : NodeI
         }
 
   -- the entries as they are written
-  pub entries_done : (q n2 : Memory) → IsMemory q → length q ≡ length zeroed → (h : Heads) → AreHeads x h
+  pub entries_done : (q n2 : Memory) → IsMemory q → length q ≡ length zeroed → (h : TableRoots) → AreTableRoots x h
       → (i u v w t : ℕ) → b.index ≡ i → u ≡ b.mmu.frame → v ≡ b.shadow1.frame → w ≡ b.shadow2.frame → t ≡ h.tables + 1
       → n2 ≡ put_word (put_word (put_word (put_word q h.mmu i (directory_word u)) h.shadow1 i (directory_word v))
       h.shadow2 i (directory_word w)) h.part 12 t

@@ -3,7 +3,7 @@ pub mod Packed
 pub mod Entered
 pub mod Change
 pub mod ListChanges
-pub mod HeadWords
+pub mod RootWords
 pub mod Installing
 pub mod Removing
 pub mod ControlWords

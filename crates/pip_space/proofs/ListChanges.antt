@@ -177,7 +177,7 @@ module _ (m : Memory) (ps : List Pair) (a : AreInPages m ps) where
 pub some_same : (o : Option ℕ) (j k : ℕ) → o ≡ Some j → o ≡ Some k → j ≡ k
 some_same o j k a b = cc
 
--- the same where the number of pages has a name
+-- a list that loses its last page, where the number of its pages has a name
 pub shrunk_at : (m n : Memory) (first count pages : ℕ) (p : Pair) (more : List Pair) (ts : List Table)
     → pages ≡ lists (count + 1) → lists count < lists (count + 1) → ListIn m first more ts → length ts ≡ count
     → length more + 1 ≡ lists (count + 1)

@@ -27,11 +27,11 @@ use Rattle.pip_model.proofs.Nodes.Roles.{table_role_back, table_some}
 use Rattle.pip_space.specs.Levels.{table_frame_at}
 use Rattle.pip_space.specs.Lists.{CanDropPage, CanTakeSlot}
 use Rattle.pip_model.specs.Collect.{without_table}
-use Rattle.pip_space.specs.Tables.{AreHeads, page_list, rows_beside}
-use Rattle.pip_space.specs.declared.heads.Heads.{Heads}
+use Rattle.pip_space.specs.Tables.{AreTableRoots, page_list, rows_beside}
+use Rattle.pip_space.specs.declared.table_roots.TableRoots.{TableRoots}
 use Rattle.pip_space.proofs.Change.{changed}
 use Rattle.pip_space.proofs.Entered.{Entered, entered}
-use Rattle.pip_space.proofs.HeadWords.{few_tables}
+use Rattle.pip_space.proofs.RootWords.{few_tables}
 use Rattle.pip_space.proofs.ListChanges.{less_pages, page_gone}
 
 -- ---- a list without one
@@ -121,7 +121,7 @@ module _ (m : Memory) (x : Node) (cells : TableLevel → ℕ → ℕ) (n : NodeI
       → length more + 1 ≡ lists (count + 1)
       → (page_list gone ≡ page_gone count more) × ListIn q first (less_pages count more) ts × ListStays first more g q
 
-  module _ (h : Heads) (a : AreHeads x h) (o : Option ℕ) (page : ℕ) (found : o ≡ Some page)
+  module _ (h : TableRoots) (a : AreTableRoots x h) (o : Option ℕ) (page : ℕ) (found : o ≡ Some page)
       (is : o ≡ table_frame_at Mmu x i) where
     abbrev first : ℕ
     first = h.list
@@ -268,7 +268,7 @@ module _ (m : Memory) (x : Node) (cells : TableLevel → ℕ → ℕ) (n : NodeI
               ∙ more.words f j off;
         }
 
-  pub entries_gone : (q n2 : Memory) → IsMemory q → length q ≡ length m → (h : Heads) → AreHeads x h → (t : ℕ)
+  pub entries_gone : (q n2 : Memory) → IsMemory q → length q ≡ length m → (h : TableRoots) → AreTableRoots x h → (t : ℕ)
       → t ≡ h.tables - 1
       → n2 ≡ put_word (put_word (put_word (put_word q h.mmu i 0) h.shadow1 i 0) h.shadow2 i 0) h.part 12 t
       → Entered q n2 x i (λ l. 0) (length y.tables)

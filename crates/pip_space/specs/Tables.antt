@@ -8,7 +8,7 @@ use Rattle.pip_model.specs.NodeWords.{Level as TableLevel}
 use Rattle.pip_model.specs.Lists.{Distinct, In}
 use Rattle.pip_model.specs.NodeIn.{HasNode, NodeIn, Space}
 use Rattle.pip_model.specs.Tree.{Node, Table, config, dir, lists, table_at, table_pairs}
-use Rattle.pip_space.specs.declared.heads.Heads.{Heads}
+use Rattle.pip_space.specs.declared.table_roots.TableRoots.{TableRoots}
 
 -- the page, if there is one
 abbrev pub page_list : Option Pair → List Pair
@@ -66,7 +66,7 @@ pub record HasTables (m : Memory) (part i : ℕ) : Type 0 where
   pub tabled : is_some (table_at held.node.tables i) ≡ true
 
 -- what a descriptor says of where the node's tables are noted
-pub record AreHeads (x : Node) (h : Heads) : Type 0 where
+pub record AreTableRoots (x : Node) (h : TableRoots) : Type 0 where
   pub part : h.part ≡ x.name
   pub list : h.list ≡ x.base.list.frame
   pub tables : h.tables ≡ length x.tables
@@ -75,7 +75,7 @@ pub record AreHeads (x : Node) (h : Heads) : Type 0 where
   pub shadow2 : h.shadow2 ≡ x.base.shadow2.frame
 
 -- the frames to which entries are written are frames of the memory
-pub record AreInside (m : Memory) (h : Heads) : Type 0 where
+pub record AreInside (m : Memory) (h : TableRoots) : Type 0 where
   pub part : h.part < length m
   pub mmu : h.mmu < length m
   pub shadow1 : h.shadow1 < length m

@@ -1,6 +1,6 @@
 //! What a partition's descriptor says of its control: whether it is masked, and the lines that are pending in it. Other
-//! than the rest of this crate, this speaks of whole trees: after a write the memory lays out the tree in which the control
-//! of this partition alone has changed.
+//! than the rest of this crate, this speaks of whole trees: after a write the memory lays out the tree in which the
+//! control of this partition alone has changed.
 ghost use Rattle.std.specs.Prelude.{◌≡◌, ℕ, ◌+◌, ◌^◌, List, length, sum_by};
 ghost use Rattle.pip_model.specs.Layout.{LaysOut};
 ghost use Rattle.pip_model.specs.NodeWords.{flag};

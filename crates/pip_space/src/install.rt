@@ -9,12 +9,13 @@ ghost use Rattle.pip_model.specs.Tree.{Node, Table, table_at, table_pairs};
 ghost use Rattle.pip_model.specs.Prepare.{with_table};
 ghost use Rattle.pip_model.specs.Collect.{without_table};
 ghost use Rattle.pip_space.specs.Nodes.{InEachSpace};
-ghost use Rattle.pip_space.specs.Tables.{AreInPages, CanInstall, CanRemove, HasInstall, HasRemove, page_list, rows_beside};
+ghost use Rattle.pip_space.specs.Tables.{AreInPages, CanInstall, CanRemove, HasInstall, HasRemove, page_list};
+ghost use Rattle.pip_space.specs.Tables.{rows_beside};
 
-use crate::heads::{clear_entries, read_heads, set_entries};
 use crate::level::Level;
 use crate::lists::{add_list_page, drop_list_page, take_slot};
 use crate::reads::table;
+use crate::table_roots::{clear_entries, read_table_roots, set_entries};
 use pip_base::{Frame, Pair, Steps, never};
 use pip_config::{Slot, push_slot};
 use pip_frames::Frames;
@@ -36,7 +37,8 @@ fn zero_slot<M: Frames>(mem: &mut M, s: &Slot)
 }
 
 /// Gives `part` the tables of directory index `i`, below 1024, in the pages of `s`, and the further list page `list`.
-/// The pages are zeroed first. `part` has no table of this index yet; `list` is Some where no slot is left, and only there.
+/// The pages are zeroed first. `part` has no table of this index yet; `list` is Some where no slot is left, and only
+/// there.
 pub fn install_table<M: Frames, L: Ledger>(
     mem: &mut M,
     part: Frame,
@@ -54,7 +56,7 @@ pub fn install_table<M: Frames, L: Ledger>(
         Space (M.memory mem.new) (with_table b (page_list list) x) rows
         × OthersStay (with_table b (page_list list) x) (M.memory mem.old) (M.memory mem.new) }
 {
-    let at = read_heads(mem, part, steps);
+    let at = read_table_roots(mem, part, steps);
     zero_slot(mem, s);
     add_list_page(mem, at.list, at.tables, list, steps);
     push_slot(mem, at.list, at.tables, s, steps);
@@ -87,7 +89,7 @@ pub fn remove_table<M: Frames, L: Ledger>(
         CanRemove x rows i → Space (M.memory mem.new) (without_table i x) (rows_beside i rows)
         × OthersStay x (M.memory mem.old) (M.memory mem.new)) }
 {
-    let at = read_heads(mem, part, steps);
+    let at = read_table_roots(mem, part, steps);
     match table(mem, part, Level::Mmu, i, steps) {
         None => never!(),
         Some(page) => {

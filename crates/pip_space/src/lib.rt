@@ -1,18 +1,18 @@
 //! One partition in frames: its rows and its tables.
 //!
 //! A partition is named by the frame of its descriptor, `part`. Each function here needs that the memory holds a
-//! partition of this name (`HasNode`): that its descriptor, directories, tables and list pages are different frames with
-//! the words of docs/FORMATS.md. Nothing here speaks of other partitions, but for what is written of the control of a
-//! partition: that is a step of the tree.
+//! partition of this name (`HasNode`): that its descriptor, directories, tables and list pages are different frames
+//! with the words of docs/FORMATS.md. Nothing here speaks of other partitions, but for what is written of the control
+//! of a partition: that is a step of the tree.
 #![tactic(auto)]
 
 mod control;
-mod heads;
 mod install;
 mod level;
 mod lists;
 mod reads;
 mod row;
+mod table_roots;
 mod writes;
 
 pub use control::{ROOT, is_masked, pending, set_masked, set_pending};

@@ -1,5 +1,6 @@
 //! Reading rows and tables.
-ghost use Rattle.std.specs.Prelude.{◌≡◌, ℕ, ◌+◌, ◌<◌, ◌≤◌, ◌/◌, ◌↔◌, IsTrue, Option, None, IfSome, is_some, length, option_map};
+ghost use Rattle.std.specs.Prelude.{◌≡◌, ℕ, ◌+◌, ◌<◌, ◌≤◌, ◌/◌, ◌↔◌, IsTrue, Option, None, IfSome, is_some, length};
+ghost use Rattle.std.specs.Prelude.{option_map};
 ghost use Rattle.pip_model.specs.FullRows.{row_word};
 ghost use Rattle.pip_entry.specs.Sh1.{packed_sh1};
 ghost use Rattle.pip_entry.specs.Sh2.{packed_sh2};
@@ -64,7 +65,8 @@ fn table_count<M: Frames, L: Ledger>(mem: &M, part: Frame, steps: &mut Steps<L>)
     mem.word(part, TABLES, steps)
 }
 
-/// The first directory index from `from` on, at most 1024, for which `part` has tables. None exactly where there is none.
+/// The first directory index from `from` on, at most 1024, for which `part` has tables. None exactly where there is
+/// none.
 pub fn next_tables<M: Frames, L: Ledger>(
     mem: &M,
     part: Frame,

@@ -29,6 +29,7 @@ use Rattle.pip_model.proofs.Frames.Stored.{reached_frame, reached_page}
 use Rattle.pip_model.proofs.OnLists.Members.{find_in}
 use Rattle.pip_model.proofs.Trees.Numbers.{reached_index}
 use Rattle.pip_switch.specs.Blocks.{CanBegin, HasRoom, IsOpen, IsPlace, IsTable, entry, entry_from, place_of}
+use Rattle.pip_switch.specs.declared.blocks.HandlerBlock.{HandlerBlock}
 
 -- ---- the entry
 
@@ -96,7 +97,7 @@ handler_none t p k e = sym (handler_by_entry t p k ∙ ap (at_entry t p) (sym e)
 
 -- ---- the place where it is saved
 
-place_at_entry : Tree → ℕ → Option ℕ → Option (ℕ × ℕ)
+place_at_entry : Tree → ℕ → Option ℕ → Option HandlerBlock
 place_at_entry t p None = None
 place_at_entry t p (Some a) = place_of (reach t p a Store Word)
 
@@ -151,12 +152,16 @@ pub place_none : (t : Tree) (p k : ℕ) → IsSound t → None ≡ entry t p k �
 unfolding place_at_entry
 place_none t p k s e = sym (place_by_entry t p k s ∙ ap (place_at_entry t p) (sym e))
 
-pub place_some : (t : Tree) (p k a : ℕ) → IsSound t → Some a ≡ entry t p k → (o : Option (ℕ × ℕ))
+pub place_some : (t : Tree) (p k a : ℕ) → IsSound t → Some a ≡ entry t p k → (o : Option HandlerBlock)
     → o ≡ place_of (reach t p a Store Word) → o ≡ place_of (save_place t p k)
 unfolding place_at_entry
 place_some t p k a s e o is = is ∙ sym (place_by_entry t p k s ∙ ap (place_at_entry t p) (sym e))
 
 -- ---- what a translation says
+
+-- the block that begins in a word that was reached
+abbrev pub block_at_word : ℕ × ℕ → HandlerBlock
+block_at_word y = record { frame = y.0; index = y.1 }
 
 aligned_reach : (t : Tree) (p a : ℕ) (access : Access) → a % 4 ≡ 0 → reach t p a access Byte ≡ reach t p a access Word
 aligned_reach t p a access e = sym (ap (λ b.
@@ -171,21 +176,23 @@ module _ (t : Tree) (p a : ℕ) (access : Access) (begins : CanBegin a) (r : Res
   unfolding whole
   fault_nowhere f e = ap (λ k. place_of (reached_of k)) (sym e) ∙ ap place_of whole
 
-  pub found_there : (y : ℕ × ℕ) → r ≡ Ok y → Some y ≡ place_of (reach t p a access Word)
+  pub found_there : (y : ℕ × ℕ) → r ≡ Ok y → Some (block_at_word y) ≡ place_of (reach t p a access Word)
   unfolding whole
   found_there y e = ap (λ k. place_of (reached_of k)) (sym e) ∙ ap place_of whole
 
-placed_back : (q : Reached) (y : ℕ × ℕ) → Some y ≡ place_of q → q ≡ Place y.0 y.1
-placed_back (Place g i) y e = let same : y ≡ (g, i) = cc in ap (λ (r : ℕ × ℕ). Place r.0 r.1) (sym same)
+placed_back : (q : Reached) (y : HandlerBlock) → Some y ≡ place_of q → q ≡ Place y.frame y.index
+placed_back (Place g i) y e =
+    let same : y ≡ record { frame = g; index = i } = cc in ap (λ (b : HandlerBlock). Place b.frame b.index) (sym same)
 placed_back (Faulted f) y e = cc
 
 -- a place has room for a block
 pub place_room : (t : Tree) (m : Memory) (p a : ℕ) (access : Access) (x : Node) → IsSound t → LaysOut t m
-    → find_node t p ≡ Some x → CanBegin a → (y : ℕ × ℕ) → Some y ≡ place_of (reach t p a access Word) → HasRoom m y
+    → find_node t p ≡ Some x → CanBegin a → (y : HandlerBlock) → Some y ≡ place_of (reach t p a access Word)
+    → HasRoom m y
 place_room t m p a access x s lays found begins y e =
     let q = placed_back (reach t p a access Word) y e in
-    let low = reached_frame t s p a y.0 y.1 x access Word found q in
-    let at = reached_index t p a y.0 y.1 access Word q in
+    let low = reached_frame t s p a y.frame y.index x access Word found q in
+    let at = reached_index t p a y.frame y.index access Word q in
     let count = lays.count in
     let room = begins.room in
     record { inside = omega arith; room = omega (arith, room, at) }
@@ -205,16 +212,16 @@ context_same v w i h =
     λ k. record { pc = pc k; regs = regs k }
 
 pub handler_some : (t : Tree) (m : Memory) (p k a : ℕ) (x : Node) → IsSound t → LaysOut t m → find_node t p ≡ Some x
-    → CanBegin a → Some a ≡ entry t p k → (y : ℕ × ℕ) → Some y ≡ place_of (reach t p a Load Word)
-    → (c : Ctx) → c ≡ context_in (word_at m y.0) y.1 → Some c ≡ handler t p k
+    → CanBegin a → Some a ≡ entry t p k → (y : HandlerBlock) → Some y ≡ place_of (reach t p a Load Word)
+    → (c : Ctx) → c ≡ context_in (word_at m y.frame) y.index → Some c ≡ handler t p k
 unfolding at_entry
 handler_some t m p k a x s lays found begins e y there c is =
     let q = placed_back (reach t p a Load Word) y there in
-    let (w, page) = reached_page t s p a y.0 y.1 x Load Word found q in
+    let (w, page) = reached_page t s p a y.frame y.index x Load Word found q in
     let room = (place_room t m p a Load x s lays found begins y there).room in
-    let same : context_in (word_at m y.0) y.1 ≡ context_in (word_of (t.words y.0)) y.1 =
-    context_same (word_at m y.0) (word_of (t.words y.0)) y.1
-    (λ j low. laid_words t s m lays y.0 j w page (omega (arith, low, room)) ∙ sym (ap (λ o. word_of o j) page)) in
+    let same : context_in (word_at m y.frame) y.index ≡ context_in (word_of (t.words y.frame)) y.index =
+    context_same (word_at m y.frame) (word_of (t.words y.frame)) y.index
+    (λ j low. laid_words t s m lays y.frame j w page (omega (arith, low, room)) ∙ sym (ap (λ o. word_of o j) page)) in
     ap Some (is ∙ same) ∙ sym (handler_by_entry t p k ∙ ap (at_entry t p) (sym e) ∙ ap (context_reached t) q)
 
 pub handler_nowhere : (t : Tree) (p k a : ℕ) → Some a ≡ entry t p k → None ≡ place_of (reach t p a Load Word)
@@ -264,13 +271,14 @@ saved_nowhere t m c q lays e = let same : saved_to t c q ≡ t = λ i.
     record { frames = t.frames; root = t.root; others = t.others; words = λ g. same_words c g q e (t.words g) i } in
     subst (λ u. LaysOut u m) (sym same) lays
 
-pub saved_there : (t : Tree) (m n : Memory) (c : Ctx) (q : Reached) → LaysOut t m → IsOpen t q → (y : ℕ × ℕ)
-    → Some y ≡ place_of q → length c.regs ≡ 16 → n ≡ put_words m y.0 y.1 (c.pc ∷ c.regs) → LaysOut (saved_to t c q) n
+pub saved_there : (t : Tree) (m n : Memory) (c : Ctx) (q : Reached) → LaysOut t m → IsOpen t q → (y : HandlerBlock)
+    → Some y ≡ place_of q → length c.regs ≡ 16 → n ≡ put_words m y.frame y.index (c.pc ∷ c.regs)
+    → LaysOut (saved_to t c q) n
 saved_there t m n c q lays may y e long is =
     let there = placed_back q y e in
     subst (λ z. LaysOut (saved_to t c z) n) (sym there)
-    (subst (LaysOut (saved_to t c (Place y.0 y.1))) (sym is) (saved_lays t m lays c y.0 y.1 long
-    (may.page y.0 y.1 there) (may.frame y.0 y.1 there) (may.room y.0 y.1 there)))
+    (subst (LaysOut (saved_to t c (Place y.frame y.index))) (sym is) (saved_lays t m lays c y.frame y.index long
+    (may.page y.frame y.index there) (may.frame y.frame y.index there) (may.room y.frame y.index there)))
 
 -- ---- where a yield saves
 
@@ -278,7 +286,7 @@ not_reached : (q : Reached) → None ≡ place_of q → is_reached q ≡ false
 not_reached (Place g i) e = cc
 not_reached (Faulted f) e = refl
 
-was_reached : (q : Reached) (y : ℕ × ℕ) → Some y ≡ place_of q → is_reached q ≡ true
+was_reached : (q : Reached) (y : HandlerBlock) → Some y ≡ place_of q → is_reached q ≡ true
 was_reached (Place g i) y e = refl
 was_reached (Faulted f) y e = cc
 
@@ -299,7 +307,7 @@ module _ (t : Tree) (p s : ℕ) where
     unfolding below
     refused_place e = (refl, ap₂ (λ b c. b && not c) below (not_reached (save_place t p s) e))
 
-    pub found_place : (y : ℕ × ℕ) → Some y ≡ place_of (save_place t p s) → IsPlace t p s (Ok (Some y))
+    pub found_place : (y : HandlerBlock) → Some y ≡ place_of (save_place t p s) → IsPlace t p s (Ok (Some y))
     unfolding below
     found_place y e = (
       e ∙ sym (ap (λ b. place_of (cond b (save_place t p s) (Faulted Unmapped))) below),
@@ -370,7 +378,7 @@ module _ (t : Tree) (p k : ℕ) (access : Access) (low : k < 256) (r : Result (�
     unfolding by_load
     entry_word m x a s lays found calm word =
         let begins = table_begins k low in
-        let room = (place_room t m p (0xfffff000 + 4 * k) access x s lays found begins y
+        let room = (place_room t m p (0xfffff000 + 4 * k) access x s lays found begins (block_at_word y)
         (found_there t p (0xfffff000 + 4 * k) access begins r is y e)).room in
         let q = by_load calm (s.readable (node t p) (node_in t p)) in
         let (w, page) = reached_page t s p (0xfffff000 + 4 * k) y.0 y.1 x Load Word found q in
@@ -379,7 +387,7 @@ module _ (t : Tree) (p k : ℕ) (access : Access) (low : k < 256) (r : Result (�
 
 -- a block in the table's page
 pub beside_there : (t : Tree) (p a g : ℕ) (access : Access) → CanBegin a → vpage a ≡ vpage 0xfffff000
-    → IsTable t p access g → Some (g, a % 4096 / 4) ≡ place_of (reach t p a access Word)
+    → IsTable t p access g → Some (block_at_word (g, a % 4096 / 4)) ≡ place_of (reach t p a access Word)
 beside_there t p a g access begins same table =
     sym (ap place_of (sym (aligned_reach t p a access begins.aligned)
     ∙ same_page t p 0xfffff000 a g 0 access (sym same) (aligned_reach t p 0xfffff000 access refl ∙ table)))

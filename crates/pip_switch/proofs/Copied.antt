@@ -39,7 +39,7 @@ over_more i w xs ws inside =
     (drop-set-lt (i + 1 + length xs) ws i w (omega arith) ∙ ap (λ k. drop k ws) many)
     ∙ append_assoc (take i ws) (w ∷ []) (xs ++ drop (i + suc (length xs)) ws)
 
--- so many words that are written one by one
+-- words that are written one by one
 put_over : (m : Memory) (f i : ℕ) (xs : List ℕ) → f < length m → i + length xs ≤ length (frame_at m f)
     → slice_set m f (over i xs (frame_at m f)) ≡ put_words m f i xs
 unfolding over frame_at put_word
@@ -59,7 +59,7 @@ put_over m f i (w ∷ ws) inside fits =
     ∙ ap (λ k. slice_set (put_word m f i w) f (over (i + 1) ws k)) (sym there)
     ∙ rest
 
--- a word, and behind it a part that was copied
+-- a word, and after it a part that was copied
 pub context_put : (ws ys regs : List ℕ) (i w : ℕ) → i + 17 ≤ length ws → ys ≡ regs
     → put_mid (i + 1) (i + 17 - (i + 1)) (slice_set ws i w) ys ≡ take i ws ++ (w ∷ regs ++ drop (i + 17) ws)
 context_put ws ys regs i w fits same =

@@ -17,7 +17,7 @@ use Rattle.pip_mmu.proofs.Events.{fetch_event, fetch_fault_event, load_event, lo
 use Rattle.pip_mmu.proofs.Events.{store_fault_event}
 use Rattle.pip_model.specs.Deliver.{deliver}
 use Rattle.pip_model.specs.Events as E
-use Rattle.pip_model.specs.Happens.{access_number, acted, deliver_fault, fault_number, fault_vector, on_running}
+use Rattle.pip_model.specs.Happens.{access_number, what_happens, deliver_fault, fault_number, fault_vector, on_running}
 use Rattle.pip_model.specs.Local.{Succeeded}
 use Rattle.pip_model.proofs.Locality.OneEvent.{deliver-fails}
 use Rattle.pip_model.specs.Partitions.{IsHeld}
@@ -60,7 +60,7 @@ module _ (m : Memory) (cs : List (Option Occupant)) (w : World) (s : StandsFor m
   -- what runs, if anything does, gets another context
   pub came_set : (f : Ctx → Ctx) (ds : List (Option Occupant))
       → ds ≡ slice_set cs cpu (option_map {T = Occupant} (λ r. record r { ctx = f r.ctx }) (on_cpu cs cpu))
-      → cpu < length cs → Came (acted w (E.SetContext cpu (f (ctx_on w cpu)))) (set_outcome (on_cpu cs cpu)) m ds
+      → cpu < length cs → Came (what_happens w (E.SetContext cpu (f (ctx_on w cpu)))) (set_outcome (on_cpu cs cpu)) m ds
   came_set f ds is inside =
       let there = runs_there m cs cpu w s in
       subst (λ o. Came (on_running w cpu o (λ r. done (with_running w cpu (Some (record r { ctx = f (ctx_of o) })))))
@@ -89,7 +89,7 @@ module _ (m : Memory) (cs : List (Option Occupant)) (w : World) (s : StandsFor m
     here = let (r, is, name) = part_of (on_cpu cs cpu) p on in (r, runs_there m cs cpu w s ∙ is, name)
 
     pub came_loaded : (va : ℕ) (size : Size) (word : ℕ) → Ok word ≡ load_answer w.tree va size
-        (reach w.tree p va Load size) → Came (acted w (E.Load cpu va size)) (O.Word word) m cs
+        (reach w.tree p va Load size) → Came (what_happens w (E.Load cpu va size)) (O.Word word) m cs
     came_loaded va size word h =
         let (r, runs, name) = here in
         let P : ℕ → Type 0 = λ q. Ok word ≡ load_answer w.tree va size (reach w.tree q va Load size) in
@@ -99,7 +99,7 @@ module _ (m : Memory) (cs : List (Option Occupant)) (w : World) (s : StandsFor m
     pub load_faulted : (va : ℕ) (size : Size) (f : AccessFault) → Err f ≡ load_answer w.tree va size
         (reach w.tree p va Load size) → (o : Outcome) (n : Memory) (ds : List (Option Occupant))
         → ((r : Occupant) → runs_on w cpu ≡ Some r → Came (deliver_fault w cpu r va Load (model_fault f)) o n ds)
-        → Came (acted w (E.Load cpu va size)) o n ds
+        → Came (what_happens w (E.Load cpu va size)) o n ds
     load_faulted va size f h o n ds came =
         let (r, runs, name) = here in
         let P : ℕ → Type 0 = λ q. Err f ≡ load_answer w.tree va size (reach w.tree q va Load size) in
@@ -107,7 +107,7 @@ module _ (m : Memory) (cs : List (Option Occupant)) (w : World) (s : StandsFor m
 
     pub came_stored : (va : ℕ) (size : Size) (x : ℕ) (n : Memory) → Ok tt ≡ store_answer (reach w.tree p va Store size)
         → IsHeld (tree_stored w.tree va size x (reach w.tree p va Store size)) n
-        → Came (acted w (E.Store cpu va size x)) O.Done n cs
+        → Came (what_happens w (E.Store cpu va size x)) O.Done n cs
     came_stored va size x n h left =
         let (r, runs, name) = here in
         let P : ℕ → Type 0 = λ q. Ok tt ≡ store_answer (reach w.tree q va Store size) in
@@ -118,7 +118,7 @@ module _ (m : Memory) (cs : List (Option Occupant)) (w : World) (s : StandsFor m
     pub store_faulted : (va : ℕ) (size : Size) (x : ℕ) (f : AccessFault)
         → Err f ≡ store_answer (reach w.tree p va Store size) → (o : Outcome) (n : Memory) (ds : List (Option Occupant))
         → ((r : Occupant) → runs_on w cpu ≡ Some r → Came (deliver_fault w cpu r va Store (model_fault f)) o n ds)
-        → Came (acted w (E.Store cpu va size x)) o n ds
+        → Came (what_happens w (E.Store cpu va size x)) o n ds
     store_faulted va size x f h o n ds came =
         let (r, runs, name) = here in
         let P : ℕ → Type 0 = λ q. Err f ≡ store_answer (reach w.tree q va Store size) in
@@ -126,7 +126,8 @@ module _ (m : Memory) (cs : List (Option Occupant)) (w : World) (s : StandsFor m
 
     -- a trap is delivered
     pub trapped : (k a b : ℕ) (o : Outcome) (n : Memory) (ds : List (Option Occupant)) → ((r : Occupant)
-        → runs_on w cpu ≡ Some r → Came (deliver w cpu r k a b) o n ds) → Came (acted w (E.Trap cpu k a b)) o n ds
+        → runs_on w cpu ≡ Some r → Came (deliver w cpu r k a b) o n ds) → Came (what_happens w (E.Trap cpu k a b)) o n
+        ds
     trapped k a b o n ds came = let (r, runs, name) = here in
         came_so _ _ o n ds (ap (λ o. on_running w cpu o (λ r. deliver w cpu r k a b)) runs) (came r runs)
 
@@ -136,7 +137,7 @@ module _ (m : Memory) (cs : List (Option Occupant)) (w : World) (s : StandsFor m
       at_pc = let (r, is, name) = part_of (on_cpu cs cpu) p on in (r, runs_there m cs cpu w s ∙ is, name, at r is)
 
       pub came_fetched : (word : ℕ) → Ok word ≡ load_answer w.tree pc Word (reach w.tree p pc Fetch Word)
-          → Came (acted w (E.Fetch cpu)) (O.Word word) m cs
+          → Came (what_happens w (E.Fetch cpu)) (O.Word word) m cs
       came_fetched word h =
           let (r, runs, name, same) = at_pc in
           let P : ℕ → ℕ → Type 0 = λ a q. Ok word ≡ load_answer w.tree a Word (reach w.tree q a Fetch Word) in
@@ -146,7 +147,7 @@ module _ (m : Memory) (cs : List (Option Occupant)) (w : World) (s : StandsFor m
       pub fetch_faulted : (f : AccessFault) → Err f ≡ load_answer w.tree pc Word (reach w.tree p pc Fetch Word)
           → (o : Outcome) (n : Memory) (ds : List (Option Occupant))
           → ((r : Occupant) → runs_on w cpu ≡ Some r → Came (deliver_fault w cpu r pc Fetch (model_fault f)) o n ds)
-          → Came (acted w (E.Fetch cpu)) o n ds
+          → Came (what_happens w (E.Fetch cpu)) o n ds
       fetch_faulted f h o n ds came =
           let (r, runs, name, same) = at_pc in
           let P : ℕ → ℕ → Type 0 = λ a q. Err f ≡ load_answer w.tree a Word (reach w.tree q a Fetch Word) in

@@ -11,7 +11,7 @@ use Rattle.pip_base.specs.declared.types.Size.{Size}
 use Rattle.pip_base.specs.declared.types.Size.TheVariants.{Word}
 use Rattle.pip_mmu.specs.Cached.{HasCached, after_access}
 use Rattle.pip_mmu.proofs.Events.{fetch_caches, load_caches, store_caches}
-use Rattle.pip_model.specs.Cache.{Agrees, Places, accessed, cache_at, cached}
+use Rattle.pip_model.specs.Cache.{Agrees, Places, places_after_access, cache_at, cache_after_access}
 use Rattle.pip_model.specs.Events as E
 use Rattle.pip_model.specs.Happens.{caches_after}
 use Rattle.pip_model.specs.Partitions.{InEach}
@@ -51,15 +51,16 @@ module _ (m : Memory) (cs : List (Option Occupant)) (ks zs : List Places)
     -- the caches after the access
     looked : (va : ℕ) (a : Access) (size : Size) (new : Places)
         → InEach m p (λ t x. new ≡ after_access t (slice_index_or zs cpu d) p va a size)
-        → refill (length ks) ks (slice_set zs cpu new) ≡ accessed w.tree w.caches cpu p va a size
+        → refill (length ks) ks (slice_set zs cpu new) ≡ places_after_access w.tree w.caches cpu p va a size
     looked va a size new h =
         let (x, found) = part_found m cs cpu w s.bare p on in
         cell_put ks zs same cpu new _
         (h w.tree x s.bare.sound.tree s.bare.shows.laid found ∙ ap (λ k. after_access w.tree k p va a size) lent)
-        ∙ go (is_misaligned va size) ∙ ap (λ k. accessed w.tree k cpu p va a size) (sym s.caches)
+        ∙ go (is_misaligned va size) ∙ ap (λ k. places_after_access w.tree k cpu p va a size) (sym s.caches)
       where
-        go : (b : Bool) → slice_set ks cpu (cond b (cache_at ks cpu) (cached w.tree (cache_at ks cpu) p va a))
-            ≡ cond b ks (slice_set ks cpu (cached w.tree (cache_at ks cpu) p va a))
+        go : (b : Bool) → slice_set ks cpu (cond b (cache_at ks cpu)
+            (cache_after_access w.tree (cache_at ks cpu) p va a))
+            ≡ cond b ks (slice_set ks cpu (cache_after_access w.tree (cache_at ks cpu) p va a))
         go true = set_same ks cpu _ low
         go false = refl
 
@@ -71,7 +72,7 @@ module _ (m : Memory) (cs : List (Option Occupant)) (ks zs : List Places)
         → refill (length ks) ks (slice_set zs cpu new) ≡ caches_after w (E.Load cpu va size)
     looked_load va size new h =
         let (r, runs, name, is) = here in
-        looked va Load size new h ∙ ap (λ q. accessed w.tree w.caches cpu q va Load size) (sym name)
+        looked va Load size new h ∙ ap (λ q. places_after_access w.tree w.caches cpu q va Load size) (sym name)
         ∙ sym (load_caches w cpu r runs va size)
 
     pub looked_store : (va : ℕ) (size : Size) (v : ℕ) (new : Places)
@@ -79,7 +80,7 @@ module _ (m : Memory) (cs : List (Option Occupant)) (ks zs : List Places)
         → refill (length ks) ks (slice_set zs cpu new) ≡ caches_after w (E.Store cpu va size v)
     looked_store va size v new h =
         let (r, runs, name, is) = here in
-        looked va Store size new h ∙ ap (λ q. accessed w.tree w.caches cpu q va Store size) (sym name)
+        looked va Store size new h ∙ ap (λ q. places_after_access w.tree w.caches cpu q va Store size) (sym name)
         ∙ sym (store_caches w cpu r runs va size v)
 
     pub looked_fetch : (pc : ℕ) → ((r : Occupant) → on_cpu cs cpu ≡ Some r → pc ≡ r.ctx.pc) → (new : Places)
@@ -87,8 +88,9 @@ module _ (m : Memory) (cs : List (Option Occupant)) (ks zs : List Places)
         → refill (length ks) ks (slice_set zs cpu new) ≡ caches_after w (E.Fetch cpu)
     looked_fetch pc at new h =
         let (r, runs, name, is) = here in
-        looked pc Fetch Word new h ∙ ap (λ q. accessed w.tree w.caches cpu q pc Fetch Word) (sym name)
-        ∙ ap (λ q. accessed w.tree w.caches cpu r.name q Fetch Word) (at r is) ∙ sym (fetch_caches w cpu r runs)
+        looked pc Fetch Word new h ∙ ap (λ q. places_after_access w.tree w.caches cpu q pc Fetch Word) (sym name)
+        ∙ ap (λ q. places_after_access w.tree w.caches cpu r.name q Fetch Word) (at r is)
+        ∙ sym (fetch_caches w cpu r runs)
 
   -- so the partition stands with the cache
   pub lent_stands : HasCachedWorld m cs ks → HasCached m p (slice_index_or zs cpu d)

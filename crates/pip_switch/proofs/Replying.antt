@@ -8,12 +8,13 @@ use Rattle.pip_base.specs.declared.outcome.Outcome.{Outcome}
 use Rattle.pip_base.specs.declared.outcome.Outcome.TheVariants as O
 use Rattle.pip_base.specs.declared.outcome.Status.{Status}
 use Rattle.pip_base.specs.declared.outcome.Status.TheVariants as S
-use Rattle.pip_birth.specs.Deleting.{AreRunning}
+use Rattle.pip_birth.specs.Deleting.{HasPartitions}
 use Rattle.pip_kern.specs.Calls.{Does, DoesWithValue, IsAnswer}
 use Rattle.pip_model.specs.Answers.{Answer, Five, accept, answer_unless, refuse}
 use Rattle.pip_model.specs.Events as E
 use Rattle.pip_model.specs.Cache.{Places, all_emptied}
-use Rattle.pip_model.specs.Happens.{IsSwitching, acted, by_runner, call, call_named, empties, is_accepted, on_running}
+use Rattle.pip_model.specs.Happens.{IsSwitching, what_happens, by_runner, call, call_named, empties, is_accepted}
+use Rattle.pip_model.specs.Happens.{on_running}
 use Rattle.pip_model.specs.declared.call_name.MemoryCall.TheVariants.{AddVAddr, Collect, CountToMap, CreatePartition}
 use Rattle.pip_model.specs.declared.call_name.MemoryCall.TheVariants.{DeletePartition, MappedInChild, Prepare}
 use Rattle.pip_model.specs.declared.call_name.MemoryCall.TheVariants.{RemoveVAddr}
@@ -22,7 +23,7 @@ use Rattle.pip_model.specs.declared.call_name.CallName.TheVariants.{Masks, OnMem
 use Rattle.pip_model.specs.Layout.{LaysOut}
 use Rattle.pip_model.specs.Lists.{In}
 use Rattle.pip_model.specs.Partitions.{HasPartition, InEach, IsHeld}
-use Rattle.pip_model.specs.Switching.{replied, reply_unless, yield}
+use Rattle.pip_model.specs.Switching.{reply_happens, reply_unless, yield}
 use Rattle.pip_model.specs.Tree.{Tree, names_of, nodes}
 use Rattle.pip_model.specs.Worlds.{Happened, World, runs_on}
 use Rattle.pip_model.specs.declared.processors.Occupant.{Occupant}
@@ -72,7 +73,7 @@ pub asked_tree : (t : Tree) (v : ℕ) (o : Option Status) → (answer_unless t o
 asked_tree t v None = refl
 asked_tree t v (Some s) = refl
 
--- the same by another name for the call
+-- what a call does, by another name for it
 pub same-does : {X : Type 0} (call : X → Tree → Answer) (p : ℕ) {k j : X} → k ≡ j → (status : Status) (value : ℕ)
     (m n : Memory) → Does (call j) p status value m n → Does (call k) p status value m n
 same-does call p is status value m n does = subst (λ l. Does (call l) p status value m n) (sym is) does
@@ -86,7 +87,7 @@ get_in (x ∷ xs) (suc k) d low = inr (get_in xs k d (omega arith))
 
 -- the names that run are partitions
 pub are_running : (m : Memory) (cs : List (Option Occupant)) → HasWorld m cs → (rs : List ℕ) → rs ≡ names_on cs
-    → AreRunning m rs
+    → HasPartitions m rs
 are_running m cs h rs is =
     let w = h.world in
     let each : All (λ (r : ℕ). In r (names_of (nodes w.tree))) (names_on w.cpus) =
@@ -129,7 +130,7 @@ empties_is w Unknown p a = refl
 
 -- every call but yield is replied to
 called : (w : World) (cpu : ℕ) (r : Occupant) (a : Five) (name : CallName) → (IsSwitching name → ⊥)
-    → call name w cpu r a ≡ replied w cpu r (answer_named name w r.name a)
+    → call name w cpu r a ≡ reply_happens w cpu r (answer_named name w r.name a)
 called w cpu r a (OnMemory c) h = refl
 called w cpu r a Yields h = absurd (h tt)
 called w cpu r a (Masks b) h = refl
@@ -146,7 +147,8 @@ module _ (m n : Memory) (cs ds : List (Option Occupant)) (w : World) (s : Stands
   -- a reply goes into r0 and r1
   pub came_replied : (k : Answer) (status : Status) (value : ℕ) → (status ≡ k.status) × (value ≡ k.value)
       → IsHeld k.tree n
-      → ds ≡ slice_set cs cpu (Some (with_answer status value r)) → Came (replied w cpu r k) (O.Reply status value) n ds
+      → ds ≡ slice_set cs cpu (Some (with_answer status value r)) → Came (reply_happens w cpu r k)
+      (O.Reply status value) n ds
   came_replied k status value told held is = record {
     outcome = ap₂ O.Reply told.0 told.1;
     shows = record {
@@ -195,7 +197,7 @@ module _ (m n : Memory) (cs ds : List (Option Occupant)) (w : World) (s : Stands
             (λ r. cond (empties (call_named number) w r.name a) (all_emptied w.caches) w.caches)) runs),
       )
 
--- the same by the partition that runs there, and by the name of the call
+-- how a call came out, by the partition that runs there and by the name of the call
 pub came_call : (m n : Memory) (cs ds : List (Option Occupant)) (w : World) → StandsFor m cs w → (cpu p : ℕ)
     → part_on cs cpu ≡ Some p → (number : ℕ) (name : CallName) → name ≡ call_named number → name ≢ Yields
     → (a : Five) (status : Status) (value : ℕ)
@@ -214,7 +216,8 @@ came_call m n cs ds w s cpu p on number name named d a status value does set ks 
 
 -- a call that switches, and one where nothing runs, changes no cache
 pub came_switched : (w : World) (cpu number : ℕ) (a : Five) (o : Outcome) (n : Memory) (ds : List (Option Occupant))
-    (ks : List Places) → IsSwitching (call_named number) → Came (acted w (E.Call cpu number a)) o n ds → w.caches ≡ ks
+    (ks : List Places) → IsSwitching (call_named number) → Came (what_happens w (E.Call cpu number a)) o n ds
+    → w.caches ≡ ks
     → CameWith w (E.Call cpu number a) o n ds ks
 came_switched w cpu number a o n ds ks switches came k_is = (came, sym k_is ∙ sym (go (runs_on w cpu)))
   where

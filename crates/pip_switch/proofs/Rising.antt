@@ -25,7 +25,7 @@ root_chain_in root (y ∷ ys) r = ap (λ b. cond b (y ∷ chain_in root ys y.up)
 
 -- the root's chain is it alone
 root_chain_is : (t : Tree) → IsSound t → chain t t.root.name ≡ t.root ∷ []
-root_chain_is t s = root_chain_in t.root t.others s.parents_stand_behind
+root_chain_is t s = root_chain_in t.root t.others s.parents_come_first
 
 -- a node's chain begins with it
 chain_first : (t : Tree) → IsSound t → (a : ℕ) (x : Node) → find_node t a ≡ Some x
@@ -41,7 +41,7 @@ chain_first t s a x found = elim (root_or_other t a x found) [
 
 -- ---- the way up
 
--- so many steps up from a partition, and nobody took the vector so far
+-- this many steps up from a partition, and none took the vector so far
 pub record Rise (t : Tree) (w : World) (k part at steps : ℕ) : Type 0 where
   pub x : Node
   pub x_is : find_node t at ≡ Some x

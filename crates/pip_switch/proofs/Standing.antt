@@ -5,7 +5,7 @@ use Rattle.pip_base.specs.declared.outcome.Outcome.{Outcome}
 use Rattle.pip_model.specs.Booted.{IsBooted}
 use Rattle.pip_model.specs.Events.{Event, IsEvent}
 use Rattle.pip_model.specs.Cache.{Places, empty_caches}
-use Rattle.pip_model.specs.Happens.{acted, caches_after, event}
+use Rattle.pip_model.specs.Happens.{what_happens, caches_after, event}
 use Rattle.pip_model.specs.Worlds.{World, boot_cpus, boot_world_with}
 use Rattle.pip_model.specs.declared.processors.Occupant.{Occupant}
 use Rattle.pip_model.proofs.Events.Soundness.{boot_world-sound_with, event-sound}
@@ -65,6 +65,6 @@ module _ (m n : Memory) (cs ds : List (Option Occupant)) (ks ls : List Places) (
 -- an event that changes no cache
 pub quiet : (m n : Memory) (cs ds : List (Option Occupant)) (ks : List Places) (e : World → Event) (o : World → Outcome)
     → ((w : World) → caches_after w (e w) ≡ w.caches)
-    → ((w : World) → StandsFor m cs w → Came (acted w (e w)) (o w) n ds)
+    → ((w : World) → StandsFor m cs w → Came (what_happens w (e w)) (o w) n ds)
     → (w : World) → StandsWith m cs ks w → CameWith w (e w) (o w) n ds ks
 quiet m n cs ds ks e o still came w s = (came w s.bare, sym s.caches ∙ sym (still w))

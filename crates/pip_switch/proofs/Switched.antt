@@ -15,7 +15,7 @@ use Rattle.pip_model.specs.Partitions.{HasPartition}
 use Rattle.pip_model.specs.Reach.{Reached}
 use Rattle.pip_model.specs.Sound.{IsContext, IsSound, IsWord}
 use Rattle.pip_model.specs.Switching.{node_name, reply_unless, target_node, with_reply, with_zeros, yield, yield_place}
-use Rattle.pip_model.specs.Switching.{yield_refusals, yielded}
+use Rattle.pip_model.specs.Switching.{yield_refusals, yield_happens}
 use Rattle.pip_model.specs.Tree.{Node, find_node}
 use Rattle.pip_model.specs.Worlds.{Happened, World, runs_on, with_masked}
 use Rattle.pip_model.specs.declared.processors.Occupant.{Occupant}
@@ -79,7 +79,7 @@ saved_stands m k cs w s cpu r runs p q x found laid = record {
 yield_by : World → ℕ → Occupant → Five → ℕ → Happened
 yield_by w cpu r a p =
     reply_unless w cpu r (first_met (yield_refusals w p a (target_node w.tree p a.x0)))
-    (yielded w cpu r a (node_name (target_node w.tree p a.x0))
+    (yield_happens w cpu r a (node_name (target_node w.tree p a.x0))
     (handler w.tree (node_name (target_node w.tree p a.x0)) a.x1))
 
 module _ (m n : Memory) (cs ds : List (Option Occupant)) (w : World) (s : StandsFor m cs w)
@@ -116,8 +116,9 @@ module _ (m n : Memory) (cs ds : List (Option Occupant)) (w : World) (s : Stands
     unfolding yield_by yield_is here name
     came_yielded y met to_is has_it laid is =
         came_so _ _ (O.Switched p y.name a.x1) n ds
-        (yield_is ∙ ap₂ (λ z i. reply_unless w cpu r z (yielded w cpu r a (node_name (target_node w.tree p a.x0)) i))
-        met has_it ∙ ap (λ k. yielded w cpu r a k (Some y.ctx)) to_is)
+        (yield_is ∙ ap₂ (λ z i. reply_unless w cpu r z (yield_happens w cpu r a (node_name (target_node w.tree p a.x0))
+        i))
+        met has_it ∙ ap (λ k. yield_happens w cpu r a k (Some y.ctx)) to_is)
         (record {
           outcome = ap (λ q. O.Switched q y.name a.x1) (sym name);
           shows = record {

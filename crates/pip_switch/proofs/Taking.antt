@@ -14,7 +14,7 @@ use Rattle.pip_model.specs.Handlers.{handler}
 use Rattle.pip_model.specs.Layout.{LaysOut}
 use Rattle.pip_model.specs.Lists.{Distinct, In, has}
 use Rattle.pip_model.specs.Events as E
-use Rattle.pip_model.specs.Happens.{acted}
+use Rattle.pip_model.specs.Happens.{what_happens}
 use Rattle.pip_model.specs.Poll.{lowest_line, may_take, none_taken, occupant_name, poll_line, take_line}
 use Rattle.pip_model.specs.Sound.{AreLines}
 use Rattle.pip_model.specs.Tree.{Tree}
@@ -42,7 +42,7 @@ chosen_empty t (j ∷ js) is =
 -- so nothing is taken
 pub came_untaken : (m : Memory) (cs : List (Option Occupant)) (cpu : ℕ) (w : World) → StandsFor m cs w
     → 0 ≡ sum_by (λ j. 2 ^ j) w.tree.root.pending → (o : Outcome) → o ≡ polled_outcome (on_cpu cs cpu)
-    → Came (acted w (E.Poll cpu)) o m cs
+    → Came (what_happens w (E.Poll cpu)) o m cs
 came_untaken m cs cpu w s none o is = go (may_take w cpu (runs_on w cpu)) (lowest_line w w.tree.root.pending)
     (chosen_empty w.tree w.tree.root.pending none)
   where

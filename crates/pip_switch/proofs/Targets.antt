@@ -112,13 +112,13 @@ target_stands m p d to k named = let (y, found) = target_found k.tree k.sound p 
 -- ---- what yield tests
 
 -- conditions one after another
-pass : (b : Bool) (q : Status) (cs : List (Bool × Status)) → b ≡ false → first_met ((b, q) ∷ cs) ≡ first_met cs
-pass true q cs e = cc
-pass false q cs e = refl
+pass : {b : Bool} (q : Status) (cs : List (Bool × Status)) → b ≡ false → first_met ((b, q) ∷ cs) ≡ first_met cs
+pass {b = true} q cs e = cc
+pass {b = false} q cs e = refl
 
-stop : (b : Bool) (q : Status) (cs : List (Bool × Status)) → b ≡ true → first_met ((b, q) ∷ cs) ≡ Some q
-stop true q cs e = refl
-stop false q cs e = cc
+stop : {b : Bool} (q : Status) (cs : List (Bool × Status)) → b ≡ true → first_met ((b, q) ∷ cs) ≡ Some q
+stop {b = true} q cs e = refl
+stop {b = false} q cs e = cc
 
 -- an address that passes is 1 or a place
 pub well_placed : (d : ℕ) → (not (d == 1) && not (is_place d)) ≡ false → d ≢ 1 → d % 4096 ≡ 0
@@ -138,126 +138,76 @@ vectors_pass k n e = let (a, b) = neither (nat_le 256 k) (nat_le 257 n) e in
     neither false b k = (refl, k)
 
 module _ (w : World) (s : IsSound w.tree) (p : ℕ) (a : Five) where
-  pub yield_misplaced : (not (a.x0 == 1) && not (is_place a.x0)) ≡ true
-      → first_met (yield_refusals w p a (target_node w.tree p a.x0)) ≡ Some S.NotAligned
-  yield_misplaced e = stop (not (a.x0 == 1) && not (is_place a.x0)) S.NotAligned
-      ((is_none (target_node w.tree p a.x0), S.NotChild) ∷ (nat_le 256 a.x1 || nat_le 257 a.x2, S.BadVector)
-      ∷ (
-        not ((node_name (target_node w.tree p a.x0)) == p) && has (running w) (node_name (target_node w.tree p a.x0)),
-        S.Running,
-      ) ∷ (is_none (handler w.tree (node_name (target_node w.tree p a.x0)) a.x1), S.NoHandler)
-      ∷ (nat_lt a.x2 256 && not (can_save w.tree p a.x2), S.BadSave) ∷ []) e
+  -- the tests of a yield by p to the partition `to`, or to the node q, from each test on
+  abbrev from_save : List (Bool × Status)
+  from_save = (nat_lt a.x2 256 && not (can_save w.tree p a.x2), S.BadSave) ∷ []
+
+  abbrev from_handler : ℕ → List (Bool × Status)
+  from_handler to = (is_none (handler w.tree to a.x1), S.NoHandler) ∷ from_save
+
+  abbrev from_running : ℕ → List (Bool × Status)
+  from_running to = (not (to == p) && has (running w) to, S.Running) ∷ from_handler to
+
+  abbrev from_vectors : ℕ → List (Bool × Status)
+  from_vectors to = (nat_le 256 a.x1 || nat_le 257 a.x2, S.BadVector) ∷ from_running to
+
+  abbrev from_target : Option Node → List (Bool × Status)
+  from_target q = (is_none q, S.NotChild) ∷ from_vectors (node_name q)
+
+  abbrev target : Option Node
+  target = target_node w.tree p a.x0
+
+  -- the first test that a yield doesn't pass
+  abbrev refused : Option Status
+  refused = first_met (yield_refusals w p a target)
+
+  pub yield_misplaced : (not (a.x0 == 1) && not (is_place a.x0)) ≡ true → refused ≡ Some S.NotAligned
+  yield_misplaced e = stop S.NotAligned (from_target target) e
 
   module _ (placed : (not (a.x0 == 1) && not (is_place a.x0)) ≡ false) where
-    pub yield_childless : None ≡ option_map (λ (y : Node). y.name) (target_node w.tree p a.x0)
-        → first_met (yield_refusals w p a (target_node w.tree p a.x0)) ≡ Some S.NotChild
+    pub yield_childless : None ≡ option_map (λ (y : Node). y.name) target → refused ≡ Some S.NotChild
     yield_childless none =
-        pass (not (a.x0 == 1) && not (is_place a.x0)) S.NotAligned ((is_none (target_node w.tree p a.x0), S.NotChild)
-        ∷ (nat_le 256 a.x1 || nat_le 257 a.x2, S.BadVector) ∷ (
-          not ((node_name (target_node w.tree p a.x0)) == p)
-              && has (running w) (node_name (target_node w.tree p a.x0)),
-          S.Running,
-        )
-        ∷ (is_none (handler w.tree (node_name (target_node w.tree p a.x0)) a.x1), S.NoHandler) ∷ (
-          nat_lt a.x2 256
-              && not (can_save w.tree p a.x2),
-          S.BadSave,
-        ) ∷ []) placed ∙ stop (is_none (target_node w.tree p a.x0)) S.NotChild
-        ((nat_le 256 a.x1 || nat_le 257 a.x2, S.BadVector) ∷ (
-          not ((node_name (target_node w.tree p a.x0)) == p)
-              && has (running w) (node_name (target_node w.tree p a.x0)),
-          S.Running,
-        )
-        ∷ (is_none (handler w.tree (node_name (target_node w.tree p a.x0)) a.x1), S.NoHandler) ∷ (
-          nat_lt a.x2 256
-              && not (can_save w.tree p a.x2),
-          S.BadSave,
-        ) ∷ []) (none_named (target_node w.tree p a.x0) none)
+        pass S.NotAligned (from_target target) placed
+        ∙ stop S.NotChild (from_vectors (node_name target)) (none_named target none)
 
-    module _ (to : ℕ) (named : Some to ≡ option_map (λ (y : Node). y.name) (target_node w.tree p a.x0)) where
-      found_first : first_met (yield_refusals w p a (target_node w.tree p a.x0)) ≡ first_met (
-          (nat_le 256 a.x1 || nat_le 257 a.x2, S.BadVector) ∷ (not (to == p) && has (running w) to, S.Running)
-          ∷ (is_none (handler w.tree to a.x1), S.NoHandler)
-          ∷ (nat_lt a.x2 256 && not (can_save w.tree p a.x2), S.BadSave) ∷ [])
+    module _ (to : ℕ) (named : Some to ≡ option_map (λ (y : Node). y.name) target) where
+      found_first : refused ≡ first_met (from_vectors to)
       found_first =
-          pass (not (a.x0 == 1) && not (is_place a.x0)) S.NotAligned ((is_none (target_node w.tree p a.x0), S.NotChild)
-          ∷ (nat_le 256 a.x1 || nat_le 257 a.x2, S.BadVector) ∷ (
-            not ((node_name (target_node w.tree p a.x0)) == p)
-                && has (running w) (node_name (target_node w.tree p a.x0)),
-            S.Running,
-          )
-          ∷ (is_none (handler w.tree (node_name (target_node w.tree p a.x0)) a.x1), S.NoHandler)
-          ∷ (nat_lt a.x2 256 && not (can_save w.tree p a.x2), S.BadSave) ∷ []) placed
-          ∙ pass (is_none (target_node w.tree p a.x0)) S.NotChild
-          ((nat_le 256 a.x1 || nat_le 257 a.x2, S.BadVector) ∷ (
-            not ((node_name (target_node w.tree p a.x0)) == p)
-                && has (running w) (node_name (target_node w.tree p a.x0)),
-            S.Running,
-          )
-          ∷ (is_none (handler w.tree (node_name (target_node w.tree p a.x0)) a.x1), S.NoHandler) ∷ (
-            nat_lt a.x2 256
-                && not (can_save w.tree p a.x2),
-            S.BadSave,
-          ) ∷ []) (target_there w.tree s p a.x0 to named)
-          ∙ ap (λ n. first_met ((nat_le 256 a.x1 || nat_le 257 a.x2, S.BadVector) ∷ (
-            not (n == p) && has (running w) n,
-            S.Running,
-          ) ∷ (is_none (handler w.tree n a.x1), S.NoHandler) ∷ (
-            nat_lt a.x2 256
-                && not (can_save w.tree p a.x2),
-            S.BadSave,
-          ) ∷ [])) (target_name w.tree s p a.x0 to named)
+          pass S.NotAligned (from_target target) placed
+          ∙ pass S.NotChild (from_vectors (node_name target)) (target_there w.tree s p a.x0 to named)
+          ∙ ap (λ n. first_met (from_vectors n)) (target_name w.tree s p a.x0 to named)
 
-      pub yield_badly : (nat_le 256 a.x1 || nat_le 257 a.x2) ≡ true
-          → first_met (yield_refusals w p a (target_node w.tree p a.x0)) ≡ Some S.BadVector
+      pub yield_badly : (nat_le 256 a.x1 || nat_le 257 a.x2) ≡ true → refused ≡ Some S.BadVector
       unfolding found_first
-      yield_badly e = found_first ∙ stop (nat_le 256 a.x1 || nat_le 257 a.x2) S.BadVector
-          ((not (to == p) && has (running w) to, S.Running) ∷ (is_none (handler w.tree to a.x1), S.NoHandler)
-          ∷ (nat_lt a.x2 256 && not (can_save w.tree p a.x2), S.BadSave) ∷ []) e
+      yield_badly e = found_first ∙ stop S.BadVector (from_running to) e
 
       module _ (good : (nat_le 256 a.x1 || nat_le 257 a.x2) ≡ false) where
-        pub yield_runs : (not (to == p) && has (running w) to) ≡ true
-            → first_met (yield_refusals w p a (target_node w.tree p a.x0)) ≡ Some S.Running
+        pub yield_runs : (not (to == p) && has (running w) to) ≡ true → refused ≡ Some S.Running
         unfolding found_first
-        yield_runs e = found_first ∙ pass (nat_le 256 a.x1 || nat_le 257 a.x2) S.BadVector
-            ((not (to == p) && has (running w) to, S.Running) ∷ (is_none (handler w.tree to a.x1), S.NoHandler)
-            ∷ (nat_lt a.x2 256 && not (can_save w.tree p a.x2), S.BadSave) ∷ []) good
-            ∙ stop (not (to == p) && has (running w) to) S.Running ((is_none (handler w.tree to a.x1), S.NoHandler)
-            ∷ (nat_lt a.x2 256 && not (can_save w.tree p a.x2), S.BadSave) ∷ []) e
+        yield_runs e = found_first ∙ pass S.BadVector (from_running to) good ∙ stop S.Running (from_handler to) e
 
         module _ (still : (not (to == p) && has (running w) to) ≡ false) where
-          still_first : first_met (yield_refusals w p a (target_node w.tree p a.x0))
-              ≡ first_met ((is_none (handler w.tree to a.x1), S.NoHandler)
-              ∷ (nat_lt a.x2 256 && not (can_save w.tree p a.x2), S.BadSave) ∷ [])
+          still_first : refused ≡ first_met (from_handler to)
           unfolding found_first
-          still_first = found_first ∙ pass (nat_le 256 a.x1 || nat_le 257 a.x2) S.BadVector
-              ((not (to == p) && has (running w) to, S.Running) ∷ (is_none (handler w.tree to a.x1), S.NoHandler)
-              ∷ (nat_lt a.x2 256 && not (can_save w.tree p a.x2), S.BadSave) ∷ []) good
-              ∙ pass (not (to == p) && has (running w) to) S.Running ((is_none (handler w.tree to a.x1), S.NoHandler)
-              ∷ (nat_lt a.x2 256 && not (can_save w.tree p a.x2), S.BadSave) ∷ []) still
+          still_first =
+              found_first ∙ pass S.BadVector (from_running to) good ∙ pass S.Running (from_handler to) still
 
-          pub yield_unhandled : None ≡ handler w.tree to a.x1
-              → first_met (yield_refusals w p a (target_node w.tree p a.x0)) ≡ Some S.NoHandler
+          pub yield_unhandled : None ≡ handler w.tree to a.x1 → refused ≡ Some S.NoHandler
           unfolding still_first
-          yield_unhandled e = still_first ∙ stop (is_none (handler w.tree to a.x1)) S.NoHandler
-              ((nat_lt a.x2 256 && not (can_save w.tree p a.x2), S.BadSave) ∷ []) (ap is_none (sym e))
+          yield_unhandled e = still_first ∙ stop S.NoHandler from_save (ap is_none (sym e))
 
           module _ (c : Ctx) (handled : Some c ≡ handler w.tree to a.x1) where
-            handled_first : first_met (yield_refusals w p a (target_node w.tree p a.x0))
-                ≡ first_met ((nat_lt a.x2 256 && not (can_save w.tree p a.x2), S.BadSave) ∷ [])
+            handled_first : refused ≡ first_met from_save
             unfolding still_first
-            handled_first = still_first ∙ pass (is_none (handler w.tree to a.x1)) S.NoHandler
-                ((nat_lt a.x2 256 && not (can_save w.tree p a.x2), S.BadSave) ∷ []) (ap is_none (sym handled))
+            handled_first = still_first ∙ pass S.NoHandler from_save (ap is_none (sym handled))
 
-            pub yield_unsaved : (nat_lt a.x2 256 && not (can_save w.tree p a.x2)) ≡ true
-                → first_met (yield_refusals w p a (target_node w.tree p a.x0)) ≡ Some S.BadSave
+            pub yield_unsaved : (nat_lt a.x2 256 && not (can_save w.tree p a.x2)) ≡ true → refused ≡ Some S.BadSave
             unfolding handled_first
-            yield_unsaved e = handled_first ∙ stop (nat_lt a.x2 256 && not (can_save w.tree p a.x2)) S.BadSave [] e
+            yield_unsaved e = handled_first ∙ stop S.BadSave [] e
 
-            pub yield_passes : (nat_lt a.x2 256 && not (can_save w.tree p a.x2)) ≡ false
-                → first_met (yield_refusals w p a (target_node w.tree p a.x0)) ≡ None
+            pub yield_passes : (nat_lt a.x2 256 && not (can_save w.tree p a.x2)) ≡ false → refused ≡ None
             unfolding handled_first
-            yield_passes e = handled_first ∙ pass (nat_lt a.x2 256 && not (can_save w.tree p a.x2)) S.BadSave [] e
+            yield_passes e = handled_first ∙ pass S.BadSave [] e
 
-            pub yield_handler : handler w.tree (node_name (target_node w.tree p a.x0)) a.x1 ≡ Some c
+            pub yield_handler : handler w.tree (node_name target) a.x1 ≡ Some c
             yield_handler = ap (λ n. handler w.tree n a.x1) (target_name w.tree s p a.x0 to named) ∙ sym handled

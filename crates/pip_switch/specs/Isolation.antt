@@ -63,6 +63,8 @@ pub record EndAlike (a : ℕ) (e : Event) (o o2 : Outcome) (q s : State) (w w2 :
   pub cpu : on_cpu q.cpus (cpu_of e) ≡ on_cpu s.cpus (cpu_of e)
   pub run : SameRun a w w2 → SameRun a left right
 
+-- an event that is no switch, by the same partition in two machines that agree below it, is answered the same in both
+-- and leaves them in agreement below it
 abbrev pub MachinesDependOnBelow : Type 0
 MachinesDependOnBelow = (p q p2 q2 : State) (e : Event) (o o2 : Outcome) (r : Occupant) → Takes p e o q → Takes p2 e o2
     q2 → IsEvent e → IsPlainTo e o → on_cpu p.cpus (cpu_of e) ≡ Some r → on_cpu p2.cpus (cpu_of e) ≡ Some r

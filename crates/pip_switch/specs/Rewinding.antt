@@ -9,7 +9,7 @@ rewritten m [] = m
 rewritten m (place ∷ []) = m
 rewritten m (place ∷ word ∷ rest) = rewritten (put_word m (place / 1024) (place % 1024) word) rest
 
--- each place lies in one of so many frames, and a word follows it
+-- each place is in one of n frames, and a word follows it
 abbrev pub ArePlaces : ℕ → List ℕ → Type 0
 ArePlaces n [] = Unit {0}
 ArePlaces n (place ∷ []) = ⊥

@@ -4,7 +4,7 @@ use Rattle.pip_base.specs.Memory.{Memory}
 use Rattle.pip_base.specs.declared.outcome.Outcome.{Outcome}
 use Rattle.pip_model.specs.Cache.{Places}
 use Rattle.pip_model.specs.Events.{Event}
-use Rattle.pip_model.specs.Happens.{acted, caches_after}
+use Rattle.pip_model.specs.Happens.{what_happens, caches_after}
 use Rattle.pip_model.specs.Layout.{LaysOut}
 use Rattle.pip_model.specs.Worlds.{Happened, IsCached, IsSoundWorld, World, runs_on}
 use Rattle.pip_model.specs.declared.processors.Occupant.{Occupant}
@@ -24,13 +24,15 @@ pub record HasWorld (m : Memory) (cs : List (Option Occupant)) : Type 0 where
   pub world : World
   pub stands : StandsFor m cs world
 
--- the same with the caches of the processors: each has one, and what they hold is what the tree says now
+-- a memory, its processors and their caches stand for a world: each processor has a cache, and what the caches hold is
+-- what the tree says now
 pub record StandsWith (m : Memory) (cs : List (Option Occupant)) (ks : List Places) (w : World) : Type 0 where
   pub bare : StandsFor m cs w
   pub cached : IsCached w
   pub caches : w.caches ≡ ks
   pub each : length ks ≡ length cs
 
+-- there is a world for a memory, its processors and their caches
 pub record HasCachedWorld (m : Memory) (cs : List (Option Occupant)) (ks : List Places) : Type 0 where
   pub world : World
   pub stands : StandsWith m cs ks world
@@ -53,20 +55,21 @@ pub record Came (h : Happened) (answer : Outcome) (m : Memory) (cs : List (Optio
 
 -- an event came out so, and led to these caches too
 abbrev pub CameWith : World → Event → Outcome → Memory → List (Option Occupant) → List Places → Type 0
-CameWith w e answer m cs ks = Came (acted w e) answer m cs × (ks ≡ caches_after w e)
+CameWith w e answer m cs ks = Came (what_happens w e) answer m cs × (ks ≡ caches_after w e)
 
 -- for each world that frames and processors stand for, what happens there comes out so, and leads to these
 abbrev pub Leads : Memory → List (Option Occupant) → (World → Happened) → Outcome → Memory → List (Option Occupant)
     → Type 0
 Leads m cs h answer n ds = (w : World) → StandsFor m cs w → Came (h w) answer n ds
 
--- the same of what happens to who runs on a processor
+-- for each world that frames and processors stand for and each occupant of a processor, what happens to it comes out
+-- so
 abbrev pub LeadsFrom : Memory → List (Option Occupant) → ℕ → (World → Occupant → Happened) → Outcome → Memory
     → List (Option Occupant) → Type 0
 LeadsFrom m cs cpu h answer n ds =
     (w : World) (r : Occupant) → StandsFor m cs w → runs_on w cpu ≡ Some r → Came (h w r) answer n ds
 
--- the same of an event, with the caches
+-- for each world that a machine stands for, an event comes out so, and leads to these caches, too
 abbrev pub LeadsWith : Memory → List (Option Occupant) → List Places → Event → Outcome → Memory
     → List (Option Occupant) → List Places → Type 0
 LeadsWith m cs ks e answer n ds ls = (w : World) → StandsWith m cs ks w → CameWith w e answer n ds ls

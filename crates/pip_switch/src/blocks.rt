@@ -8,6 +8,13 @@ use pip_base::{Ctx, Frame, Steps};
 use pip_frames::Frames;
 use std::sync::ledger::Ledger;
 
+/// Where a block of 17 words begins: a frame, and the index of the block's first word in it.
+#[derive(Clone, Copy)]
+pub(crate) struct HandlerBlock {
+    pub(crate) frame: Frame,
+    pub(crate) index: u32,
+}
+
 // The context in the words of a frame from an index on.
 fn context_of(words: &[u32; 1024], index: u32) -> Ctx
     requires { index + 17 ≤ 1024 }
@@ -37,14 +44,13 @@ fn put_context(words: &mut [u32; 1024], index: u32, ctx: &Ctx)
 /// The context in a block.
 pub(crate) fn read_context<M: Frames, L: Ledger>(
     mem: &M,
-    frame: Frame,
-    index: u32,
+    block: HandlerBlock,
     steps: &mut Steps<L>,
 ) -> Ctx
-    requires { HasRoom (M.memory mem.now) (frame, index) }
-    ensures { result ≡ context_in (word_at (M.memory mem.now) frame) index }
+    requires { HasRoom (M.memory mem.now) block }
+    ensures { result ≡ context_in (word_at (M.memory mem.now) block.frame) block.index }
 {
-    context_of(mem.frame(frame, steps), index)
+    context_of(mem.frame(block.frame, steps), block.index)
 }
 
 // A frame that isn't this one.
@@ -61,17 +67,17 @@ fn another(frame: Frame) -> Frame
 /// Writes a context into a block.
 pub(crate) fn write_context<M: Frames, L: Ledger>(
     mem: &mut M,
-    frame: Frame,
-    index: u32,
+    block: HandlerBlock,
     ctx: &Ctx,
     steps: &mut Steps<L>,
 )
-    requires { HasRoom (M.memory mem.old) (frame, index) }
-    ensures words { M.memory mem.new ≡ put_words (M.memory mem.old) frame index (ctx.now.pc ∷ ctx.now.regs) }
+    requires { HasRoom (M.memory mem.old) block }
+    ensures words { M.memory mem.new ≡ put_words (M.memory mem.old) block.frame block.index
+        (ctx.now.pc ∷ ctx.now.regs) }
     ensures registers { length ctx.now.regs ≡ 16 }
     ensures count { length (M.memory mem.new) ≡ length (M.memory mem.old) }
 {
     // A frame is lent for writing beside another one only.
-    let (_, words) = mem.pair(another(frame), frame, steps);
-    put_context(words, index, ctx);
+    let (_, words) = mem.pair(another(block.frame), block.frame, steps);
+    put_context(words, block.index, ctx);
 }

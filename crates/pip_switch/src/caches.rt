@@ -8,7 +8,7 @@ use pip_tlb::Cache;
 /// The caches of 1 to 4 processors.
 pub(crate) type Caches = ArrayVec<Cache, 4>;
 
-/// Empty caches of so many processors, at most 4.
+/// Empty caches for `count` processors, at most 4.
 pub(crate) fn new_caches(count: u32) -> Caches
     requires { count ≤ 4 }
     ensures caches { result.items ≡ empty_caches count }

@@ -115,6 +115,7 @@ pub(crate) fn answer<M: Frames, L: Ledger>(
             set_masked(mem, caller, masked);
             (Status::Ok, 0)
         }
+        // `call` makes a yield itself, so none comes here.
         CallName::Yields | CallName::Unknown => (Status::UnknownCall, 0),
     }
 }

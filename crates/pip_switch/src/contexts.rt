@@ -18,7 +18,7 @@ fn set_first(regs: &mut [u32; 16], status: Status, value: u32)
     regs[1] = value;
 }
 
-// The same of what runs on a processor, if anything does.
+// A status in r0 and a value in r1 of what runs on a processor, if anything does.
 fn set_reply_of(runs: &mut Option<Occupant>, status: Status, value: u32)
     ensures { (r : Occupant) → runs.old ≡ Some r → runs.new ≡ Some (with_answer status value r) }
 {
@@ -47,7 +47,7 @@ pub(crate) fn put_reply(cpus: &mut Processors, cpu: u32, status: Status, value: 
     Outcome::Reply { status, value }
 }
 
-// The same registers.
+// A copy of registers.
 fn copied(regs: &[u32; 16]) -> [u32; 16]
     ensures { result ≡ regs.now }
 {
@@ -85,7 +85,7 @@ fn set_pc_of(runs: &mut Option<Occupant>, pc: u32)
     }
 }
 
-/// The same, but pc alone changes.
+/// What runs on a processor, if anything does, gets another program counter.
 pub(crate) fn set_pc(cpus: &mut Processors, cpu: u32, pc: u32)
     requires { cpu < length cpus.old.items }
     ensures set { cpus.new.items ≡ with_ctx_on cpus.old.items cpu (λ x. record x { pc = pc }) }
@@ -104,7 +104,7 @@ fn set_register_of(runs: &mut Option<Occupant>, register: Register, word: u32, p
     }
 }
 
-/// The same, but pc and a register change.
+/// What runs on a processor, if anything does, gets a word in a register and another program counter.
 pub(crate) fn set_register(cpus: &mut Processors, cpu: u32, register: Register, word: u32, pc: u32)
     requires { cpu < length cpus.old.items }
     ensures set { cpus.new.items ≡ with_ctx_on cpus.old.items cpu

@@ -3,7 +3,7 @@ ghost use Rattle.std.specs.Prelude.{◌≡◌, ◌+◌, ◌<◌, Some, length};
 ghost use Rattle.pip_mmu.specs.Faults.{model_fault};
 ghost use Rattle.pip_model.specs.Events as E;
 ghost use Rattle.pip_model.specs.Events.{below_of};
-ghost use Rattle.pip_model.specs.Happens.{access_number, acted, deliver_fault, fault_number, fault_vector};
+ghost use Rattle.pip_model.specs.Happens.{access_number, what_happens, deliver_fault, fault_number, fault_vector};
 ghost use Rattle.pip_switch.specs.Hits.{HitReadsOne};
 ghost use Rattle.pip_switch.specs.Occupied.{part_on};
 ghost use Rattle.pip_switch.specs.Standing.{HasCachedWorld, HasWorld, Leads, LeadsFrom, LeadsWith};
@@ -52,7 +52,7 @@ fn kind_of(fault: AccessFault) -> u32
     }
 }
 
-/// The same outcome, put together anew, so that where its kind is known only its parts are kept.
+/// An outcome, rebuilt from its parts, so that a caller that knows its kind keeps only these parts.
 #[inline(always)]
 pub(crate) fn by_parts(outcome: Outcome) -> Outcome
     ensures { result ≡ outcome }
@@ -196,7 +196,7 @@ pub(crate) fn trap<M: Frames, L: Ledger>(
     requires world { HasWorld (M.memory mem.old) cpus.old.items }
     requires cpu { cpu < length cpus.old.items }
     requires vector { vector < 256 }
-    ensures event { Leads (M.memory mem.old) cpus.old.items (λ w. acted w (E.Trap cpu vector a b)) result
+    ensures event { Leads (M.memory mem.old) cpus.old.items (λ w. what_happens w (E.Trap cpu vector a b)) result
         (M.memory mem.new) cpus.new.items }
     ensures count { length cpus.new.items ≡ length cpus.old.items }
 {

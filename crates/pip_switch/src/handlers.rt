@@ -5,7 +5,7 @@ ghost use Rattle.pip_model.specs.Partitions.{HasPartition, InEach};
 ghost use Rattle.pip_model.specs.Reach.{reach};
 ghost use Rattle.pip_switch.specs.Blocks.{CanBegin, HasRoom, IsEntry, IsTable, place_of};
 
-use crate::blocks::read_context;
+use crate::blocks::{HandlerBlock, read_context};
 use pip_base::{Access, Ctx, Frame, Size, Steps};
 use pip_frames::Frames;
 use pip_mmu::translate;
@@ -17,32 +17,42 @@ const TABLE: u32 = 0xfffff000;
 /// Where in a page a block of 17 words can begin at most.
 const LAST: u32 = 4028;
 
-// The page of a partition's handler table, where an access reaches it, and the address in its entry for a vector below 256,
-// where a block can begin there.
+// An entry of a handler table: the page in which the table is, and the address of a block.
+#[derive(Clone, Copy)]
+struct HandlerEntry {
+    page: Frame,
+    address: u32,
+}
+
+// The entry of a partition's handler table for a vector below 256, where an access reaches the table and a block can
+// begin at the address.
 fn entry<M: Frames, L: Ledger>(
     mem: &M,
     part: Frame,
     vector: u32,
     access: Access,
     steps: &mut Steps<L>,
-) -> Option<(Frame, u32)>
+) -> Option<HandlerEntry>
     requires stands { HasPartition (M.memory mem.now) part }
     requires vector { vector < 256 }
     requires words { access ≢ Access.Fetch }
     ensures entry { InEach (M.memory mem.now) part (λ t x. IsEntry t part vector access result) }
-    ensures begins { IfSome result (λ y. CanBegin y.1) }
+    ensures begins { IfSome result (λ y. CanBegin y.address) }
 {
     match translate(mem, part, TABLE + 4 * vector, access, steps) {
         Err(_) => None,
         Ok(found) => {
-            let at = mem.word(found.0, found.1, steps);
-            if at % 4 != 0 {
+            let address = mem.word(found.0, found.1, steps);
+            if address % 4 != 0 {
                 return None;
             }
-            if at % 4096 > LAST {
+            if address % 4096 > LAST {
                 return None;
             }
-            Some((found.0, at))
+            Some(HandlerEntry {
+                page: found.0,
+                address,
+            })
         }
     }
 }
@@ -54,7 +64,7 @@ fn place<M: Frames, L: Ledger>(
     at: u32,
     access: Access,
     steps: &mut Steps<L>,
-) -> Option<(Frame, u32)>
+) -> Option<HandlerBlock>
     requires stands { HasPartition (M.memory mem.now) part }
     requires begins { CanBegin at }
     ensures place { InEach (M.memory mem.now) part (λ t x. result ≡ place_of (reach t part at access Size.Word)) }
@@ -62,11 +72,15 @@ fn place<M: Frames, L: Ledger>(
 {
     match translate(mem, part, at, access, steps) {
         Err(_) => None,
-        Ok(found) => Some(found),
+        Ok(found) => Some(HandlerBlock {
+            frame: found.0,
+            index: found.1,
+        }),
     }
 }
 
-// The same where an access reaches the handler table in a page: a block may stand in that page, too.
+// Where an access leads at the address of a block, for a partition whose handler table it reaches in `page`. A block in
+// the table's own page needs no further walk.
 fn place_beside<M: Frames, L: Ledger>(
     mem: &M,
     part: Frame,
@@ -74,7 +88,7 @@ fn place_beside<M: Frames, L: Ledger>(
     at: u32,
     access: Access,
     steps: &mut Steps<L>,
-) -> Option<(Frame, u32)>
+) -> Option<HandlerBlock>
     requires stands { HasPartition (M.memory mem.now) part }
     requires table { InEach (M.memory mem.now) part (λ t x. IsTable t part access page) }
     requires begins { CanBegin at }
@@ -82,7 +96,8 @@ fn place_beside<M: Frames, L: Ledger>(
     ensures room { IfSome result (HasRoom (M.memory mem.now)) }
 {
     if at >= TABLE {
-        return Some((page, at % 4096 / 4));
+        let index = at % 4096 / 4;
+        return Some(HandlerBlock { frame: page, index });
     }
     place(mem, part, at, access, steps)
 }
@@ -101,10 +116,12 @@ pub(crate) fn find_handler<M: Frames, L: Ledger>(
 {
     match entry(mem, part, vector, Access::Load, steps) {
         None => None,
-        Some(table) => match place_beside(mem, part, table.0, table.1, Access::Load, steps) {
-            None => None,
-            Some(block) => Some(read_context(mem, block.0, block.1, steps)),
-        },
+        Some(table) => {
+            match place_beside(mem, part, table.page, table.address, Access::Load, steps) {
+                None => None,
+                Some(block) => Some(read_context(mem, block, steps)),
+            }
+        }
     }
 }
 
@@ -114,26 +131,26 @@ pub(crate) fn find_place<M: Frames, L: Ledger>(
     part: Frame,
     vector: u32,
     steps: &mut Steps<L>,
-) -> Option<(Frame, u32)>
+) -> Option<HandlerBlock>
     requires stands { HasPartition (M.memory mem.now) part }
     requires vector { vector < 256 }
     ensures place { InEach (M.memory mem.now) part (λ t x. result ≡ place_of (save_place t part vector)) }
     ensures room { IfSome result (HasRoom (M.memory mem.now)) }
 {
     match entry(mem, part, vector, Access::Store, steps) {
-        Some(table) => place_beside(mem, part, table.0, table.1, Access::Store, steps),
+        Some(table) => { place_beside(mem, part, table.page, table.address, Access::Store, steps) }
         None => find_by_load(mem, part, vector, steps),
     }
 }
 
-// The same where the table may stand in a page that can't be stored to.
+// Where a block is saved to whose handler table is in a page that can't be stored to.
 #[inline(never)]
 fn find_by_load<M: Frames, L: Ledger>(
     mem: &M,
     part: Frame,
     vector: u32,
     steps: &mut Steps<L>,
-) -> Option<(Frame, u32)>
+) -> Option<HandlerBlock>
     requires stands { HasPartition (M.memory mem.now) part }
     requires vector { vector < 256 }
     ensures place { InEach (M.memory mem.now) part (λ t x. result ≡ place_of (save_place t part vector)) }
@@ -141,6 +158,6 @@ fn find_by_load<M: Frames, L: Ledger>(
 {
     match entry(mem, part, vector, Access::Load, steps) {
         None => None,
-        Some((_, at)) => place(mem, part, at, Access::Store, steps),
+        Some(found) => place(mem, part, found.address, Access::Store, steps),
     }
 }

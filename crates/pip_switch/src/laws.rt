@@ -1,6 +1,7 @@
-//! The laws of locality and of giving back, of machines: docs/MODEL.md, "The laws". They compute nothing: what each says is its
-//! contract, of every machine and of whatever events it takes.
-ghost use Rattle.pip_switch.specs.Isolation.{MachinesDependOnBelow, MachinesGiveBack, MachinesLeaveOthersAlone, OthersDoNotMatterToMachines, RunsAreTheModels};
+//! The laws of locality and of giving back, of machines: docs/MODEL.md, "The laws". They compute nothing: what each
+//! says is its contract, of every machine and of whatever events it takes.
+ghost use Rattle.pip_switch.specs.Isolation.{MachinesDependOnBelow, MachinesGiveBack, MachinesLeaveOthersAlone};
+ghost use Rattle.pip_switch.specs.Isolation.{OthersDoNotMatterToMachines, RunsAreTheModels};
 
 /// Whatever a machine does, event by event, is what happens in the model.
 pub fn law_runs()

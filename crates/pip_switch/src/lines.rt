@@ -3,7 +3,7 @@ ghost use Rattle.std.specs.Prelude.{◌≡◌, ◌+◌, ◌<◌, ℕ, List, true
 ghost use Rattle.pip_base.specs.declared.outcome.Outcome.TheVariants as Outcome;
 ghost use Rattle.pip_model.specs.Events as E;
 ghost use Rattle.pip_model.specs.Handlers.{handler};
-ghost use Rattle.pip_model.specs.Happens.{acted};
+ghost use Rattle.pip_model.specs.Happens.{what_happens};
 ghost use Rattle.pip_model.specs.Layout.{LaysOut};
 ghost use Rattle.pip_model.specs.Lists.{has};
 ghost use Rattle.pip_model.specs.Partitions.{HasPartition};
@@ -34,7 +34,7 @@ pub(crate) fn raise<M: Frames, L: Ledger>(
 )
     requires world { HasWorld (M.memory mem.old) cpus.now.items }
     requires line { line < 16 }
-    ensures { Leads (M.memory mem.old) cpus.now.items (λ w. acted w (E.Raise line)) Outcome.Done
+    ensures { Leads (M.memory mem.old) cpus.now.items (λ w. what_happens w (E.Raise line)) Outcome.Done
         (M.memory mem.new) cpus.now.items }
 {
     let lines = with_line(pending(mem, steps), line);
@@ -150,7 +150,7 @@ fn take_first<M: Frames, L: Ledger>(
     requires can { (w : World) → StandsFor (M.memory mem.old) cpus.old.items w →
         may_take w cpu (runs_on w cpu) ≡ true }
     requires lines { ArePending (M.memory mem.old) bits }
-    ensures event { Leads (M.memory mem.old) cpus.old.items (λ w. acted w (E.Poll cpu)) result
+    ensures event { Leads (M.memory mem.old) cpus.old.items (λ w. what_happens w (E.Poll cpu)) result
         (M.memory mem.new) cpus.new.items }
     ensures count { length cpus.new.items ≡ length cpus.old.items }
 {
@@ -179,7 +179,7 @@ fn poll_pending<M: Frames, L: Ledger>(
     requires world { HasWorld (M.memory mem.old) cpus.old.items }
     requires cpu { cpu < length cpus.old.items }
     requires lines { ArePending (M.memory mem.old) bits }
-    ensures event { Leads (M.memory mem.old) cpus.old.items (λ w. acted w (E.Poll cpu)) result
+    ensures event { Leads (M.memory mem.old) cpus.old.items (λ w. what_happens w (E.Poll cpu)) result
         (M.memory mem.new) cpus.new.items }
     ensures count { length cpus.new.items ≡ length cpus.old.items }
 {
@@ -199,7 +199,7 @@ pub(crate) fn poll<M: Frames, L: Ledger>(
 ) -> Outcome
     requires world { HasWorld (M.memory mem.old) cpus.old.items }
     requires cpu { cpu < length cpus.old.items }
-    ensures event { Leads (M.memory mem.old) cpus.old.items (λ w. acted w (E.Poll cpu)) result
+    ensures event { Leads (M.memory mem.old) cpus.old.items (λ w. what_happens w (E.Poll cpu)) result
         (M.memory mem.new) cpus.new.items }
     ensures count { length cpus.new.items ≡ length cpus.old.items }
 {

@@ -17,8 +17,8 @@ use pip_model::{Occupant, Port, Register};
 use std::marker::Model;
 use std::sync::ledger::Ledger;
 
-/// Frames, and 1 to 4 processors with a translation cache each: docs/MODEL.md, "Worlds and processors". The frames always
-/// lay out a sound tree, what runs is in it, and what the caches hold is what the tree says now.
+/// Frames, and 1 to 4 processors with a translation cache each: docs/MODEL.md, "Worlds and processors". The frames
+/// always lay out a sound tree, what runs is in it, and what the caches hold is what the tree says now.
 #[derive(Drop)]
 pub struct Machine<M: Frames> {
     mem: M,
@@ -91,8 +91,8 @@ impl<M: Frames> Machine<M> {
 }
 
 impl<M: Rewind> Machine<M> {
-    /// Takes the machine elsewhere: its frames to their first words with some others written over them (`Rewind`), and its
-    /// processors to what runs on as many. All caches are empty then.
+    /// Takes the machine elsewhere: its frames to their first words with some others written over them (`Rewind`), and
+    /// its processors to what runs on as many. All caches are empty then.
     pub fn rewind<L: Ledger>(
         &mut self,
         words: &[u32],

@@ -127,8 +127,8 @@ fn set_told(regs: &mut [u32; 16], vector: u32, a: u32, b: u32, r3: u32)
     regs[3] = r3;
 }
 
-/// What runs on a processor that enters a partition with the context of its handler, but for a vector in r0, two words in r1
-/// and r2, and r3.
+/// What runs on a processor that enters a partition with the context of its handler, but for a vector in r0, two words
+/// in r1 and r2, and r3.
 pub(crate) fn entering(part: Frame, handler: &Ctx, vector: u32, a: u32, b: u32, r3: u32) -> Occupant
     ensures { result ≡ record { name = part; ctx = handler_context handler.now vector a b r3 } }
 {

@@ -12,8 +12,8 @@ pub trait Rewind: Frames {
     /// Those words.
     ghost first: { Memory };
 
-    /// Takes the frames back to their first words, and writes some words over them, each of which follows its place: 1024
-    /// times its frame and its index there, together.
+    /// Takes the frames back to their first words, and writes some words over them, each of which follows its place:
+    /// 1024 times its frame and its index there, together.
     fn rewind<L: Ledger>(&mut self, words: &[u32], steps: &mut Steps<L>)
         requires { ArePlaces (length first) words.now }
         ensures { Self.memory self.new ≡ rewritten first words.now };

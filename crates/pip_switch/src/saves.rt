@@ -10,20 +10,18 @@ ghost use Rattle.pip_model.specs.declared.processors.Occupant.{Occupant};
 ghost use Rattle.pip_switch.specs.Blocks.{HasRoom, SavesAt};
 ghost use Rattle.pip_switch.specs.Occupied.{CanSave, IsNamed, on_cpu};
 
-use crate::blocks::write_context;
+use crate::blocks::{HandlerBlock, write_context};
 use crate::handlers::find_place;
 use crate::processors::Processors;
 use pip_base::{Ctx, Frame, Steps};
 use pip_frames::Frames;
+use pip_model::call_number::SAVED;
 use std::sync::ledger::Ledger;
-
-/// The vector in whose block what runs is saved at faults, traps and interrupts.
-const SAVED: u32 = 63;
 
 /// A context replaces the words of a block, if there is one.
 fn save_at<M: Frames, L: Ledger>(
     mem: &mut M,
-    place: Option<(Frame, u32)>,
+    place: Option<HandlerBlock>,
     ctx: &Ctx,
     steps: &mut Steps<L>,
 )
@@ -33,7 +31,7 @@ fn save_at<M: Frames, L: Ledger>(
 {
     match place {
         None => {}
-        Some(block) => write_context(mem, block.0, block.1, ctx, steps),
+        Some(block) => write_context(mem, block, ctx, steps),
     }
 }
 
@@ -78,7 +76,7 @@ pub(crate) fn save_to<M: Frames, L: Ledger>(
     mem: &mut M,
     cpus: &Processors,
     cpu: u32,
-    place: Option<(Frame, u32)>,
+    place: Option<HandlerBlock>,
     steps: &mut Steps<L>,
 )
     requires cpu { cpu < length cpus.now.items }

@@ -1,5 +1,6 @@
 //! The call that switches.
-ghost use Rattle.std.specs.Prelude.{◌≡◌, ◌≢◌, ◌<◌, ◌≤◌, ◌%◌, ◌==◌, ◌&&◌, ◌||◌, nat_le, false, not, IfOk, IfSome, Some, length, option_map, if◌then◌else◌};
+ghost use Rattle.std.specs.Prelude.{◌≡◌, ◌≢◌, ◌<◌, ◌≤◌, ◌%◌, ◌==◌, ◌&&◌, ◌||◌, nat_le, false, not, IfOk, IfSome, Some};
+ghost use Rattle.std.specs.Prelude.{length, option_map, if◌then◌else◌};
 ghost use Rattle.std.specs.List.{list_any};
 ghost use Rattle.pip_model.specs.Answers.{five_of};
 ghost use Rattle.pip_model.specs.Layout.{LaysOut};
@@ -13,6 +14,7 @@ ghost use Rattle.pip_switch.specs.Occupied.{part_on, runs_name};
 ghost use Rattle.pip_switch.specs.Standing.{HasWorld, LeadsFrom};
 ghost use Rattle.pip_switch.specs.Yielding.{YieldTested};
 
+use crate::blocks::HandlerBlock;
 use crate::contexts::{put_reply, set_reply};
 use crate::handlers::{find_handler, find_place};
 use crate::processors::{Processors, is_running, set_running, switched};
@@ -21,11 +23,9 @@ use pip_base::{Frame, Outcome, Status, Steps};
 use pip_frames::Frames;
 use pip_kern::{child_at, parent_of};
 use pip_model::Occupant;
+use pip_model::call_number::NOT_SAVED;
 use pip_space::{ROOT, set_masked};
 use std::sync::ledger::Ledger;
-
-/// No vector: nothing is saved.
-const NOTHING: u32 = 256;
 
 // The parent of a partition. None for the root.
 fn parent<M: Frames, L: Ledger>(mem: &M, part: Frame, steps: &mut Steps<L>) -> Option<Frame>
@@ -87,13 +87,13 @@ fn find_save<M: Frames, L: Ledger>(
     caller: Frame,
     save: u32,
     steps: &mut Steps<L>,
-) -> Result<Option<(Frame, u32)>, Status>
+) -> Result<Option<HandlerBlock>, Status>
     requires stands { HasPartition (M.memory mem.now) caller }
     requires vector { save ≤ 256 }
     ensures place { InEach (M.memory mem.now) caller (λ t x. IsPlace t caller save result) }
     ensures room { IfOk result (λ y. IfSome y (HasRoom (M.memory mem.now))) }
 {
-    if save == NOTHING {
+    if save == NOT_SAVED {
         return Ok(None);
     }
     match find_place(mem, caller, save, steps) {
@@ -102,15 +102,15 @@ fn find_save<M: Frames, L: Ledger>(
     }
 }
 
-// Whom a yield lets run, with the context of its handler, and where the caller is saved, or the status of the first test that
-// isn't passed. Nothing is written.
+// Whom a yield lets run, with the context of its handler, and where the caller is saved, or the status of the first
+// test that isn't passed. Nothing is written.
 fn check_yield<M: Frames, L: Ledger>(
     mem: &M,
     cpus: &Processors,
     caller: Frame,
     args: &[u32; 5],
     steps: &mut Steps<L>,
-) -> Result<(Occupant, Option<(Frame, u32)>), Status>
+) -> Result<(Occupant, Option<HandlerBlock>), Status>
     requires { HasPartition (M.memory mem.now) caller }
     ensures tested { YieldTested (M.memory mem.now) cpus.now.items caller (five_of args.now) result }
     ensures room { IfOk result (λ y. IfSome y.1 (HasRoom (M.memory mem.now))) }

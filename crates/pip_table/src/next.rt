@@ -11,8 +11,8 @@ use pip_entry::DirWord;
 use pip_frames::Frames;
 use std::sync::ledger::Ledger;
 
-/// Whether the eight words from index `first` on, at most 1016, are 0. There is one test of all eight, and no branch for
-/// each.
+/// Whether the eight words from index `first` on, at most 1016, are 0. There is one test of all eight, and no branch
+/// for each.
 pub fn are_zero(words: &[u32; 1024], first: u32) -> bool
     requires { first ≤ 1016 }
     ensures { IsTrue result ↔ AreZero words.now first (first + 8) }

@@ -42,7 +42,7 @@ fn differs(frame: u32, index: u32, found: u32, want: u32) -> Verdict {
 #[test]
 fn what_is_said_of_a_memory(rt: HostRuntime) -> Result<(), Fail> {
     let rows = [
-        // The same word, and one of the root's first page.
+        // A word as the boot left it, and a word of the root's first page.
         ((1, 1, 1), Verdict::Yes),
         ((12, 5, 7), Verdict::Yes),
         // The directory's frame is none, and the root's parent is another.

@@ -1,11 +1,11 @@
 -- A word that is written into a page of the root: the frames have booted with it.
 use Rattle.std.proofs.Common.{◌≡◌, refl, ℕ, ◌≤◌, ◌<◌, ◌==◌, ◌&&◌, nat_le, nat_lt, Bool, true, false, cond, sym, ap, ◌∙◌}
-use Rattle.std.proofs.Common.{subst, arith, eqb-true, length, replicate, Option, Some, None}
+use Rattle.std.proofs.Common.{arith, eqb-true, length, replicate, Some, None}
 use Rattle.std.specs.Prelude.{is_some}
 use Rattle.std.proofs.lemmas.List.{length-replicate}
 use Rattle.pip_base.specs.Memory.{Memory, put_word, zeros}
 use Rattle.pip_model.specs.Boot.{boot_tree, boot_tree_with, first_user, zero_words}
-use Rattle.pip_model.specs.Booted.{HasBooted, IsBooted}
+use Rattle.pip_model.specs.Booted.{HasBooted}
 use Rattle.pip_model.specs.Happens.{with_word}
 use Rattle.pip_model.specs.Layout.{LaysOut}
 use Rattle.pip_model.specs.Sound.{IsWord}

@@ -4,8 +4,8 @@ use pip_io::{MemSink, MemSource};
 use std::process::Abort;
 use std::test::Fail;
 
-// Judges a text of that many frames, where these calls of the source and the sink fail, and compares the status and what is
-// written.
+// Judges a text of that many frames, where these calls of the source and the sink fail, and compares the status and
+// what is written.
 fn check_with(
     rt: &(impl Abort + AllocGlobal),
     frames: u32,

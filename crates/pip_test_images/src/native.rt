@@ -27,8 +27,8 @@ fn image_of(rt: &(impl Abort + AllocGlobal), text: &str) -> Result<MemSink<'stat
     Ok(image)
 }
 
-// Makes that many steps of an image with that many children, where these calls of the source and the sink fail, and compares the
-// status and the text.
+// Makes that many steps of an image with that many children, where these calls of the source and the sink fail, and
+// compares the status and the text.
 fn check_image(
     rt: &(impl Abort + AllocGlobal),
     image: &[u8],
@@ -158,7 +158,8 @@ fn decided<M: Frames, C: Chooser, L: Ledger>(
     }
 }
 
-// One decision over a child that there isn't, and one where none is alive, by a callback that counts how often it is asked.
+// One decision over a child that there isn't, and one where none is alive, by a callback that counts how often it is
+// asked.
 fn decide_asked<C: Chooser + Drop, L: Ledger>(
     rt: &(impl Abort + AllocGlobal),
     choose: C,

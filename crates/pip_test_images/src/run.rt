@@ -72,8 +72,8 @@ fn image_of(rt: &(impl Abort + AllocGlobal), text: &str) -> Result<MemSink<'stat
     Ok(image)
 }
 
-// Makes that many steps of an image by the schedule of seed 1, where these calls of the source and the sink fail, and compares
-// the status and the text.
+// Makes that many steps of an image by the schedule of seed 1, where these calls of the source and the sink fail, and
+// compares the status and the text.
 fn check_report(
     rt: &(impl Abort + AllocGlobal),
     report: Report,
@@ -416,8 +416,8 @@ fn the_monitor_shares_a_processor_out(rt: HostRuntime) -> Result<(), Fail> {
     )
 }
 
-// Raises a plan at step 2 and makes three steps, with a callback that counts in `asked` how often it is asked: once, and then
-// at each step.
+// Raises a plan at step 2 and makes three steps, with a callback that counts in `asked` how often it is asked: once,
+// and then at each step.
 fn count_asked<F: Callback + Drop, L: Ledger>(
     rt: &(impl Abort + AllocGlobal),
     plan: Plan,

@@ -130,7 +130,7 @@ fn check_table<M: Frames, L: Ledger>(
     check_steps(rt, mem, root, &list, steps);
 }
 
-// Boots, makes a child with so many tables, does the steps and compares words.
+// Boots, makes a child with `tables` tables, does the steps and compares words.
 fn check<M: Frames, L: Ledger>(
     rt: &impl Abort,
     mem: &mut M,

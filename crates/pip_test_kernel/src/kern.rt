@@ -66,7 +66,7 @@ fn check<M: Frames, L: Ledger>(
     check_words(rt, mem, words, &mut steps);
 }
 
-// The same with so many frames.
+// Boots a memory of `n` frames that held other words, and checks the root and some words.
 fn check_booted(
     rt: &impl Abort,
     alloc: Global,

@@ -61,7 +61,7 @@ fn check_step<M: Frames, L: Ledger>(
     }
 }
 
-// Boots, does the steps, and compares the counts of hits and misses behind each.
+// Boots, does the steps, and compares the counts of hits and misses after each.
 fn check<M: Frames, L: Ledger>(
     rt: &impl Abort,
     mem: &mut M,

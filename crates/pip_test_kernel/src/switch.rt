@@ -90,7 +90,7 @@ fn check_step<M: Frames, L: Ledger>(
     }
 }
 
-// Boots the frames under so many processors, and makes the steps one after another. Answers the machine.
+// Boots the frames under `cpus` processors, and makes the steps one after another. Returns the machine.
 fn check<M: Frames + Drop, L: Ledger>(
     rt: &impl Abort,
     frames: M,

@@ -153,6 +153,6 @@ no_page = refl
 page_too_full : is_bad 5 K.Size (paged (codes ".zero 1024\nout r1"))
 page_too_full = refl
 
--- the first pass decides where it has a fault, also behind a fault of the second
+-- the first pass decides where it has a fault, also after a fault of the second
 first_pass_first : is_bad 5 K.Operand (paged (codes ".word away\nout"))
 first_pass_first = refl

@@ -5,14 +5,16 @@ use Rattle.pip_base.specs.Memory.{word_at}
 use Rattle.pip_model.specs.Boot.{boot_root}
 use Rattle.pip_model.specs.NodeWords.{slots}
 use Rattle.pip_model.specs.ReadOff.{node_read, node_stop, first, gather, lines_read, more_stop, slot_stop, table_stop}
-use Rattle.pip_model.specs.ReadOff.{place_of_table, leaf_stop, table_read, table_rows, rows_read, listed, more_read}
+use Rattle.pip_model.specs.ReadOff.{place_of_table, leaf_stop, table_read, table_rows, rows_read, values_from}
+use Rattle.pip_model.specs.ReadOff.{more_read}
 
 -- a word 3 of frame 1 that is no frame
 abbrev bad_memory : List (List ℕ)
 bad_memory = replicate 1024 0 ∷ (0 ∷ 1 ∷ 0 ∷ 0x63 ∷ replicate 1020 0) ∷ replicate 14 (replicate 1024 0)
 
 stops_there : node_stop bad_memory 1 ≡ Some (record { frame = 1; index = 3 })
-unfolding node_stop first more_stop slot_stop table_stop place_of_table leaf_stop table_read listed more_read word_at
+unfolding node_stop first more_stop slot_stop table_stop place_of_table leaf_stop table_read values_from more_read
+    word_at
 stops_there = refl
 
 -- the boot of 16 frames
@@ -34,11 +36,11 @@ boot_16 =
     ∷ replicate 6 (replicate 1024 0)
 
 root_passes : node_stop boot_16 1 ≡ None
-unfolding node_stop first more_stop slot_stop table_stop place_of_table leaf_stop table_read listed more_read word_at
-    slots
+unfolding node_stop first more_stop slot_stop table_stop place_of_table leaf_stop table_read values_from more_read
+    word_at slots
 root_passes = refl
 
 root_is_read : node_read boot_16 1 ≡ boot_root 16
-unfolding node_read first gather lines_read place_of_table table_read table_rows rows_read listed more_read word_at
+unfolding node_read first gather lines_read place_of_table table_read table_rows rows_read values_from more_read word_at
     slots
 root_is_read = refl

@@ -2,7 +2,7 @@
 use Rattle.std.specs.Prelude.{◌≡◌, refl, ℕ, map, [], ◌∷◌, pos, negsuc}
 use Rattle.pip_base.specs.declared.types.Ctx.{Ctx}
 use Rattle.pip_base.specs.declared.types.Size.TheVariants.{Byte, Word}
-use Rattle.pip_model.specs.Effects.{effect, linked, with_register, word_effect}
+use Rattle.pip_model.specs.Effects.{effect, with_link, with_register, word_effect}
 use Rattle.pip_model.specs.InstrRead.{instr_of}
 use Rattle.pip_model.specs.declared.effect.Effect.TheVariants as F
 use Rattle.pip_model.specs.declared.instr.Instr.TheVariants as I
@@ -97,7 +97,7 @@ row_links : map (effect x) (I.JumpAndLink 14 (pos 2) ∷ I.JumpAndLink 0 (negsuc
     ≡ F.Links 14 0x40000c ∷ F.Links 0 0x400000 ∷ []
 row_links = refl
 
-row_linked : linked x 14 0x40000c ≡ record {
+row_linked : with_link x 14 0x40000c ≡ record {
   pc = 0x40000c;
   regs = 0 ∷ 7 ∷ 0xffffffff ∷ 0x80000000 ∷ 32 ∷ 35
       ∷ 0x7fffffff ∷ 0x12345678 ∷ 0 ∷ 0 ∷ 0 ∷ 0 ∷ 0 ∷ 0 ∷ 0x400004 ∷ 0x00401000 ∷ [];

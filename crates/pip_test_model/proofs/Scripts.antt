@@ -174,7 +174,7 @@ handler_page_is_lent : script_text (
 unfolding digits from_word full_rows given_word layout page_word role role_word slots
 handler_page_is_lent = refl
 
--- the same with two processors
+-- a child gets a handler table on a machine of two processors
 handler_page_is_lent_on_two_processors : script_text (
     codes "boot 64 2\ncall 0 0 0x401000 0x402000 0x403000 0x404000 0x405000\nst 0 0x406000 0x407000\n"
     ++ codes "st 0 0x407000 0x408000\ncall 0 3 0x401000 0xfffff000 0x406000\nst 0 0x409100 0xfffff400\n"
@@ -266,7 +266,7 @@ subtree_is_deleted : script_text (
 unfolding digits from_word full_rows given_word layout page_word role role_word slots
 subtree_is_deleted = refl
 
--- the same where the child deletes its own child before
+-- a child that has deleted its own child is deleted
 grandchild_is_deleted_first : script_text (
     codes "boot 64 1\ncall 0 0 0x401000 0x402000 0x403000 0x404000 0x405000\nst 0 0x406000 0x407000\n"
     ++ codes "st 0 0x407000 0x408000\ncall 0 3 0x401000 0xfffff000 0x406000\nst 0 0x409100 0xfffff400\n"

@@ -44,7 +44,7 @@ fn new_machine<L: Ledger>(
     Ok(Machine::new(mem, 1))
 }
 
-// The addresses of so many pages, one behind the other.
+// The addresses of N pages, one after another.
 fn pages<const N: usize>(first: u32) -> [u32; N] {
     let mut pool = [0; N];
     let mut at = first;
@@ -55,7 +55,7 @@ fn pages<const N: usize>(first: u32) -> [u32; N] {
     pool
 }
 
-// Wants of one page in each of so many directories, from 0x00400000 on.
+// Wants of one page in each of N directories, from 0x00400000 on.
 fn in_directories<const N: usize>() -> [Want; N] {
     let mut wants = [Want { va: 0, rights: 1 }; N];
     let mut va: u32 = 0x00400000;
@@ -165,8 +165,8 @@ fn memory<P: Port, L: Ledger>(
     Ok(words)
 }
 
-// A child with 13 pages that it can't execute, at 0x10000000 and on, runs. It builds a child of them, which is to have more. All of
-// them are zero before, so no word of the memory is another afterwards.
+// A child with 13 pages that it can't execute, at 0x10000000 and on, runs. It builds a child of them, which is to have
+// more. All of them are zero before, so no word of the memory is another afterwards.
 fn check_lack<L: Ledger>(
     rt: &(impl Abort + AllocGlobal),
     wants: &[Want],

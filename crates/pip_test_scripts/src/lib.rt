@@ -4,6 +4,4 @@
 #[cfg(test)]
 mod script;
 #[cfg(test)]
-mod sessions;
-#[cfg(test)]
 mod top;

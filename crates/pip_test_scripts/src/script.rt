@@ -2,7 +2,6 @@ ghost use Rattle.std.specs.Prelude.{◌<◌};
 ghost use Rattle.pip_base.specs.Opening.{CanOpen};
 ghost use Rattle.pip_io.specs.Memory.{source_faults};
 
-use crate::sessions;
 use pip_base::Steps;
 use pip_commands::{pip, script};
 use pip_frames::RawFrames;
@@ -25,29 +24,38 @@ fn check(rt: &(impl Abort + AllocGlobal), input: &str, status: u8, text: &str) -
     Ok(())
 }
 
+// A word is stored, loaded and looked at.
+const WORD: (&str, &str) = (
+    "boot 32 1
+st 0 0x400000 7
+ld 0 0x400000
+peek 12 0
+",
+    "boot 32 1
+done
+0x00000007
+0x00000007
+",
+);
+
+// A child is created, and the root parks when it loads from a page that it gave away. Each line has an answer.
+const CHILD: (&str, &str) = (
+    "boot 32 1
+call 0 0 0x401000 0x402000 0x403000 0x404000 0x405000
+peek 13 11
+ld 0 0x401000
+reg 0 0
+",
+    "boot 32 1
+reply 0 0x00000000
+0x00000001
+park 1 14
+idle
+",
+);
+
 // Scripts with their answers.
-static SESSIONS: [(&str, &str); 20] = [
-    sessions::WORD,
-    sessions::BOOT,
-    sessions::FAULT_WITHOUT_HANDLER,
-    sessions::PARKED_CONTEXT,
-    sessions::FIRST_CHILD,
-    sessions::REFUSED_CHILDREN,
-    sessions::TABLES_GIVEN_AND_TAKEN_BACK,
-    sessions::BROKEN_CHAINS,
-    sessions::LENT_PAGE,
-    sessions::PAGE_AND_TABLE_BACK,
-    sessions::REFUSED_SWITCHES,
-    sessions::FAULT_OF_A_CHILD,
-    sessions::GRANDCHILD,
-    sessions::DELETED_SUBTREE,
-    sessions::DELETED_GRANDCHILD,
-    sessions::TWO_PROCESSORS,
-    sessions::LINES,
-    sessions::BYTES,
-    sessions::FORGED_INTERRUPT,
-    sessions::TABLE_GIVEN_AWAY,
-];
+static SESSIONS: [(&str, &str); 2] = [WORD, CHILD];
 
 #[test]
 fn sessions_are_answered(rt: HostRuntime) -> Result<(), Fail> {
@@ -162,7 +170,7 @@ fn first_word<L: Ledger>(machine: &Option<Machine<RawFrames>>, blank: Blank) -> 
 #[test]
 fn machine_is_handed_back(rt: HostRuntime) -> Result<(), Fail> {
     let words = vec![in rt.alloc(); String::from_str(rt.alloc(), "script")?]?;
-    let (input, _) = sessions::WORD;
+    let (input, _) = WORD;
     let mut source = MemSource::new(input.as_bytes(), &[]);
     let mut sink = MemSink::new(rt.alloc(), 64, &[])?;
     let ended = pip(rt.alloc(), &words, &mut source, &mut sink);
@@ -221,8 +229,8 @@ impl Source for Drip<'_> {
 
 #[test]
 fn faults_end_a_script(rt: HostRuntime) -> Result<(), Fail> {
-    // Each line goes out by itself: where the third write fails two stand there.
-    let (input, text) = sessions::WORD;
+    // Each line goes out by itself: if the third write fails, two lines are out.
+    let (input, text) = WORD;
     for (call, status, written) in [(1, 4, 0), (2, 4, 10), (3, 4, 15), (4, 4, 26), (5, 0, 37)] {
         let failing = [call];
         let mut sink = MemSink::new(rt.alloc(), 4096, &failing)?;
@@ -271,7 +279,7 @@ fn faults_end_a_script(rt: HostRuntime) -> Result<(), Fail> {
 // All answers to what one read gave are one write of a gatherer's sink.
 #[test]
 fn answers_are_gathered(rt: HostRuntime) -> Result<(), Fail> {
-    let (input, text) = sessions::LENT_PAGE;
+    let (input, text) = CHILD;
     for (call, status, text) in [(1, 4, ""), (2, 0, text)] {
         let failing = [call];
         let mut sink = Gatherer::new(MemSink::new(rt.alloc(), 4096, &failing)?);
@@ -289,7 +297,7 @@ fn answers_are_gathered(rt: HostRuntime) -> Result<(), Fail> {
 // Whatever read comes last, all that was answered before is out, and nothing else is, also over a gatherer.
 #[test]
 fn a_gatherer_is_settled_before_each_read(rt: HostRuntime) -> Result<(), Fail> {
-    let (input, text) = sessions::LENT_PAGE;
+    let (input, text) = CHILD;
     let mut status = 3;
     for call in 1..2000 {
         if status == 3 {
@@ -306,8 +314,8 @@ fn a_gatherer_is_settled_before_each_read(rt: HostRuntime) -> Result<(), Fail> {
     Ok(())
 }
 
-/// A source that gives these pieces, one at each call, and a sink. Beside each piece stands how many bytes were to be written
-/// before it was asked for; after the last piece all were.
+/// A source that gives these pieces, one at each call. Beside each piece is the number of bytes that have to be written
+/// before it is asked for; after the last piece, all have to be.
 #[derive(Drop)]
 struct Typed<'a> {
     pieces: &'a [(&'a str, usize)],
@@ -396,7 +404,7 @@ fn answers_come_before_more_is_read(rt: HostRuntime) -> Result<(), Fail> {
 
 #[test]
 fn bytes_may_come_one_by_one(rt: HostRuntime) -> Result<(), Fail> {
-    let (input, text) = sessions::WORD;
+    let (input, text) = WORD;
     let mut source = Drip(MemSource::new(input.as_bytes(), &[]));
     let mut sink = MemSink::new(rt.alloc(), 4096, &[])?;
     let ended = script(rt.alloc(), &mut source, &mut sink);
@@ -447,10 +455,9 @@ fn newlines(text: &[u8]) -> usize {
     text.iter().filter(|byte| **byte == b'\n').count()
 }
 
-// Each line of this session has one of the text.
 #[test]
 fn each_read_fails_in_turn(rt: HostRuntime) -> Result<(), Fail> {
-    let (input, text) = sessions::LENT_PAGE;
+    let (input, text) = CHILD;
     let mut status = 3;
     for call in 1..2000 {
         if status == 3 {
@@ -498,7 +505,7 @@ impl Sink for Trickle<'_> {
 
 #[test]
 fn each_write_fails_in_turn(rt: HostRuntime) -> Result<(), Fail> {
-    let (input, text) = sessions::LENT_PAGE;
+    let (input, text) = CHILD;
     let mut status = 4;
     for call in 1..2000 {
         if status == 4 {

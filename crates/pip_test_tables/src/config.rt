@@ -19,7 +19,7 @@ fn pair(i: u32) -> Pair
     }
 }
 
-// Slot i has the frames 1000 + 3 * i and the two behind it.
+// Slot i has the frames 1000 + 3 * i and the two after it.
 fn slot(i: u32) -> Slot
     requires { i < 341 }
     ensures { length result ≡ 3 }
@@ -27,7 +27,7 @@ fn slot(i: u32) -> Slot
     [pair(3 * i), pair(3 * i + 1), pair(3 * i + 2)]
 }
 
-// Pushes so many slots onto an empty list of two pages.
+// Pushes n slots onto an empty list of two pages.
 fn push_all<M: Frames, L: Ledger>(mem: &mut M, first: Frame, n: u32, steps: &mut Steps<L>)
     requires list { (l : HasList (M.memory mem.old) first 0) × (length l.more ≡ 1) }
     requires most { n ≤ 340 }

@@ -1,4 +1,5 @@
-//! Tests of the public calls of pip_base, pip_entry, pip_frames, pip_table, pip_config and pip_tlb, and of the rows of pip_space.
+//! Tests of the public calls of pip_base, pip_entry, pip_frames, pip_table, pip_config and pip_tlb, and of the rows of
+//! pip_space.
 #![tactic(auto)]
 
 #[cfg(test)]

@@ -4,7 +4,7 @@ ghost use Rattle.pip_base.specs.Opening.{CanOpen};
 ghost use Rattle.pip_base.specs.Memory.{zeros};
 
 use pip_base::{Frame, Steps};
-use pip_core::{CoreError, read_core};
+use pip_core_text::{CoreError, read_core};
 use pip_dump::frame_text;
 use pip_frames::{Frames, VecFrames};
 use pip_io::{Discard, Joint, MemSink, MemSource, write_all};

@@ -223,12 +223,12 @@ fn a_line_ends_with_its_newline(rt: HostRuntime) {
         ("\nb", "", "b"),
         ("b", "b", ""),
     ];
-    for (text, line, behind) in table {
+    for (text, line, after) in table {
         let bytes = text.as_bytes();
         assert!(rt; !bytes.is_empty());
         let cut = cut_line(bytes);
         assert!(rt;
-            cut.0 == line.as_bytes() && cut.1 == behind.as_bytes(),
+            cut.0 == line.as_bytes() && cut.1 == after.as_bytes(),
             "{text}"
         );
     }

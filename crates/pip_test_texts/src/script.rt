@@ -1,9 +1,9 @@
 //! Lines and texts as docs/FORMATS.md gives them.
 use arrayvec::ArrayString;
-use pip_base::{Outcome, Size, Status};
+use pip_base::{MAX_LINE, Outcome, Size, Status};
 use pip_script::{
-    MAX_LINE, Said, ScriptLine, outcome_text, push_said, read_line, read_number, reply_line,
-    word_line, word_text,
+    Said, ScriptLine, outcome_text, push_said, read_line, read_number, reply_line, word_line,
+    word_text,
 };
 
 #[test]

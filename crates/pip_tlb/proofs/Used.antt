@@ -3,7 +3,7 @@ use Rattle.std.specs.Prelude.{◌≡◌, refl, ℕ, zero, suc, ◌<◌, List, Op
 use Rattle.std.proofs.Common.{◌∙◌, sym, ap, ap₂, arith}
 use Rattle.std.proofs.lemmas.List.{ext_get_or, length-replicate}
 use Rattle.pip_model.specs.declared.cached.Entry.{Entry}
-use Rattle.pip_model.specs.Cache.{Places, emptied, no_entries}
+use Rattle.pip_model.specs.Cache.{Places, without_entries, no_entries}
 
 pub none_at : (n k : ℕ) → slice_index_or {A = Option Entry} (replicate n None) k None ≡ None
 none_at zero k = refl
@@ -22,7 +22,7 @@ all_empty places count none =
 
 -- and counts that stayed
 pub is_emptied : (c p : Places) → length c.at ≡ 64 → ((k : ℕ) → k < 64 → slice_index_or c.at k None ≡ None)
-    → c.hits ≡ p.hits → c.misses ≡ p.misses → c ≡ emptied p
+    → c.hits ≡ p.hits → c.misses ≡ p.misses → c ≡ without_entries p
 is_emptied c p count none hits misses =
     ap (λ at. record { at = at; hits = c.hits; misses = c.misses }) (all_empty c.at count none)
     ∙ ap₂ (λ h m. record { at = no_entries; hits = h; misses = m }) hits misses

@@ -1,5 +1,6 @@
 //! 64 places and two counts.
-ghost use Rattle.std.specs.Prelude.{◌≡◌, ℕ, ◌<◌, ◌/◌, ◌%◌, IfSome, None, if◌then◌else◌, is_some, length, option_map, replicate, slice_index_or};
+ghost use Rattle.std.specs.Prelude.{◌≡◌, ℕ, ◌<◌, ◌/◌, ◌%◌, IfSome, None, if◌then◌else◌, is_some, length, option_map};
+ghost use Rattle.std.specs.Prelude.{replicate, slice_index_or};
 ghost use Rattle.pip_model.specs.Tree.{vpage};
 ghost use Rattle.pip_tlb.specs.Kept.{MayFetch};
 
@@ -40,7 +41,8 @@ impl Model for Cache {
 
     ghost view = { λ c. record { at = c.places; hits = c.hits; misses = c.misses } };
 
-    ghost invariant = { λ c. (length c.places ≡ 64) × (c.hits < 2 ^ 64) × (c.misses < 2 ^ 64) × AreUnused c.places c.used
+    ghost invariant = { λ c. (length c.places ≡ 64) × (c.hits < 2 ^ 64) × (c.misses < 2 ^ 64)
+        × AreUnused c.places c.used
         × IfSome c.code (λ k. IsKeptForFetches c.places k.part k.base k.page) };
 }
 
@@ -52,7 +54,8 @@ fn no_entries<const N: usize>() -> [Option<Entry>; N]
 }
 
 impl Cache {
-    ghost use Rattle.pip_model.specs.Cache.{emptied, with_new_entry, holding, looked, no_places, one_more, page_and_rights};
+    ghost use Rattle.pip_model.specs.Cache.{without_entries, with_new_entry, holding, after_lookup, no_places};
+    ghost use Rattle.pip_model.specs.Cache.{one_more, page_and_rights};
 
     /// A cache with empty places and both counts at 0.
     #[tactic(auto, unfolding(pip_model::specs::Cache::no_entries))]
@@ -80,12 +83,12 @@ impl Cache {
         None
     }
 
-    /// The page and the rights that the place of `v` holds of partition `part` at `v`, if it holds any. This counts as a
-    /// hit or as a miss; a count stops at 2^64 - 1.
+    /// The page and the rights that the place of `v` holds of partition `part` at `v`, if it holds any. This counts as
+    /// a hit or as a miss; a count stops at 2^64 - 1.
     #[inline(always)]
     pub fn lookup(&mut self, part: Frame, v: VPage) -> Option<(Frame, Rights)>
         ensures answer { result ≡ option_map page_and_rights (holding self.old part v) }
-        ensures counts { self.new ≡ looked self.old part v }
+        ensures counts { self.new ≡ after_lookup self.old part v }
     {
         if let Some(entry) = self.held(part, v) {
             self.hit();
@@ -105,13 +108,13 @@ impl Cache {
         }
     }
 
-    /// The page from which `part` fetches at `pc`, a multiple of 4, where the last fetch that was [kept](Cache::keep) came from
-    /// it, too, and no place has changed since. This counts as a hit; it is what [`lookup`](Cache::lookup) would find, found
-    /// sooner. At None nothing is counted.
+    /// The page from which `part` fetches at `pc`, a multiple of 4, where the last fetch that was [kept](Cache::keep)
+    /// came from it, too, and no place has changed since. This counts as a hit; it is what [`lookup`](Cache::lookup)
+    /// would find, found sooner. At None nothing is counted.
     #[inline(always)]
     pub fn fetch_again(&mut self, part: Frame, pc: u32) -> Option<Frame>
         ensures page { IfSome result (λ page. (pc % 4 ≡ 0) × MayFetch self.old.at part (vpage pc) page) }
-        ensures counts { self.new ≡ (if is_some result then looked self.old part (vpage pc) else self.old) }
+        ensures counts { self.new ≡ (if is_some result then after_lookup self.old part (vpage pc) else self.old) }
     {
         // The address without the index of its word in the page: the page's own only where it is a multiple of 4.
         let base = pc - pc % 4096 / 4 * 4;
@@ -125,8 +128,8 @@ impl Cache {
         None
     }
 
-    /// Keeps what the place of `v` holds of partition `part` at `v` for [`fetch_again`](Cache::fetch_again), if the partition
-    /// may execute it.
+    /// Keeps what the place of `v` holds of partition `part` at `v` for [`fetch_again`](Cache::fetch_again), if the
+    /// partition may execute it.
     #[inline(always)]
     pub fn keep(&mut self, part: Frame, v: VPage)
         ensures { self.new ≡ self.old }
@@ -160,7 +163,7 @@ impl Cache {
 
     /// Empties all places. The counts stay.
     pub fn empty(&mut self)
-        ensures { self.new ≡ emptied self.old }
+        ensures { self.new ≡ without_entries self.old }
     {
         let used = self.used;
         for g in 0..8 {

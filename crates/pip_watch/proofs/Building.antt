@@ -3,7 +3,7 @@ use Rattle.std.proofs.Common.{◌≡◌, ◌≢◌, ℕ, zero, suc, ◌+◌, ◌
 use Rattle.std.proofs.Common.{refl, sym, ap, ◌∙◌, subst, arith, Some, bit_and}
 use Rattle.std.specs.Prelude.{is_some, option_map, unwrap_or}
 use Rattle.pip_model.specs.Accepted.{CanBeGiven}
-use Rattle.pip_model.specs.Answers.{mapped, page_of, rights_at}
+use Rattle.pip_model.specs.Answers.{is_mapped, page_of, rights_at}
 use Rattle.pip_model.specs.Tree.{Node, Tree, free, held_pages, holds, is_place, vpage}
 use Rattle.pip_model.specs.Worlds.{IsSoundWorld, World, runs_on}
 use Rattle.pip_model.specs.declared.processors.Occupant.{Occupant}
@@ -96,7 +96,7 @@ module _ (n i : ℕ) (most : n ≤ 8) (low : i < n) (w : World) (s : IsSoundWorl
           absurd (ne k (omega (arith, l)) (usable_same t root s.tree (inl refl) a (pool_at pool k) u
           (usable_at t root pool child_wants s.tree (inl refl) has_pool room k (omega (arith, l))) q))
 
-  free_again : (a : ℕ) → is_place a ≡ true → mapped t root (vpage a) ≡ true → free t root (vpage a) ≡ true → ((k : ℕ)
+  free_again : (a : ℕ) → is_place a ≡ true → is_mapped t root (vpage a) ≡ true → free t root (vpage a) ≡ true → ((k : ℕ)
       → k < 13 → a ≡ pool_at pool k → ⊥) → free (built_before t root pool child_wants 2) root (vpage a) ≡ true
   free_again a p m f ne = still_free t root child (built_before t root pool child_wants 2).words other refl a f
       (apart a (address-usable t root a p m f) ne)
@@ -117,7 +117,7 @@ module _ (n i : ℕ) (most : n ≤ 8) (low : i < n) (w : World) (s : IsSoundWorl
           (λ j a e. let (m, f, p) = pool_page n i j a in left_apart n i j k m low a p l (same_page k m (e ∙ f)));
     }
       where
-        mapped_top : mapped t root (vpage 0xfffff000) ≡ true
+        mapped_top : is_mapped t root (vpage 0xfffff000) ≡ true
         mapped_top = ap is_some (open_top t s.tree h.top).found
 
     pub room_next : HasRoomForChildren n (i + 1) (built_world w 0 r pool child_wants)

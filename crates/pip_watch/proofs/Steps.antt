@@ -10,7 +10,7 @@ use Rattle.pip_model.specs.Acts.{Act, after_acts}
 use Rattle.pip_model.specs.Run.{raises}
 use Rattle.pip_model.specs.Worlds.{World}
 use Rattle.pip_native.specs.Monitoring.{Children}
-use Rattle.pip_watch.specs.Watching.{monitor_next, watched, watched_step, watched_steps}
+use Rattle.pip_watch.specs.Watching.{monitor_next, watch_step, watched_step, watched_steps}
 
 module _ (old mid new : Taken) (w : World) (all : List Act) (ps : List Plan)
     (count t : ℕ) (m next : Children) (inside : t < count) (S T U : World → Type 0)
@@ -20,8 +20,8 @@ module _ (old mid new : Taken) (w : World) (all : List Act) (ps : List Plan)
   rest v = watched_steps v ps next (count - (t + 1)) (t + 1)
 
   -- the next step, and then the others with the monitor that is known to be left
-  unfolded : Progress S old mid w all (λ v. (raises ps t ++ watched (after_acts v (raises ps t)) m t)
-      ++ rest (after_acts v (raises ps t ++ watched (after_acts v (raises ps t)) m t)))
+  unfolded : Progress S old mid w all (λ v. (raises ps t ++ watch_step (after_acts v (raises ps t)) m t)
+      ++ rest (after_acts v (raises ps t ++ watch_step (after_acts v (raises ps t)) m t)))
   unfolded =
       let e : count - t ≡ suc (count - (t + 1)) = omega (arith, inside) in
       let one = subst (λ n. Progress S old mid w all (λ v. watched_steps v ps m n t)) e k in
@@ -36,12 +36,14 @@ module _ (old mid new : Taken) (w : World) (all : List Act) (ps : List Plan)
         text = one.text;
       }
 
-  pub step_on : ((v : World) → T v → Made U mid new v (watched v m t)) → Progress U old new w all rest
-  step_on made = progress_on S U old mid new w all (raises ps t) (λ v. watched v m t) rest unfolded (text-raises ps t)
+  pub step_on : ((v : World) → T v → Made U mid new v (watch_step v m t)) → Progress U old new w all rest
+  step_on made = progress_on S U old mid new w all (raises ps t) (λ v. watch_step v m t) rest unfolded
+      (text-raises ps t)
       (made _ (raise unfolded.world unfolded.holds))
 
-  pub step_cut : ((v : World) → T v → Cut U mid new v (watched v m t)) → Cut U old new w all
-  step_cut cut = progress_cut S U old mid new w all (raises ps t) (λ v. watched v m t) rest unfolded (text-raises ps t)
+  pub step_cut : ((v : World) → T v → Cut U mid new v (watch_step v m t)) → Cut U old new w all
+  step_cut cut = progress_cut S U old mid new w all (raises ps t) (λ v. watch_step v m t) rest unfolded
+      (text-raises ps t)
       (cut _ (raise unfolded.world unfolded.holds))
 
 -- no step is made yet

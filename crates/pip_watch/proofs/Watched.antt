@@ -2,8 +2,8 @@
 use Rattle.std.proofs.Common.{◌≡◌, refl, ℕ, ◌==◌, Bool, true, false, cond, List, [], ◌∷◌, ◌++◌, length, sym, ap, ◌∙◌}
 use Rattle.std.proofs.Common.{subst, Option, Some, None}
 use Rattle.std.specs.Prelude.{IsSome, Result}
-use Rattle.pip_io.specs.Taken.{Taken}
-use Rattle.pip_cpu.specs.Made.{MadeOrCut, WroteLine}
+use Rattle.pip_io.specs.Taken.{Taken, Wrote}
+use Rattle.pip_cpu.specs.Made.{MadeOrCut}
 use Rattle.pip_cpu.proofs.Makings.{after_event, line_alone}
 use Rattle.pip_model.specs.Acts.{Makes, Writes, after_acts}
 use Rattle.pip_model.specs.Happens.{event}
@@ -12,7 +12,7 @@ use Rattle.pip_model.specs.Worlds.{World, runs_on}
 use Rattle.pip_model.specs.declared.processors.Occupant.{Occupant}
 use Rattle.pip_native.specs.Monitoring.{Children, choice, decision_in, monitor_after, visit, visit_acts}
 use Rattle.pip_native.specs.declared.decision.Decision.{Decision}
-use Rattle.pip_watch.specs.Watching.{decision_line, is_root, monitor_next, root_runs, watched}
+use Rattle.pip_watch.specs.Watching.{decision_line, is_root, monitor_next, root_runs, watch_step}
 
 -- where the root runs on processor 0, something does
 pub root_some : (w : World) (here : Bool) → here ≡ true → here ≡ root_runs w → IsSome (runs_on w 0)
@@ -23,7 +23,7 @@ root_some w here on is = go (runs_on w 0) (sym on ∙ is)
     go (Some r) e = refl
 
 visited : {T X : Type 0} (S : World → Type 0) (old new : Taken) (w : World) (m : Children) (r : Result T X)
-    (line : List ℕ) → S (after_acts w (visit_acts 0 m)) → WroteLine r old new line
+    (line : List ℕ) → S (after_acts w (visit_acts 0 m)) → Wrote r old new line
     → MadeOrCut r S old new w (visit_acts 0 m ++ Writes line ∷ [])
 visited S old new w m r line s a = go (choice m == length m.children) s
   where
@@ -37,17 +37,17 @@ module _ {T X : Type 0} (S : World → Type 0)
     (old new : Taken) (w : World) (m : Children) (t : ℕ) (here : Bool) (is : here ≡ root_runs w) where
   -- the monitor decided
   pub decided : (r : Result T X) (d : Decision) → here ≡ true → d ≡ decision_in w 0 m
-      → S (after_acts w (visit_acts 0 m)) → WroteLine r old new (decision_line t d)
-      → MadeOrCut r S old new w (watched w m t)
+      → S (after_acts w (visit_acts 0 m)) → Wrote r old new (decision_line t d)
+      → MadeOrCut r S old new w (watch_step w m t)
   decided r d e q s a =
       subst (λ b. MadeOrCut r S old new w
       (cond b (visit_acts 0 m ++ Writes (decision_line t (decision_in w 0 m)) ∷ []) (turn w 0 t))) (sym e ∙ is)
       (visited S old new w m r (decision_line t (decision_in w 0 m)) s
-      (subst (λ d. WroteLine r old new (decision_line t d)) q a))
+      (subst (λ d. Wrote r old new (decision_line t d)) q a))
 
   -- the processor took its turn
   pub turned : (r : Result T X) → here ≡ false → MadeOrCut r S old new w (turn w 0 t)
-      → MadeOrCut r S old new w (watched w m t)
+      → MadeOrCut r S old new w (watch_step w m t)
   turned r e h = subst (λ b. MadeOrCut r S old new w
       (cond b (visit_acts 0 m ++ Writes (decision_line t (decision_in w 0 m)) ∷ []) (turn w 0 t))) (sym e ∙ is) h
 

@@ -45,17 +45,17 @@ abbrev pub child_wants : List Want
 child_wants = record { va = 0x400000; rights = 7 } ∷ record { va = 0xfffff000; rights = 3 } ∷ []
 
 -- processor 0 stores a word
-abbrev pub stored : World → ℕ → ℕ → World
-stored w va x = (event w (E.Store 0 va Word x)).world
+abbrev pub after_store : World → ℕ → ℕ → World
+after_store w va x = (event w (E.Store 0 va Word x)).world
 
 -- the first k words of the root's handlers' page name the block at 0xfffff400
 abbrev pub with_handlers : World → ℕ → World
 with_handlers w zero = w
-with_handlers w (suc k) = stored (with_handlers w k) (0xfffff000 + 4 * k) 0xfffff400
+with_handlers w (suc k) = after_store (with_handlers w k) (0xfffff000 + 4 * k) 0xfffff400
 
 -- child i's handler of vector 63 is the block at 0xfffff400, which begins at its program
 abbrev pub with_entry : World → ℕ → ℕ → World
-with_entry w n i = stored (stored w (fresh n i 11 + 0xfc) 0xfffff400) (fresh n i 11 + 0x400) 0x400000
+with_entry w n i = after_store (after_store w (fresh n i 11 + 0xfc) 0xfffff400) (fresh n i 11 + 0x400) 0x400000
 
 -- who runs on processor 0 builds a child of these pages
 abbrev pub with_built : World → Option Occupant → List ℕ → World
@@ -99,8 +99,9 @@ decision_line t (D.Dropped i s) =
     decimal t ++ codes " 0 drop " ++ decimal i ++ codes " " ++ decimal (status_number s) ++ codes "\n"
 
 -- where the root runs on processor 0, its monitor decides; else the processor takes its turn
-abbrev pub watched : World → Children → ℕ → List Act
-watched w m t = if root_runs w then visit_acts 0 m ++ Writes (decision_line t (decision_in w 0 m)) ∷ [] else turn w 0 t
+abbrev pub watch_step : World → Children → ℕ → List Act
+watch_step w m t = if root_runs w
+    then visit_acts 0 m ++ Writes (decision_line t (decision_in w 0 m)) ∷ [] else turn w 0 t
 
 -- the children that are alive after the monitor's turn; it has one where the root runs
 abbrev pub monitor_next : World → Children → Children
@@ -108,7 +109,7 @@ monitor_next w m = if root_runs w then monitor_after w 0 m else m
 
 -- step t: the lines that are due are raised, and then one of both
 abbrev pub watched_step : World → List Plan → Children → ℕ → List Act
-watched_step w plans m t = raises plans t ++ watched (after_acts w (raises plans t)) m t
+watched_step w plans m t = raises plans t ++ watch_step (after_acts w (raises plans t)) m t
 
 -- that many steps from step t on
 abbrev pub watched_steps : World → List Plan → Children → ℕ → ℕ → List Act

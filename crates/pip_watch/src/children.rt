@@ -2,7 +2,8 @@
 ghost use Rattle.std.specs.Prelude.{◌≡◌, ◌+◌, ◌<◌, ◌≤◌};
 ghost use Rattle.pip_model.specs.Worlds.{IsSoundWorld, World};
 ghost use Rattle.pip_watch.specs.Rooms.{HasRoomForChildren};
-ghost use Rattle.pip_watch.specs.Watching.{addresses, fresh as fresh_page, page_address as address_of, pool_of as pool_in, with_child, with_children, with_entry, with_handlers};
+ghost use Rattle.pip_watch.specs.Watching.{addresses, fresh as fresh_page, page_address as address_of};
+ghost use Rattle.pip_watch.specs.Watching.{pool_of as pool_in, with_child, with_children, with_entry, with_handlers};
 
 use arrayvec::ArrayVec;
 use pip_base::{Size, Steps, never};
@@ -108,7 +109,8 @@ fn build_child<P: Port, L: Ledger>(port: &mut P, n: u32, i: u32, steps: &mut Ste
     }
 }
 
-/// Builds `n` children of the root, 1 to 8, where it has the pages for them. Answers the addresses of their descriptors.
+/// Builds `n` children of the root, 1 to 8, where it has the pages for them. Answers the addresses of their
+/// descriptors.
 pub fn build_children<P: Port, L: Ledger>(
     port: &mut P,
     n: u32,
@@ -117,7 +119,8 @@ pub fn build_children<P: Port, L: Ledger>(
     requires some { 0 < P.count port.old }
     requires most { n ≤ 8 }
     requires room { (w : World) × P.stands port.old w × HasRoomForChildren n 0 w }
-    ensures world { (w : World) → P.stands port.old w → HasRoomForChildren n 0 w → P.stands port.new (with_children w n n) }
+    ensures world { (w : World) → P.stands port.old w → HasRoomForChildren n 0 w → P.stands port.new
+        (with_children w n n) }
     ensures addresses { result.items ≡ addresses n n }
     ensures count { P.count port.new ≡ P.count port.old }
 {

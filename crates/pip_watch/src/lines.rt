@@ -1,6 +1,6 @@
 //! The lines of a native run.
 ghost use Rattle.std.specs.Prelude.{◌≤◌, length};
-ghost use Rattle.pip_cpu.specs.Made.{WroteLine};
+ghost use Rattle.pip_io.specs.Taken.{Wrote};
 ghost use Rattle.pip_io.specs.Causes.{HasCause};
 ghost use Rattle.pip_watch.specs.Watching.{built_from, built_line, decision_line};
 
@@ -14,21 +14,18 @@ use pip_script::{push_decimal, push_word};
 /// Writes a line for each child, at most 8, with the address of its descriptor.
 pub fn write_children<K: Sink>(children: &[u32], sink: &mut K) -> Result<(), Failed>
     requires { length children.now ≤ 8 }
-    ensures wrote { WroteLine result (K.written sink.old) (K.written sink.new) (built_from 0 children.now) }
+    ensures wrote { Wrote result (K.written sink.old) (K.written sink.new) (built_from 0 children.now) }
     ensures cause { HasCause (K.faults sink.old) (K.faults sink.new) result }
 {
     for i in 0..children.len() {
-        match write_child(i as u32, children[i], sink) {
-            Ok(()) => {}
-            Err(failed) => return Err(failed),
-        }
+        write_child(i as u32, children[i], sink)?;
     }
     Ok(())
 }
 
 // Writes the line of child `i`.
 fn write_child<K: Sink>(i: u32, address: u32, sink: &mut K) -> Result<(), Failed>
-    ensures wrote { WroteLine result (K.written sink.old) (K.written sink.new) (built_line i address) }
+    ensures wrote { Wrote result (K.written sink.old) (K.written sink.new) (built_line i address) }
     ensures cause { HasCause (K.faults sink.old) (K.faults sink.new) result }
 {
     let mut line: ArrayString<64> = ArrayString::new();
@@ -42,7 +39,7 @@ fn write_child<K: Sink>(i: u32, address: u32, sink: &mut K) -> Result<(), Failed
 
 /// Writes the line of a decision, if it has one.
 pub fn write_decision<K: Sink>(sink: &mut K, t: u64, decision: Decision) -> Result<(), Failed>
-    ensures wrote { WroteLine result (K.written sink.old) (K.written sink.new) (decision_line t decision) }
+    ensures wrote { Wrote result (K.written sink.old) (K.written sink.new) (decision_line t decision) }
     ensures cause { HasCause (K.faults sink.old) (K.faults sink.new) result }
 {
     let mut buffer = Buffer::new();

@@ -1,9 +1,8 @@
 -- A text that is written piece by piece.
 use Rattle.std.proofs.Common.{◌≡◌, ℕ, zero, suc, ◌+◌, List, [], ◌∷◌, ◌++◌, take, sym, ap, ◌∙◌, subst, append_assoc}
 use Rattle.std.proofs.Common.{arith, append-nil, Some, Result, Ok, Err, OnOk, OnErr}
-use Rattle.pip_cpu.specs.Made.{WroteLine}
 use Rattle.std.specs.Prelude.{flat_map, slice_get}
-use Rattle.pip_io.specs.Taken.{Taken, Appends, AppendsPart}
+use Rattle.pip_io.specs.Taken.{Taken, Appends, AppendsPart, Wrote}
 use Rattle.pip_io.proofs.Pieces.{left_more}
 use Rattle.pip_io.proofs.Taken.{Appends-trans}
 
@@ -58,12 +57,12 @@ module _ {A : Type 0} (f : A → List ℕ) where
 
 -- a text after another, all of it or a part
 pub wrote_after : {T E : Type 0} (a b c : Taken) (t u : List ℕ) (r : Result T E) → Appends a b t
-    → OnOk r (Appends b c u) → OnErr r (AppendsPart b c u) → WroteLine r a c (t ++ u)
+    → OnOk r (Appends b c u) → OnErr r (AppendsPart b c u) → Wrote r a c (t ++ u)
 wrote_after a b c t u (Ok v) h whole part = Appends-trans a b c t u h whole
 wrote_after a b c t u (Err e) h whole part = part_after a b c t u h part
 
--- the same of what a call wrote
-pub wrote_of : {T E : Type 0} (a b c : Taken) (t u : List ℕ) (r : Result T E) → Appends a b t → WroteLine r b c u
-    → WroteLine r a c (t ++ u)
+-- a text after another, where a call wrote the second or a part of it
+pub wrote_of : {T E : Type 0} (a b c : Taken) (t u : List ℕ) (r : Result T E) → Appends a b t → Wrote r b c u
+    → Wrote r a c (t ++ u)
 wrote_of a b c t u (Ok v) h k = Appends-trans a b c t u h k
 wrote_of a b c t u (Err e) h k = part_after a b c t u h k

@@ -1,7 +1,7 @@
 //! The lines of a search.
 ghost use Rattle.std.specs.Prelude.{◌≡◌, ◌+◌, ◌-◌, ◌<◌, ◌++◌, length, map, flat_map, codes, decimal};
 ghost use Rattle.std.specs.List.{AllByRecursion};
-ghost use Rattle.pip_cpu.specs.Made.{WroteLine};
+ghost use Rattle.pip_io.specs.Taken.{Wrote};
 ghost use Rattle.pip_io.specs.Causes.{HasCause};
 ghost use Rattle.pip_search.specs.Ways.{AreTraced, witnesses_of};
 ghost use Rattle.pip_ways.specs.Texts.{inner, search_text, spaced_run, verdict_line, witness_line};
@@ -16,7 +16,8 @@ use pip_script::push_decimal;
 use pip_search::{Run, Search, Verdict};
 
 /// Writes a line for each label that was covered, in the order in which they were found, and the last line
-/// (docs/FORMATS.md, "every"). `ways` are those of `ways_of`. Choices below `cpus` are turns, the others raise these lines.
+/// (docs/FORMATS.md, "every"). `ways` are those of `ways_of`. Choices below `cpus` are turns, the others raise these
+/// lines.
 pub fn write_search<K: Sink>(
     sink: &mut K,
     cpus: u32,
@@ -29,14 +30,13 @@ pub fn write_search<K: Sink>(
     requires traced { AreTraced search.now.visits.items search.now.found.items }
     requires known { AreWaysOf (cpus + length lines.now)
         (witnesses_of verdict search.now.visits.items search.now.found.items) }
-    ensures wrote { WroteLine result (K.written sink.old) (K.written sink.new) (search_text cpus lines.now
-        (witnesses_of verdict search.now.visits.items search.now.found.items) (length search.now.visits.items) verdict) }
+    ensures wrote { Wrote result (K.written sink.old) (K.written sink.new) (search_text cpus lines.now
+        (witnesses_of verdict search.now.visits.items search.now.found.items) (length search.now.visits.items)
+        verdict) }
     ensures cause { HasCause (K.faults sink.old) (K.faults sink.new) result }
 {
-    match write_labels(sink, cpus, lines, search, ways, verdict) {
-        Ok(()) => write_verdict(sink, search.visits.len() as u64, verdict),
-        Err(failed) => Err(failed),
-    }
+    write_labels(sink, cpus, lines, search, ways, verdict)?;
+    write_verdict(sink, search.visits.len() as u64, verdict)
 }
 
 // Writes the lines of the labels that were covered.
@@ -52,7 +52,7 @@ fn write_labels<K: Sink>(
     requires traced { AreTraced search.now.visits.items search.now.found.items }
     requires known { AreWaysOf (cpus + length lines.now)
         (witnesses_of verdict search.now.visits.items search.now.found.items) }
-    ensures wrote { WroteLine result (K.written sink.old) (K.written sink.new) (flat_map (witness_line cpus lines.now)
+    ensures wrote { Wrote result (K.written sink.old) (K.written sink.new) (flat_map (witness_line cpus lines.now)
         (witnesses_of verdict search.now.visits.items search.now.found.items)) }
     ensures cause { HasCause (K.faults sink.old) (K.faults sink.new) result }
 {
@@ -61,10 +61,7 @@ fn write_labels<K: Sink>(
         if !verdict.covers(found.depth) {
             continue;
         }
-        match write_label(sink, cpus, lines, &found.label, found.depth, &ways[k]) {
-            Ok(()) => {}
-            Err(failed) => return Err(failed),
-        }
+        write_label(sink, cpus, lines, &found.label, found.depth, &ways[k])?;
     }
     Ok(())
 }
@@ -80,37 +77,28 @@ fn write_label<K: Sink>(
 ) -> Result<(), Failed>
     requires some { 0 < depth }
     requires known { AllByRecursion (λ r. r.choice < cpus + length lines.now) way.now }
-    ensures wrote { WroteLine result (K.written sink.old) (K.written sink.new) (decimal (depth - 1) ++ inner label.now
+    ensures wrote { Wrote result (K.written sink.old) (K.written sink.new) (decimal (depth - 1) ++ inner label.now
         ++ codes ":" ++ flat_map (spaced_run cpus lines.now) way.now ++ codes "\n") }
     ensures cause { HasCause (K.faults sink.old) (K.faults sink.new) result }
 {
-    match write_shown(sink, label, depth - 1) {
-        Ok(()) => {}
-        Err(failed) => return Err(failed),
-    }
-    match write_way(sink, cpus, lines, way) {
-        Ok(()) => write_all(sink, b"\n"),
-        Err(failed) => Err(failed),
-    }
+    write_shown(sink, label, depth - 1)?;
+    write_way(sink, cpus, lines, way)?;
+    write_all(sink, b"\n")
 }
 
 // Writes what is shown at a step, and a colon.
 fn write_shown<K: Sink>(sink: &mut K, label: &[u8], step: u32) -> Result<(), Failed>
-    ensures wrote { WroteLine result (K.written sink.old) (K.written sink.new) (decimal step ++ inner label.now ++ codes ":") }
+    ensures wrote { Wrote result (K.written sink.old) (K.written sink.new)
+        (decimal step ++ inner label.now ++ codes ":") }
     ensures cause { HasCause (K.faults sink.old) (K.faults sink.new) result }
 {
-    match write_number(sink, step) {
-        Ok(()) => {}
-        Err(failed) => return Err(failed),
-    }
-    match write_all(sink, inner(label)) {
-        Ok(()) => write_all(sink, b":"),
-        Err(failed) => Err(failed),
-    }
+    write_number(sink, step)?;
+    write_all(sink, inner(label))?;
+    write_all(sink, b":")
 }
 
 fn write_number<K: Sink>(sink: &mut K, n: u32) -> Result<(), Failed>
-    ensures wrote { WroteLine result (K.written sink.old) (K.written sink.new) (decimal n) }
+    ensures wrote { Wrote result (K.written sink.old) (K.written sink.new) (decimal n) }
     ensures cause { HasCause (K.faults sink.old) (K.faults sink.new) result }
 {
     let mut number: ArrayString<10> = ArrayString::new();
@@ -130,7 +118,7 @@ fn inner(label: &[u8]) -> &[u8]
 
 // Writes the last line.
 fn write_verdict<K: Sink>(sink: &mut K, count: u64, verdict: Verdict) -> Result<(), Failed>
-    ensures wrote { WroteLine result (K.written sink.old) (K.written sink.new) (verdict_line count verdict) }
+    ensures wrote { Wrote result (K.written sink.old) (K.written sink.new) (verdict_line count verdict) }
     ensures cause { HasCause (K.faults sink.old) (K.faults sink.new) result }
 {
     let mut buffer = Buffer::new();

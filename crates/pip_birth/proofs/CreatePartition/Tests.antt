@@ -5,7 +5,7 @@ use Rattle.std.specs.Prelude.{is_none, is_some, slice_index_or}
 use Rattle.std.specs.List.{list_any}
 use Rattle.pip_base.specs.declared.outcome.Status.{Status}
 use Rattle.pip_base.specs.declared.outcome.Status.TheVariants as S
-use Rattle.pip_model.specs.Answers.{first_met, list_of, mapped, pair_at, writable, five_of}
+use Rattle.pip_model.specs.Answers.{first_met, list_of, is_mapped, pair_at, writable, five_of}
 use Rattle.pip_model.specs.CreatePartition.{create_refusals, newborn}
 use Rattle.pip_model.specs.FullRows.{FullRow, full_rows}
 use Rattle.pip_model.specs.Lists.{In}
@@ -87,8 +87,8 @@ module _ (t : Tree) (s : IsSound t) (p : ℕ) (x : Node) (found : find_node t p 
 
   -- where one of them has no row
   any_unmapped : (xs : List ℕ)
-      → list_any (λ a. is_none (full_rows t x (vpage a))) xs ≡ list_any (λ a. not (mapped t p (vpage a))) xs
-  any_unmapped xs = any_same (λ a. is_none (full_rows t x (vpage a))) (λ a. not (mapped t p (vpage a)))
+      → list_any (λ a. is_none (full_rows t x (vpage a))) xs ≡ list_any (λ a. not (is_mapped t p (vpage a))) xs
+  any_unmapped xs = any_same (λ a. is_none (full_rows t x (vpage a))) (λ a. not (is_mapped t p (vpage a)))
       (λ a. none_mapped (full_rows t x (vpage a)) ∙ ap not (sym (mapped-row t s p x found (vpage a)))) xs
 
   -- and where each has one

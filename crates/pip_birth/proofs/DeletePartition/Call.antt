@@ -24,7 +24,7 @@ use Rattle.pip_kern.specs.Tested.{IsChildAt}
 use Rattle.pip_kern.proofs.Calls.{named_child}
 use Rattle.std.specs.Prelude.{unwrap_or}
 use Rattle.pip_base.specs.Memory.{Memory}
-use Rattle.pip_birth.specs.Deleting.{ArePartitions, AreRunning}
+use Rattle.pip_birth.specs.Deleting.{ArePartitions, HasPartitions}
 use Rattle.pip_birth.specs.Ending.{CanEnd, EndsChild, HasChild}
 
 -- ---- the call
@@ -100,7 +100,7 @@ delete-stands m n p s rs d after = record {
     there None e = caller_left s.tree s.sound p d s.node s.found rs (child_at s.tree p d) refl e
 
 -- the caller itself may be what runs
-pub caller_runs : (m : Memory) (p : ℕ) → HasPartition m p → AreRunning m (p ∷ [])
+pub caller_runs : (m : Memory) (p : ℕ) → HasPartition m p → HasPartitions m (p ∷ [])
 caller_runs m p s = record { tree = s.tree; sound = s.sound; laid = s.laid; each = each }
   where
     each : ArePartitions s.tree (p ∷ [])
@@ -108,7 +108,7 @@ caller_runs m p s = record { tree = s.tree; sound = s.sound; laid = s.laid; each
     each (suc k) d low = absurd (omega arith)
 
 -- or so may it four times
-pub caller_runs_four : (m : Memory) (p : ℕ) → HasPartition m p → AreRunning m (p ∷ p ∷ p ∷ p ∷ [])
+pub caller_runs_four : (m : Memory) (p : ℕ) → HasPartition m p → HasPartitions m (p ∷ p ∷ p ∷ p ∷ [])
 caller_runs_four m p s = record { tree = s.tree; sound = s.sound; laid = s.laid; each = each }
   where
     each : ArePartitions s.tree (p ∷ p ∷ p ∷ p ∷ [])

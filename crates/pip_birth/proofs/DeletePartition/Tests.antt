@@ -23,19 +23,19 @@ use Rattle.pip_kern.proofs.Calls.{named_child}
 use Rattle.pip_kern.proofs.Tested.{first_met-pass, first_met-stop}
 use Rattle.std.specs.Prelude.{unwrap_or}
 use Rattle.pip_base.specs.Memory.{Memory}
-use Rattle.pip_birth.specs.Deleting.{ArePartitions, AreRunning}
+use Rattle.pip_birth.specs.Deleting.{ArePartitions, HasPartitions}
 
 -- ---- the partitions that run
 
 -- they are partitions of each tree that is laid out
-pub partitions_too : (m : Memory) (rs : List ℕ) → AreRunning m rs → (t : Tree) → IsSound t → LaysOut t m
+pub partitions_too : (m : Memory) (rs : List ℕ) → HasPartitions m rs → (t : Tree) → IsSound t → LaysOut t m
     → ArePartitions t rs
 partitions_too m rs r t s lays k d low =
     let (x, i, e) = In-map_from (λ (z : Node). z.name) (slice_index_or rs k d) (nodes r.tree) (r.each k d low) in
     subst (λ q. In q (names_of (nodes t))) (sym e)
     (name_in x (nodes t) ((frames-same r.tree t m r.sound s r.laid lays).to x i))
 
-pub runs_stands : (m : Memory) (rs : List ℕ) → AreRunning m rs → (k d : ℕ) → k < length rs
+pub runs_stands : (m : Memory) (rs : List ℕ) → HasPartitions m rs → (k d : ℕ) → k < length rs
     → HasPartition m (slice_index_or rs k d)
 runs_stands m rs r k d low = let (x, e) = name_found r.tree r.sound (slice_index_or rs k d) (r.each k d low) in
     record { tree = r.tree; node = x; sound = r.sound; laid = r.laid; found = e }
@@ -93,7 +93,7 @@ run_more t top i r rs at inside none off k d low chain = elim (cases_eq k i) [
     same_get (q ∷ rs) (suc i) a b low = same_get rs i a b (omega arith)
 
 -- the next of them
-module _ (m : Memory) (rs : List ℕ) (r : AreRunning m rs) (i q : ℕ) (at : q ≡ slice_index_or rs i q)
+module _ (m : Memory) (rs : List ℕ) (r : HasPartitions m rs) (i q : ℕ) (at : q ≡ slice_index_or rs i q)
     (low : i < length rs) where
   pub item_stands : HasPartition m q
   item_stands = subst (HasPartition m) (sym at) (runs_stands m rs r i q low)

@@ -5,7 +5,7 @@ ghost use Rattle.pip_model.specs.Partitions.{HasPartition, InEach};
 ghost use Rattle.pip_model.specs.Tree.{below};
 ghost use Rattle.pip_kern.specs.Calls.{Does};
 ghost use Rattle.pip_kern.specs.Tested.{IsChildAt, Tested};
-ghost use Rattle.pip_birth.specs.Deleting.{AreRunning};
+ghost use Rattle.pip_birth.specs.Deleting.{HasPartitions};
 
 use crate::ending::end_child;
 use arrayvec::ArrayVec;
@@ -23,7 +23,7 @@ fn some_run<M: Frames, L: Ledger>(
     top: Frame,
     steps: &mut Steps<L>,
 ) -> bool
-    requires { AreRunning (M.memory mem.now) running.now }
+    requires { HasPartitions (M.memory mem.now) running.now }
     ensures { InEach (M.memory mem.now) top (λ t x. result ≡ some_run running.now (below t top)) }
 {
     for part in running {
@@ -34,8 +34,8 @@ fn some_run<M: Frames, L: Ledger>(
     false
 }
 
-// The child whose descriptor the caller has at the address `d`, where it can end, or the status of the first test that isn't
-// passed. Nothing is written.
+// The child whose descriptor the caller has at the address `d`, where it can end, or the status of the first test that
+// isn't passed. Nothing is written.
 fn check_delete<M: Frames, L: Ledger>(
     mem: &M,
     caller: Frame,
@@ -44,7 +44,7 @@ fn check_delete<M: Frames, L: Ledger>(
     steps: &mut Steps<L>,
 ) -> Result<Frame, Status>
     requires stands { HasPartition (M.memory mem.now) caller }
-    requires running { AreRunning (M.memory mem.now) running.now }
+    requires running { HasPartitions (M.memory mem.now) running.now }
     ensures { InEach (M.memory mem.now) caller (λ t x.
         Tested (delete_refusals t running.now caller d) (λ c. IsChildAt t caller d c) result) }
 {
@@ -57,9 +57,8 @@ fn check_delete<M: Frames, L: Ledger>(
 
 // ---- the call
 
-/// deletePartition for `caller`: docs/MODEL.md, "deletePartition (call 1)". The child whose descriptor the caller has at the
-/// address `d` and all below it end. `running` are the partitions that run. Nothing changes
-/// after a refusal.
+/// deletePartition for `caller`: docs/MODEL.md, "deletePartition (call 1)". The child whose descriptor the caller has
+/// at the address `d` and all below it end. `running` are the partitions that run. Nothing changes after a refusal.
 pub fn delete_partition<M: Frames, L: Ledger>(
     mem: &mut M,
     caller: Frame,
@@ -68,7 +67,7 @@ pub fn delete_partition<M: Frames, L: Ledger>(
     steps: &mut Steps<L>,
 ) -> Status
     requires stands { HasPartition (M.memory mem.old) caller }
-    requires running { AreRunning (M.memory mem.old) running.now.items }
+    requires running { HasPartitions (M.memory mem.old) running.now.items }
     ensures { Does (λ t. delete_partition t running.now.items caller d) caller result 0
         (M.memory mem.old) (M.memory mem.new) }
 {

@@ -14,12 +14,14 @@ use pip_input::{ReadError, read_whole};
 use pip_io::{Joint, Sink, Source};
 use std::alloc::Global;
 
-/// Writes the image that an assembly text is (docs/FORMATS.md, "Assembly"). The whole input is read before a line is judged.
+/// Writes the image that an assembly text is (docs/FORMATS.md, "Assembly"). The whole input is read before a line is
+/// judged.
 pub fn asm<S: Source, K: Sink>(alloc: Global, source: &mut S, sink: &mut K) -> Ended
     requires none { (K.written sink.old).held ≡ [] }
     requires paced { IsPaced asm_due (S.is_open source.old) S.allows
         (streams S.left S.faults K.written K.faults source.old sink.old) }
-    ensures ends { EndsBy asm_due result.status result.machine (streams S.left S.faults K.written K.faults source.old sink.old)
+    ensures ends { EndsBy asm_due result.status result.machine
+        (streams S.left S.faults K.written K.faults source.old sink.old)
         (streams S.left S.faults K.written K.faults source.new sink.new) }
     ensures none { result.status ≢ 4 → (K.written sink.new).held ≡ [] }
 {
@@ -51,8 +53,10 @@ fn assemble_input<S: Source, K: Sink>(alloc: Global, joint: &mut Joint<'_, S, K>
 fn write_assembly<K: Sink>(alloc: Global, text: &[u8], sink: &mut K) -> Ended
     requires limit { length text.now ≤ 2 ^ 24 }
     requires none { (K.written sink.old).held ≡ [] }
-    ensures wrote { EndsWithResponse (asm_answer (assembly text.now)) result.status (K.written sink.old) (K.written sink.new)
-        (K.faults sink.old) (K.faults sink.new) ⊎ ((result.status ≡ 5) × Keeps (K.written sink.old) (K.written sink.new)) }
+    ensures wrote { EndsWithResponse (asm_answer (assembly text.now)) result.status (K.written sink.old)
+        (K.written sink.new)
+        (K.faults sink.old) (K.faults sink.new) ⊎ ((result.status ≡ 5) × Keeps (K.written sink.old)
+        (K.written sink.new)) }
     ensures calm { result.status ≢ 4 → K.faults sink.new ≡ K.faults sink.old }
     ensures none { result.machine ≡ None }
     ensures settled { result.status ≢ 4 → (K.written sink.new).held ≡ [] }

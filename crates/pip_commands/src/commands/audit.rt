@@ -14,7 +14,7 @@ use crate::ended::{Ended, end_with};
 use crate::text::{bad_line, no_line};
 use pip_audit::{Auditor, Verdict};
 use pip_base::Steps;
-use pip_core::{CoreError, read_core};
+use pip_core_text::{CoreError, read_core};
 use pip_dump::tree_text;
 use pip_frames::{Frames, RawFrames};
 use pip_io::{Joint, Sink, Source};
@@ -22,8 +22,8 @@ use std::alloc::{AllocError, Global};
 use std::marker::Brand;
 use std::sync::ledger::{Blank, Ledger};
 
-/// Judges a memory of `frames` frames, 16 to 4096, whose text is read (docs/FORMATS.md, "audit"). Memory is taken before the
-/// first read alone. No machine is handed back.
+/// Judges a memory of `frames` frames, 16 to 4096, whose text is read (docs/FORMATS.md, "audit"). Memory is taken
+/// before the first read alone. No machine is handed back.
 pub fn audit<S: Source, K: Sink>(alloc: Global, frames: u32, source: &mut S, sink: &mut K) -> Ended
     requires none { (K.written sink.old).held ≡ [] }
     requires least { 16 ≤ frames }
@@ -92,7 +92,8 @@ fn judge<K: Sink, L: Ledger>(room: &mut Room, sink: &mut K, blank: Blank) -> End
     requires room { IsFor (length (⟦<RawFrames as Frames>⟧.memory room.old.mem)) room.old.auditor }
     requires shape { IsMemory (⟦<RawFrames as Frames>⟧.memory room.old.mem) }
     requires words { HasWordsOnly (⟦<RawFrames as Frames>⟧.memory room.old.mem) }
-    ensures wrote { EndsWithResponse (found_answer (finding (⟦<RawFrames as Frames>⟧.memory room.old.mem))) result.status
+    ensures wrote { EndsWithResponse (found_answer (finding (⟦<RawFrames as Frames>⟧.memory room.old.mem)))
+        result.status
         (K.written sink.old) (K.written sink.new) (K.faults sink.old) (K.faults sink.new) }
     ensures calm { result.status ≢ 4 → K.faults sink.new ≡ K.faults sink.old }
     ensures machine { result.machine ≡ None }

@@ -16,7 +16,8 @@ pub fn dis<S: Source, K: Sink>(_alloc: Global, source: &mut S, sink: &mut K) -> 
     requires none { (K.written sink.old).held ≡ [] }
     requires paced { IsPaced dis_due (S.is_open source.old) S.allows
         (streams S.left S.faults K.written K.faults source.old sink.old) }
-    ensures ends { EndsBy dis_due result.status result.machine (streams S.left S.faults K.written K.faults source.old sink.old)
+    ensures ends { EndsBy dis_due result.status result.machine
+        (streams S.left S.faults K.written K.faults source.old sink.old)
         (streams S.left S.faults K.written K.faults source.new sink.new) }
     ensures none { result.status ≢ 4 → (K.written sink.new).held ≡ [] }
 {

@@ -20,8 +20,8 @@ use std::marker::Brand;
 use std::sync::ledger::{Blank, Ledger};
 
 /// Writes what can happen to an image, whatever the order in which its processors take turns and its lines come
-/// (docs/FORMATS.md, "every"). There is room for `states` states, at least 1; no line comes before `from` turns were made,
-/// and at most `depth` choices are made, if that is given.
+/// (docs/FORMATS.md, "every"). There is room for `states` states, at least 1; no line comes before `from` turns were
+/// made, and at most `depth` choices are made, if that is given.
 pub fn every<S: Source, K: Sink>(
     alloc: Global,
     states: u32,

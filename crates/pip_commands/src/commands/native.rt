@@ -24,8 +24,8 @@ use std::alloc::Global;
 use std::marker::Brand;
 use std::sync::ledger::{Blank, Ledger};
 
-/// Builds `n` children of the root of an image, 1 to 8, and writes the trace of `count` steps in which a monitor runs them
-/// (docs/FORMATS.md, "native"). At status 0 the machine is handed back.
+/// Builds `n` children of the root of an image, 1 to 8, and writes the trace of `count` steps in which a monitor runs
+/// them (docs/FORMATS.md, "native"). At status 0 the machine is handed back.
 pub fn native<S: Source, K: Sink>(
     alloc: Global,
     n: u32,
@@ -46,8 +46,8 @@ pub fn native<S: Source, K: Sink>(
     native_counted::<S, K, Brand>(alloc, n, count, source, sink, Blank::new(1))
 }
 
-// With a counter of steps that nobody reads. Each plan's callback says when the plan is due, and the monitor's chooses the next
-// child that is alive.
+// With a counter of steps that nobody reads. Each plan's callback says when the plan is due, and the monitor's chooses
+// the next child that is alive.
 fn native_counted<S: Source, K: Sink, L: Ledger>(
     alloc: Global,
     n: u32,

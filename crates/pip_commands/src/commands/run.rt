@@ -22,8 +22,8 @@ use std::alloc::Global;
 use std::marker::Brand;
 use std::sync::ledger::{Blank, Ledger};
 
-/// Writes the trace of `count` steps of an image (docs/FORMATS.md, "Trace lines"). The seed of the schedule is not 0. At
-/// status 0 the machine is handed back.
+/// Writes the trace of `count` steps of an image (docs/FORMATS.md, "Trace lines"). The seed of the schedule is not 0.
+/// At status 0 the machine is handed back.
 pub fn run<S: Source, K: Sink>(
     alloc: Global,
     count: u32,
@@ -64,8 +64,8 @@ pub fn tree<S: Source, K: Sink>(
     make_run(Report::Tree, alloc, count, seed, source, sink)
 }
 
-/// Writes the words of all frames after `count` steps of an image (docs/FORMATS.md, "core"). The seed of the schedule is
-/// not 0. At status 0 the machine is handed back.
+/// Writes the words of all frames after `count` steps of an image (docs/FORMATS.md, "core"). The seed of the schedule
+/// is not 0. At status 0 the machine is handed back.
 pub fn core_dump<S: Source, K: Sink>(
     alloc: Global,
     count: u32,

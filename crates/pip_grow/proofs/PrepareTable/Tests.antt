@@ -7,7 +7,7 @@ use Rattle.pip_base.specs.declared.outcome.Status.{Status}
 use Rattle.pip_base.specs.declared.outcome.Status.TheVariants as S
 use Rattle.pip_base.specs.declared.types.Pair.{Pair}
 use Rattle.pip_base.specs.Memory.{Memory, word_at}
-use Rattle.pip_model.specs.Answers.{first_met, mapped, page_of, pair_at, writable}
+use Rattle.pip_model.specs.Answers.{first_met, is_mapped, page_of, pair_at, writable}
 use Rattle.pip_model.specs.Layout.{LaysOut}
 use Rattle.pip_model.specs.FullRows.{FullRow, full_rows}
 use Rattle.pip_model.specs.Lists.{In}
@@ -36,9 +36,9 @@ module _ (t : Tree) (s : IsSound t) (p : ℕ) (x : Node) (found : find_node t p 
       omega arith
 
   module _ (seen : List ℕ) (a : ℕ) (passed : first_met (address_tests seen a) ≡ None) where
-    after_address : first_met (page_refusals t p seen a) ≡ cond (not (mapped t p (vpage a))) (Some S.NotMapped)
+    after_address : first_met (page_refusals t p seen a) ≡ cond (not (is_mapped t p (vpage a))) (Some S.NotMapped)
         (cond (not (free t p (vpage a))) (Some S.NotFree) (cond (not (writable t p (vpage a))) (Some S.NoRight) None))
-    after_address = first_met-pass (address_tests seen a) ((not (mapped t p (vpage a)), S.NotMapped)
+    after_address = first_met-pass (address_tests seen a) ((not (is_mapped t p (vpage a)), S.NotMapped)
         ∷ (not (free t p (vpage a)), S.NotFree) ∷ (not (writable t p (vpage a)), S.NoRight) ∷ []) passed
 
     -- where there is no row, that decides

@@ -43,8 +43,8 @@ fn check_empty<M: Frames, L: Ledger>(
 
 // ---- the writes
 
-// Takes the tables of directory index `i`, below 1024, from a partition, with the rows in them. Answers their pages, and
-// the list page that is no longer used. What these pages then hold is open.
+// Takes the tables of directory index `i`, below 1024, from a partition, with the rows in them. Answers their pages,
+// and the list page that is no longer used. What these pages then hold is open.
 fn remove_pages<M: Frames, L: Ledger>(
     mem: &mut M,
     part: Frame,
@@ -70,8 +70,8 @@ fn remove_pages<M: Frames, L: Ledger>(
     }
 }
 
-// Takes the tables of directory index `i`, below 1024, back from the caller's child, and its last list page where it needs
-// it no more. Their pages are a chain afterwards. Answers the address of its first page.
+// Takes the tables of directory index `i`, below 1024, back from the caller's child, and its last list page where it
+// needs it no more. Their pages are a chain afterwards. Answers the address of its first page.
 fn take_table<M: Frames, L: Ledger>(
     mem: &mut M,
     caller: Frame,
@@ -97,9 +97,9 @@ fn take_table<M: Frames, L: Ledger>(
 
 // ---- the call
 
-/// collect for `caller`: docs/MODEL.md, "collect (call 4)". `d` is the address of the child's descriptor, `cv` an address in
-/// the child. The answer is the address of the first page that came back; the pages are a chain that prepare takes. Nothing
-/// changes after a refusal.
+/// collect for `caller`: docs/MODEL.md, "collect (call 4)". `d` is the address of the child's descriptor, `cv` an
+/// address in the child. The answer is the address of the first page that came back; the pages are a chain that prepare
+/// takes. Nothing changes after a refusal.
 pub fn collect<M: Frames, L: Ledger>(
     mem: &mut M,
     caller: Frame,

@@ -16,8 +16,8 @@ use std::sync::ledger::Ledger;
 
 // ---- the writes
 
-// Gives the caller's pages to `child`, whose descriptor the caller has at the virtual page `born`: they become its tables
-// of directory index `i`, below 1024, and its last list page.
+// Gives the caller's pages to `child`, whose descriptor the caller has at the virtual page `born`: they become its
+// tables of directory index `i`, below 1024, and its last list page.
 fn give_table<M: Frames, L: Ledger>(
     mem: &mut M,
     caller: Frame,
@@ -41,9 +41,9 @@ fn give_table<M: Frames, L: Ledger>(
 
 // ---- the call
 
-/// prepare for `caller`: docs/MODEL.md, "prepare (call 3)". `d` is the address of the child's descriptor, `cv` an address in
-/// the child, and `first` the address of the first page of the chain. The answer is the number of pages that the child was
-/// given, 0, 3 or 4. Nothing changes after a refusal.
+/// prepare for `caller`: docs/MODEL.md, "prepare (call 3)". `d` is the address of the child's descriptor, `cv` an
+/// address in the child, and `first` the address of the first page of the chain. The answer is the number of pages that
+/// the child was given, 0, 3 or 4. Nothing changes after a refusal.
 pub fn prepare<M: Frames, L: Ledger>(
     mem: &mut M,
     caller: Frame,

@@ -9,7 +9,7 @@ use Rattle.pip_kern.specs.Tested.{is_ungiven}
 use Rattle.pip_kern.proofs.Calls.{child_name_is, child_of_is}
 use Rattle.pip_kern.proofs.Tested.{first_met-pass, first_met-stop, free-row, mapped-row, page_of-row}
 use Rattle.pip_model.specs.AddVAddr.{add_refusals, exceeds}
-use Rattle.pip_model.specs.Answers.{child_name, child_of, first_met, mapped, rights_at}
+use Rattle.pip_model.specs.Answers.{child_name, child_of, first_met, is_mapped, rights_at}
 use Rattle.pip_model.specs.FullRows.{FullRow, full_rows}
 use Rattle.pip_model.specs.Sound.{IsSound}
 use Rattle.pip_model.specs.Tree.{Node, Row, Tree, child_at, find_node, free, has_table, row_at, vpage}
@@ -53,7 +53,7 @@ module _ (t : Tree) (s : IsSound t) (a : ℕ) (y : Node) (found : find_node t a 
 -- those of the caller's page and of the place in the child c, which come after those of the addresses and the child
 abbrev after_child : Tree → ℕ → ℕ → ℕ → ℕ → Node → List (Bool × Status)
 after_child t p v cv rights c =
-    (not (mapped t p (vpage v)), S.NotMapped)
+    (not (is_mapped t p (vpage v)), S.NotMapped)
     ∷ (not (free t p (vpage v)), S.NotFree)
     ∷ (exceeds rights (rights_at t p (vpage v)), S.NoRight)
     ∷ room_tests c (vpage cv)

@@ -4,7 +4,7 @@ use Rattle.std.proofs.Common.{Some, None}
 use Rattle.std.specs.Prelude.{Err, is_some}
 use Rattle.pip_base.specs.declared.outcome.Status.{Status}
 use Rattle.pip_base.specs.declared.outcome.Status.TheVariants as S
-use Rattle.pip_model.specs.Answers.{accept, answer_unless, first_met, mapped, page_of}
+use Rattle.pip_model.specs.Answers.{accept, answer_unless, first_met, is_mapped, page_of}
 use Rattle.pip_model.specs.FullRows.{FullRow, full_rows, given_word, row_word}
 use Rattle.pip_model.specs.NodeWords.{Mmu}
 use Rattle.pip_space.proofs.Packed.{leaf_not_zero}
@@ -39,7 +39,7 @@ module _ (t : Tree) (s : IsSound t) (p : ℕ) (x : Node) (found : find_node t p 
     by_row : (o : Option FullRow) → full_rows t x (vpage v) ≡ o
         → first_met (find_refusals t p v) ≡ cond (not (is_some o)) (Some S.NotMapped) None
     by_row o e =
-        first_met-pass (place_tests (v ∷ [])) ((not (mapped t p (vpage v)), S.NotMapped) ∷ []) passed
+        first_met-pass (place_tests (v ∷ [])) ((not (is_mapped t p (vpage v)), S.NotMapped) ∷ []) passed
         ∙ ap (λ b. cond (not b) (Some S.NotMapped) None) (mapped-row t s p x found (vpage v) ∙ ap is_some e)
 
     -- no row is NotMapped
@@ -69,7 +69,7 @@ pub find-misplaced : (t : Tree) (p v : ℕ) (q : Status) → first_met (place_te
     → IsAnswer (Err q) (mapped_in_child t p v)
 unfolding find-refused
 find-misplaced t p v q e =
-    find-refused t p v q (first_met-stop (place_tests (v ∷ [])) ((not (mapped t p (vpage v)), S.NotMapped) ∷ []) q e)
+    find-refused t p v q (first_met-stop (place_tests (v ∷ [])) ((not (is_mapped t p (vpage v)), S.NotMapped) ∷ []) q e)
 
 -- where the word of the MMU's table is 0, there is no row
 pub zero_word : (o : Option FullRow) → row_word Mmu o ≡ 0 → o ≡ None

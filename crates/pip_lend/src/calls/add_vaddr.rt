@@ -120,8 +120,8 @@ fn lend<M: Frames, L: Ledger>(mem: &mut M, caller: Frame, loan: &Loan, steps: &m
 
 // ---- the call
 
-/// addVAddr for `caller`: docs/MODEL.md, "addVAddr (call 5)": lends the page that the caller maps at `v` to the child whose
-/// descriptor it has at `d`. The child maps it at `cv`, with these rights. Nothing changes after a refusal.
+/// addVAddr for `caller`: docs/MODEL.md, "addVAddr (call 5)": lends the page that the caller maps at `v` to the child
+/// whose descriptor it has at `d`. The child maps it at `cv`, with these rights. Nothing changes after a refusal.
 pub fn add_vaddr<M: Frames, L: Ledger>(
     mem: &mut M,
     caller: Frame,

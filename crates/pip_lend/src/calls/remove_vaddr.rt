@@ -62,8 +62,8 @@ fn take_back<M: Frames, L: Ledger>(
 
 // ---- the call
 
-/// removeVAddr for `caller`: docs/MODEL.md, "removeVAddr (call 6)": takes back the page that the child whose descriptor the
-/// caller has at `d` maps at `cv`. Nothing changes after a refusal.
+/// removeVAddr for `caller`: docs/MODEL.md, "removeVAddr (call 6)": takes back the page that the child whose descriptor
+/// the caller has at `d` maps at `cv`. Nothing changes after a refusal.
 pub fn remove_vaddr<M: Frames, L: Ledger>(
     mem: &mut M,
     caller: Frame,

@@ -27,7 +27,7 @@ use Rattle.pip_model.proofs.Audit.TreeBack.{is_some_cond, read_back}
 
 sound_holds : (t : Tree) → IsSound t → broken_part t ≡ None
 sound_holds t s = all_hold t
-    ((tests_1 t).from s.parents_stand_behind)
+    ((tests_1 t).from s.parents_come_first)
     ((tests_2 t).from s.boot_root)
     ((tests_3 t).from s.pages_apart)
     ((tests_4 t).from (s.lent, s.named_by_descriptor))
@@ -181,7 +181,7 @@ module _ (m : List (List ℕ)) (w : HasWordsOnly m) where
         let four = (tests_4 t).to p4 in
         let six = (tests_6 t).to p6 in
         record {
-          parents_stand_behind = (tests_1 t).to p1;
+          parents_come_first = (tests_1 t).to p1;
           boot_root = (tests_2 t).to p2;
           pages_apart = (tests_3 t).to p3;
           lent = four.0;

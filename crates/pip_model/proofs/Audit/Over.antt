@@ -5,7 +5,7 @@ use Rattle.std.proofs.Common.{Some, None}
 use Rattle.std.specs.Prelude.{flat_map, slice_index_or}
 use Rattle.std.proofs.lemmas.Bool.{cases_eq}
 use Rattle.pip_model.specs.Lists.{Rising}
-use Rattle.pip_model.specs.ReadOff.{first, gather, listed, or_first, with_first}
+use Rattle.pip_model.specs.ReadOff.{first, gather, values_from, or_first, with_first}
 use Rattle.pip_model.specs.Tree.{Row, row_at}
 use Rattle.pip_model.proofs.OnLists.Members.{Rising-less}
 
@@ -39,8 +39,8 @@ first_only f from (suc n) k a lo hi e h = elim (h from (omega arith) (omega arit
 
 -- a list is listed by its members
 pub listed_same : {A : Type 0} (f : ℕ → A) (d : A) (from : ℕ) (xs : List A)
-    → ((k : ℕ) → k < length xs → f (from + k) ≡ slice_index_or xs k d) → listed f from (length xs) ≡ xs
-unfolding listed
+    → ((k : ℕ) → k < length xs → f (from + k) ≡ slice_index_or xs k d) → values_from f from (length xs) ≡ xs
+unfolding values_from
 listed_same f d from [] h = refl
 listed_same f d from (x ∷ xs) h =
     let z : from + 0 ≡ from = omega arith in
@@ -135,8 +135,9 @@ gather_empty f from (suc n) h = ap₂ with_first (h from (omega arith) (omega ar
 
 -- a number of pieces of one size
 pub gather_pieces : {A : Type 0} (f : ℕ → Option A) (piece : ℕ → List A) (size from n : ℕ) → ((d : ℕ)
-    → piece d ≡ gather f (size * d) size) → flat_map piece (listed (λ d. d) from n) ≡ gather f (size * from) (size * n)
-unfolding gather listed
+    → piece d ≡ gather f (size * d) size) → flat_map piece (values_from (λ d. d) from n) ≡ gather f (size * from)
+    (size * n)
+unfolding gather values_from
 gather_pieces f piece size from zero h = let z : size * 0 ≡ 0 = omega arith in sym (ap (gather f (size * from)) z)
 gather_pieces f piece size from (suc n) h =
     let a : size + size * n ≡ size * suc n = mul size n in

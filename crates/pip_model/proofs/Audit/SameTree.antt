@@ -29,7 +29,7 @@ module _ (t u : Tree) (s : IsSound t) (a : AreSame t u) (rooted : IsRooted u.roo
   other_on : (x : Node) → In x t.others → In x u.others
   other_on x i = elim (a.to x (inr i)) [
     | inr j ↦ j
-    | inl e ↦ absurd (root_differs t.root t.others s.parents_stand_behind x i
+    | inl e ↦ absurd (root_differs t.root t.others s.parents_come_first x i
         (ap (λ z. z.name) a.root ∙ sym (ap (λ z. z.name) e)))
   ]
 
@@ -45,7 +45,7 @@ module _ (t u : Tree) (s : IsSound t) (a : AreSame t u) (rooted : IsRooted u.roo
       let least = s.boot_root.small in
       let most = s.boot_root.large in
       record {
-        parents_stand_behind = rooted;
+        parents_come_first = rooted;
         boot_root = record {
           small = omega (arith, f, least);
           large = omega (arith, f, most);

@@ -238,7 +238,7 @@ module _ (t : Tree) (s : IsSound t) (m : List (List ℕ)) (lays : LaysOut t m) w
         rooted = g.rooted;
         to = g.read;
         from = λ z i. let (y, j, q) = In-map_from (λ z. z.name) z.name others
-            (all_read others g t.others s.parents_stand_behind (λ v k. k) z i) in
+            (all_read others g t.others s.parents_come_first (λ v k. k) z i) in
             subst (λ y. In y others) (one_name y z (g.read y j) i (sym q)) j;
       }
   walks (suc n) [] others e g = finished (suc n) others g refl
@@ -251,7 +251,7 @@ module _ (t : Tree) (s : IsSound t) (m : List (List ℕ)) (lays : LaysOut t m) w
         rooted = g.rooted;
         to = g.read;
         from = λ z i. let (y, j, q) = In-map_from (λ z. z.name) z.name others
-            (all_read others g t.others s.parents_stand_behind (λ v k. k) z i) in
+            (all_read others g t.others s.parents_come_first (λ v k. k) z i) in
             subst (λ y. In y others) (one_name y z (g.read y j) i (sym q)) j;
       }
   walks zero (v ∷ vs) others e g = let few = few_read v vs others g in absurd (omega (arith, e, few))

@@ -3,7 +3,8 @@ use Rattle.std.proofs.Common.{◌≡◌, ◌≢◌, ℕ, ◌+◌, ◌≤◌, ◌
 use Rattle.std.proofs.Common.{List, [], ◌∷◌, map, refl, sym, ap, ◌∙◌, subst, arith, eqb-true, Option, Some, None}
 use Rattle.pip_model.specs.Accepted.{MayAdd}
 use Rattle.pip_model.specs.AddVAddr.{add_refusals, add_vaddr, tree_with_row, insert_row, with_row}
-use Rattle.pip_model.specs.Answers.{answer_unless, child_name, child_of, first_met, mapped, nobody, page_of, rights_at}
+use Rattle.pip_model.specs.Answers.{answer_unless, child_name, child_of, first_met, is_mapped, nobody, page_of}
+use Rattle.pip_model.specs.Answers.{rights_at}
 use Rattle.pip_model.specs.Lists.{Distinct, In, Rising}
 use Rattle.pip_model.specs.Sound.{AreAmong, IsSound}
 use Rattle.pip_model.specs.Tree.{Node, Row, Tree, child_at, children, config, dir, free, has_table, held_pages}
@@ -240,7 +241,7 @@ may_add t p v d cv r c s n k e =
     let cs = add_refusals t p v d cv r in
     let off : list_any (λ x. not (is_place x)) (v ∷ d ∷ cv ∷ []) ≡ false = passed cs e S.NotAligned in
     let zer : list_any (λ x. x == 0) (v ∷ d ∷ cv ∷ []) ≡ false = passed cs e S.NullPage in
-    let unm : not (mapped t p (vpage v)) ≡ false = passed cs e S.NotMapped in
+    let unm : not (is_mapped t p (vpage v)) ≡ false = passed cs e S.NotMapped in
     let unf : not (free t p (vpage v)) ≡ false = passed cs e S.NotFree in
     let bad : (not (bit_and 1 r == 1) || (not (bit_and r 7 == r) || not (bit_and r (rights_at t p (vpage v)) == r)))
     ≡ false = passed cs e S.NoRight in
@@ -252,7 +253,7 @@ may_add t p v d cv r c s n k e =
     let lc =
     not_false (is_place cv) (any_none (λ x. not (is_place x)) cv (v ∷ d ∷ cv ∷ []) off (inr (inr (inl refl)))) in
     let zc : (cv == 0) ≡ false = any_none (λ x. x == 0) cv (v ∷ d ∷ cv ∷ []) zer (inr (inr (inl refl))) in
-    let mp = not_false (mapped t p (vpage v)) unm in
+    let mp = not_false (is_mapped t p (vpage v)) unm in
     let u = address-usable t p v lv mp (not_false (free t p (vpage v)) unf) in
     let parts = or_parts (not (bit_and 1 r == 1)) (not (bit_and r 7 == r)
     || not (bit_and r (rights_at t p (vpage v)) == r)) bad in

@@ -6,7 +6,7 @@ use Rattle.pip_base.specs.declared.outcome.Status.{Status}
 use Rattle.std.specs.List.{list_any}
 use Rattle.pip_base.specs.declared.types.Pair.{Pair}
 use Rattle.pip_model.specs.Accepted.{MayCreate}
-use Rattle.pip_model.specs.Answers.{Five, answer_unless, first_met, list_of, mapped, page_of, pair_at}
+use Rattle.pip_model.specs.Answers.{Five, answer_unless, first_met, list_of, is_mapped, page_of, pair_at}
 use Rattle.pip_model.specs.CreatePartition.{create_partition, create_refusals, tree_with_newborn, newborn}
 use Rattle.pip_model.specs.Lists.{In, has, repeats}
 use Rattle.pip_model.specs.Sound.{AreApart, CanRead, EachChild, EachNode, EachOther, EachSiblings, GivesNoMore}
@@ -26,11 +26,11 @@ may_create t p a e =
     let cs = create_refusals t p a in
     let off : list_any (λ x. not (is_place x)) (list_of a) ≡ false = passed cs e S.NotAligned in
     let rep : repeats (list_of a) ≡ false = passed cs e S.Repeated in
-    let unm : list_any (λ x. not (mapped t p (vpage x))) (list_of a) ≡ false = passed cs e S.NotMapped in
+    let unm : list_any (λ x. not (is_mapped t p (vpage x))) (list_of a) ≡ false = passed cs e S.NotMapped in
     let unf : list_any (λ x. not (free t p (vpage x))) (list_of a) ≡ false = passed cs e S.NotFree in
     record {
       usable = λ x i. address-usable t p x (not_false _ (any_none (λ x. not (is_place x)) x (list_of a) off i))
-          (not_false _ (any_none (λ x. not (mapped t p (vpage x))) x (list_of a) unm i))
+          (not_false _ (any_none (λ x. not (is_mapped t p (vpage x))) x (list_of a) unm i))
           (not_false _ (any_none (λ x. not (free t p (vpage x))) x (list_of a) unf i));
       differ = rep;
     }
@@ -57,7 +57,7 @@ module _ (t : Tree) (p : ℕ) (a : Five) (s : IsSound t) (n : IsName t p) (m : M
       newborn-fresh (newborn t p a).name (inl refl) z j (subst (λ g. In g (config z)) (sym e) (name-config t s z j))
 
   rooted : IsRooted t.root (newborn t p a ∷ t.others)
-  rooted = (fresh_name, n, s.parents_stand_behind)
+  rooted = (fresh_name, n, s.parents_come_first)
 
   each_node : (P : Node → Type 0) → P (newborn t p a) → EachNode P t → EachNode P (tree_with_newborn t p a)
   each_node P h k x (inl e) = k x (inl e)
@@ -83,7 +83,7 @@ module _ (t : Tree) (p : ℕ) (a : Five) (s : IsSound t) (n : IsName t p) (m : M
     where
       up_name : In x (newborn t p a ∷ t.others) → In x.up (names_of (nodes t))
       up_name (inl q) = subst (λ z. In z.up (names_of (nodes t))) (sym q) n
-      up_name (inr j) = let (y, l, q) = parent_in t.root t.others s.parents_stand_behind x j in
+      up_name (inr j) = let (y, l, q) = parent_in t.root t.others s.parents_come_first x j in
           subst (λ q. In q (names_of (nodes t))) (sym q) (name_in y (nodes t) l)
   each_child R h k x y (inl q) (inl e) u = new_child R h x y q (inl e) u
   each_child R h k x y (inl q) (inr (inr j)) u = new_child R h x y q (inr j) u
@@ -131,7 +131,7 @@ module _ (t : Tree) (p : ℕ) (a : Five) (s : IsSound t) (n : IsName t p) (m : M
 
   pub with_newborn-sound : IsSound (tree_with_newborn t p a)
   with_newborn-sound = record {
-    parents_stand_behind = rooted;
+    parents_come_first = rooted;
     boot_root = record { small = s.boot_root.small; large = s.boot_root.large; same = s.boot_root.same };
     pages_apart = each_node KeepsPagesApart unique_new s.pages_apart;
     lent = each_child IsLentBy lent_new s.lent;

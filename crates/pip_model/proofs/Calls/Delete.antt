@@ -136,7 +136,7 @@ module _ (t : Tree) (a : ℕ) (s : IsSound t) (other : a ≢ t.root.name) where
 
   pub without_subtree-sound : IsSound (tree_without_subtree t a)
   without_subtree-sound = record {
-    parents_stand_behind = rooted_left t.others (λ x i. i) s.parents_stand_behind;
+    parents_come_first = rooted_left t.others (λ x i. i) s.parents_come_first;
     boot_root = record { small = s.boot_root.small; large = s.boot_root.large; same = s.boot_root.same };
     pages_apart = λ x i. s.pages_apart x (left_nodes x i);
     lent = λ x y i j. s.lent x y (left_from x t.others i) (left_nodes y j);

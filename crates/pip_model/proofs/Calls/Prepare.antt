@@ -9,7 +9,7 @@ use Rattle.pip_base.specs.declared.outcome.Status.{Status}
 use Rattle.pip_base.specs.declared.types.Pair.{Pair}
 use Rattle.pip_base.specs.declared.outcome.Status.TheVariants as S
 use Rattle.pip_model.specs.Accepted.{MayPrepare, IsUnheld, CanBeGiven}
-use Rattle.pip_model.specs.Answers.{answer_unless, child_name, child_of, first_met, mapped, nobody, page_of, pair_at}
+use Rattle.pip_model.specs.Answers.{answer_unless, child_name, child_of, first_met, is_mapped, nobody, page_of, pair_at}
 use Rattle.pip_model.specs.Answers.{words_without}
 use Rattle.pip_model.specs.CountToMap.{count_refusals, pages_needed}
 use Rattle.pip_model.specs.Lists.{Distinct, In, has}
@@ -41,10 +41,10 @@ page_may t p seen a e =
     let cs = page_refusals t p seen a in
     let off : list_any (λ x. not (is_place x)) (a ∷ []) ≡ false = passed cs e S.NotAligned in
     let rep : has seen a ≡ false = passed cs e S.Repeated in
-    let unm : not (mapped t p (vpage a)) ≡ false = passed cs e S.NotMapped in
+    let unm : not (is_mapped t p (vpage a)) ≡ false = passed cs e S.NotMapped in
     let unf : not (free t p (vpage a)) ≡ false = passed cs e S.NotFree in
     let la = not_false (is_place a) (any_none (λ x. not (is_place x)) a (a ∷ []) off (inl refl)) in (
-      address-usable t p a la (not_false (mapped t p (vpage a)) unm) (not_false (free t p (vpage a)) unf),
+      address-usable t p a la (not_false (is_mapped t p (vpage a)) unm) (not_false (free t p (vpage a)) unf),
       (λ i. let h = in_has a seen i in grind (arith, h, rep)),
     )
 

@@ -7,13 +7,13 @@ use Rattle.pip_base.specs.declared.types.Access.TheVariants.{Load, Store, Fetch}
 use Rattle.pip_base.specs.declared.types.Size.{Size}
 use Rattle.pip_base.specs.declared.types.Size.TheVariants.{Byte, Word}
 use Rattle.pip_model.specs.Answers.{Five}
-use Rattle.pip_model.specs.Cache.{Agrees, AllAgree, IsUsable, Places, accessed, all_emptied, cache_at, cached}
-use Rattle.pip_model.specs.Cache.{counted_lookup, empty_caches, with_new_entry, holding, filled_on_miss, looked}
-use Rattle.pip_model.specs.Cache.{no_entries}
+use Rattle.pip_model.specs.Cache.{Agrees, AllAgree, IsUsable, Places, places_after_access, all_emptied, cache_at}
+use Rattle.pip_model.specs.Cache.{cache_after_access, counted_lookup, empty_caches, with_new_entry, holding}
+use Rattle.pip_model.specs.Cache.{filled_on_miss, after_lookup, no_entries}
 use Rattle.pip_model.specs.Events as E
 use Rattle.pip_model.specs.Events.{Event, IsEvent}
-use Rattle.pip_model.specs.Happens.{access_number, acted, by_runner, call, call_named, caches_after, empties, event}
-use Rattle.pip_model.specs.Happens.{fault_number, fault_vector, loaded, on_running, wrote}
+use Rattle.pip_model.specs.Happens.{access_number, what_happens, by_runner, call, call_named, caches_after, empties}
+use Rattle.pip_model.specs.Happens.{event, fault_number, fault_vector, load_happens, on_running, wrote}
 use Rattle.pip_model.specs.declared.call_name.CallName.{CallName}
 use Rattle.pip_model.specs.declared.call_name.CallName.TheVariants.{Masks, OnMemory, Unknown, Yields}
 use Rattle.pip_model.specs.Poll.{lines_with}
@@ -95,20 +95,20 @@ agrees_learned t x p va v a c None (Some r) (Place g i) f k w h = agrees_filled 
     (record { node = x; found = f; row = r; at = k; page = refl; rights = refl; seen = open_row t va a r g i w })
 
 agrees_cached : (t : Tree) (p va : ℕ) (a : Access) (c : Places) → IsSound t → IsName t p → Agrees t c
-    → Agrees t (cached t c p va a)
+    → Agrees t (cache_after_access t c p va a)
 agrees_cached t p va a c s n h =
     let (x, f) = name_found t s p n in
-    agrees_learned t x p va (vpage va) a (looked c p (vpage va)) (holding c p (vpage va))
+    agrees_learned t x p va (vpage va) a (after_lookup c p (vpage va)) (holding c p (vpage va))
     (row_at (node t p).rows (vpage va)) (reach t p va a Byte) f
     (ap (λ z. row_at z.rows (vpage va)) (sym (node_is t p x f))) refl (agrees_counted t c (holding c p (vpage va)) h)
 
 agree_accessed : (t : Tree) (cs : List Places) (cpu p va : ℕ) (a : Access) (z : Size) → IsSound t → IsName t p
-    → AllAgree t cs → AllAgree t (accessed t cs cpu p va a z)
+    → AllAgree t cs → AllAgree t (places_after_access t cs cpu p va a z)
 agree_accessed t cs cpu p va a z s n h = go (is_misaligned va z)
   where
-    go : (b : Bool) → AllAgree t (cond b cs (slice_set cs cpu (cached t (cache_at cs cpu) p va a)))
+    go : (b : Bool) → AllAgree t (cond b cs (slice_set cs cpu (cache_after_access t (cache_at cs cpu) p va a)))
     go true = h
-    go false = λ j. elim (set_get cs cpu j (cached t (cache_at cs cpu) p va a) _) [
+    go false = λ j. elim (set_get cs cpu j (cache_after_access t (cache_at cs cpu) p va a) _) [
       | inl q ↦ subst (Agrees t) (sym q) (agrees_cached t p va a (cache_at cs cpu) s n (h cpu))
       | inr q ↦ subst (Agrees t) (sym q) (h j)
     ]
@@ -149,16 +149,17 @@ module _ (w : World) (s : IsSoundWorld w) (h : IsCached w) where
   named cpu r e = s.names_nodes r.name (runs_named w cpu r s e)
 
   accesses : (cpu : ℕ) (r : Occupant) (va : ℕ) (a : Access) (z : Size) (u : Tree) → runs_on w cpu ≡ Some r
-      → KeepsEntries w.tree u → AllAgree u (accessed w.tree w.caches cpu r.name va a z)
+      → KeepsEntries w.tree u → AllAgree u (places_after_access w.tree w.caches cpu r.name va a z)
   accesses cpu r va a z u e keep =
       agree_kept w.tree u _ keep (agree_accessed w.tree w.caches cpu r.name va a z s.tree (named cpu r e) h)
 
-  cached_after : (e : Event) → AllAgree (acted w e).world.tree (caches_after w e)
+  cached_after : (e : Event) → AllAgree (what_happens w e).world.tree (caches_after w e)
   cached_after (E.Load cpu va z) = go (runs_on w cpu) refl
     where
       go : (o : Option Occupant) → runs_on w cpu ≡ o
-          → AllAgree (on_running w cpu o (λ r. loaded w cpu r va Load z (reach w.tree r.name va Load z))).world.tree
-          (by_runner w.caches o (λ r. accessed w.tree w.caches cpu r.name va Load z))
+          → AllAgree (on_running w cpu o (λ r. load_happens w cpu r va Load z
+          (reach w.tree r.name va Load z))).world.tree
+          (by_runner w.caches o (λ r. places_after_access w.tree w.caches cpu r.name va Load z))
       go None e = h
       go (Some r) e =
           accesses cpu r va Load z _ e (loaded_control w cpu r va Load z (reach w.tree r.name va Load z)).entries
@@ -166,14 +167,14 @@ module _ (w : World) (s : IsSoundWorld w) (h : IsCached w) where
     where
       go : (o : Option Occupant) → runs_on w cpu ≡ o
           → AllAgree (on_running w cpu o (λ r. wrote w cpu r va z x (reach w.tree r.name va Store z))).world.tree
-          (by_runner w.caches o (λ r. accessed w.tree w.caches cpu r.name va Store z))
+          (by_runner w.caches o (λ r. places_after_access w.tree w.caches cpu r.name va Store z))
       go None e = h
       go (Some r) e = accesses cpu r va Store z _ e (wrote_entries w cpu r va z x (reach w.tree r.name va Store z))
   cached_after (E.Fetch cpu) = go (runs_on w cpu) refl
     where
       go : (o : Option Occupant) → runs_on w cpu ≡ o → AllAgree (on_running w cpu o
-          (λ r. loaded w cpu r r.ctx.pc Fetch Word (reach w.tree r.name r.ctx.pc Fetch Word))).world.tree
-          (by_runner w.caches o (λ r. accessed w.tree w.caches cpu r.name r.ctx.pc Fetch Word))
+          (λ r. load_happens w cpu r r.ctx.pc Fetch Word (reach w.tree r.name r.ctx.pc Fetch Word))).world.tree
+          (by_runner w.caches o (λ r. places_after_access w.tree w.caches cpu r.name r.ctx.pc Fetch Word))
       go None e = h
       go (Some r) e = accesses cpu r r.ctx.pc Fetch Word _ e
           (loaded_control w cpu r r.ctx.pc Fetch Word (reach w.tree r.name r.ctx.pc Fetch Word)).entries

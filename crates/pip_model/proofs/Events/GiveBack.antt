@@ -19,7 +19,7 @@ use Rattle.pip_model.specs.Events.{Event, IsEvent}
 use Rattle.pip_model.specs.GiveBack.{AreFixed, HasRowsAgain, IsGivenBack, IsLife, IsReplyOk, creation, deletion}
 use Rattle.pip_model.specs.GiveBack.{is_left, saved_by, saved_by_yield, word_after_store, word_after_store_by}
 use Rattle.pip_model.specs.GiveBack.{words_after, words_after_all}
-use Rattle.pip_model.specs.Happens.{after, call, called, event, moments, on_running, written_over}
+use Rattle.pip_model.specs.Happens.{after, call, call_happens, event, moments, on_running, written_over}
 use Rattle.pip_model.specs.declared.call_name.MemoryCall.TheVariants.{CreatePartition, DeletePartition}
 use Rattle.pip_model.specs.declared.call_name.CallName.{CallName}
 use Rattle.pip_model.specs.declared.call_name.CallName.TheVariants.{OnMemory}
@@ -46,11 +46,11 @@ use Rattle.pip_model.proofs.Calls.DeleteLaws.{deleted_words, gone_in}
 use Rattle.pip_model.proofs.Events.Kept.{event-up, event-node, event-words}
 
 -- a call that was answered was made by what runs
-ok_runs : (k : CallName) (w : World) (cpu : ℕ) (a : Five) → IsReplyOk (called k w cpu a).outcome
+ok_runs : (k : CallName) (w : World) (cpu : ℕ) (a : Five) → IsReplyOk (call_happens k w cpu a).outcome
     → (r : Occupant) × (runs_on w cpu ≡ Some r)
 ok_runs k w cpu a h = go (runs_on w cpu) refl h
   where
-    go : (o : Option Occupant) → runs_on w cpu ≡ o → IsReplyOk (called k w cpu a).outcome
+    go : (o : Option Occupant) → runs_on w cpu ≡ o → IsReplyOk (call_happens k w cpu a).outcome
         → (r : Occupant) × (runs_on w cpu ≡ Some r)
     go None e q = absurd (subst (λ o. IsReplyOk (on_running w cpu o (λ r. call k w cpu r a)).outcome) e q)
     go (Some r) e q = (r, e)
@@ -159,7 +159,7 @@ last_moment w (e ∷ es) = inr (last_moment (event w e).world es)
 up_name : (t : Tree) → IsSound t → (x : Node) → In x (nodes t) → IsName t x.up
 up_name t s x (inl e) =
     inl (ap (λ z. z.up) e ∙ ap (λ z. z.up) s.boot_root.same ∙ sym (ap (λ z. z.name) s.boot_root.same))
-up_name t s x (inr i) = let (y, j, u) = parent_in t.root t.others s.parents_stand_behind x i in
+up_name t s x (inr i) = let (y, j, u) = parent_in t.root t.others s.parents_come_first x i in
     subst (IsName t) (sym u) (name_in y (nodes t) j)
 
 parent_name : (t : Tree) (p c : ℕ) → IsSound t → IsName t c → (node t c).up ≡ p → IsName t p

@@ -18,8 +18,8 @@ use Rattle.pip_model.specs.GiveBack.{NamesChild, ChangesRows, IsReplyOk, is_left
 use Rattle.pip_model.specs.GiveBack.{word_after_store, word_after_store_by, words_after}
 use Rattle.pip_model.specs.Handlers.{block, context_word, handler, save, save_place, saved_to, saved_words, store_at}
 use Rattle.pip_model.specs.Handlers.{written_block}
-use Rattle.pip_model.specs.Happens.{access_number, call, call_named, called, event, fault_number, fault_vector, loaded}
-use Rattle.pip_model.specs.Happens.{on_running, with_word, written_over, wrote}
+use Rattle.pip_model.specs.Happens.{access_number, call, call_named, call_happens, event, fault_number, fault_vector}
+use Rattle.pip_model.specs.Happens.{load_happens, on_running, with_word, written_over, wrote}
 use Rattle.pip_model.specs.declared.call_name.CallName.{CallName}
 use Rattle.pip_model.specs.declared.call_name.CallName.TheVariants.{Masks, OnMemory, Unknown, Yields}
 use Rattle.pip_model.specs.Poll.{lowest_line, may_take, occupant_name, poll, poll_line, none_taken, lines_with}
@@ -27,7 +27,7 @@ use Rattle.pip_model.specs.Poll.{take_line}
 use Rattle.pip_model.specs.Reach.{Faulted, Place, Reached, Unmapped, reach}
 use Rattle.pip_model.specs.Sound.{IsSound, IsWord}
 use Rattle.pip_model.specs.Switching.{node_name, reply_unless, target_node, with_zeros, yield, yield_place}
-use Rattle.pip_model.specs.Switching.{yield_refusals, yielded}
+use Rattle.pip_model.specs.Switching.{yield_refusals, yield_happens}
 use Rattle.pip_model.specs.Tree.{Node, Tree, config, hidden, node, on_nodes, row_at, word_of}
 use Rattle.pip_model.specs.Worlds.{Happened, IsSoundWorld, World, done, lines_in, masked_node, with_running, runs_on}
 use Rattle.pip_model.specs.Worlds.{save_running, with_masked, with_pending}
@@ -97,7 +97,7 @@ reply_unless_control w cpu r None h c = c
 reply_unless_control w cpu r (Some s) h c = control_same w.tree
 
 yielded_control : (w : World) (cpu : ℕ) (r : Occupant) (a : Five) (q : ℕ) (o : Option Ctx)
-    → ControlOnly w.tree (yielded w cpu r a q o).world.tree
+    → ControlOnly w.tree (yield_happens w cpu r a q o).world.tree
 yielded_control w cpu r a q None = control_same w.tree
 yielded_control w cpu r a q (Some c) =
     let t = saved_to w.tree (with_zeros r.ctx) (yield_place w.tree r.name a.x2) in
@@ -126,7 +126,7 @@ poll_control w cpu o = go (may_take w cpu o) (lowest_line w w.tree.root.pending)
     go true (Some j) = take_control w cpu o j (handler w.tree w.tree.root.name (32 + j))
 
 pub loaded_control : (w : World) (cpu : ℕ) (r : Occupant) (va : ℕ) (a : Access) (z : Size) (q : Reached)
-    → ControlOnly w.tree (loaded w cpu r va a z q).world.tree
+    → ControlOnly w.tree (load_happens w cpu r va a z q).world.tree
 loaded_control w cpu r va a z (Place g i) = control_same w.tree
 loaded_control w cpu r va a z (Faulted f) =
     deliver_control w cpu r (fault_vector f) va (16 * access_number a + fault_number f)
@@ -151,13 +151,13 @@ pub event-node : (w : World) (e : Event) (q : ℕ) → IsSoundWorld w → IsName
 event-node w (E.Load cpu va z) q s n m h = go (runs_on w cpu)
   where
     go : (o : Option Occupant) → KeepsNode q w.tree
-        (on_running w cpu o (λ r. loaded w cpu r va Load z (reach w.tree r.name va Load z))).world.tree
+        (on_running w cpu o (λ r. load_happens w cpu r va Load z (reach w.tree r.name va Load z))).world.tree
     go None = keeps_same q w.tree
     go (Some r) = control_keeps q w.tree _ (loaded_control w cpu r va Load z (reach w.tree r.name va Load z))
 event-node w (E.Fetch cpu) q s n m h = go (runs_on w cpu)
   where
     go : (o : Option Occupant) → KeepsNode q w.tree (on_running w cpu o
-        (λ r. loaded w cpu r r.ctx.pc Fetch Word (reach w.tree r.name r.ctx.pc Fetch Word))).world.tree
+        (λ r. load_happens w cpu r r.ctx.pc Fetch Word (reach w.tree r.name r.ctx.pc Fetch Word))).world.tree
     go None = keeps_same q w.tree
     go (Some r) =
         control_keeps q w.tree _ (loaded_control w cpu r r.ctx.pc Fetch Word (reach w.tree r.name r.ctx.pc Fetch Word))
@@ -189,7 +189,8 @@ event-node w (E.Call cpu number a) q s n m h = go (runs_on w cpu) refl
     of (Masks b) r e i c = control_keeps q w.tree _ (masked_control r.name b w.tree)
     of Unknown r e i c = keeps_same q w.tree
 
-    go : (o : Option Occupant) → runs_on w cpu ≡ o → KeepsNode q w.tree (called (call_named number) w cpu a).world.tree
+    go : (o : Option Occupant) → runs_on w cpu ≡ o → KeepsNode q w.tree
+        (call_happens (call_named number) w cpu a).world.tree
     go None e = subst (λ o. KeepsNode q w.tree
         (on_running w cpu o (λ r. call (call_named number) w cpu r a)).world.tree) (sym e) (keeps_same q w.tree)
     go (Some r) e = subst (λ o.
@@ -284,15 +285,16 @@ deliver_words w cpu r k a b g j s n = go (nearest_taker w r.name k)
     go (Some y) = save_word w.tree r g j s n
 
 loaded_words : (w : World) (cpu : ℕ) (r : Occupant) (va : ℕ) (a : Access) (z : Size) (q : Reached) (g j : ℕ)
-    → IsSound w.tree → IsName w.tree r.name → word_of ((loaded w cpu r va a z q).world.tree.words g) j
-    ≡ saved_by (is_left (loaded w cpu r va a z q).outcome) w (Some r) g (word_of (w.tree.words g)) j
+    → IsSound w.tree → IsName w.tree r.name → word_of ((load_happens w cpu r va a z q).world.tree.words g) j
+    ≡ saved_by (is_left (load_happens w cpu r va a z q).outcome) w (Some r) g (word_of (w.tree.words g)) j
 loaded_words w cpu r va a z (Place h i) g j s n = refl
 loaded_words w cpu r va a z (Faulted f) g j s n =
     deliver_words w cpu r (fault_vector f) va (16 * access_number a + fault_number f) g j s n
 
 yielded_words : (w : World) (cpu : ℕ) (r : Occupant) (a : Five) (o : Option Status) (q : ℕ) (h : Option Ctx) (g j : ℕ)
-    → IsSound w.tree → IsName w.tree r.name → word_of ((reply_unless w cpu r o (yielded w cpu r a q h)).world.tree.words
-    g) j ≡ saved_by_yield (is_left (reply_unless w cpu r o (yielded w cpu r a q h)).outcome) w (Some r) a.x2 g
+    → IsSound w.tree → IsName w.tree r.name → word_of ((reply_unless w cpu r o
+    (yield_happens w cpu r a q h)).world.tree.words
+    g) j ≡ saved_by_yield (is_left (reply_unless w cpu r o (yield_happens w cpu r a q h)).outcome) w (Some r) a.x2 g
     (word_of (w.tree.words g)) j
 yielded_words w cpu r a (Some z) q h g j s n = refl
 yielded_words w cpu r a None q None g j s n = refl
@@ -343,17 +345,19 @@ pub event-words : (w : World) (e : Event) (g j : ℕ) → IsSoundWorld w → IsE
 event-words w (E.Load cpu va z) g j s ev h h' = go (runs_on w cpu) refl
   where
     go : (o : Option Occupant) → runs_on w cpu ≡ o
-        → word_of ((on_running w cpu o (λ r. loaded w cpu r va Load z (reach w.tree r.name va Load z))).world.tree.words
+        → word_of ((on_running w cpu o (λ r. load_happens w cpu r va Load z
+        (reach w.tree r.name va Load z))).world.tree.words
         g) j ≡ saved_by (is_left (on_running w cpu o
-        (λ r. loaded w cpu r va Load z (reach w.tree r.name va Load z))).outcome) w o g (word_of (w.tree.words g)) j
+        (λ r. load_happens w cpu r va Load z (reach w.tree r.name va Load z))).outcome) w o g
+        (word_of (w.tree.words g)) j
     go None e = refl
     go (Some r) e = loaded_words w cpu r va Load z (reach w.tree r.name va Load z) g j s.tree
         (s.names_nodes r.name (runs_named w cpu r s e))
 event-words w (E.Fetch cpu) g j s ev h h' = go (runs_on w cpu) refl
   where
     go : (o : Option Occupant) → runs_on w cpu ≡ o → word_of ((on_running w cpu o
-        (λ r. loaded w cpu r r.ctx.pc Fetch Word (reach w.tree r.name r.ctx.pc Fetch Word))).world.tree.words g) j
-        ≡ saved_by (is_left (on_running w cpu o (λ r. loaded w cpu r r.ctx.pc Fetch Word
+        (λ r. load_happens w cpu r r.ctx.pc Fetch Word (reach w.tree r.name r.ctx.pc Fetch Word))).world.tree.words g) j
+        ≡ saved_by (is_left (on_running w cpu o (λ r. load_happens w cpu r r.ctx.pc Fetch Word
         (reach w.tree r.name r.ctx.pc Fetch Word))).outcome) w o g (word_of (w.tree.words g)) j
     go None e = refl
     go (Some r) e = loaded_words w cpu r r.ctx.pc Fetch Word (reach w.tree r.name r.ctx.pc Fetch Word) g j s.tree
@@ -443,7 +447,7 @@ never_idle Yields w cpu r a e = go (first_met cs) (handler w.tree (node_name to)
     cs = yield_refusals w r.name a to
 
     go : (o : Option Status) (h : Option Ctx) → first_met cs ≡ o → handler w.tree (node_name to) a.x1 ≡ h
-        → (reply_unless w cpu r o (yielded w cpu r a (node_name to) h)).outcome ≢ O.Idle
+        → (reply_unless w cpu r o (yield_happens w cpu r a (node_name to) h)).outcome ≢ O.Idle
     go (Some s) h f g q = cc
     go None (Some h) f g q = cc
     go None None f g q = let z : is_none (handler w.tree (node_name to) a.x1) ≡ false = passed cs f S.NoHandler in

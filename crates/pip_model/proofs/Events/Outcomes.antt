@@ -6,7 +6,7 @@ use Rattle.pip_base.specs.declared.types.Size.{Size}
 use Rattle.pip_base.specs.declared.outcome.Outcome.TheVariants as O
 use Rattle.pip_model.specs.Deliver.{deliver_to, nearest_taker}
 use Rattle.pip_model.specs.Events as E
-use Rattle.pip_model.specs.Happens.{access_number, event, fault_number, fault_vector, loaded, on_running, wrote}
+use Rattle.pip_model.specs.Happens.{access_number, event, fault_number, fault_vector, load_happens, on_running, wrote}
 use Rattle.pip_model.specs.Reach.{Faulted, Place, Reached, reach}
 use Rattle.pip_model.specs.Worlds.{World, runs_on}
 use Rattle.pip_model.specs.declared.processors.Occupant.{Occupant}
@@ -23,7 +23,8 @@ module _ (w : World) (cpu : ℕ) where
   not_done r k a b (Some y) h = cc
 
   read_same : (r : Occupant) (va v : ℕ) (access : Access) (size : Size) (q : Reached)
-      → (loaded w cpu r va access size q).outcome ≡ O.Word v → (loaded w cpu r va access size q).world.cpus ≡ w.cpus
+      → (load_happens w cpu r va access size q).outcome ≡ O.Word v → (load_happens w cpu r va access size q).world.cpus
+      ≡ w.cpus
   read_same r va v access size (Place g i) h = refl
   read_same r va v access size (Faulted f) h = absurd (no_word r (fault_vector f) va
       (16 * access_number access + fault_number f) v (nearest_taker w r.name (fault_vector f)) h)
@@ -40,8 +41,9 @@ module _ (w : World) (cpu : ℕ) where
   load_same va v size h = on (runs_on w cpu) h
     where
       on : (o : Option Occupant) → (on_running w cpu o
-          (λ r. loaded w cpu r va Load size (reach w.tree r.name va Load size))).outcome ≡ O.Word v → (on_running w cpu
-          o (λ r. loaded w cpu r va Load size (reach w.tree r.name va Load size))).world.cpus ≡ w.cpus
+          (λ r. load_happens w cpu r va Load size (reach w.tree r.name va Load size))).outcome ≡ O.Word v
+          → (on_running w cpu
+          o (λ r. load_happens w cpu r va Load size (reach w.tree r.name va Load size))).world.cpus ≡ w.cpus
       on None e = refl
       on (Some r) e = read_same r va v Load size (reach w.tree r.name va Load size) e
 

@@ -12,9 +12,9 @@ use Rattle.pip_model.specs.declared.processors.Taker.{Taker}
 use Rattle.pip_model.specs.Events.{Event, IsEvent, below_of}
 use Rattle.pip_model.specs.Handlers.{block, block_at, context_in, context_reached, context_word, handler, handler_at}
 use Rattle.pip_model.specs.Handlers.{is_reached, save_place, saved_to, words_from, written_block}
-use Rattle.pip_model.specs.Happens.{access_number, acted, after, answer, caches_after, call, call_named, event}
-use Rattle.pip_model.specs.Happens.{fault_number, fault_vector, loaded, on_running, with_word, written_over, wrote}
-use Rattle.pip_model.specs.Happens.{moments}
+use Rattle.pip_model.specs.Happens.{access_number, what_happens, after, answer, caches_after, call, call_named, event}
+use Rattle.pip_model.specs.Happens.{fault_number, fault_vector, load_happens, on_running, with_word, written_over}
+use Rattle.pip_model.specs.Happens.{wrote, moments}
 use Rattle.pip_model.specs.declared.call_name.CallName.{CallName}
 use Rattle.pip_model.specs.declared.call_name.CallName.TheVariants.{Masks, OnMemory, Unknown, Yields}
 use Rattle.pip_model.specs.Lists.{Distinct, In, has}
@@ -24,8 +24,8 @@ use Rattle.pip_model.specs.Reach.{Alignment, Fault, Faulted, Hidden, Place, Reac
 use Rattle.pip_model.specs.Reach.{reach, right, reach_by_row, word_reached}
 use Rattle.pip_model.specs.Boot.{zero_words}
 use Rattle.pip_model.specs.Sound.{AreLines, ArePageWords, IsContext, IsSound, IsWord}
-use Rattle.pip_model.specs.Switching.{node_name, parent_of, replied, reply_unless, with_reply, with_zeros, yield_place}
-use Rattle.pip_model.specs.Switching.{yield_refusals, yield_to, yielded}
+use Rattle.pip_model.specs.Switching.{node_name, parent_of, reply_happens, reply_unless, with_reply, with_zeros}
+use Rattle.pip_model.specs.Switching.{yield_place, yield_refusals, yield_to, yield_happens}
 use Rattle.pip_model.specs.Tree.{Node, Row, Tree, chain, child_at, config, hidden, names_of, node, nodes, on_nodes}
 use Rattle.pip_model.specs.Tree.{row_at, row_pages, vpage, word_of}
 use Rattle.pip_model.specs.Cache.{Places}
@@ -233,7 +233,7 @@ reply_context c s v h a b = record { pc = h.pc; count = length_reply c.regs ∙ 
     words (r ∷ q ∷ rs) k = (a, (b, k.1.1))
 
 replied-sound : (w : World) (cpu : ℕ) (r : Occupant) (a : Answer) → IsSoundWorld w → runs_on w cpu ≡ Some r
-    → IsSoundAnswer w.tree (running w) a → IsSoundWorld (replied w cpu r a).world
+    → IsSoundAnswer w.tree (running w) a → IsSoundWorld (reply_happens w cpu r a).world
 replied-sound w cpu r a s e k =
     let n = runs_named w cpu r s e in
     let t = tree_changed w a.tree s k.sound (λ p i. k.stays p i (s.names_nodes p i)) in
@@ -453,7 +453,7 @@ reply_unless-sound w cpu r (Some q) h s e f = replied-sound w cpu r (record { st
 
 yielded-sound : (w : World) (cpu : ℕ) (r : Occupant) (a : Five) (q : ℕ) (o : Option Ctx) → IsContext r.ctx
     → ((c : Ctx) → o ≡ Some c → IsContext c) → IsSoundWorld w → In q (names_of (nodes w.tree))
-    → MayRun w.cpus cpu (record { name = q; ctx = r.ctx }) → IsSoundWorld (yielded w cpu r a q o).world
+    → MayRun w.cpus cpu (record { name = q; ctx = r.ctx }) → IsSoundWorld (yield_happens w cpu r a q o).world
 yielded-sound w cpu r a q None x h s n m = s
 yielded-sound w cpu r a q (Some c) x h s n m =
     let root = w.tree.root.name in
@@ -649,7 +649,7 @@ read_small va Word x w a b = a
 read_small va Byte x w a b = byte_small (va % 4) x w (omega arith) a b
 
 loaded-sound : (w : World) (cpu : ℕ) (r : Occupant) (va : ℕ) (a : Access) (z : Size) (q : Reached) → IsWord va
-    → IsContext r.ctx → IsSoundWorld w → IsSoundWorld (loaded w cpu r va a z q).world
+    → IsContext r.ctx → IsSoundWorld w → IsSoundWorld (load_happens w cpu r va a z q).world
 loaded-sound w cpu r va a z (Place g i) l x s = s
 loaded-sound w cpu r va a z (Faulted f) l x s = deliver-sound w cpu r (fault_vector f) va
     (16 * access_number a + fault_number f) (vector_small f) l (fault_small a f) x s
@@ -664,11 +664,11 @@ wrote-sound w cpu r va z x (Place g i) l b y s n e = tree_changed w
 wrote-sound w cpu r va z x (Faulted f) l b y s n e = deliver-sound w cpu r (fault_vector f) va
     (16 * access_number Store + fault_number f) (vector_small f) l (fault_small Store f) y s
 
-pub acted-sound : (w : World) (e : Event) → IsSoundWorld w → IsEvent e → IsSoundWorld (acted w e).world
+pub acted-sound : (w : World) (e : Event) → IsSoundWorld w → IsEvent e → IsSoundWorld (what_happens w e).world
 acted-sound w (E.Load cpu va z) s l = go (runs_on w cpu) refl
   where
     go : (o : Option Occupant) → runs_on w cpu ≡ o
-        → IsSoundWorld (on_running w cpu o (λ r. loaded w cpu r va Load z (reach w.tree r.name va Load z))).world
+        → IsSoundWorld (on_running w cpu o (λ r. load_happens w cpu r va Load z (reach w.tree r.name va Load z))).world
     go None e = s
     go (Some r) e = loaded-sound w cpu r va Load z (reach w.tree r.name va Load z) l (s.contexts cpu r e) s
 acted-sound w (E.Store cpu va z x) s l = go (runs_on w cpu) refl
@@ -681,7 +681,7 @@ acted-sound w (E.Store cpu va z x) s l = go (runs_on w cpu) refl
 acted-sound w (E.Fetch cpu) s l = go (runs_on w cpu) refl
   where
     go : (o : Option Occupant) → runs_on w cpu ≡ o → IsSoundWorld (on_running w cpu o
-        (λ r. loaded w cpu r r.ctx.pc Fetch Word (reach w.tree r.name r.ctx.pc Fetch Word))).world
+        (λ r. load_happens w cpu r r.ctx.pc Fetch Word (reach w.tree r.name r.ctx.pc Fetch Word))).world
     go None e = s
     go (Some r) e = loaded-sound w cpu r r.ctx.pc Fetch Word (reach w.tree r.name r.ctx.pc Fetch Word)
         (s.contexts cpu r e).pc (s.contexts cpu r e) s
@@ -720,7 +720,7 @@ recached w cs s = record {
 }
 
 pub event-sound : (w : World) (e : Event) → IsSoundWorld w → IsEvent e → IsSoundWorld (event w e).world
-event-sound w e s l = recached (acted w e).world (caches_after w e) (acted-sound w e s l)
+event-sound w e s l = recached (what_happens w e).world (caches_after w e) (acted-sound w e s l)
 
 pub idle_length : (c : ℕ) → length (idle_cpus c) ≡ c
 idle_length zero = refl

@@ -12,14 +12,15 @@ use Rattle.pip_model.specs.Deliver.{deliver, deliver_to, nearest_taker}
 use Rattle.pip_model.specs.Events as E
 use Rattle.pip_model.specs.Events.{Event}
 use Rattle.pip_model.specs.Handlers.{handler}
-use Rattle.pip_model.specs.Happens.{access_number, acted, answer, call, call_named, fault_number, fault_vector, loaded}
-use Rattle.pip_model.specs.Happens.{on_running, wrote}
+use Rattle.pip_model.specs.Happens.{access_number, what_happens, answer, call, call_named, fault_number, fault_vector}
+use Rattle.pip_model.specs.Happens.{load_happens, on_running, wrote}
 use Rattle.pip_model.specs.declared.call_name.CallName.{CallName}
 use Rattle.pip_model.specs.declared.call_name.CallName.TheVariants.{Masks, OnMemory, Unknown, Yields}
 use Rattle.pip_model.specs.Laws.{CachesTellNothing, DiffersInCaches}
 use Rattle.pip_model.specs.Poll.{lowest_line, may_take, none_taken, poll, poll_line, take_line}
 use Rattle.pip_model.specs.Reach.{Faulted, Place, Reached, reach}
-use Rattle.pip_model.specs.Switching.{node_name, replied, reply_unless, target_node, yield, yield_refusals, yielded}
+use Rattle.pip_model.specs.Switching.{node_name, reply_happens, reply_unless, target_node, yield, yield_refusals}
+use Rattle.pip_model.specs.Switching.{yield_happens}
 use Rattle.pip_model.specs.Worlds.{Happened, World, done, with_running, runs_on}
 use Rattle.pip_model.specs.declared.processors.Occupant.{Occupant}
 use Rattle.pip_model.specs.declared.processors.Taker.{Taker}
@@ -38,7 +39,7 @@ module _ (w : World) (cs : List Places) where
       go (Some y) = record { outcome = refl; tree = refl; cpus = refl }
 
   read : (cpu : ℕ) (r : Occupant) (va : ℕ) (a : Access) (z : Size) (q : Reached)
-      → DiffersInCaches (loaded v cpu r va a z q) (loaded w cpu r va a z q)
+      → DiffersInCaches (load_happens v cpu r va a z q) (load_happens w cpu r va a z q)
   read cpu r va a z (Place g i) = record { outcome = refl; tree = refl; cpus = refl }
   read cpu r va a z (Faulted f) = delivered cpu r (fault_vector f) va (16 * access_number a + fault_number f)
 
@@ -53,7 +54,7 @@ module _ (w : World) (cs : List Places) where
   unless cpu r (Some s) h k d = record { outcome = refl; tree = refl; cpus = refl }
 
   entered : (cpu : ℕ) (r : Occupant) (a : Five) (q : ℕ) (o : Option Ctx)
-      → DiffersInCaches (yielded v cpu r a q o) (yielded w cpu r a q o)
+      → DiffersInCaches (yield_happens v cpu r a q o) (yield_happens w cpu r a q o)
   entered cpu r a q None = record { outcome = refl; tree = refl; cpus = refl }
   entered cpu r a q (Some c) = record { outcome = refl; tree = refl; cpus = refl }
 
@@ -61,12 +62,12 @@ module _ (w : World) (cs : List Places) where
   switched cpu r a =
       let q = target_node w.tree r.name a.x0 in
       let o = handler w.tree (node_name q) a.x1 in
-      unless cpu r (first_met (yield_refusals w r.name a q)) (yielded v cpu r a (node_name q) o)
-      (yielded w cpu r a (node_name q) o) (entered cpu r a (node_name q) o)
+      unless cpu r (first_met (yield_refusals w r.name a q)) (yield_happens v cpu r a (node_name q) o)
+      (yield_happens w cpu r a (node_name q) o) (entered cpu r a (node_name q) o)
 
   calls : (k : CallName) (cpu : ℕ) (r : Occupant) (a : Five) → DiffersInCaches (call k v cpu r a) (call k w cpu r a)
   calls (OnMemory k) cpu r a =
-      subst (λ z. DiffersInCaches (replied v cpu r z) (replied w cpu r (answer k w r.name a)))
+      subst (λ z. DiffersInCaches (reply_happens v cpu r z) (reply_happens w cpu r (answer k w r.name a)))
       (sym ((laws_of k).caches w cs r.name a)) (record { outcome = refl; tree = refl; cpus = refl })
   calls Yields cpu r a = switched cpu r a
   calls (Masks b) cpu r a = record { outcome = refl; tree = refl; cpus = refl }
@@ -96,16 +97,18 @@ module _ (w : World) (cs : List Places) where
   running cpu None f g h = record { outcome = refl; tree = refl; cpus = refl }
   running cpu (Some r) f g h = h r
 
-  all : (e : Event) → DiffersInCaches (acted v e) (acted w e)
-  all (E.Load cpu va z) = running cpu (runs_on w cpu) (λ r. loaded v cpu r va Load z (reach w.tree r.name va Load z))
-      (λ r. loaded w cpu r va Load z (reach w.tree r.name va Load z))
+  all : (e : Event) → DiffersInCaches (what_happens v e) (what_happens w e)
+  all (E.Load cpu va z) = running cpu (runs_on w cpu) (λ r. load_happens v cpu r va Load z
+      (reach w.tree r.name va Load z))
+      (λ r. load_happens w cpu r va Load z (reach w.tree r.name va Load z))
       (λ r. read cpu r va Load z (reach w.tree r.name va Load z))
   all (E.Store cpu va z x) = running cpu (runs_on w cpu) (λ r. wrote v cpu r va z x (reach w.tree r.name va Store z))
       (λ r. wrote w cpu r va z x (reach w.tree r.name va Store z))
       (λ r. written cpu r va z x (reach w.tree r.name va Store z))
   all (E.Fetch cpu) =
-      running cpu (runs_on w cpu) (λ r. loaded v cpu r r.ctx.pc Fetch Word (reach w.tree r.name r.ctx.pc Fetch Word))
-      (λ r. loaded w cpu r r.ctx.pc Fetch Word (reach w.tree r.name r.ctx.pc Fetch Word))
+      running cpu (runs_on w cpu) (λ r. load_happens v cpu r r.ctx.pc Fetch Word
+      (reach w.tree r.name r.ctx.pc Fetch Word))
+      (λ r. load_happens w cpu r r.ctx.pc Fetch Word (reach w.tree r.name r.ctx.pc Fetch Word))
       (λ r. read cpu r r.ctx.pc Fetch Word (reach w.tree r.name r.ctx.pc Fetch Word))
   all (E.Trap cpu k a b) =
       running cpu (runs_on w cpu) (λ r. deliver v cpu r k a b) (λ r. deliver w cpu r k a b) (λ r. delivered cpu r k a b)

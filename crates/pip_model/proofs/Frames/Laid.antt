@@ -96,7 +96,7 @@ module _ (t : Tree) (s : IsSound t) where
       → (y.born % 4096 ≡ 0) × (4096 ≤ y.born) × (y.born < 2 ^ 32)
   born_place b y e =
       let i = other_in t b y e in
-      let (p, j, u) = parent_in t.root t.others s.parents_stand_behind y i in
+      let (p, j, u) = parent_in t.root t.others s.parents_come_first y i in
       let d = y.base.descriptor in
       let born : y.born ≡ d.va = (s.named_by_descriptor y i).born in
       let even : d.va % 4096 ≡ 0 = (s.lent y p i j u).aligned d (inl refl) in

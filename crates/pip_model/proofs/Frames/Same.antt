@@ -349,11 +349,11 @@ module _ (t u : Tree) (s : IsSound t) (r : IsSound u) (w : HasSameLayout t u) (x
 
 module _ (t u : Tree) (s : IsSound t) (r : IsSound u) (w : HasSameLayout t u) where
   to : (x : Node) → In x (nodes t) → In x (nodes u)
-  to x i = let (y, j, e) = twin_in t u s r w t.others s.parents_stand_behind (λ v l. l) x i in
+  to x i = let (y, j, e) = twin_in t u s r w t.others s.parents_come_first (λ v l. l) x i in
       subst (λ z. In z (nodes u)) (sym (node_same t u s r w x y i j (sym e))) j
 
   from : (x : Node) → In x (nodes u) → In x (nodes t)
-  from y j = let (x, i, e) = twin_in u t r s (same_sides t u w) u.others r.parents_stand_behind (λ v l. l) y j in
+  from y j = let (x, i, e) = twin_in u t r s (same_sides t u w) u.others r.parents_come_first (λ v l. l) y j in
       subst (λ z. In z (nodes t)) (node_same t u s r w x y i j e) i
 
   hidden_same : (g : ℕ) → hidden t g ≡ hidden u g

@@ -14,9 +14,9 @@ use Rattle.pip_model.specs.Answers.{Answer, Five, accept, refuse}
 use Rattle.pip_model.specs.Deliver.{deliver, deliver_to, nearest_taker}
 use Rattle.pip_model.specs.declared.processors.Taker.{Taker}
 use Rattle.pip_model.specs.Events.{Event, IsEvent}
-use Rattle.pip_model.specs.Happens.{IsSwitching, access_number, acted, answer, caches_after, call, call_named, called}
-use Rattle.pip_model.specs.Happens.{event, fault_number, fault_vector, loaded, on_running, read_of, with_word}
-use Rattle.pip_model.specs.Happens.{written_over, wrote}
+use Rattle.pip_model.specs.Happens.{IsSwitching, access_number, what_happens, answer, caches_after, call, call_named}
+use Rattle.pip_model.specs.Happens.{call_happens, event, fault_number, fault_vector, load_happens, on_running, read_of}
+use Rattle.pip_model.specs.Happens.{with_word, written_over, wrote}
 use Rattle.pip_model.specs.declared.call_name.MemoryCall.TheVariants.{DeletePartition}
 use Rattle.pip_model.specs.declared.call_name.CallName.{CallName}
 use Rattle.pip_model.specs.declared.call_name.CallName.TheVariants.{Masks, OnMemory, Unknown, Yields}
@@ -26,7 +26,7 @@ use Rattle.pip_model.specs.Local.{SameRun, but_reply, cpu_of}
 use Rattle.pip_model.specs.Reach.{Alignment, Faulted, Hidden, Place, Reached, Right, is_misaligned, reach, right}
 use Rattle.pip_model.specs.Reach.{reach_by_row}
 use Rattle.pip_model.specs.Sound.{IsSound}
-use Rattle.pip_model.specs.Switching.{replied, with_reply}
+use Rattle.pip_model.specs.Switching.{reply_happens, with_reply}
 use Rattle.pip_model.specs.Tree.{Row, Tree, ancestry, hidden, node, nodes, row_at, row_pages, vpage, word_of}
 use Rattle.pip_model.specs.Cache.{Places}
 use Rattle.pip_model.specs.Worlds.{with_caches, with_masked, Happened, IsSoundWorld, World, running, runs_on}
@@ -91,7 +91,8 @@ same_leaves w cpu r s e = world_leaves w w cpu r s s e (leaves_same r.name w.tre
 
 -- a call that does not switch is replied to, and leaves the others alone
 pub replied_to : (k : CallName) (w : World) (cpu : ℕ) (r : Occupant) (a : Five) → (IsSwitching k → ⊥) → IsSoundWorld w
-    → runs_on w cpu ≡ Some r → (b : Answer) × (call k w cpu r a ≡ replied w cpu r b) × LeavesTree r.name w.tree b.tree
+    → runs_on w cpu ≡ Some r → (b : Answer) × (call k w cpu r a ≡ reply_happens w cpu r b)
+    × LeavesTree r.name w.tree b.tree
 replied_to (OnMemory k) w cpu r a h s e =
     let n = s.names_nodes r.name (runs_named w cpu r s e) in
     (answer k w r.name a, refl, ((laws_of k).keeps w r.name a s.tree n).leaves)
@@ -104,7 +105,7 @@ replied_to (Masks b) w cpu r a h s e = (
 replied_to Unknown w cpu r a h s e = (refuse w.tree S.UnknownCall, refl, leaves_same r.name w.tree)
 
 pub called_by : (k : CallName) (w : World) (cpu : ℕ) (r : Occupant) (a : Five) → runs_on w cpu ≡ Some r
-    → called k w cpu a ≡ call k w cpu r a
+    → call_happens k w cpu a ≡ call k w cpu r a
 called_by k w cpu r a e = ap (λ o. on_running w cpu o (λ r. call k w cpu r a)) e
 
 -- an event that was answered was not delivered
@@ -140,16 +141,16 @@ reply_hides s v (a ∷ []) = refl
 reply_hides s v (a ∷ b ∷ rs) = refl
 
 replied-leaves : (w : World) (cpu : ℕ) (r : Occupant) (a : Answer) → IsSoundWorld w
-    → IsSoundWorld (replied w cpu r a).world → runs_on w cpu ≡ Some r → LeavesTree r.name w.tree a.tree
-    → LeavesOthers r.name cpu w (replied w cpu r a).world
-replied-leaves w cpu r a s s' e l = world_leaves w (replied w cpu r a).world cpu r s s' e l
+    → IsSoundWorld (reply_happens w cpu r a).world → runs_on w cpu ≡ Some r → LeavesTree r.name w.tree a.tree
+    → LeavesOthers r.name cpu w (reply_happens w cpu r a).world
+replied-leaves w cpu r a s s' e l = world_leaves w (reply_happens w cpu r a).world cpu r s s' e l
     (λ i n. at_set_other _ w.cpus cpu i n)
     (ap but_reply (at_set_here _ w.cpus cpu r e) ∙ (let h = reply_hides (status_number a.status) a.value r.ctx.regs in
     λ i. Some (record r { ctx = record r.ctx { regs = h i } })) ∙ sym (ap but_reply e))
     (length-set w.cpus cpu _)
 
 pub loaded_world : (w : World) (cpu : ℕ) (r : Occupant) (va : ℕ) (a : Access) (z : Size) (q : Reached)
-    → Succeeded (loaded w cpu r va a z q).outcome → (loaded w cpu r va a z q).world ≡ w
+    → Succeeded (load_happens w cpu r va a z q).outcome → (load_happens w cpu r va a z q).world ≡ w
 loaded_world w cpu r va a z (Place g i) h = refl
 loaded_world w cpu r va a z (Faulted f) h =
     absurd (deliver-fails w cpu r (fault_vector f) va (16 * access_number a + fault_number f) h)
@@ -165,22 +166,22 @@ wrote-leaves w cpu va r z x (Faulted f) s s' e h k =
 
 -- the first half of the law
 acted-leaves : (w : World) (e : Event) (r : Occupant) → IsSoundWorld w → IsEvent e → IsPlain w e
-    → runs_on w (cpu_of e) ≡ Some r → LeavesOthers r.name (cpu_of e) w (acted w e).world
+    → runs_on w (cpu_of e) ≡ Some r → LeavesOthers r.name (cpu_of e) w (what_happens w e).world
 acted-leaves w (E.Load cpu va z) r s v h e =
-    let k : Succeeded (loaded w cpu r va Load z (reach w.tree r.name va Load z)).outcome = subst (λ o.
-    Succeeded (on_running w cpu o (λ r. loaded w cpu r va Load z (reach w.tree r.name va Load z))).outcome) e h in
+    let k : Succeeded (load_happens w cpu r va Load z (reach w.tree r.name va Load z)).outcome = subst (λ o.
+    Succeeded (on_running w cpu o (λ r. load_happens w cpu r va Load z (reach w.tree r.name va Load z))).outcome) e h in
     subst (LeavesOthers r.name cpu w)
-    (sym (ap (λ o. (on_running w cpu o (λ r. loaded w cpu r va Load z (reach w.tree r.name va Load z))).world) e
+    (sym (ap (λ o. (on_running w cpu o (λ r. load_happens w cpu r va Load z (reach w.tree r.name va Load z))).world) e
     ∙ loaded_world w cpu r va Load z (reach w.tree r.name va Load z) k)) (same_leaves w cpu r s e)
 acted-leaves w (E.Fetch cpu) r s v h e =
-    let k : Succeeded (loaded w cpu r r.ctx.pc Fetch Word (reach w.tree r.name r.ctx.pc Fetch Word)).outcome =
+    let k : Succeeded (load_happens w cpu r r.ctx.pc Fetch Word (reach w.tree r.name r.ctx.pc Fetch Word)).outcome =
     subst (λ o. Succeeded (on_running w cpu o
-    (λ r. loaded w cpu r r.ctx.pc Fetch Word (reach w.tree r.name r.ctx.pc Fetch Word))).outcome) e h in
+    (λ r. load_happens w cpu r r.ctx.pc Fetch Word (reach w.tree r.name r.ctx.pc Fetch Word))).outcome) e h in
     subst (LeavesOthers r.name cpu w) (sym (ap (λ o. (on_running w cpu o
-    (λ r. loaded w cpu r r.ctx.pc Fetch Word (reach w.tree r.name r.ctx.pc Fetch Word))).world) e ∙ loaded_world w
+    (λ r. load_happens w cpu r r.ctx.pc Fetch Word (reach w.tree r.name r.ctx.pc Fetch Word))).world) e ∙ loaded_world w
     cpu r r.ctx.pc Fetch Word (reach w.tree r.name r.ctx.pc Fetch Word) k)) (same_leaves w cpu r s e)
 acted-leaves w (E.Store cpu va z x) r s v h e =
-    let q : acted w (E.Store cpu va z x) ≡ wrote w cpu r va z x (reach w.tree r.name va Store z) =
+    let q : what_happens w (E.Store cpu va z x) ≡ wrote w cpu r va z x (reach w.tree r.name va Store z) =
     ap (λ o. on_running w cpu o (λ r. wrote w cpu r va z x (reach w.tree r.name va Store z))) e in
     let k = subst (λ y. Succeeded y.outcome) q h in
     let s' = subst (λ y. IsSoundWorld y.world) q (acted-sound w (E.Store cpu va z x) s v) in
@@ -238,8 +239,8 @@ reach_same t u p s r n a va c z =
         (In-map (λ b. b.frame) b (node t p).rows (find_in (λ b. b.at == vpage va) b (node t p).rows e).0))
 
 loaded-again : (w v : World) (cpu va : ℕ) (r : Occupant) (c : Access) (z : Size) (q : Reached) → AgreeBelow r.name w v
-    → runs_on w cpu ≡ runs_on v cpu → reach w.tree r.name va c z ≡ q → Succeeded (loaded w cpu r va c z q).outcome
-    → Again r.name cpu w v (loaded w cpu r va c z q) (loaded v cpu r va c z q)
+    → runs_on w cpu ≡ runs_on v cpu → reach w.tree r.name va c z ≡ q → Succeeded (load_happens w cpu r va c z q).outcome
+    → Again r.name cpu w v (load_happens w cpu r va c z q) (load_happens v cpu r va c z q)
 loaded-again w v cpu va r c z (Place g i) a o e k = record {
   outcome = ap (λ x. O.Word (read_of va z x))
       (sym (a.words g i (reached_row w.tree r.name va g i c z e) (reached_small w.tree r.name va g i c z e)));
@@ -300,18 +301,19 @@ run_after p w v w' v' s r l m a b e f run x h = ap (λ rs. has rs x.name) e ∙ 
 
 replied-again : (w v : World) (cpu : ℕ) (r : Occupant) (a b : Answer) → IsSoundWorld w → IsSoundWorld v → runs_on w cpu
     ≡ Some r → runs_on v cpu ≡ Some r → LeavesTree r.name w.tree a.tree → LeavesTree r.name v.tree b.tree
-    → AgreeBelow r.name w v → AgreeAnswers r.name a b → Again r.name cpu w v (replied w cpu r a) (replied v cpu r b)
+    → AgreeBelow r.name w v → AgreeAnswers r.name a b → Again r.name cpu w v (reply_happens w cpu r a)
+    (reply_happens v cpu r b)
 replied-again w v cpu r a b s s' e f l m g h =
     let st = h.status in
     let vl = h.value in
-    let k = to_worlds r.name (replied w cpu r a).world (replied v cpu r b).world h.tree in
+    let k = to_worlds r.name (reply_happens w cpu r a).world (reply_happens v cpu r b).world h.tree in
     record {
       outcome = λ i. O.Reply (st i) (vl i);
       below = k;
       on = at_set_here _ w.cpus cpu r e
           ∙ (λ i. Some (record r { ctx = record r.ctx { regs = with_reply (status_number (st i)) (vl i) r.ctx.regs } }))
           ∙ sym (at_set_here _ v.cpus cpu r f);
-      run = run_after r.name w v (replied w cpu r a).world (replied v cpu r b).world s s' l m g k
+      run = run_after r.name w v (reply_happens w cpu r a).world (reply_happens v cpu r b).world s s' l m g k
           (names_set w.cpus cpu r _ e refl) (names_set v.cpus cpu r _ f refl);
     }
 
@@ -321,9 +323,11 @@ again_recached : (p cpu : ℕ) (w v : World) (a b : Happened) (cs ds : List Plac
 again_recached p cpu w v a b cs ds g =
     record { outcome = g.outcome; below = to_worlds p _ _ (to_trees p a.world b.world g.below); on = g.on; run = g.run }
 
-again : (p : ℕ) (e : Event) (w v : World) → Again p (cpu_of e) w v (acted w e) (acted v e) → IsSameAgain p e w v
+again : (p : ℕ) (e : Event) (w v : World) → Again p (cpu_of e) w v (what_happens w e) (what_happens v e)
+    → IsSameAgain p e w v
 again p e w v g =
-    let a = again_recached p (cpu_of e) w v (acted w e) (acted v e) (caches_after w e) (caches_after v e) g in
+    let a = again_recached p (cpu_of e) w v (what_happens w e) (what_happens v e) (caches_after w e) (caches_after v e)
+    g in
     record { outcome = a.outcome; below = a.below; cpu = a.on; run = a.run }
 
 call-again : (k : CallName) (w v : World) (cpu : ℕ) (r : Occupant) (c : Five) → (IsSwitching k → ⊥) → IsSoundWorld w
@@ -361,30 +365,34 @@ pub event-again : (w v : World) (e : Event) (r : Occupant) → IsSoundWorld w �
     → (IsDeletion e → SameRun r.name w v) → IsSameAgain r.name e w v
 event-again w v (E.Load cpu va z) r s s' ev h e f a d =
     let k = subst (λ o.
-    Succeeded (on_running w cpu o (λ r. loaded w cpu r va Load z (reach w.tree r.name va Load z))).outcome) e h in
+    Succeeded (on_running w cpu o (λ r. load_happens w cpu r va Load z (reach w.tree r.name va Load z))).outcome) e h in
     let q = reach_same w.tree v.tree r.name s.tree s'.tree (s.names_nodes r.name (runs_named w cpu r s e))
     (to_trees r.name w v a) va Load z in
     again r.name (E.Load cpu va z) w v
     (subst (λ o. Again r.name cpu w v (on_running w cpu o
-    (λ r. loaded w cpu r va Load z (reach w.tree r.name va Load z))) (acted v (E.Load cpu va z))) (sym e)
-    (subst (λ o. Again r.name cpu w v (loaded w cpu r va Load z (reach w.tree r.name va Load z))
-    (on_running v cpu o (λ r. loaded v cpu r va Load z (reach v.tree r.name va Load z)))) (sym f)
+    (λ r. load_happens w cpu r va Load z (reach w.tree r.name va Load z))) (what_happens v (E.Load cpu va z))) (sym e)
+    (subst (λ o. Again r.name cpu w v (load_happens w cpu r va Load z (reach w.tree r.name va Load z))
+    (on_running v cpu o (λ r. load_happens v cpu r va Load z (reach v.tree r.name va Load z)))) (sym f)
     (subst (λ p.
-    Again r.name cpu w v (loaded w cpu r va Load z (reach w.tree r.name va Load z)) (loaded v cpu r va Load z p)) q
+    Again r.name cpu w v (load_happens w cpu r va Load z (reach w.tree r.name va Load z))
+    (load_happens v cpu r va Load z p)) q
     (loaded-again w v cpu va r Load z (reach w.tree r.name va Load z) a (e ∙ sym f) refl k))))
 event-again w v (E.Fetch cpu) r s s' ev h e f a d =
     let k = subst (λ o. Succeeded (on_running w cpu o
-    (λ r. loaded w cpu r r.ctx.pc Fetch Word (reach w.tree r.name r.ctx.pc Fetch Word))).outcome) e h in
+    (λ r. load_happens w cpu r r.ctx.pc Fetch Word (reach w.tree r.name r.ctx.pc Fetch Word))).outcome) e h in
     let q = reach_same w.tree v.tree r.name s.tree s'.tree (s.names_nodes r.name (runs_named w cpu r s e))
     (to_trees r.name w v a) r.ctx.pc Fetch Word in
     again r.name (E.Fetch cpu) w v
     (subst (λ o. Again r.name cpu w v (on_running w cpu o (λ r.
-    loaded w cpu r r.ctx.pc Fetch Word (reach w.tree r.name r.ctx.pc Fetch Word))) (acted v (E.Fetch cpu))) (sym e)
-    (subst (λ o. Again r.name cpu w v (loaded w cpu r r.ctx.pc Fetch Word (reach w.tree r.name r.ctx.pc Fetch Word))
-    (on_running v cpu o (λ r. loaded v cpu r r.ctx.pc Fetch Word (reach v.tree r.name r.ctx.pc Fetch Word))))
+    load_happens w cpu r r.ctx.pc Fetch Word (reach w.tree r.name r.ctx.pc Fetch Word))) (what_happens v (E.Fetch cpu)))
+    (sym e)
+    (subst (λ o. Again r.name cpu w v (load_happens w cpu r r.ctx.pc Fetch Word
+    (reach w.tree r.name r.ctx.pc Fetch Word))
+    (on_running v cpu o (λ r. load_happens v cpu r r.ctx.pc Fetch Word (reach v.tree r.name r.ctx.pc Fetch Word))))
     (sym f)
-    (subst (λ p. Again r.name cpu w v (loaded w cpu r r.ctx.pc Fetch Word (reach w.tree r.name r.ctx.pc Fetch Word))
-    (loaded v cpu r r.ctx.pc Fetch Word p)) q
+    (subst (λ p. Again r.name cpu w v (load_happens w cpu r r.ctx.pc Fetch Word
+    (reach w.tree r.name r.ctx.pc Fetch Word))
+    (load_happens v cpu r r.ctx.pc Fetch Word p)) q
     (loaded-again w v cpu r.ctx.pc r Fetch Word (reach w.tree r.name r.ctx.pc Fetch Word) a (e ∙ sym f) refl k))))
 event-again w v (E.Store cpu va z x) r s s' ev h e f a d =
     let k = subst (λ o.
@@ -393,7 +401,7 @@ event-again w v (E.Store cpu va z x) r s s' ev h e f a d =
     (to_trees r.name w v a) va Store z in
     again r.name (E.Store cpu va z x) w v
     (subst (λ o. Again r.name cpu w v (on_running w cpu o (λ r. wrote w cpu r va z x (reach w.tree r.name va Store z)))
-    (acted v (E.Store cpu va z x))) (sym e)
+    (what_happens v (E.Store cpu va z x))) (sym e)
     (subst (λ o. Again r.name cpu w v (wrote w cpu r va z x (reach w.tree r.name va Store z))
     (on_running v cpu o (λ r. wrote v cpu r va z x (reach v.tree r.name va Store z)))) (sym f)
     (subst (λ p. Again r.name cpu w v (wrote w cpu r va z x (reach w.tree r.name va Store z)) (wrote v cpu r va z x p))
@@ -402,7 +410,7 @@ event-again w v (E.Store cpu va z x) r s s' ev h e f a d =
 event-again w v (E.Call cpu number c) r s s' ev h e f a d =
     let k = call_named number in
     again r.name (E.Call cpu number c) w v
-    (subst (λ y. Again r.name cpu w v y (called k v cpu c)) (sym (called_by k w cpu r c e))
+    (subst (λ y. Again r.name cpu w v y (call_happens k v cpu c)) (sym (called_by k w cpu r c e))
     (subst (λ y. Again r.name cpu w v (call k w cpu r c) y) (sym (called_by k v cpu r c f))
     (call-again k w v cpu r c h s s' e f a d)))
 event-again w v (E.Trap cpu k x b) r s s' ev h e f a d = absurd h

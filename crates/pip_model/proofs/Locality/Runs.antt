@@ -7,8 +7,8 @@ use Rattle.pip_base.specs.declared.types.Access.TheVariants.{Load, Store, Fetch}
 use Rattle.pip_base.specs.declared.types.Size.TheVariants.{Word}
 use Rattle.pip_model.specs.Ancestors.{Above}
 use Rattle.pip_model.specs.Events.{Event, IsEvent}
-use Rattle.pip_model.specs.Happens.{access_number, acted, after, outcomes, call_named, event, fault_number}
-use Rattle.pip_model.specs.Happens.{fault_vector, loaded, on_running, wrote}
+use Rattle.pip_model.specs.Happens.{access_number, what_happens, after, outcomes, call_named, event, fault_number}
+use Rattle.pip_model.specs.Happens.{fault_vector, load_happens, on_running, wrote}
 use Rattle.pip_model.specs.Lists.{In, has}
 use Rattle.pip_model.specs.Local.{AgreeBelow, AreFit, Succeeded, IsBelow, IsPlain, IsPlainOrSet, IsUntouched, actor}
 use Rattle.pip_model.specs.Local.{outcomes_below, by_below, cpu_of, only_below}
@@ -220,21 +220,22 @@ wrote-moved w cpu va r z x (Faulted f) s e h k =
     absurd (deliver-fails w cpu r (fault_vector f) va (16 * access_number Store + fault_number f) k)
 
 acted-moved : (w : World) (e : Event) (r : Occupant) → IsSoundWorld w → IsPlainOrSet w e → runs_on w (cpu_of e) ≡ Some r
-    → Moved r.name (cpu_of e) w (acted w e).world
+    → Moved r.name (cpu_of e) w (what_happens w e).world
 acted-moved w (E.Load cpu va z) r s h e =
     let k = subst (λ o.
-    Succeeded (on_running w cpu o (λ r. loaded w cpu r va Load z (reach w.tree r.name va Load z))).outcome) e h in
+    Succeeded (on_running w cpu o (λ r. load_happens w cpu r va Load z (reach w.tree r.name va Load z))).outcome) e h in
     subst (Moved r.name cpu w)
-    (sym (ap (λ o. (on_running w cpu o (λ r. loaded w cpu r va Load z (reach w.tree r.name va Load z))).world) e
+    (sym (ap (λ o. (on_running w cpu o (λ r. load_happens w cpu r va Load z (reach w.tree r.name va Load z))).world) e
     ∙ loaded_world w cpu r va Load z (reach w.tree r.name va Load z) k)) (still w cpu r e)
 acted-moved w (E.Fetch cpu) r s h e =
     let k = subst (λ o. Succeeded (on_running w cpu o
-    (λ r. loaded w cpu r r.ctx.pc Fetch Word (reach w.tree r.name r.ctx.pc Fetch Word))).outcome) e h in
+    (λ r. load_happens w cpu r r.ctx.pc Fetch Word (reach w.tree r.name r.ctx.pc Fetch Word))).outcome) e h in
     subst (Moved r.name cpu w) (sym (ap (λ o.
-    (on_running w cpu o (λ r. loaded w cpu r r.ctx.pc Fetch Word (reach w.tree r.name r.ctx.pc Fetch Word))).world)
+    (on_running w cpu o (λ r. load_happens w cpu r r.ctx.pc Fetch Word
+    (reach w.tree r.name r.ctx.pc Fetch Word))).world)
     e ∙ loaded_world w cpu r r.ctx.pc Fetch Word (reach w.tree r.name r.ctx.pc Fetch Word) k)) (still w cpu r e)
 acted-moved w (E.Store cpu va z x) r s h e =
-    let q : acted w (E.Store cpu va z x) ≡ wrote w cpu r va z x (reach w.tree r.name va Store z) =
+    let q : what_happens w (E.Store cpu va z x) ≡ wrote w cpu r va z x (reach w.tree r.name va Store z) =
     ap (λ o. on_running w cpu o (λ r. wrote w cpu r va z x (reach w.tree r.name va Store z))) e in
     subst (λ y. Moved r.name cpu w y.world) (sym q)
     (wrote-moved w cpu va r z x (reach w.tree r.name va Store z) s e refl (subst (λ y. Succeeded y.outcome) q h))
@@ -296,9 +297,11 @@ quiet-equal w v (E.SetContext cpu c) r s s' ev h k f a d = record {
   outcome = ap (λ o. (on_running w cpu o (λ r. done (with_running w cpu (Some (record r { ctx = c }))))).outcome) k
       ∙ sym (ap (λ o. (on_running v cpu o (λ r. done (with_running v cpu (Some (record r { ctx = c }))))).outcome) f);
   below =
-      let agree : AgreeBelow r.name (acted w (E.SetContext cpu c)).world (acted v (E.SetContext cpu c)).world =
+      let agree : AgreeBelow r.name (what_happens w (E.SetContext cpu c)).world
+      (what_happens v (E.SetContext cpu c)).world =
       subst (λ o. AgreeBelow r.name (on_running w cpu o (λ r.
-      done (with_running w cpu (Some (record r { ctx = c }))))).world (acted v (E.SetContext cpu c)).world) (sym k)
+      done (with_running w cpu (Some (record r { ctx = c }))))).world (what_happens v (E.SetContext cpu c)).world)
+      (sym k)
       (subst (λ o. AgreeBelow r.name (with_running w cpu (Some (record r { ctx = c })))
       (on_running v cpu o (λ r. done (with_running v cpu (Some (record r { ctx = c }))))).world) (sym f)
       (to_worlds r.name _ _ (to_trees r.name w v a))) in

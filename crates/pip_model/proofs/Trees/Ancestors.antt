@@ -21,7 +21,7 @@ names_distinct root (z ∷ xs) r x y i j e =
     grind (arith, names_distinct root xs r.2 x y, name_in x (root ∷ xs), name_in y (root ∷ xs), r.0)
 
 pub same_name : (t : Tree) (x y : Node) → IsSound t → In x (nodes t) → In y (nodes t) → x.name ≡ y.name → x ≡ y
-same_name t x y s i j e = names_distinct t.root t.others s.parents_stand_behind x y i j e
+same_name t x y s i j e = names_distinct t.root t.others s.parents_come_first x y i j e
 
 -- every node but the root has its parent in the tree
 pub parent_in : (root : Node) (xs : List Node) → IsRooted root xs → (x : Node) → In x xs
@@ -72,7 +72,7 @@ top_in t (z ∷ xs) r w x (inr (inl e)) =
 
 -- the root is above every other node
 pub root_is_top : (t : Tree) → IsSound t → (x : Node) → In x (nodes t) → IsTop t x
-root_is_top t s x i = top_in t t.others s.parents_stand_behind (λ y j. j) x i
+root_is_top t s x i = top_in t t.others s.parents_come_first (λ y j. j) x i
 
 abbrev pub AreRelated : Tree → Node → Node → Type 0
 AreRelated t x y = (x ≡ y) ⊎ (Above t x y ⊎ Above t y x)
@@ -124,7 +124,7 @@ related_in t g s b j k (z ∷ xs) r w x (inr (inl e)) h =
 -- two nodes hold a common page only where they are one, or one is above the other
 pub holders-related : (t : Tree) (g : ℕ) → IsSound t → (x y : Node) → In x (nodes t) → In y (nodes t)
     → In g (held_pages x) → In g (held_pages y) → AreRelated t x y
-holders-related t g s x y i j h k = related_in t g s y j k t.others s.parents_stand_behind (λ v l. l) x i h
+holders-related t g s x y i j h k = related_in t g s y j k t.others s.parents_come_first (λ v l. l) x i h
 
 pub not_both : (t : Tree) (g : ℕ) → IsSound t → (x : Node) → In x (nodes t) → In g (config x) → In g (row_pages x) → ⊥
 not_both t g s x i h k = Distinct-apart g (config x) (row_pages x) (s.pages_apart x i).pages h k
@@ -164,7 +164,7 @@ root_differs root (z ∷ xs) r x (inl i) e = r.0 (inl (sym (ap (λ n. n.name) i)
 root_differs root (z ∷ xs) r x (inr i) e = root_differs root xs r.2 x i e
 
 pub not_root : (t : Tree) → IsSound t → (x : Node) → In x t.others → t.root.name ≢ x.name
-not_root t s x i = root_differs t.root t.others s.parents_stand_behind x i
+not_root t s x i = root_differs t.root t.others s.parents_come_first x i
 
 -- the chain of a node goes on with that of its parent
 chain_miss : (root y : Node) (ys : List Node) (p : ℕ) → y.name ≢ p → chain_in root (y ∷ ys) p ≡ chain_in root ys p
@@ -191,7 +191,7 @@ chain_in-node root (y ∷ ys) r x (inr i) =
     chain_miss root y ys x.name n ∙ chain_in-node root ys r.2 x i ∙ ap (λ c. x ∷ c) (sym (chain_miss root y ys x.up m))
 
 pub chain-node : (t : Tree) → IsSound t → (x : Node) → In x t.others → chain t x.name ≡ x ∷ chain t x.up
-chain-node t s x i = chain_in-node t.root t.others s.parents_stand_behind x i
+chain-node t s x i = chain_in-node t.root t.others s.parents_come_first x i
 
 Reaches : Tree → Node → Node → Type 0
 Reaches t z x = (z ≡ x) ⊎ Above t z x
@@ -237,7 +237,7 @@ in_chain t s (y ∷ ys) r w z x i h = chain_step t s y ys r w z x i h (in_chain 
 
 -- a node's chain has itself and its ancestors
 pub chain-above : (t : Tree) → IsSound t → (z x : Node) → In x (nodes t) → In z (chain t x.name) → (z ≡ x) ⊎ Above t z x
-chain-above t s z x i h = in_chain t s t.others s.parents_stand_behind (λ v l. l) z x i h
+chain-above t s z x i h = in_chain t s t.others s.parents_come_first (λ v l. l) z x i h
 
 -- no node is above the root
 above-child : (t : Tree) (y x : Node) → Above t y x → In x t.others

@@ -37,7 +37,7 @@ chain_members root (x ∷ xs) p z i = next (x.name == p) i (chain_members root x
 pub own_ancestry : (t : Tree) → IsSound t → (x : Node) → In x (nodes t) → In x.name (ancestry t x.name)
 own_ancestry t s x (inr i) = subst (In x.name) (sym (ap (map (λ z. z.name)) (chain-node t s x i))) (inl refl)
 own_ancestry t s x (inl e) =
-    subst (λ z. In z.name (ancestry t z.name)) (sym e) (root_in t.root t.others s.parents_stand_behind)
+    subst (λ z. In z.name (ancestry t z.name)) (sym e) (root_in t.root t.others s.parents_come_first)
   where
     root_in : (root : Node) (xs : List Node) → IsRooted root xs
         → In root.name (map (λ z. z.name) (chain_in root xs root.name))
@@ -174,7 +174,7 @@ node_on f names t p =
     one (Some x) = refl
 
 pub not_own_parent : (t : Tree) → IsSound t → (c : Node) → In c t.others → c.up ≢ c.name
-not_own_parent t s c i e = in_list t.root t.others s.parents_stand_behind c i e
+not_own_parent t s c i e = in_list t.root t.others s.parents_come_first c i e
   where
     in_list : (root : Node) (xs : List Node) → IsRooted root xs → (c : Node) → In c xs → c.up ≢ c.name
     in_list root [] r c i e = i

@@ -156,7 +156,7 @@ boot_small false words i h = omega arith
 pub boot-sound_with : (words : ℕ → ℕ → ℕ) (n : ℕ) → 16 ≤ n → n ≤ 4096 → ArePageWords words
     → IsSound (boot_tree_with words n)
 boot-sound_with words n l h small = let z = sizes n l h in record {
-  parents_stand_behind = refl;
+  parents_come_first = refl;
   boot_root = record { small = l; large = h; same = refl };
   pages_apart = λ x i. elim i [ inl e ↦ subst KeepsPagesApart (sym e) (apart_root n z) | inr j ↦ absurd j ];
   lent = λ x y i. absurd i;

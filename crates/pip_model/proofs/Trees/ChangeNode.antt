@@ -43,7 +43,7 @@ up_in root (y ∷ ys) x r (inl e) =
 up_in root (y ∷ ys) x r (inr i) = up_in root ys x r.2 i
 
 pub up-apart : (t : Tree) → IsSound t → (x : Node) → In x t.others → x.up ≢ x.name
-up-apart t s x i = up_in t.root t.others x s.parents_stand_behind i
+up-apart t s x i = up_in t.root t.others x s.parents_come_first i
 
 -- what is asked of the child c that becomes d: by itself, with its parent, its siblings and its children
 pub record MayBecome (t : Tree) (c d : Node) : Type 0 where
@@ -140,7 +140,7 @@ module _ (t : Tree) (s : IsSound t) (c : Node) (f : Node → Node) (names : (x :
       let name = change-keeps c.name f (λ z. z.name) names in
       let up = change-keeps c.name f (λ z. z.up) ups in
       record {
-        parents_stand_behind = rooted F t name up s.parents_stand_behind;
+        parents_come_first = rooted F t name up s.parents_come_first;
         boot_root = record {
           small = s.boot_root.small;
           large = s.boot_root.large;

@@ -50,7 +50,7 @@ control-sound f t same quiet lines s =
     let names : (x : Node) → (f x).name ≡ x.name = λ x. ap (λ z. z.name) (sym (same x)) in
     let ups : (x : Node) → (f x).up ≡ x.up = λ x. ap (λ z. z.up) (sym (same x)) in
     record {
-      parents_stand_behind = rooted f t names ups s.parents_stand_behind;
+      parents_come_first = rooted f t names ups s.parents_come_first;
       boot_root =
           record { small = s.boot_root.small; large = s.boot_root.large; same = sym (same t.root) ∙ s.boot_root.same };
       pages_apart = each_node f t KeepsPagesApart (λ x i. unique_same x (f x) (same x) (s.pages_apart x i));
@@ -84,7 +84,7 @@ pub words-sound : (t : Tree) (words : ℕ → Option (ℕ → ℕ)) → IsSound 
     → ((g : ℕ) → is_some (words g) ≡ is_some (t.words g)) → ((g i : ℕ) → i < 1024 → IsWord (word_of (words g) i))
     → IsSound (record t { words = words })
 words-sound t words s same small = record {
-  parents_stand_behind = s.parents_stand_behind;
+  parents_come_first = s.parents_come_first;
   boot_root = record { small = s.boot_root.small; large = s.boot_root.large; same = s.boot_root.same };
   pages_apart = s.pages_apart;
   lent = s.lent;

@@ -4,7 +4,7 @@ use Rattle.std.proofs.Common.{◌∙◌, subst, arith, eqb-true, eq-eqb, Option,
 use Rattle.std.specs.Prelude.{find, is_some, is_none, option_map, unwrap_or}
 use Rattle.std.proofs.lemmas.Bool.{eqb-false}
 use Rattle.pip_model.specs.Accepted.{IsUnheld, CanBeGiven}
-use Rattle.pip_model.specs.Answers.{Answer, answer_unless, first_met, mapped, page_of}
+use Rattle.pip_model.specs.Answers.{Answer, answer_unless, first_met, is_mapped, page_of}
 use Rattle.pip_model.specs.Lists.{In, has}
 use Rattle.pip_model.specs.Sound.{IsSound}
 use Rattle.pip_model.specs.Tree.{Node, Row, Tree, children, config, free, held_pages, hidden, holder, holds, is_place}
@@ -64,7 +64,8 @@ usable_from t p a (Some r) e l m f =
       unheld = subst (IsUnheld t p) (sym g) (no_holder-unheld t p r.frame k);
     }
 
-pub address-usable : (t : Tree) (p a : ℕ) → is_place a ≡ true → mapped t p (vpage a) ≡ true → free t p (vpage a) ≡ true
+pub address-usable : (t : Tree) (p a : ℕ) → is_place a ≡ true → is_mapped t p (vpage a) ≡ true → free t p (vpage a)
+    ≡ true
     → CanBeGiven t p a
 address-usable t p a l m f = usable_from t p a (row_at (node t p).rows (vpage a)) refl l m f
 

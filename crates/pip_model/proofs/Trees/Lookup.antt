@@ -22,7 +22,7 @@ names_apart_in root (z ∷ xs) r =
 
 -- the names of a sound tree differ
 pub names_apart : (t : Tree) → IsSound t → Distinct (names_of (nodes t))
-names_apart t s = names_apart_in t.root t.others s.parents_stand_behind
+names_apart t s = names_apart_in t.root t.others s.parents_come_first
 
 -- what is found has the name
 pub found_name : (t : Tree) (a : ℕ) (x : Node) → find_node t a ≡ Some x → x.name ≡ a
@@ -92,7 +92,7 @@ name_found t s a i = let (x, j, e) = In-map_from (λ x. x.name) a (nodes t) i in
 pub parent_found : (t : Tree) → IsSound t → (b : ℕ) (y : Node) → find_other t b ≡ Some y
     → (p : Node) × (find_node t y.up ≡ Some p)
 parent_found t s b y e =
-    let (p, j, u) = parent_in t.root t.others s.parents_stand_behind y (other_in t b y e) in
+    let (p, j, u) = parent_in t.root t.others s.parents_come_first y (other_in t b y e) in
     (p, subst (λ k. find_node t k ≡ Some p) (sym u) (in_found t s p j))
 
 root_up_in : (root : Node) (xs : List Node) → IsRooted root xs → root.up ≡ root.name
@@ -101,7 +101,7 @@ root_up_in root (z ∷ xs) r = root_up_in root xs r.2
 
 -- the root is its own parent
 pub root_up : (t : Tree) → IsSound t → t.root.up ≡ t.root.name
-root_up t s = root_up_in t.root t.others s.parents_stand_behind
+root_up t s = root_up_in t.root t.others s.parents_come_first
 
 -- so each node's parent is there
 pub up_found : (t : Tree) → IsSound t → (a : ℕ) (x : Node) → find_node t a ≡ Some x
@@ -126,7 +126,7 @@ module _ (t : Tree) (s : IsSound t) (P : ℕ → Type 0) (top : P t.root.name)
   -- what holds of the root, and of each other node where it holds of the parent, holds of every node
   pub by_parents : (a : ℕ) (x : Node) → find_node t a ≡ Some x → P a
   unfolding down
-  by_parents a x e = subst P (found_name t a x e) (down t.others s.parents_stand_behind (λ y j. j) x (found_in t a x e))
+  by_parents a x e = subst P (found_name t a x e) (down t.others s.parents_come_first (λ y j. j) x (found_in t a x e))
 
 -- ---- a tree whose nodes are changed, each under its name
 

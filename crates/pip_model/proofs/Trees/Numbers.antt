@@ -95,7 +95,7 @@ va_small t s x (inl e) g j = let z : g.va ≡ 0 =
     root_own t.frames g (subst (In g) (ap pairs (s.boot_root.same)) (subst (λ z. In g (pairs z)) e j)) in
     omega (arith, z)
 va_small t s x (inr i) g j =
-    let (y, k, u) = parent_in t.root t.others s.parents_stand_behind x i in
+    let (y, k, u) = parent_in t.root t.others s.parents_come_first x i in
     let (r, l, at, pg) = row_found y (vpage g.va) g.frame ((s.lent x y i k u).placed g j) in
     let a = at_small t s y k r l in
     omega (arith, a, at)
@@ -114,7 +114,7 @@ name_small t s x i =
 
 pub up_small : (t : Tree) → IsSound t → (x : Node) → In x (nodes t) → IsWord x.up
 up_small t s x (inl e) = let z : x.up ≡ 1 = ap (λ z. z.up) e ∙ ap (λ z. z.up) s.boot_root.same in omega (arith, z)
-up_small t s x (inr i) = let (y, k, u) = parent_in t.root t.others s.parents_stand_behind x i in
+up_small t s x (inr i) = let (y, k, u) = parent_in t.root t.others s.parents_come_first x i in
     subst IsWord (sym u) (name_small t s y k)
 
 pub node-numbers : (t : Tree) → IsSound t → (x : Node) → In x (nodes t) → HasNumbers t.frames x

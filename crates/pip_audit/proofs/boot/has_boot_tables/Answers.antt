@@ -26,8 +26,8 @@ loop-k-init g c =
     let t = c.if-found-count.false in
     tables_all m c.root_tables-count.result (omega (arith, word, t)) (number ∙ ap tables_of_root c.count.ensures)
 
-pub returns-then-not-is_boot : goal.returns-then-not-is_boot
-returns-then-not-is_boot g c =
+pub returns-then-not-is_boot_slot : goal.returns-then-not-is_boot_slot
+returns-then-not-is_boot_slot g c =
     let m = g.M.Frames.memory c.args.mem.now in
     let count = c.root_tables-count.result in
     let k = c.loop-k.k in
@@ -35,7 +35,7 @@ returns-then-not-is_boot g c =
     let here =
     table_here m count k (base_words m c.requires.base) (omega (arith, low)) c.root_tables-count.ensures.few in
     sym (c.loop-k.invariant ∙ here_less (root_table m (count + 1)) count k low (ap (λ t. same_table t
-    (boot_table (1 + k) (6 + 3 * k))) (sym here) ∙ sym c.is_boot_slot-is_boot.ensures ∙ c.if-not-is_boot.true))
+    (boot_table (1 + k) (6 + 3 * k))) (sym here) ∙ sym c.is_boot_slot.ensures ∙ c.if-not-is_boot_slot.true))
 
 pub loop-k-preserved : goal.loop-k-preserved
 loop-k-preserved g c =
@@ -46,7 +46,7 @@ loop-k-preserved g c =
     let here =
     table_here m count k (base_words m c.requires.base) (omega (arith, low)) c.root_tables-count.ensures.few in
     c.loop-k.invariant ∙ here_more (root_table m (count + 1)) count k low (ap (λ t. same_table t
-    (boot_table (1 + k) (6 + 3 * k))) (sym here) ∙ sym c.is_boot_slot-is_boot.ensures ∙ c.if-not-is_boot.false)
+    (boot_table (1 + k) (6 + 3 * k))) (sym here) ∙ sym c.is_boot_slot.ensures ∙ c.if-not-is_boot_slot.false)
 
 pub returns : goal.returns
 returns g c =
@@ -58,4 +58,4 @@ returns g c =
     let here = table_here m count count (base_words m c.requires.base) (omega arith) c.root_tables-count.ensures.few in
     sym (c.loop-k.invariant ∙ ap (λ k. tables_here (root_table m (count + 1)) count k) end
     ∙ here_last (root_table m (count + 1)) count
-    ∙ ap (λ t. same_table t (boot_table 1023 (6 + 3 * count))) (sym here) ∙ sym c.is_boot_slot.ensures)
+    ∙ ap (λ t. same_table t (boot_table 1023 (6 + 3 * count))) (sym here) ∙ sym c.is_boot_slot-2.ensures)

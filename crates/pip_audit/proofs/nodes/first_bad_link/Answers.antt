@@ -4,19 +4,10 @@ use Rattle.pip_model.specs.ReadOff.{more_stop, stop_at_frame}
 use Rattle.pip_audit.proofs.Links.{bad_link, link_inside, next_link, none_left}
 use Rattle.pip_audit.proofs.nodes.first_bad_link.Goals as goal
 
-pub loop-k-init : goal.loop-k-init
-loop-k-init g c = (ap (more_stop (g.M.Frames.memory c.args.mem.now) c.args.f) (omega arith), c.requires)
-
-pub named_frame-requires-clause-frame : goal.named_frame-requires-clause-frame
-named_frame-requires-clause-frame g c = c.loop-k.invariant.1
-
 pub returns-in-Some : goal.returns-in-Some
 returns-in-Some g c = let below = c.loop-k-test.true in
     sym (c.loop-k.invariant.0 ∙ bad_link (g.M.Frames.memory c.args.mem.now) c.loop-k.page (c.args.count
     - c.loop-k.k) (c.args.count - (c.loop-k.k + 1)) c.in-Some.stop (omega (arith, below)) (sym c.in-Some.ensures))
-
-pub word-requires-clause-frame : goal.word-requires-clause-frame
-word-requires-clause-frame g c = c.loop-k.invariant.1
 
 pub loop-k-preserved : goal.loop-k-preserved
 loop-k-preserved g c =

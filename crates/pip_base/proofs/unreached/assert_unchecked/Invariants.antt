@@ -1,4 +1,4 @@
 use Rattle.pip_base.proofs.unreached.assert_unchecked.Given as goal
 
-abbrev pub decreases-loop-behind : goal.decreases-loop-behind
-decreases-loop-behind l = 0
+abbrev pub decreases-loop-past : goal.decreases-loop-past
+decreases-loop-past l = 0

@@ -30,13 +30,16 @@ pub fn load<S: Source, K: Sink, L: Ledger>(
 ) -> Result<Begun, Stop>
     requires is_open { S.is_open joint.old.source.now }
     requires settled { (K.written joint.old.sink.now).held ≡ [] }
-    requires paced { MayRead S.allows (IsFaultless image_parts) (S.left joint.old.source.now) (S.faults joint.old.source.now)
+    requires paced { MayRead S.allows (IsFaultless image_parts) (S.left joint.old.source.now)
+        (S.faults joint.old.source.now)
         (K.written joint.old.sink.now) (K.faults joint.old.sink.now) }
     ensures same_source { joint.new.source.ghost_name ≡ joint.old.source.ghost_name }
     ensures sink { joint.new.sink ≡ joint.old.sink }
     ensures loads { MatchResult result
-        (λ b. LoadsFrames (S.left joint.old.source.now) (S.left joint.new.source.now) b.head (⟦<RawFrames as Frames>⟧.memory b.mem))
-        (λ stop. StoppedLoading stop (S.left joint.old.source.now) (S.left joint.new.source.now) (S.faults joint.old.source.now) (S.faults joint.new.source.now)) }
+        (λ b. LoadsFrames (S.left joint.old.source.now) (S.left joint.new.source.now) b.head
+        (⟦<RawFrames as Frames>⟧.memory b.mem))
+        (λ stop. StoppedLoading stop (S.left joint.old.source.now) (S.left joint.new.source.now)
+        (S.faults joint.old.source.now) (S.faults joint.new.source.now)) }
     ensures limits { IfOk result (λ b. IsHeader b.head) }
     ensures booted { IfOk result (λ b. HasBooted (⟦<RawFrames as Frames>⟧.memory b.mem)) }
     ensures calm { OnOk result (S.faults joint.new.source.now ≡ S.faults joint.old.source.now) }

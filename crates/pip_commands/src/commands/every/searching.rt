@@ -1,9 +1,8 @@
 //! The search of an image, and its text.
 ghost use Rattle.std.specs.Prelude.{◌≡◌, ◌≢◌, ◌≤◌, ◌+◌, [], length, IfOk, MatchResult, OnOk};
-ghost use Rattle.pip_cpu.specs.Made.{WroteLine};
 ghost use Rattle.pip_image.specs.Coming.{IsHeader};
 ghost use Rattle.pip_io.specs.Causes.{HasCause};
-ghost use Rattle.pip_io.specs.Taken.{Appends, SendsPart};
+ghost use Rattle.pip_io.specs.Taken.{Appends, SendsPart, Wrote};
 ghost use Rattle.pip_model.specs.Booted.{HasBooted};
 ghost use Rattle.pip_model.specs.Images.{Image};
 ghost use Rattle.pip_commands.specs.EveryText.{lines_planned};
@@ -115,20 +114,17 @@ fn show<K: Sink>(head: &Header, told: &Told, sink: &mut K) -> Result<(), Failed>
 // Writes the text.
 fn give<K: Sink>(head: &Header, told: &Told, sink: &mut K) -> Result<(), Failed>
     requires { HasWays (head.now.cpus + length head.now.plans.items) told.now }
-    ensures wrote { WroteLine result (K.written sink.old) (K.written sink.new) (told_text head.now told.now) }
+    ensures wrote { Wrote result (K.written sink.old) (K.written sink.new) (told_text head.now told.now) }
     ensures cause { HasCause (K.faults sink.old) (K.faults sink.new) result }
 {
     let lines = planned_lines(head.plans.as_slice());
-    match write_image(
+    write_image(
         head.frames,
         head.cpus,
         head.plans.len() as u64,
         head.pages,
         sink,
-    ) {
-        Ok(()) => {}
-        Err(failed) => return Err(failed),
-    }
+    )?;
     write_search(
         sink,
         head.cpus,

@@ -26,7 +26,8 @@ pub enum Stop {
     Short { frames: u32 },
 }
 
-/// Reads an image to its end. Where its header has too few frames for `n` children no page is read, and no memory is taken.
+/// Reads an image to its end. Where its header has too few frames for `n` children no page is read, and no memory is
+/// taken.
 pub fn load<S: Source, K: Sink, G: Fn(Plan) -> F, F: Callback + Drop, L: Ledger>(
     alloc: Global,
     n: u32,
@@ -39,13 +40,16 @@ pub fn load<S: Source, K: Sink, G: Fn(Plan) -> F, F: Callback + Drop, L: Ledger>
     requires most { n ≤ 8 }
     requires is_open { S.is_open joint.old.source.now }
     requires settled { (K.written joint.old.sink.now).held ≡ [] }
-    requires paced { MayRead S.allows (IsFaultlessUnshort n) (S.left joint.old.source.now) (S.faults joint.old.source.now)
+    requires paced { MayRead S.allows (IsFaultlessUnshort n) (S.left joint.old.source.now)
+        (S.faults joint.old.source.now)
         (K.written joint.old.sink.now) (K.faults joint.old.sink.now) }
     ensures same_source { joint.new.source.ghost_name ≡ joint.old.source.ghost_name }
     ensures sink { joint.new.sink ≡ joint.old.sink }
     ensures loads { MatchResult result
-        (λ l. LoadsNative n (S.left joint.old.source.now) (S.left joint.new.source.now) l.frames l.pages l.lines.items l.machine)
-        (λ stop. StoppedNative n stop (S.left joint.old.source.now) (S.left joint.new.source.now) (S.faults joint.old.source.now) (S.faults joint.new.source.now)) }
+        (λ l. LoadsNative n (S.left joint.old.source.now) (S.left joint.new.source.now) l.frames l.pages l.lines.items
+        l.machine)
+        (λ stop. StoppedNative n stop (S.left joint.old.source.now) (S.left joint.new.source.now)
+        (S.faults joint.old.source.now) (S.faults joint.new.source.now)) }
     ensures calm { OnOk result (S.faults joint.new.source.now ≡ S.faults joint.old.source.now) }
     ensures below { IfOk result (λ l. AllByRecursion (λ p. p.line < 16) l.lines.items) }
 {

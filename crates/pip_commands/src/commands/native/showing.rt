@@ -68,31 +68,23 @@ fn give<F: Callback, C: Chooser + Drop, K: Sink, L: Ledger>(
 {
     let machine = &mut loaded.machine;
     let lines = loaded.lines.as_slice();
-    match write_image(
+    write_image(
         loaded.frames,
         machine.cpus(),
         lines.len() as u64,
         loaded.pages,
         sink,
-    ) {
-        Ok(()) => {}
-        Err(failed) => return Err(failed),
-    }
+    )?;
     set_handlers(machine, steps);
     let children = build_children(machine, n, steps);
-    match write_children(children.as_slice(), sink) {
-        Ok(()) => {}
-        Err(failed) => return Err(failed),
-    }
+    write_children(children.as_slice(), sink)?;
     let mut monitor = Monitor::new(children, choose);
-    match watch(machine, lines, &mut monitor, count, sink, steps) {
-        Ok(()) => write_end(sink, count),
-        Err(failed) => Err(failed),
-    }
+    watch(machine, lines, &mut monitor, count, sink, steps)?;
+    write_end(sink, count)
 }
 
-// Makes the steps 0 to `count` - 1: at each the lines that are due are raised, and then the root's monitor decides, or the
-// processor takes its turn.
+// Makes the steps 0 to `count` - 1: at each the lines that are due are raised, and then the root's monitor decides, or
+// the processor takes its turn.
 fn watch<M: Frames, F: Callback, C: Chooser, K: Sink, L: Ledger>(
     machine: &mut Machine<M>,
     lines: &[Line<F>],
@@ -111,10 +103,7 @@ fn watch<M: Frames, F: Callback, C: Chooser, K: Sink, L: Ledger>(
         let t = i as u64;
         raise_due(machine, lines, t, steps);
         let here = root_runs(machine);
-        match watch_once(machine, here, monitor, t, sink, steps) {
-            Ok(()) => {}
-            Err(failed) => return Err(failed),
-        }
+        watch_once(machine, here, monitor, t, sink, steps)?;
     }
     Ok(())
 }

@@ -70,13 +70,16 @@ pub fn load<S: Source, K: Sink, G: Fn(Plan) -> F, F: Callback + Drop, L: Ledger>
     requires answer { (p : Plan) (f : F) → G.post make p f → AnswersDue (F.may_ask f) (F.answers f) p }
     requires is_open { S.is_open joint.old.source.now }
     requires settled { (K.written joint.old.sink.now).held ≡ [] }
-    requires paced { MayRead S.allows (IsFaultless image_parts) (S.left joint.old.source.now) (S.faults joint.old.source.now)
+    requires paced { MayRead S.allows (IsFaultless image_parts) (S.left joint.old.source.now)
+        (S.faults joint.old.source.now)
         (K.written joint.old.sink.now) (K.faults joint.old.sink.now) }
     ensures same_source { joint.new.source.ghost_name ≡ joint.old.source.ghost_name }
     ensures sink { joint.new.sink ≡ joint.old.sink }
     ensures loads { MatchResult result
-        (λ l. LoadsImage (S.left joint.old.source.now) (S.left joint.new.source.now) l.frames l.pages l.lines.items l.machine)
-        (λ stop. StoppedLoading stop (S.left joint.old.source.now) (S.left joint.new.source.now) (S.faults joint.old.source.now) (S.faults joint.new.source.now)) }
+        (λ l. LoadsImage (S.left joint.old.source.now) (S.left joint.new.source.now) l.frames l.pages l.lines.items
+        l.machine)
+        (λ stop. StoppedLoading stop (S.left joint.old.source.now) (S.left joint.new.source.now)
+        (S.faults joint.old.source.now) (S.faults joint.new.source.now)) }
     ensures calm { OnOk result (S.faults joint.new.source.now ≡ S.faults joint.old.source.now) }
     ensures below { IfOk result (λ l. AllByRecursion (λ p. p.line < 16) l.lines.items) }
 {
@@ -101,14 +104,17 @@ pub fn load_after<S: Source, K: Sink, G: Fn(Plan) -> F, F: Callback + Drop, L: L
     requires answer { (p : Plan) (f : F) → G.post make p f → AnswersDue (F.may_ask f) (F.answers f) p }
     requires is_open { S.is_open joint.old.source.now }
     requires settled { (K.written joint.old.sink.now).held ≡ [] }
-    requires paced { MayRead S.allows (IsFaultless (coming reader.old.place)) (S.left joint.old.source.now) (S.faults joint.old.source.now)
+    requires paced { MayRead S.allows (IsFaultless (coming reader.old.place)) (S.left joint.old.source.now)
+        (S.faults joint.old.source.now)
         (K.written joint.old.sink.now) (K.faults joint.old.sink.now) }
     ensures same_source { joint.new.source.ghost_name ≡ joint.old.source.ghost_name }
     ensures sink { joint.new.sink ≡ joint.old.sink }
-    ensures loads { (first : Option (List ℕ)) → TakesParts image_parts (coming reader.old.place) (header_parts head.now) first
+    ensures loads { (first : Option (List ℕ)) → TakesParts image_parts (coming reader.old.place)
+        (header_parts head.now) first
         (S.left joint.old.source.now) → MatchResult result
         (λ l. LoadsImage first (S.left joint.new.source.now) l.frames l.pages l.lines.items l.machine)
-        (λ stop. StoppedAfter head.now stop first (S.left joint.new.source.now) (S.faults joint.old.source.now) (S.faults joint.new.source.now)) }
+        (λ stop. StoppedAfter head.now stop first (S.left joint.new.source.now) (S.faults joint.old.source.now)
+        (S.faults joint.new.source.now)) }
     ensures frames { IfOk result (λ l. l.frames ≡ head.now.frames) }
     ensures calm { OnOk result (S.faults joint.new.source.now ≡ S.faults joint.old.source.now) }
     ensures below { IfOk result (λ l. AllByRecursion (λ p. p.line < 16) l.lines.items) }
@@ -136,14 +142,17 @@ pub fn load_frames<S: Source, K: Sink, L: Ledger>(
     requires limits { IsHeader head.now }
     requires is_open { S.is_open joint.old.source.now }
     requires settled { (K.written joint.old.sink.now).held ≡ [] }
-    requires paced { MayRead S.allows (IsFaultless (coming reader.old.place)) (S.left joint.old.source.now) (S.faults joint.old.source.now)
+    requires paced { MayRead S.allows (IsFaultless (coming reader.old.place)) (S.left joint.old.source.now)
+        (S.faults joint.old.source.now)
         (K.written joint.old.sink.now) (K.faults joint.old.sink.now) }
     ensures same_source { joint.new.source.ghost_name ≡ joint.old.source.ghost_name }
     ensures sink { joint.new.sink ≡ joint.old.sink }
-    ensures loads { (first : Option (List ℕ)) → TakesParts image_parts (coming reader.old.place) (header_parts head.now) first
+    ensures loads { (first : Option (List ℕ)) → TakesParts image_parts (coming reader.old.place)
+        (header_parts head.now) first
         (S.left joint.old.source.now) → MatchResult result
         (λ mem. LoadsFrames first (S.left joint.new.source.now) head.now (⟦<RawFrames as Frames>⟧.memory mem))
-        (λ stop. StoppedAfter head.now stop first (S.left joint.new.source.now) (S.faults joint.old.source.now) (S.faults joint.new.source.now)) }
+        (λ stop. StoppedAfter head.now stop first (S.left joint.new.source.now) (S.faults joint.old.source.now)
+        (S.faults joint.new.source.now)) }
     ensures booted { IfOk result (λ mem. HasBooted (⟦<RawFrames as Frames>⟧.memory mem)) }
     ensures calm { OnOk result (S.faults joint.new.source.now ≡ S.faults joint.old.source.now) }
 {

@@ -1,7 +1,7 @@
 //! What is shown of a run.
 ghost use Rattle.std.specs.Prelude.{◌≡◌, ◌≤◌, ◌<◌, ◌++◌, [], length, OnOk};
 ghost use Rattle.std.specs.List.{AllByRecursion};
-ghost use Rattle.pip_cpu.specs.Made.{WroteLine};
+ghost use Rattle.pip_io.specs.Taken.{Wrote};
 ghost use Rattle.pip_io.specs.Causes.{HasCause};
 ghost use Rattle.pip_model.specs.Acts.{after_acts};
 ghost use Rattle.pip_model.specs.Dump.{frames_text, tree_text};
@@ -127,13 +127,11 @@ fn write_tree<M: Frames, K: Sink, L: Ledger>(
 ) -> Result<(), Failed>
     requires { HasPartition (M.memory mem.now) 1 }
     ensures wrote { (t : Tree) → IsHeld t (M.memory mem.now) →
-        WroteLine result (K.written sink.old) (K.written sink.new) (tree_text t ++ end_line count) }
+        Wrote result (K.written sink.old) (K.written sink.new) (tree_text t ++ end_line count) }
     ensures cause { HasCause (K.faults sink.old) (K.faults sink.new) result }
 {
-    match tree_text(mem, sink, steps) {
-        Ok(()) => write_end(sink, count),
-        Err(failed) => Err(failed),
-    }
+    tree_text(mem, sink, steps)?;
+    write_end(sink, count)
 }
 
 // Writes the words of all frames, and the last line.
@@ -144,11 +142,9 @@ fn write_frames<M: Frames, K: Sink, L: Ledger>(
     steps: &mut Steps<L>,
 ) -> Result<(), Failed>
     ensures wrote { (t : Tree) → IsHeld t (M.memory mem.now) →
-        WroteLine result (K.written sink.old) (K.written sink.new) (frames_text t ++ end_line count) }
+        Wrote result (K.written sink.old) (K.written sink.new) (frames_text t ++ end_line count) }
     ensures cause { HasCause (K.faults sink.old) (K.faults sink.new) result }
 {
-    match frames_text(mem, sink, steps) {
-        Ok(()) => write_end(sink, count),
-        Err(failed) => Err(failed),
-    }
+    frames_text(mem, sink, steps)?;
+    write_end(sink, count)
 }

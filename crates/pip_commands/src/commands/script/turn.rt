@@ -1,5 +1,6 @@
 //! One turn of a script: a line is taken and run, or the script ends.
-ghost use Rattle.std.specs.Prelude.{◌≡◌, ◌≢◌, ◌≤◌, ℕ, [], List, Option, IfSome, None, Some, Ok, Err, OnOk, MatchOption, MatchResult};
+ghost use Rattle.std.specs.Prelude.{◌≡◌, ◌≢◌, ◌≤◌, ℕ, [], List, Option, IfSome, None, Some, Ok, Err, OnOk, MatchOption};
+ghost use Rattle.std.specs.Prelude.{MatchResult};
 ghost use Rattle.std.specs.Io.KnownBytes as IO;
 ghost use Rattle.std.specs.Io.KnownBytes.{prepend_known};
 ghost use Rattle.pip_io.specs.Taken.{Keeps};
@@ -177,7 +178,8 @@ fn other_line<S: Source, K: Sink, L: Ledger>(
     }
 }
 
-// Writes what is held at an end, which is another one where that fails. Nothing more is tried after a failed read or write.
+// Writes what is held at an end, which is another one where that fails. Nothing more is tried after a failed read or
+// write.
 fn settle_end<K: Sink>(end: End, sink: &mut K) -> End
     ensures { Settles end result (K.written sink.old) (K.written sink.new) (K.faults sink.old) (K.faults sink.new) }
 {
@@ -208,8 +210,11 @@ fn next_line<S: Source, K: Sink>(
     ensures kept { IO.Keeps (prepend_known input.old.bytes (S.left joint.old.source.now))
         (prepend_known input.new.bytes (S.left joint.new.source.now)) }
     ensures line { MatchResult result
-        (λ end. HoldsLine (still input.old) input.new (S.left joint.new.source.now) end × (S.faults joint.new.source.now ≡ S.faults joint.old.source.now) × (K.faults joint.new.sink.now ≡ K.faults joint.old.sink.now))
-        (λ end. HasNoLine end input.old input.new (streams S.left S.faults K.written K.faults joint.old.source.now joint.old.sink.now) (streams S.left S.faults K.written K.faults joint.new.source.now joint.new.sink.now)) }
+        (λ end. HoldsLine (still input.old) input.new (S.left joint.new.source.now) end
+        × (S.faults joint.new.source.now ≡ S.faults joint.old.source.now)
+        × (K.faults joint.new.sink.now ≡ K.faults joint.old.sink.now))
+        (λ end. HasNoLine end input.old input.new (streams S.left S.faults K.written K.faults joint.old.source.now
+        joint.old.sink.now) (streams S.left S.faults K.written K.faults joint.new.source.now joint.new.sink.now)) }
     ensures is_open { (n : ℕ) → result ≡ Ok (LineEnd.Newline n) → S.is_open joint.new.source.now }
 {
     if let Some(end) = ahead {

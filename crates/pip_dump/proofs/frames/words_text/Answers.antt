@@ -1,9 +1,8 @@
 use Rattle.std.proofs.Common.{◌++◌, subst, ◌∙◌, get_or}
 use Rattle.std.specs.Prelude.{codes, decimal}
 use Rattle.pip_io.proofs.Taken.{Appends-nil}
-use Rattle.pip_io.specs.Taken.{Appends, AppendsPart}
+use Rattle.pip_io.specs.Taken.{Appends, AppendsPart, Wrote}
 use Rattle.pip_model.specs.Text.{line_text}
-use Rattle.pip_dump.specs.Written.{Wrote}
 use Rattle.pip_dump.proofs.Groups.{frame_none, frame_some, tells_none, tells_one}
 use Rattle.pip_dump.proofs.Pieces.{part_longer, wrote_after, wrote_err}
 use Rattle.pip_dump.proofs.frames.words_text.Goals as goal
@@ -30,7 +29,7 @@ returns-clause-text g c =
     let whole =
     frame_some c.args.f (λ i. get_or c.args.words.now i 0) (let (above, inside, zeros, some) = c.in-Some.ensures in
     tells_one c.args.words.now c.in-Some.first inside some) in
-    subst (λ text. Wrote (g.K.Sink.written c.args.sink.now) (g.K.Sink.written c.groups_text.new.sink)
-    c.groups_text.result text) whole
+    subst (λ text. Wrote c.groups_text.result (g.K.Sink.written c.args.sink.now)
+    (g.K.Sink.written c.groups_text.new.sink) text) whole
     (wrote_after _ _ _ _ _ c.groups_text.result (subst (Appends (g.K.Sink.written c.args.sink.now)
     (g.K.Sink.written c.write_all.new.sink)) piece c.in_ok-write_all.ensures.whole) c.groups_text.ensures.text)

@@ -1,4 +1,5 @@
 use Rattle.std.proofs.Common.{rules, ap, ◌∙◌}
+use Rattle.std.proofs.lemmas.Result.{MatchResult-from_err}
 use Rattle.pip_lines.proofs.Progress.{begun, run_cut, run_on}
 use Rattle.pip_model.specs.Run.{schedule}
 use Rattle.pip_lines.proofs.run.run_scheduled.Goals as goal
@@ -12,11 +13,12 @@ loop-i-init g c = record {
   progress = λ seed at w h. begun _ _ w _ seed _ c.args.count h;
 }
 
-pub returns-in-Err-clause-acts : goal.returns-in-Err-clause-acts
-returns-in-Err-clause-acts g c = λ seed at w h.
+pub returns-in_err-turn-clause-acts : goal.returns-in_err-turn-clause-acts
+returns-in_err-turn-clause-acts g c = λ seed at w h.
+    MatchResult-from_err c.from_residual.result _ _ c.from_residual.ensures.0 (λ _.
     run_cut _ _ _ w _ _ seed _ c.args.count c.loop-i.i c.next.result c.loop-i-test.true (c.next.ensures.drawn seed
     c.loop-i.i (c.loop-i.invariant.drawn seed at) ∙ ap (λ n. schedule seed n c.loop-i.i) c.loop-i.invariant.cpus)
-    _ _ _ (c.loop-i.invariant.progress seed at w h) c.raise_due.ensures.acts c.in-Err.ensures.acts
+    _ _ _ (c.loop-i.invariant.progress seed at w h) c.raise_due.ensures.acts c.in_err-turn.ensures.acts)
 
 pub loop-i-preserved : goal.loop-i-preserved
 loop-i-preserved g c = record {
@@ -27,5 +29,5 @@ loop-i-preserved g c = record {
   progress = λ seed at w h.
       run_on _ _ _ w _ _ seed _ c.args.count c.loop-i.i c.next.result c.loop-i-test.true (c.next.ensures.drawn seed
       c.loop-i.i (c.loop-i.invariant.drawn seed at) ∙ ap (λ n. schedule seed n c.loop-i.i) c.loop-i.invariant.cpus)
-      _ _ _ (c.loop-i.invariant.progress seed at w h) c.raise_due.ensures.acts c.in-Ok.ensures.acts;
+      _ _ _ (c.loop-i.invariant.progress seed at w h) c.raise_due.ensures.acts c.in_ok-turn.ensures.acts;
 }

@@ -1,5 +1,5 @@
 use Rattle.std.proofs.Common.{arith, ◌≡◌, ◌≤◌, ◌+◌, length, false, refl, ap, ◌∙◌, subst, suc}
-use Rattle.pip_parent.specs.Wants.{need, used}
+use Rattle.pip_parent.specs.Wants.{need, pages_used}
 use Rattle.pip_parent.specs.Built.{lacks_right}
 use Rattle.pip_parent.specs.Stages.{world_before}
 use Rattle.pip_parent.proofs.Whole.{builder, created_world, not_said, said, undone_after, up_to}
@@ -62,7 +62,7 @@ returns-clause-build g c =
       c.in_default.ensures,
       room,
       refl,
-      c.loop-i.invariant.taken.pages ∙ ap (used c.args.wants.now) e,
+      c.loop-i.invariant.taken.pages ∙ ap (pages_used c.args.wants.now) e,
       (λ w r can a.
           let b = builder (g.met.P.Port.sound c.args.port.now w a).0 can in (
             (λ j l. c.loop-i.invariant.rights w r b a j (omega (arith, l, e))),

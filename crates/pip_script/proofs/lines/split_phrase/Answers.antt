@@ -4,7 +4,7 @@ use Rattle.pip_model.specs.Grammar.{words_of}
 use Rattle.pip_script.specs.Phrases.{HasForm, HasNoForm}
 use Rattle.pip_script.specs.Words.{after_word}
 use Rattle.pip_script.proofs.Phrases.{Reads, means, reads_first, reads_no_number, reads_further, reads_too_many}
-use Rattle.pip_script.proofs.TextWords.{after_less, drop_word, tail_of, take_word, word_short, words_behind}
+use Rattle.pip_script.proofs.TextWords.{after_less, drop_word, tail_of, take_word, word_short, words_after}
 use Rattle.pip_script.proofs.TextWords.{words_from, words_split}
 use Rattle.pip_script.proofs.lines.split_phrase.Goals as goal
 
@@ -19,7 +19,7 @@ loop-rest-init c cpus =
     let line = c.args.line.now in
     let name = c.split_at.ensures.front ∙ ap (λ n. take n line) c.word_len.ensures ∙ take_word line in
     let rest = c.split_at.ensures.back ∙ ap (λ n. drop n line) c.word_len.ensures ∙ drop_word line in
-    reads_first cpus c.requires.none (words_split line ∙ ap₂ (λ w r. w ∷ words_behind r) (sym name) (sym rest))
+    reads_first cpus c.requires.none (words_split line ∙ ap₂ (λ w r. w ∷ words_after r) (sym name) (sym rest))
 
 pub returns-in_err-number : goal.returns-in_err-number
 returns-in_err-number c =
@@ -54,5 +54,5 @@ loop-rest-preserved c cpus =
     let pushed : c.try_push.new.self.items ≡ c.loop-rest.numbers.items ++ number.value ∷ [] = search rules in
     let reads = reads_further (c.loop-rest.invariant cpus) (words_from rest c.in-len1-up.len_at_least) number.value
     (sym c.in_ok-number.ensures.0) in
-    let pushes = subst (λ ns. Reads cpus name ns (words_behind (after_word (tail_of rest))) all) (sym pushed) reads in
-    subst (λ r. Reads cpus name c.try_push.new.self.items (words_behind r) all) (sym c.in_ok-number.ensures.1) pushes
+    let pushes = subst (λ ns. Reads cpus name ns (words_after (after_word (tail_of rest))) all) (sym pushed) reads in
+    subst (λ r. Reads cpus name c.try_push.new.self.items (words_after r) all) (sym c.in_ok-number.ensures.1) pushes

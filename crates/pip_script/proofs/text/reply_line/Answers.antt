@@ -8,9 +8,9 @@ returns c =
     let s = c.args.status in
     let small = c.requires in
     let same : s % 16 ≡ s = omega (arith, small) in
-    let digit : c.hex_digit.result ∷ [] ≡ decimal s =
-    ap (λ d. d ∷ []) (c.hex_digit.ensures.value ∙ ap hex_digit same) ∙ sym (one_digit s small) in
-    let digits : 48 ∷ 120 ∷ c.hex_digit-2.result ∷ c.hex_digit-3.result ∷ c.hex_digit-4.result ∷ c.hex_digit-5.result
-    ∷ c.hex_digit-6.result ∷ c.hex_digit-7.result ∷ c.hex_digit-8.result ∷ c.hex_digit-9.result ∷ 10 ∷ []
+    let digit : c.digit-digit_of_status.result ∷ [] ≡ decimal s =
+    ap (λ d. d ∷ []) (c.digit-digit_of_status.ensures.value ∙ ap hex_digit same) ∙ sym (one_digit s small) in
+    let digits : 48 ∷ 120 ∷ c.digit.result ∷ c.digit-2.result ∷ c.digit-3.result ∷ c.digit-4.result ∷ c.digit-5.result
+    ∷ c.digit-6.result ∷ c.digit-7.result ∷ c.digit-8.result ∷ 10 ∷ []
     ≡ word_text c.args.value ++ 10 ∷ [] = search rules in
     rw (sym digit, sym digits) refl

@@ -1,5 +1,5 @@
 use Rattle.std.proofs.Common.{◌≡◌, ◌∙◌, ◌+◌, ap, sym, subst, drop}
-use Rattle.pip_search.specs.Naming.{hash_after, stirred}
+use Rattle.pip_search.specs.Naming.{hash_after, hash_step}
 use Rattle.pip_search.proofs.Hashing.{hash_more, hash_none}
 use Rattle.pip_search.proofs.hashes.stir_bytes.Goals as goal
 
@@ -9,7 +9,7 @@ loop-byte-preserved c =
     let i = c.loop-byte.byte-index in
     let h = hash_after c.args.start ks in
     subst (λ sum. hash_after sum (drop (i + 1) ks) ≡ h)
-    (sym (c.stir-sum.ensures ∙ ap (stirred c.loop-byte.sum) c.from.ensures))
+    (sym (c.stir-sum.ensures ∙ ap (hash_step c.loop-byte.sum) c.from.ensures))
     (hash_more ks i c.loop-byte.sum h c.loop-byte-test.true c.loop-byte.invariant)
 
 pub returns : goal.returns

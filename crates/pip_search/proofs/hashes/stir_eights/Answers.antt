@@ -1,6 +1,6 @@
 use Rattle.std.proofs.Common.{◌≤◌, ◌<◌, ◌∙◌, ap, arith, length, sym, take}
 use Rattle.std.specs.Int.{from_le_bytes, w64}
-use Rattle.pip_search.specs.Naming.{hash_by_eights, stirred}
+use Rattle.pip_search.specs.Naming.{hash_by_eights, hash_step}
 use Rattle.pip_search.proofs.Hashing.{eight_more, eight_none}
 use Rattle.pip_search.proofs.hashes.stir_eights.Goals as goal
 
@@ -11,8 +11,8 @@ loop-eight-preserved c =
     let (eight, more, count) = c.in-Some.ensures.cases in
     let all : 8 ≤ length rest = omega (arith, count) in
     ap (λ x. hash_by_eights x c.in-Some.more.now)
-    (c.stir-sum.ensures ∙ ap (stirred sum) (c.from_le_bytes.ensures ∙ ap (from_le_bytes w64) eight))
-    ∙ ap (λ ks. hash_by_eights (stirred sum (from_le_bytes w64 (take 8 rest))) ks) more
+    (c.stir-sum.ensures ∙ ap (hash_step sum) (c.from_le_bytes.ensures ∙ ap (from_le_bytes w64) eight))
+    ∙ ap (λ ks. hash_by_eights (hash_step sum (from_le_bytes w64 (take 8 rest))) ks) more
     ∙ sym (eight_more rest sum all) ∙ c.loop-eight.invariant
 
 pub returns : goal.returns

@@ -2,7 +2,7 @@ use Rattle.std.proofs.Common.{arith, ◌≡◌, ◌+◌, ◌-◌, ◌<◌, ◌++
 use Rattle.std.specs.Prelude.{Some, slice_get}
 use Rattle.std.proofs.lemmas.List.{reverse-reverse}
 use Rattle.std.proofs.lemmas.Option.{slice_get_read}
-use Rattle.pip_search.specs.Ways.{AreRuns, found_way, run_before, run_of, runs_of, unfolded, way_to}
+use Rattle.pip_search.specs.Ways.{AreRuns, found_way, run_before, run_of, runs_of, choices_of, way_to}
 use Rattle.pip_search.specs.declared.ways.Run.{Run}
 use Rattle.pip_search.proofs.Making.{at-same}
 use Rattle.pip_search.proofs.Places.{get-below, get-some}
@@ -105,8 +105,8 @@ returns-clause-way c = λ f e.
 pub returns-clause-unfolds : goal.returns-clause-unfolds
 returns-clause-unfolds c = λ f e.
     let way = found_way c.args.search.now.visits.items f in
-    ap (λ (rs : List Run). unfolded (reverse rs)) (returns-clause-way c f e)
-    ∙ ap unfolded (reverse-reverse (runs_of way)) ∙ unfolded_runs way
+    ap (λ (rs : List Run). choices_of (reverse rs)) (returns-clause-way c f e)
+    ∙ ap choices_of (reverse-reverse (runs_of way)) ∙ unfolded_runs way
 
 pub returns-clause-differ : goal.returns-clause-differ
 returns-clause-differ c =

@@ -1,6 +1,6 @@
 use Rattle.std.proofs.Common.{◌++◌, subst}
 use Rattle.std.specs.Prelude.{codes}
-use Rattle.pip_dump.specs.Written.{Wrote}
+use Rattle.pip_io.specs.Taken.{Wrote}
 use Rattle.pip_dump.proofs.Pieces.{part_longer, wrote_after, wrote_err}
 use Rattle.pip_model.specs.Soak.{counted_text}
 use Rattle.pip_soak.proofs.LoadText.{regrouped}
@@ -25,7 +25,7 @@ returns-clause-text g c =
     let switch = counted_text (codes "switch") n.switched in
     let park = counted_text (codes "park") n.parked in
     let idle = counted_text (codes "idle") n.idle in
-    subst (Wrote (g.K.Sink.written c.args.sink.now) (g.K.Sink.written c.write_three-2.new.sink) c.write_three-2.result)
+    subst (Wrote c.write_three-2.result (g.K.Sink.written c.args.sink.now) (g.K.Sink.written c.write_three-2.new.sink))
     (regrouped first switch park idle)
     (wrote_after _ _ _ first (switch ++ park ++ idle) c.write_three-2.result c.in_ok-write_three.ensures.text
     c.write_three-2.ensures.text)

@@ -14,29 +14,29 @@ pub add_list_page-requires : goal.add_list_page-requires
 add_list_page-requires g c =
     let r = c.requires.can in
     let low = subst (λ j. j < 1024) (sym r.index) c.requires.index in
-    let a = c.read_heads-at.ensures.heads r.node r.cells r.is_in r.name in
-    can_add_page _ r.node r.cells r.is_in r.table c.args.list low r.can _ c.read_heads-at.result.list
-    c.read_heads-at.result.tables (c.zero_slot.ensures.words r.table r.pages) a.list a.tables
+    let a = c.read_table_roots-at.ensures.roots r.node r.cells r.is_in r.name in
+    can_add_page _ r.node r.cells r.is_in r.table c.args.list low r.can _ c.read_table_roots-at.result.list
+    c.read_table_roots-at.result.tables (c.zero_slot.ensures.words r.table r.pages) a.list a.tables
 
 pub push_slot-requires : goal.push_slot-requires
 push_slot-requires g c =
     let r = c.requires.can in
     let low = subst (λ j. j < 1024) (sym r.index) c.requires.index in
-    let a = c.read_heads-at.ensures.heads r.node r.cells r.is_in r.name in
-    has_room _ r.node r.cells r.is_in r.table c.args.list low r.can _ c.read_heads-at.result.list
-    c.read_heads-at.result.tables (c.zero_slot.ensures.words r.table r.pages) a.list a.tables _
+    let a = c.read_table_roots-at.ensures.roots r.node r.cells r.is_in r.name in
+    has_room _ r.node r.cells r.is_in r.table c.args.list low r.can _ c.read_table_roots-at.result.list
+    c.read_table_roots-at.result.tables (c.zero_slot.ensures.words r.table r.pages) a.list a.tables _
     c.add_list_page.ensures.list
 
 pub returns-clause-node : goal.returns-clause-node
 returns-clause-node g c x rows b space name index pages can =
     let n = space.node in
     let low = subst (λ j. j < 1024) (sym index) c.requires.index in
-    let a = c.read_heads-at.ensures.heads x (cells_of rows) n name in
-    let done = list_done _ x (cells_of rows) n b c.args.list low can _ c.read_heads-at.result.list
-    c.read_heads-at.result.tables (c.zero_slot.ensures.words b pages) a.list a.tables _ _ c.args.s.now pages
+    let a = c.read_table_roots-at.ensures.roots x (cells_of rows) n name in
+    let done = list_done _ x (cells_of rows) n b c.args.list low can _ c.read_table_roots-at.result.list
+    c.read_table_roots-at.result.tables (c.zero_slot.ensures.words b pages) a.list a.tables _ _ c.args.s.now pages
     c.add_list_page.ensures.list c.push_slot.ensures.list in
     let e = entries_done _ x (cells_of rows) n b c.args.list low can _ _ done.0.pages.shape done.1.count
-    c.read_heads-at.result a c.args.i _ _ _ _ index
+    c.read_table_roots-at.result a c.args.i _ _ _ _ index
     (slot_mmu b c.args.s.now pages c.index-s-0.result) (slot_shadow1 b c.args.s.now pages c.index-s-1.result)
     (slot_shadow2 b c.args.s.now pages c.index-s-2.result) refl c.set_entries.ensures.words in (
       installed_rows _ _ x b (page_list c.args.list) rows space (installed _ x (cells_of rows) n b c.args.list low can _

@@ -1,5 +1,5 @@
 use Rattle.std.proofs.Common.{◌∙◌}
-use Rattle.pip_space.proofs.HeadWords.{part_inside, read_tables}
+use Rattle.pip_space.proofs.RootWords.{part_inside, read_tables}
 use Rattle.pip_space.proofs.reads.table_count.Goals as goal
 
 pub word-requires-clause-frame : goal.word-requires-clause-frame

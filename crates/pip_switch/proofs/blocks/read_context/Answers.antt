@@ -3,5 +3,6 @@ use Rattle.pip_switch.proofs.Copied.{context_there}
 use Rattle.pip_switch.proofs.blocks.read_context.Goals as goal
 
 pub returns : goal.returns
-returns g c = c.context_of.ensures ∙ context_there (g.M.Frames.memory c.args.mem.now) c.frame.result.now c.args.frame
-    c.args.index c.frame.ensures.words
+returns g c = c.context_of.ensures ∙ context_there (g.M.Frames.memory c.args.mem.now) c.frame.result.now
+    c.args.block.frame
+    c.args.block.index c.frame.ensures.words

@@ -1,6 +1,6 @@
 use Rattle.std.proofs.Common.{◌<◌, length, ap, refl, ◌∙◌, arith}
 use Rattle.std.specs.Prelude.{slice_index_or}
-use Rattle.pip_model.specs.Cache.{emptied}
+use Rattle.pip_model.specs.Cache.{without_entries}
 use Rattle.pip_switch.proofs.Emptying.{emptied_all, emptied_length, emptied_none, emptied_one}
 use Rattle.pip_switch.proofs.Placed.{cell_put}
 use Rattle.pip_switch.proofs.caches.empty_all.Goals as goal
@@ -22,7 +22,7 @@ loop-i-preserved c =
     let test = c.loop-i-test.true in
     let low : c.loop-i.i < length c.args.caches.now.items = omega (arith, all, test) in
     cell_put _ _ c.deref_mut.ensures.value c.loop-i.i _ _ (c.empty.ensures
-    ∙ ap (λ z. emptied (slice_index_or z c.loop-i.i c.index-deref_mut-i.result)) c.deref_mut.ensures.value)
+    ∙ ap (λ z. without_entries (slice_index_or z c.loop-i.i c.index-deref_mut-i.result)) c.deref_mut.ensures.value)
     ∙ emptied_one c.loop-i.i c.args.caches.now.items _ c.index-deref_mut-i.result _ low c.loop-i.invariant refl
 
 pub returns : goal.returns

@@ -7,7 +7,7 @@ use Rattle.pip_model.specs.Tree.{Node, Tree, find_node}
 use Rattle.pip_switch.proofs.Rising.{Rise}
 use Rattle.pip_switch.proofs.delivery.find_taker.Given as goal
 
--- so many steps up, and nobody took the vector so far
+-- i steps up, and no partition took the vector so far
 abbrev pub invariant-loop-i : goal.invariant-loop-i
 invariant-loop-i g l = record {
   stands : HasPartition (g.M.Frames.memory l.mem) l.at;

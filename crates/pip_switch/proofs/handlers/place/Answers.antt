@@ -1,4 +1,4 @@
-use Rattle.pip_switch.proofs.Blocking.{fault_nowhere, found_there, place_room}
+use Rattle.pip_switch.proofs.Blocking.{block_at_word, fault_nowhere, found_there, place_room}
 use Rattle.pip_switch.proofs.handlers.place.Goals as goal
 
 pub returns-in-Err-clause-place : goal.returns-in-Err-clause-place
@@ -13,6 +13,6 @@ pub returns-in-Ok-clause-room : goal.returns-in-Ok-clause-room
 returns-in-Ok-clause-room g c =
     let k = c.requires.stands in
     place_room k.tree _ c.args.part c.args.at c.args.access k.node k.sound k.laid k.found c.requires.begins
-    c.in-Ok.found
+    (block_at_word c.in-Ok.found)
     (found_there k.tree c.args.part c.args.at c.args.access c.requires.begins c.translate.result
     (c.translate.ensures.reached k.tree k.node k.sound k.laid k.found) c.in-Ok.found c.in-Ok.is)

@@ -1,4 +1,3 @@
-use Rattle.std.proofs.Common.{rules, ◌≡◌, length}
 use Rattle.pip_test_every.proofs.Booted.{count_zeros}
 use Rattle.pip_test_every.proofs.changes.check_changes.Goals as goal
 

@@ -1,5 +1,4 @@
-use Rattle.std.proofs.Common.{rules, arith, ◌≡◌, length, replicate, ap, sym, ◌∙◌, subst}
-use Rattle.pip_base.specs.Memory.{zeros}
+use Rattle.std.proofs.Common.{arith, ◌∙◌, subst}
 use Rattle.pip_model.specs.Boot.{boot_tree}
 use Rattle.pip_model.specs.Layout.{LaysOut}
 use Rattle.pip_test_every.proofs.Booted.{are_zeros, boots_zeros, count_zeros}

@@ -1,4 +1,4 @@
-use Rattle.std.proofs.Common.{rules, arith, ◌≡◌, ◌<◌, ◌^◌, length, sym, subst}
+use Rattle.std.proofs.Common.{rules, arith, sym, subst}
 use Rattle.pip_model.specs.Booted.{HasBooted}
 use Rattle.pip_test_every.proofs.Booted.{booted_word}
 use Rattle.pip_test_every.proofs.searches.write_program.Goals as goal

@@ -1,10 +1,10 @@
 use Rattle.std.proofs.Common.{sym, subst}
-use Rattle.pip_birth.specs.Deleting.{AreRunning}
+use Rattle.pip_birth.specs.Deleting.{HasPartitions}
 use Rattle.pip_birth.proofs.DeletePartition.Call.{caller_runs_four, delete-stands}
 use Rattle.pip_test_kernel.proofs.birth.check_delete.Goals as goal
 
 pub delete_partition-requires-clause-running : goal.delete_partition-requires-clause-running
-delete_partition-requires-clause-running g c = subst (AreRunning (g.M.Frames.memory c.args.mem.now))
+delete_partition-requires-clause-running g c = subst (HasPartitions (g.M.Frames.memory c.args.mem.now))
     (sym c.from-running.ensures.0) (caller_runs_four (g.M.Frames.memory c.args.mem.now) c.args.caller c.requires)
 
 pub returns : goal.returns

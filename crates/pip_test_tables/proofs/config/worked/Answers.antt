@@ -32,7 +32,7 @@ module _ (m : Memory) (first : ℕ) (empty : m ≡ replicate 16 (zeros 1024)) (f
     zeros = λ i h. zero f i;
   }
 
--- so many slots in so many further pages
+-- n slots in further pages
 abbrev Has : Memory → ℕ → ℕ → ℕ → Type 0
 Has m first n pages = (h : HasList m first n) × (length h.more ≡ pages)
 

@@ -1,5 +1,6 @@
 use Rattle.std.proofs.Common.{◌+◌, ◌<◌, ◌≤◌, ◌∙◌, sym, ap, subst, arith, length}
 use Rattle.std.specs.List.{AllByRecursion, flat_map}
+use Rattle.std.proofs.lemmas.Result.{MatchResult-from_err}
 use Rattle.pip_io.specs.Taken.{Appends, AppendsPart}
 use Rattle.pip_ways.proofs.LabelLines.{all_taken, found_at, found_line, found_lines, known_here, line_here, some_here}
 use Rattle.pip_ways.proofs.Pieces.{cut_here, one_more}
@@ -24,8 +25,9 @@ write_label-requires-clause-known g c =
     c.index-ways-k.is c.args.verdict c.if-not-covers.ensures (c.args.cpus + length c.args.lines.now)
     c.requires.known)
 
-pub returns-in-Err-clause-wrote : goal.returns-in-Err-clause-wrote
-returns-in-Err-clause-wrote g c =
+pub returns-in_err-write_label-clause-wrote : goal.returns-in_err-write_label-clause-wrote
+returns-in_err-write_label-clause-wrote g c =
+    MatchResult-from_err c.from_residual.result _ _ c.from_residual.ensures.0 (λ _.
     let less : c.loop-k.k < length c.args.search.now.found.items =
     omega (arith, c.loop-k-test.true, c.len-k-end.ensures) in
     let vs = c.args.search.now.visits.items in
@@ -40,7 +42,7 @@ returns-in-Err-clause-wrote g c =
     (line_here (λ way. way.items) vs fs c.args.ways.now c.requires.ways c.loop-k.k less c.index-found.result.now
     c.index-found.ensures c.index-ways-k.result c.index-ways-k.is c.args.verdict c.if-not-covers.ensures
     c.requires.traced c.args.cpus c.args.lines.now c.deref.result.now c.deref-in-loop-k.result.now
-    c.deref.ensures.value c.deref-in-loop-k.ensures.value) c.in-Err.ensures.wrote))
+    c.deref.ensures.value c.deref-in-loop-k.ensures.value) c.in_err-write_label.ensures.wrote)))
 
 pub loop-k-preserved : goal.loop-k-preserved
 loop-k-preserved g c =
@@ -57,8 +59,9 @@ loop-k-preserved g c =
           (line_here (λ way. way.items) vs fs c.args.ways.now c.requires.ways c.loop-k.k less
           c.index-found.result.now c.index-found.ensures c.index-ways-k.result c.index-ways-k.is c.args.verdict
           c.if-not-covers.ensures c.requires.traced c.args.cpus c.args.lines.now c.deref.result.now
-          c.deref-in-loop-k.result.now c.deref.ensures.value c.deref-in-loop-k.ensures.value) c.in-Ok.ensures.wrote);
-      calm = c.in-Ok.ensures.cause.calm ∙ c.loop-k.invariant.calm;
+          c.deref-in-loop-k.result.now c.deref.ensures.value c.deref-in-loop-k.ensures.value)
+          c.in_ok-write_label.ensures.wrote);
+      calm = c.in_ok-write_label.ensures.cause.calm ∙ c.loop-k.invariant.calm;
     }
 
 pub returns-clause-wrote : goal.returns-clause-wrote

@@ -1,6 +1,6 @@
 use Rattle.std.proofs.Common.{◌≡◌, ◌<◌, ◌≤◌, ◌+◌, ◌∙◌, ap, sym, subst, refl, arith, true, length}
 use Rattle.std.specs.Prelude.{slice_get}
-use Rattle.pip_asm.specs.Names.{home_of, is_free, mark_of, mixed}
+use Rattle.pip_asm.specs.Names.{home_of, is_free, mark_of, hash_on}
 use Rattle.pip_asm.proofs.Naming.{IsPlaced, named-found, none_there, place-added, place-fresh, place-kept, table_found}
 use Rattle.pip_asm.proofs.names.Addresses.add.Goals as goal
 
@@ -21,7 +21,7 @@ is_placed c =
     let (low, high, free) = c.in-Some.ensures in
     let items : length c.deref.result.now ≡ length n.slots.items = ap length c.deref.ensures.value in
     let room = c.home_of-home.ensures.room in
-    let home : c.home_of-home.result ≡ home_of n.slots.items (mixed n.seed c.args.name.now) =
+    let home : c.home_of-home.result ≡ home_of n.slots.items (hash_on n.seed c.args.name.now) =
     c.home_of-home.ensures.home ∙ ap (λ xs. home_of xs c.mixed-hash.result) c.deref.ensures.value
     ∙ ap (home_of n.slots.items) c.mixed-hash.ensures in
     record {

@@ -1,4 +1,4 @@
-use Rattle.std.proofs.Common.{◌≡◌, ◌+◌, ◌*◌, ◌/◌, length, arith, inl, inr, sym, ap, ◌∙◌, subst, Some, eq-eqb, ne_eqb}
+use Rattle.std.proofs.Common.{◌≡◌, ◌+◌, ◌*◌, ◌/◌, arith, inl, inr, sym, ap, ◌∙◌, subst, Some, eq-eqb, ne_eqb}
 use Rattle.std.specs.Prelude.{if◌then◌else◌, option_map}
 use Rattle.std.proofs.lemmas.Bool.{cases_eq}
 use Rattle.pip_model.specs.Tree.{table_at}
@@ -8,7 +8,6 @@ use Rattle.pip_audit.specs.Reading.{IsFirstVisitTo}
 use Rattle.pip_audit.specs.Seen.{IsQuiet}
 use Rattle.pip_audit.specs.Tables.{IsFirstSought, tables_in, triple_of}
 use Rattle.pip_audit.proofs.Visits.{first_child, no_child, none_quiet, quiet_none}
-use Rattle.pip_audit.proofs.Walks.{quiet_words}
 use Rattle.pip_audit.proofs.auditor.Auditor.child_in.Goals as goal
 
 pub returns-then-held-shadow-clause-first : goal.returns-then-held-shadow-clause-first
@@ -83,7 +82,3 @@ returns-then-from-eq0-clause-quiet g c = λ t s q.
       | inr ne ↦ c.requires.quiet t s
           (sym (words ∙ ap (λ z. if z then shadow else word_held a.words.quiet t) (ne_eqb t n ne)) ∙ q)
     ]
-
-pub returns-then-from-eq0-clause-words : goal.returns-then-from-eq0-clause-words
-returns-then-from-eq0-clause-words g c = quiet_words (length (g.M.Frames.memory c.args.mem.now))
-    c.args.self.now.words c.hold.new.self c.requires.words c.hold.ensures.room

@@ -1,10 +1,9 @@
-use Rattle.std.proofs.Common.{◌≡◌, length, refl, sym, ◌∙◌, subst}
+use Rattle.std.proofs.Common.{◌≡◌, sym, ◌∙◌, subst}
 use Rattle.pip_model.specs.ReadOff.{node_read}
 use Rattle.pip_audit.specs.FrameWords.{word_held}
 use Rattle.pip_audit.specs.Given.{GivesRows, given_over}
 use Rattle.pip_audit.proofs.EachNode.{up_is}
 use Rattle.pip_audit.proofs.ShadowWords.{all_given, not_given}
-use Rattle.pip_audit.proofs.Walks.{given_words, stays_marked, stays_worded}
 use Rattle.pip_audit.proofs.auditor.Auditor.give_child.Goals as goal
 
 pub returns-then-up-number-clause-words : goal.returns-then-up-number-clause-words
@@ -27,14 +26,3 @@ returns-clause-words g c = λ k.
     ≡ given_over c.args.parent (node_read m f) (word_held c.args.self.now.words.given) k) c.name-part.ensures.name
     (all_given c.args.parent (node_read m part) (word_held c.args.self.now.words.given) (word_held c.give_rows.new.self)
     (word_held c.give_pages.new.self) up rows c.give_pages.ensures.words k)
-
-pub returns-clause-read : goal.returns-clause-read
-returns-clause-read g c =
-    let m = g.M.Frames.memory c.args.mem.now in
-    let a = c.args.self.now in
-    let given = c.give_pages.new.self in
-    let loaded = stays_marked m a (record a { child = c.load.new.self }) c.requires.read c.load.ensures.is_of.room
-    c.requires.read.has_read.room.sets refl in
-    stays_worded m (record a { child = c.load.new.self }) (record a.words { given = given }) loaded
-    (given_words (length m) a.words given c.requires.read.has_read.room.words
-    (c.give_pages.ensures.room ∙ c.give_rows.ensures.room))

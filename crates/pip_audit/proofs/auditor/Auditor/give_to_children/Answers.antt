@@ -20,12 +20,6 @@ loop-x-init g c =
       none_given m a.names.items c.name-parent.result (word_held none) c.fill.ensures.words,
     )
 
-pub give_child-requires-clause-node : goal.give_child-requires-clause-node
-give_child-requires-clause-node g c =
-    let below = c.loop-x-test.true in
-    let count = ap (λ (z : Auditor). z.count) c.loop-x.invariant.1 in
-    omega (arith, below, count)
-
 pub loop-x-preserved : goal.loop-x-preserved
 loop-x-preserved g c =
     let m = g.M.Frames.memory c.args.mem.now in

@@ -17,31 +17,32 @@ returns-then-up-ne1-clause-tests g c =
     let root = c.new-root.ensures in
     let word : c.word-up.result ≡ word_at m 1 11 = c.word-up.ensures.word ∙ ap (λ f. word_at m f 11) root in
     let t = c.if-up-ne1.true in
-    part_2_breaks m c.args.self.now bounds.0 bounds.1 (λ b. let up = b.up in absurd (omega (arith, word, t, up)))
+    part_2_breaks m c.args.self.now bounds.0 bounds.1 c.requires
+    (λ b. let up = b.up in absurd (omega (arith, word, t, up)))
 
-pub returns-then-not-has_base-clause-tests : goal.returns-then-not-has_base-clause-tests
-returns-then-not-has_base-clause-tests g c =
+pub returns-then-not-has_boot_base-clause-tests : goal.returns-then-not-has_boot_base-clause-tests
+returns-then-not-has_boot_base-clause-tests g c =
     let m = g.M.Frames.memory c.args.mem.now in
     let bounds = g.met.M.Frames.bounds c.args.mem.now in
-    part_2_breaks m c.args.self.now bounds.0 bounds.1
-    (λ b. clash _ (sym c.has_boot_base-has_base.ensures ∙ c.if-not-has_base.true) b.base)
+    part_2_breaks m c.args.self.now bounds.0 bounds.1 c.requires
+    (λ b. clash _ (sym c.has_boot_base.ensures ∙ c.if-not-has_boot_base.true) b.base)
 
-pub has_boot_tables-has_tables-requires : goal.has_boot_tables-has_tables-requires
-has_boot_tables-has_tables-requires g c =
-    record { base = sym c.has_boot_base-has_base.ensures ∙ c.if-not-has_base.false }
+pub has_boot_tables-requires : goal.has_boot_tables-requires
+has_boot_tables-requires g c =
+    record { base = sym c.has_boot_base.ensures ∙ c.if-not-has_boot_base.false }
 
-pub returns-then-not-has_tables-clause-tests : goal.returns-then-not-has_tables-clause-tests
-returns-then-not-has_tables-clause-tests g c =
+pub returns-then-not-has_boot_tables-clause-tests : goal.returns-then-not-has_boot_tables-clause-tests
+returns-then-not-has_boot_tables-clause-tests g c =
     let m = g.M.Frames.memory c.args.mem.now in
     let bounds = g.met.M.Frames.bounds c.args.mem.now in
-    part_2_breaks m c.args.self.now bounds.0 bounds.1
-    (λ b. clash _ (sym c.has_boot_tables-has_tables.ensures ∙ c.if-not-has_tables.true) b.tables)
+    part_2_breaks m c.args.self.now bounds.0 bounds.1 c.requires
+    (λ b. clash _ (sym c.has_boot_tables.ensures ∙ c.if-not-has_boot_tables.true) b.tables)
 
 pub has_boot_rows-requires-clause-tables : goal.has_boot_rows-requires-clause-tables
 has_boot_rows-requires-clause-tables g c =
     let m = g.M.Frames.memory c.args.mem.now in
     ap (tables_in m) (c.load.ensures.part ∙ c.new-root.ensures)
-    ∙ tables_equal m (sym c.has_boot_tables-has_tables.ensures ∙ c.if-not-has_tables.false)
+    ∙ tables_equal m (sym c.has_boot_tables.ensures ∙ c.if-not-has_boot_tables.false)
 
 pub returns-clause-tests : goal.returns-clause-tests
 returns-clause-tests g c =
@@ -50,8 +51,8 @@ returns-clause-tests g c =
     let root = c.new-root.ensures in
     let word : c.word-up.result ≡ word_at m 1 11 = c.word-up.ensures.word ∙ ap (λ f. word_at m f 11) root in
     let t = c.if-up-ne1.false in
-    part_2_says m c.args.self.now bounds.0 bounds.1 c.has_boot_rows.result (omega (arith, word, t))
-    (sym c.has_boot_base-has_base.ensures ∙ c.if-not-has_base.false)
-    (sym c.has_boot_tables-has_tables.ensures ∙ c.if-not-has_tables.false)
+    part_2_says m c.args.self.now bounds.0 bounds.1 c.requires c.has_boot_rows.result (omega (arith, word, t))
+    (sym c.has_boot_base.ensures ∙ c.if-not-has_boot_base.false)
+    (sym c.has_boot_tables.ensures ∙ c.if-not-has_boot_tables.false)
     (subst (λ f. Says c.has_boot_rows.result ((v : ℕ) → v < 1048576 → HasBootRow m (tables_in m f) v))
     (c.load.ensures.part ∙ root) c.has_boot_rows.ensures)

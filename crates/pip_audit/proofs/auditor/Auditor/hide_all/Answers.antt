@@ -1,23 +1,12 @@
-use Rattle.std.proofs.Common.{◌≡◌, length, arith, refl, ap, ◌∙◌, subst}
+use Rattle.std.proofs.Common.{◌≡◌, length, arith, ap, ◌∙◌, subst}
 use Rattle.std.specs.Prelude.{slice_index}
 use Rattle.pip_model.specs.ReadOff.{node_read}
 use Rattle.pip_model.specs.Tree.{config}
 use Rattle.pip_audit.specs.declared.auditor.Auditor.{Auditor}
 use Rattle.pip_audit.specs.FrameSets.{contains, with_all}
-use Rattle.pip_audit.proofs.Judges.{Hides, hides_all, hides_next, hides_none}
+use Rattle.pip_audit.proofs.Judges.{Hides, hides_all, hides_next}
 use Rattle.pip_audit.proofs.Walks.{hidden_set, stays_changed}
 use Rattle.pip_audit.proofs.auditor.Auditor.hide_all.Goals as goal
-
-pub loop-x-init : goal.loop-x-init
-loop-x-init g c =
-    let m = g.M.Frames.memory c.args.mem.now in
-    let a = c.args.self.now in
-    let none = c.clear.new.self in (
-      stays_changed m a (record a.sets { hidden = none }) c.requires
-          (hidden_set (length m) a.sets none c.requires.has_read.room.sets c.clear.ensures.room),
-      refl,
-      hides_none m a.names.items (contains none) c.clear.ensures.none,
-    )
 
 pub loop-x-preserved : goal.loop-x-preserved
 loop-x-preserved g c =

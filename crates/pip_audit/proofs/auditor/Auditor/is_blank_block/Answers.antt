@@ -10,6 +10,6 @@ returns g c on i below =
     let m = g.M.Frames.memory c.args.mem.now in
     let k = 32 * c.args.b + i in
     let found = ap (λ ws. get_or ws k 0) (sym c.frame.ensures.words)
-    ∙ c.is_zero_block-has_zeros.ensures c.if-not-has_zeros.false i below in
+    ∙ c.is_zero_block.ensures c.if-not-is_zero_block.false i below in
     ap (λ w. difference_between c.args.f k w (wanted_word m c.args.self.now (role_of c.args.role.now) k)) found
     ∙ ap (difference_between c.args.f k 0) (c.wants_zeros.ensures on i below)

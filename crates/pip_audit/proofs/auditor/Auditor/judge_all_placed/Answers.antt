@@ -8,13 +8,6 @@ use Rattle.pip_audit.proofs.Differing.{goes_then}
 use Rattle.pip_audit.proofs.Judges.{loads_then, tables_stay}
 use Rattle.pip_audit.proofs.auditor.Auditor.judge_all_placed.Goals as goal
 
-pub judge_placed-first-requires-clause-node : goal.judge_placed-first-requires-clause-node
-judge_placed-first-requires-clause-node g c =
-    let below = c.loop-x-test.true in
-    let count = ap (λ (z : Auditor). z.count) c.loop-x.invariant.1 in
-    let loaded = ap (λ (z : Auditor). z.count) c.place.ensures.rest in
-    omega (arith, below, count, loaded)
-
 pub loop-x-preserved : goal.loop-x-preserved
 loop-x-preserved g c =
     let m = g.M.Frames.memory c.args.mem.now in

@@ -10,7 +10,7 @@ use Rattle.pip_audit.proofs.auditor.Auditor.judge_placed.Goals as goal
 
 pub parent-parent-requires-clause-parents : goal.parent-parent-requires-clause-parents
 parent-parent-requires-clause-parents g c =
-    (tests_1 (tree_in (g.M.Frames.memory c.args.mem.now))).from c.requires.sound.parents_stand_behind
+    (tests_1 (tree_in (g.M.Frames.memory c.args.mem.now))).from c.requires.sound.parents_come_first
 
 pub name-part-requires-clause-node : goal.name-part-requires-clause-node
 name-part-requires-clause-node g c =

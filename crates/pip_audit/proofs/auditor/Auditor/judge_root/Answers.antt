@@ -1,7 +1,7 @@
 use Rattle.std.proofs.Common.{length, sym, ◌∙◌}
 use Rattle.pip_audit.proofs.EachNode.{count_some, root_name}
 use Rattle.pip_audit.proofs.Judges.{can_judge, root_holds}
-use Rattle.pip_audit.proofs.Walks.{above_words, stays_read, stays_worded}
+use Rattle.pip_audit.proofs.Walks.{above_words, stays_worded}
 use Rattle.pip_audit.proofs.auditor.Auditor.judge_root.Goals as goal
 
 pub judge_tables-requires-clause-judges : goal.judge_tables-requires-clause-judges
@@ -24,12 +24,3 @@ judge_tables-requires-clause-holds g c =
     (above_words (length m) a.words c.fill.new.self c.requires.read.has_read.room.words c.fill.ensures.room) in
     root_holds m (record a { words = w }) read c.load.new.self c.fill.ensures.words
     (c.load.ensures.part ∙ c.new.ensures)
-
-pub returns-clause-read : goal.returns-clause-read
-returns-clause-read g c =
-    let m = g.M.Frames.memory c.args.mem.now in
-    let a = c.args.self.now in
-    let w = record a.words { above = c.fill.new.self } in
-    stays_read m (record a { words = w }) c.load.new.self (stays_worded m a w c.requires.read
-    (above_words (length m) a.words c.fill.new.self c.requires.read.has_read.room.words c.fill.ensures.room))
-    c.load.ensures.is_of.room

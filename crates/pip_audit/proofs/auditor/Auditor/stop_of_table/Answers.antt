@@ -7,12 +7,12 @@ use Rattle.pip_audit.specs.FrameSets.{contains}
 use Rattle.pip_audit.proofs.Walks.{read_set}
 use Rattle.pip_audit.proofs.auditor.Auditor.stop_of_table.Goals as goal
 
-pub returns-then-was_read-clause-stop : goal.returns-then-was_read-clause-stop
-returns-then-was_read-clause-stop g c =
+pub returns-then-contains-clause-stop : goal.returns-then-contains-clause-stop
+returns-then-contains-clause-stop g c =
     let m = g.M.Frames.memory c.args.mem.now in
     let read = contains c.args.self.now.sets.read in
     let was : read c.args.table ≡ true =
-    ap read (sym c.number.ensures.same) ∙ sym c.contains-was_read.ensures ∙ c.if-was_read.true in
+    ap read (sym c.number.ensures.same) ∙ sym c.contains.ensures ∙ c.if-contains.true in
     sym (first_none (leaf_stop m c.args.table) 0 1024
     (λ i lo hi. c.requires.tables c.args.table i was (omega (arith, hi))))
 

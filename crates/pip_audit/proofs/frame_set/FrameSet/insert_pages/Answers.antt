@@ -5,7 +5,7 @@ use Rattle.pip_model.specs.ReadOff.{node_read}
 use Rattle.pip_model.specs.Tree.{config, pairs}
 use Rattle.pip_audit.specs.FrameSets.{contains, with_all}
 use Rattle.pip_audit.specs.Givens.{no_pair}
-use Rattle.pip_audit.proofs.Inserts.{drop_all, frame_at, frames_long, fresh_end, fresh_more, next_page, with_more}
+use Rattle.pip_audit.proofs.Inserts.{drop_all, frame_at, frames_long, fresh_more, next_page, with_more}
 use Rattle.pip_audit.proofs.frame_set.FrameSet.insert_pages.Goals as goal
 
 pub loop-k-preserved : goal.loop-k-preserved
@@ -29,15 +29,6 @@ loop-k-preserved g c =
           ∙ with_more (drop k (config x)) rest c.page-given.result.frame next old new set f,
       c.insert-is_new.ensures.room ∙ c.loop-k.invariant.2,
     )
-
-pub returns-clause-fresh : goal.returns-clause-fresh
-returns-clause-fresh g c =
-    let x = node_read (g.M.Frames.memory c.args.mem.now) c.args.part in
-    let past = c.loop-k-test.false in
-    let count = c.count_pages-count.ensures in
-    let long = frames_long (pairs x) in
-    sym (c.loop-k.invariant.0 ∙ fresh_end c.loop-k.are_new (contains c.loop-k.self) (drop c.loop-k.k (config x))
-    (drop_all (config x) c.loop-k.k (omega (arith, past, count, long))))
 
 pub returns-clause-set : goal.returns-clause-set
 returns-clause-set g c = λ f.

@@ -7,8 +7,8 @@ use Rattle.pip_model.specs.Tree.{config, pairs}
 use Rattle.pip_audit.specs.FrameWords.{word_held}
 use Rattle.pip_audit.specs.Given.{word_as}
 use Rattle.pip_audit.specs.Givens.{no_pair}
-use Rattle.pip_audit.proofs.Inserts.{drop_all, frame_at, frames_long, next_page}
-use Rattle.pip_audit.proofs.ShadowWords.{over_end, over_next, word_is}
+use Rattle.pip_audit.proofs.Inserts.{frame_at, frames_long, next_page}
+use Rattle.pip_audit.proofs.ShadowWords.{over_next, word_is}
 use Rattle.pip_audit.proofs.frame_words.FrameWords.give_pages.Goals as goal
 
 pub loop-k-preserved : goal.loop-k-preserved
@@ -32,13 +32,3 @@ loop-k-preserved g c =
           c.word-born.ensures.word c.word_to-word.ensures) new.words f ∙ inv.0 f,
       new.room ∙ inv.1,
     )
-
-pub returns-clause-words : goal.returns-clause-words
-returns-clause-words g c = λ f.
-    let m = g.M.Frames.memory c.args.mem.now in
-    let x = node_read m c.args.part in
-    let past = c.loop-k-test.false in
-    let count = c.count_pages-count.ensures in
-    let long = frames_long (pairs x) in
-    sym (over_end (word_as as_configuration x) (word_held c.loop-k.self) (drop c.loop-k.k (config x)) f
-    (drop_all (config x) c.loop-k.k (omega (arith, past, count, long)))) ∙ c.loop-k.invariant.0 f

@@ -14,12 +14,6 @@ loop-i-init g c = record {
   rest = c.clear_places.ensures.rest;
 }
 
-pub first_index-requires : goal.first_index-requires
-first_index-requires g c = c.loop-i.invariant.high
-
-pub loop-i-smaller : goal.loop-i-smaller
-loop-i-smaller g c = let (inside, some, zeros, above) = c.in-Some.ensures in omega (arith, inside, above)
-
 pub loop-i-preserved : goal.loop-i-preserved
 unfolding frame_at word_at
 loop-i-preserved g c =
@@ -44,9 +38,6 @@ loop-i-preserved g c =
       );
     }
 
-pub returns-clause-room : goal.returns-clause-room
-returns-clause-room g c = c.loop-i.invariant.room
-
 pub returns-clause-places : goal.returns-clause-places
 unfolding frame_at word_at
 returns-clause-places g c f h =
@@ -56,6 +47,3 @@ returns-clause-places g c f h =
     ∙ sym (place_to m c.args.directory f c.loop-i.from 1024 c.loop-i.invariant.high
     (λ j low high. ap (λ ws. get_or ws j 0) (sym words) ∙ c.in_default.ensures j low high))
     ∙ place_all m c.args.directory f
-
-pub returns-clause-rest : goal.returns-clause-rest
-returns-clause-rest g c = c.loop-i.invariant.rest

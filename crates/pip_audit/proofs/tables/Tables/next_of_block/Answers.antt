@@ -30,4 +30,4 @@ returns-then-lacks g c = λ v lo hi.
     let k : c.args.from % 1024 / 32 ≡ v % 1024 / 32 = omega (arith, lo, hi) in
     lacks_none c.args.sought m ts c.args.blocks.now b v c.requires.known
     (subst (λ d. option_map triple_of (table_at ts d) ≡ Some b) e (sym of ∙ sym c.in_ok-tables.ensures))
-    (subst (LacksSought c.args.sought c.args.blocks.now b) k (c.lacks-lacks.ensures c.if-lacks.true))
+    (subst (LacksSought c.args.sought c.args.blocks.now b) k (c.lacks.ensures c.if-lacks.true))

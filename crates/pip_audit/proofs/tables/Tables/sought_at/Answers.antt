@@ -17,7 +17,7 @@ returns-then-not-is_sought g c =
     let row = c.in-Some.row in
     let is = subst (IsRowAt m ts c.args.v) c.in-Some.is c.row.ensures in
     subst (λ u. row_sought c.args.sought m ts u ≡ None) is.0
-    (c.is_sought-is_sought.ensures ∙ ap (λ b. if b then Some (row_seen row) else None) c.if-not-is_sought.true)
+    (c.is_sought.ensures ∙ ap (λ b. if b then Some (row_seen row) else None) c.if-not-is_sought.true)
 
 pub returns : goal.returns
 returns g c =
@@ -28,5 +28,5 @@ returns g c =
       is.0,
       is.1,
       subst (λ u. row_sought c.args.sought m ts u ≡ Some (row_seen row)) is.0
-          (c.is_sought-is_sought.ensures ∙ ap (λ b. if b then Some (row_seen row) else None) c.if-not-is_sought.false),
+          (c.is_sought.ensures ∙ ap (λ b. if b then Some (row_seen row) else None) c.if-not-is_sought.false),
     )

@@ -1,10 +1,9 @@
-use Rattle.std.proofs.Common.{◌≡◌, ℕ, ◌<◌, ◌+◌, ◌-◌, ◌*◌, ◌/◌, ◌%◌, length, map, arith, refl, sym, ap, ◌∙◌, subst}
-use Rattle.std.proofs.Common.{Option, None}
-use Rattle.std.specs.Prelude.{option_map, slice_index_or}
-use Rattle.std.specs.Global.{Vec}
+use Rattle.std.proofs.Common.{◌≡◌, ◌<◌, ◌+◌, ◌-◌, ◌*◌, ◌/◌, ◌%◌, length, map, arith, refl, sym, ap, ◌∙◌, subst}
+use Rattle.std.proofs.Common.{None}
+use Rattle.std.specs.Prelude.{option_map}
 use Rattle.pip_base.specs.Memory.{word_at}
 use Rattle.pip_model.specs.Lists.{repeats}
-use Rattle.pip_model.specs.ReadOff.{base_read, node_stop, place_of_table, table_from, table_read}
+use Rattle.pip_model.specs.ReadOff.{base_read, node_stop, table_from, table_read}
 use Rattle.pip_model.specs.Tree.{Table, lists, table_at}
 use Rattle.pip_model.proofs.Audit.AuditLaw.{first_none_back}
 use Rattle.pip_audit.specs.Links.{list_read, page_after, slot_of}
@@ -25,11 +24,6 @@ loop-k-init g c =
       refl,
     )
 
-pub list_page-page-requires-clause-part : goal.list_page-page-requires-clause-part
-list_page-page-requires-clause-part g c =
-    let part = c.requires.ready.part in
-    subst (λ q. q < length (g.M.Frames.memory c.args.mem.now)) (sym c.loop-k.invariant.5) part
-
 pub list_page-page-requires-clause-pages : goal.list_page-page-requires-clause-pages
 list_page-page-requires-clause-pages g c = λ j h.
     let m = g.M.Frames.memory c.args.mem.now in
@@ -39,13 +33,6 @@ list_page-page-requires-clause-pages g c = λ j h.
     let below = c.loop-k-test.true in
     subst (λ q. page_after m (word_at m q 9) j < length m) (sym c.loop-k.invariant.5)
     (after_inside m (word_at m f 9) (lists n - 1) j (first_list_inside m f p.base) p.more (omega (arith, below, h)))
-
-pub take_slot-requires-clause-places : goal.take_slot-requires-clause-places
-take_slot-requires-clause-places g c = λ k h.
-    let m = g.M.Frames.memory c.args.mem.now in
-    let inv = c.loop-k.invariant in
-    ap (λ (ps : Vec (Option ℕ)). slice_index_or ps.items k None) inv.4 ∙ c.requires.ready.places k h
-    ∙ ap (λ q. place_of_table m (word_at m q 3) k) (sym inv.5)
 
 pub take_slot-requires-clause-passes : goal.take_slot-requires-clause-passes
 take_slot-requires-clause-passes g c =

@@ -1,8 +1,8 @@
 use Rattle.std.proofs.Common.{◌≡◌, [], ap, ◌∙◌, length, refl, subst, sym}
 use Rattle.std.proofs.lemmas.List.{length-replicate}
 use Rattle.pip_base.specs.Memory.{zeros}
-use Rattle.pip_core.specs.CoreRead.{BeginsLines, IsText, RefusesText}
-use Rattle.pip_core.specs.declared.text.CoreError.TheVariants as L
+use Rattle.pip_core_text.specs.CoreRead.{BeginsLines, IsText, RefusesText}
+use Rattle.pip_core_text.specs.declared.text.CoreError.TheVariants as L
 use Rattle.pip_io.proofs.Taken.{Appends-nil, Keeps-refl}
 use Rattle.pip_commands.specs.Dues.{audit_due}
 use Rattle.pip_commands.specs.EndsBy.{EndsBy}

@@ -28,45 +28,47 @@ returns-in_err-check_empty g c =
     let r = c.requires in
     let m = g.M.Frames.memory a.mem.now in
     let q = c.in_err-check_empty.field-0.0 in
+    let child = c.in_ok-child.child in
+    let i = c.number-i.result / 1024 in
+    let i_is = ap (λ k. k / 1024) (c.number-i.ensures.same ∙ c.of_address.ensures) in
     rw (p.1, p.2) (
-      table-never_ok r.tree a.caller a.d a.cv r.sound m r.laid c.in_ok-child.child
-          (c.in_ok-child.ensures.child r.tree r.node r.sound r.laid r.found) (c.number-i.result
-          / 1024) (ap (λ k. k / 1024) (c.number-i.ensures.same ∙ c.of_address.ensures)) q c.in_err-check_empty.ensures,
+      table-never_ok r.tree a.caller a.d a.cv r.sound m r.laid child
+          (c.in_ok-child.ensures.child r.tree r.node r.sound r.laid r.found) i i_is q c.in_err-check_empty.ensures,
       refused-does a.caller (λ t. collect t a.caller a.d a.cv) m q (λ t x s lays found. collect-table_refused t a.caller
-          a.d a.cv s m lays c.in_ok-child.child (c.in_ok-child.ensures.child t x s lays found) (c.number-i.result
-          / 1024) (ap (λ k. k / 1024) (c.number-i.ensures.same ∙ c.of_address.ensures)) q c.in_err-check_empty.ensures),
+          a.d a.cv s m lays child (c.in_ok-child.ensures.child t x s lays found) i i_is q c.in_err-check_empty.ensures),
     )
 
 pub take_table-requires-clause-can : goal.take_table-requires-clause-can
 take_table-requires-clause-can g c =
     let r = c.requires in
+    let i = c.number-i.result / 1024 in
+    let i_is = ap (λ k. k / 1024) (c.number-i.ensures.same ∙ c.of_address.ensures) in
     record {
       stands = r;
       can = can_collect r.tree c.args.caller c.args.d c.args.cv r.sound (g.M.Frames.memory c.args.mem.now) r.laid
-          c.in_ok-child.child (c.in_ok-child.ensures.child r.tree r.node r.sound r.laid r.found) (c.number-i.result
-          / 1024) (ap (λ k. k / 1024) (c.number-i.ensures.same ∙ c.of_address.ensures)) c.in_ok-check_empty.ensures;
+          c.in_ok-child.child (c.in_ok-child.ensures.child r.tree r.node r.sound r.laid r.found) i i_is
+          c.in_ok-check_empty.ensures;
     }
 
 pub returns : goal.returns
 returns g c =
     let a = c.args in
     let m = g.M.Frames.memory a.mem.now in
+    let child = c.in_ok-child.child in
+    let i = c.number-i.result / 1024 in
+    let i_is = ap (λ k. k / 1024) (c.number-i.ensures.same ∙ c.of_address.ensures) in
     record {
       answer = λ t x s lays found.
-          let k = is_first t a.caller a.d a.cv s m lays c.in_ok-child.child
-          (c.in_ok-child.ensures.child t x s lays found) (c.number-i.result
-          / 1024) (ap (λ k. k / 1024) (c.number-i.ensures.same ∙ c.of_address.ensures)) c.in_ok-check_empty.ensures
-          c.take_table.result (c.take_table.ensures.tree t x s lays found (can_collect t a.caller a.d a.cv s m lays
-          c.in_ok-child.child (c.in_ok-child.ensures.child t x s lays found) (c.number-i.result / 1024) (ap (λ k.
-          k / 1024) (c.number-i.ensures.same ∙ c.of_address.ensures)) c.in_ok-check_empty.ensures)).0 in
+          let k = is_first t a.caller a.d a.cv s m lays child (c.in_ok-child.ensures.child t x s lays found) i i_is
+          c.in_ok-check_empty.ensures c.take_table.result
+          (c.take_table.ensures.tree t x s lays found (can_collect t a.caller a.d a.cv s m lays child
+          (c.in_ok-child.ensures.child t x s lays found) i i_is c.in_ok-check_empty.ensures)).0 in
           (sym k.0, sym k.1);
       tree = λ t x s lays found.
-          let done = c.take_table.ensures.tree t x s lays found (can_collect t a.caller a.d a.cv s m lays
-          c.in_ok-child.child (c.in_ok-child.ensures.child t x s lays found) (c.number-i.result / 1024) (ap (λ k.
-          k / 1024) (c.number-i.ensures.same ∙ c.of_address.ensures)) c.in_ok-check_empty.ensures) in
-          collect-tree t a.caller a.d a.cv s m lays c.in_ok-child.child (c.in_ok-child.ensures.child t x s lays found)
-          (c.number-i.result / 1024) (ap (λ k. k / 1024) (c.number-i.ensures.same
-          ∙ c.of_address.ensures)) c.in_ok-check_empty.ensures (g.M.Frames.memory c.take_table.new.mem) done.1;
+          let done = c.take_table.ensures.tree t x s lays found (can_collect t a.caller a.d a.cv s m lays child
+          (c.in_ok-child.ensures.child t x s lays found) i i_is c.in_ok-check_empty.ensures) in
+          collect-tree t a.caller a.d a.cv s m lays child (c.in_ok-child.ensures.child t x s lays found) i i_is
+          c.in_ok-check_empty.ensures (g.M.Frames.memory c.take_table.new.mem) done.1;
       refused = λ ne. absurd (ne refl);
       count = c.take_table.ensures.count;
     }

@@ -1,5 +1,5 @@
 use Rattle.std.proofs.Common.{◌∙◌, sym, arith}
-use Rattle.pip_space.proofs.HeadWords.{few_tables, part_inside, read_tables}
+use Rattle.pip_space.proofs.RootWords.{few_tables, part_inside, read_tables}
 use Rattle.pip_grow.proofs.CountToMap.Call.{needed_none, needed_some}
 use Rattle.pip_grow.proofs.calls.count_to_map.pages_needed.Goals as goal
 

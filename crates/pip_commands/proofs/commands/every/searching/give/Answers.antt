@@ -1,6 +1,6 @@
 use Rattle.std.proofs.Common.{◌∙◌, ap, length, subst}
-use Rattle.pip_cpu.specs.Made.{WroteLine}
-use Rattle.pip_io.specs.Taken.{Appends, AppendsPart}
+use Rattle.std.proofs.lemmas.Result.{MatchResult-from_err}
+use Rattle.pip_io.specs.Taken.{Appends, AppendsPart, Wrote}
 use Rattle.pip_model.specs.Run.{trace_image_line}
 use Rattle.pip_search.specs.Ways.{witnesses_of}
 use Rattle.pip_ways.specs.Texts.{search_text}
@@ -8,8 +8,9 @@ use Rattle.pip_ways.proofs.Pieces.{part_longer, wrote_of}
 use Rattle.pip_commands.specs.EveryText.{lines_planned}
 use Rattle.pip_commands.proofs.commands.every.searching.give.Goals as goal
 
-pub returns-in-Err-clause-wrote : goal.returns-in-Err-clause-wrote
-returns-in-Err-clause-wrote g c =
+pub returns-in_err-write_image-clause-wrote : goal.returns-in_err-write_image-clause-wrote
+returns-in_err-write_image-clause-wrote g c =
+    MatchResult-from_err c.from_residual.result _ _ c.from_residual.ensures.0 (λ _.
     let h = c.args.head.now in
     let t = c.args.told.now in
     part_longer _ _ (trace_image_line h.frames h.cpus (length h.plans.items) h.pages)
@@ -17,7 +18,7 @@ returns-in-Err-clause-wrote g c =
     t.search.found.items)
     (length t.search.visits.items) t.verdict)
     (subst (λ n. AppendsPart (g.K.Sink.written c.args.sink.now) (g.K.Sink.written c.write_image.new.sink)
-    (trace_image_line h.frames h.cpus n h.pages)) c.len.ensures.value c.in-Err.ensures.wrote)
+    (trace_image_line h.frames h.cpus n h.pages)) c.len.ensures.value c.in_err-write_image.ensures.wrote))
 
 pub returns-clause-wrote : goal.returns-clause-wrote
 returns-clause-wrote g c =
@@ -30,7 +31,7 @@ returns-clause-wrote g c =
     (search_text h.cpus (lines_planned h.plans.items) ws (length t.search.visits.items) t.verdict)
     c.write_search.result
     (subst (λ n. Appends (g.K.Sink.written c.args.sink.now) (g.K.Sink.written c.write_image.new.sink)
-    (trace_image_line h.frames h.cpus n h.pages)) c.len.ensures.value c.in-Ok.ensures.wrote)
-    (subst (λ ls. WroteLine c.write_search.result (g.K.Sink.written c.write_image.new.sink)
+    (trace_image_line h.frames h.cpus n h.pages)) c.len.ensures.value c.in_ok-write_image.ensures.wrote)
+    (subst (λ ls. Wrote c.write_search.result (g.K.Sink.written c.write_image.new.sink)
     (g.K.Sink.written c.write_search.new.sink) (search_text h.cpus ls ws (length t.search.visits.items) t.verdict))
     lines c.write_search.ensures.wrote)

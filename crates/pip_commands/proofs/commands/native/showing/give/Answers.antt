@@ -1,4 +1,5 @@
 use Rattle.std.proofs.Common.{arith, ◌≡◌, ◌∙◌, length, subst, sym, ap}
+use Rattle.std.proofs.lemmas.Result.{MatchResult-from_err}
 use Rattle.pip_cpu.specs.Made.{Cut, Made}
 use Rattle.pip_io.specs.Taken.{Appends, AppendsPart}
 use Rattle.pip_model.specs.Run.{trace_image_line, image_world}
@@ -9,15 +10,16 @@ use Rattle.pip_watch.specs.Watching.{addresses, ready_world, watched_steps, with
 use Rattle.pip_commands.proofs.Monitoring.{address_count, cut_built, cut_first, cut_steps, made_steps, room_begun}
 use Rattle.pip_commands.proofs.commands.native.showing.give.Goals as goal
 
-pub returns-in-Err-clause-shows : goal.returns-in-Err-clause-shows
-returns-in-Err-clause-shows g c = λ i b.
+pub returns-in_err-write_image-clause-shows : goal.returns-in_err-write_image-clause-shows
+returns-in_err-write_image-clause-shows g c = λ i b.
+    MatchResult-from_err c.from_residual.result _ _ c.from_residual.ensures.0 (λ _.
     let l = c.args.loaded.now in
     let old = g.K.Sink.written c.args.sink.now in
     let new = g.K.Sink.written c.write_image.new.sink in
     cut_first i c.args.n c.args.count l.frames l.pages l.lines.items l.machine b old new
     (subst (λ k. AppendsPart old new (trace_image_line l.frames k (length l.lines.items) l.pages)) c.cpus.ensures
     (subst (λ ps. AppendsPart old new (trace_image_line l.frames c.cpus.result (length ps) l.pages))
-    c.as_slice-lines.ensures.value c.in-Err.ensures.wrote))
+    c.as_slice-lines.ensures.value c.in_err-write_image.ensures.wrote)))
 
 pub build_children-children-requires-clause-room : goal.build_children-children-requires-clause-room
 build_children-children-requires-clause-room g c =
@@ -27,17 +29,19 @@ build_children-children-requires-clause-room g c =
       room_begun i c.args.n _ _ _ _ b c.requires.roomy c.requires.most,
     )
 
-pub returns-in-Err-write_children-clause-shows : goal.returns-in-Err-write_children-clause-shows
-returns-in-Err-write_children-clause-shows g c = λ i b.
+pub returns-in_err-write_children-clause-shows : goal.returns-in_err-write_children-clause-shows
+returns-in_err-write_children-clause-shows g c = λ i b.
+    MatchResult-from_err c.from_residual-in_err-write_children.result _ _
+    c.from_residual-in_err-write_children.ensures.0 (λ _.
     let l = c.args.loaded.now in
     let old = g.K.Sink.written c.args.sink.now in
     let one = g.K.Sink.written c.write_image.new.sink in
     cut_built i c.args.n c.args.count l.frames l.pages l.lines.items l.machine b old one
     (subst (λ k. Appends old one (trace_image_line l.frames k (length l.lines.items) l.pages)) c.cpus.ensures
     (subst (λ ps. Appends old one (trace_image_line l.frames c.cpus.result (length ps) l.pages))
-    c.as_slice-lines.ensures.value c.in-Ok.ensures.wrote))
+    c.as_slice-lines.ensures.value c.in_ok-write_image.ensures.wrote))
     (g.K.Sink.written c.write_children.new.sink) c.as_slice.result.now
-    (c.as_slice.ensures.value ∙ c.build_children-children.ensures.addresses) c.in-Err-write_children.ensures.wrote
+    (c.as_slice.ensures.value ∙ c.build_children-children.ensures.addresses) c.in_err-write_children.ensures.wrote)
 
 pub new-monitor-requires-clause-some : goal.new-monitor-requires-clause-some
 new-monitor-requires-clause-some g c =
@@ -53,8 +57,8 @@ new-monitor-requires-clause-answers g c =
     subst (AnswersNext (g.C.Chooser.may_choose c.args.choose) (g.C.Chooser.chooses c.args.choose)) (sym e)
     c.requires.next
 
-pub returns-in-Ok-watch-clause-shows : goal.returns-in-Ok-watch-clause-shows
-returns-in-Ok-watch-clause-shows g c = λ i b.
+pub returns-clause-shows : goal.returns-clause-shows
+returns-clause-shows g c = λ i b.
     let l = c.args.loaded.now in
     let n = c.args.n in
     let old = g.K.Sink.written c.args.sink.now in
@@ -68,19 +72,20 @@ returns-in-Ok-watch-clause-shows g c = λ i b.
     made_steps i n c.args.count l.frames l.pages l.lines.items l.machine b old one
     (subst (λ k. Appends old one (trace_image_line l.frames k (length l.lines.items) l.pages)) c.cpus.ensures
     (subst (λ ps. Appends old one (trace_image_line l.frames c.cpus.result (length ps) l.pages))
-    c.as_slice-lines.ensures.value c.in-Ok.ensures.wrote))
+    c.as_slice-lines.ensures.value c.in_ok-write_image.ensures.wrote))
     two c.as_slice.result.now
-    (c.as_slice.ensures.value ∙ c.build_children-children.ensures.addresses) c.in-Ok-write_children.ensures.wrote
+    (c.as_slice.ensures.value ∙ c.build_children-children.ensures.addresses) c.in_ok-write_children.ensures.wrote
     c.write_end.result c.watch.new.machine three (g.K.Sink.written c.write_end.new.sink)
     (subst (λ ps. Made (StandsAs c.watch.new.machine) two three w
     (watched_steps w ps (all_alive (addresses n n)) c.args.count 0)) (c.as_slice-lines.ensures.value ∙ b.plans)
     (subst (λ m. Made (StandsAs c.watch.new.machine) two three w (watched_steps w c.as_slice-lines.result.now m
     c.args.count 0)) (c.new-monitor.ensures ∙ ap all_alive c.build_children-children.ensures.addresses)
-    (c.in-Ok-watch.ensures.acts w stands)))
+    (c.in_ok-watch.ensures.acts w stands)))
     c.write_end.ensures.wrote
 
-pub returns-clause-shows : goal.returns-clause-shows
-returns-clause-shows g c = λ i b.
+pub returns-in_err-watch-clause-shows : goal.returns-in_err-watch-clause-shows
+returns-in_err-watch-clause-shows g c = λ i b.
+    MatchResult-from_err c.from_residual-in_err-watch.result _ _ c.from_residual-in_err-watch.ensures.0 (λ _.
     let l = c.args.loaded.now in
     let n = c.args.n in
     let old = g.K.Sink.written c.args.sink.now in
@@ -94,12 +99,12 @@ returns-clause-shows g c = λ i b.
     cut_steps i n c.args.count l.frames l.pages l.lines.items l.machine b old one
     (subst (λ k. Appends old one (trace_image_line l.frames k (length l.lines.items) l.pages)) c.cpus.ensures
     (subst (λ ps. Appends old one (trace_image_line l.frames c.cpus.result (length ps) l.pages))
-    c.as_slice-lines.ensures.value c.in-Ok.ensures.wrote))
+    c.as_slice-lines.ensures.value c.in_ok-write_image.ensures.wrote))
     two c.as_slice.result.now
-    (c.as_slice.ensures.value ∙ c.build_children-children.ensures.addresses) c.in-Ok-write_children.ensures.wrote
+    (c.as_slice.ensures.value ∙ c.build_children-children.ensures.addresses) c.in_ok-write_children.ensures.wrote
     (StandsAs c.watch.new.machine) new
     (subst (λ ps. Cut (StandsAs c.watch.new.machine) two new w
     (watched_steps w ps (all_alive (addresses n n)) c.args.count 0)) (c.as_slice-lines.ensures.value ∙ b.plans)
     (subst (λ m. Cut (StandsAs c.watch.new.machine) two new w (watched_steps w c.as_slice-lines.result.now m
     c.args.count 0)) (c.new-monitor.ensures ∙ ap all_alive c.build_children-children.ensures.addresses)
-    (c.in-Err-watch.ensures.acts w stands)))
+    (c.in_err-watch.ensures.acts w stands))))

@@ -1,4 +1,5 @@
 use Rattle.std.proofs.Common.{rules, arith, ◌≡◌, ◌-◌, subst}
+use Rattle.std.proofs.lemmas.Result.{MatchResult-from_err}
 use Rattle.pip_lines.proofs.Progress.{Progress, progress_end}
 use Rattle.pip_switch.specs.Standing.{StandsAs}
 use Rattle.pip_watch.specs.Watching.{watched_steps}
@@ -13,18 +14,22 @@ loop-i-init g c = record {
       c.args.monitor.now c.args.count h;
 }
 
-pub returns-in-Err-clause-acts : goal.returns-in-Err-clause-acts
-returns-in-Err-clause-acts g c = λ w h. step_cut _ _ _ w _ c.args.lines.now c.args.count c.loop-i.i c.loop-i.monitor
+pub returns-in_err-watch_once-clause-acts : goal.returns-in_err-watch_once-clause-acts
+returns-in_err-watch_once-clause-acts g c = λ w h.
+    MatchResult-from_err c.from_residual.result _ _ c.from_residual.ensures.0 (λ _.
+    step_cut _ _ _ w _ c.args.lines.now c.args.count c.loop-i.i
+    c.loop-i.monitor
     c.watch_once.new.monitor c.loop-i-test.true _ _ _ (c.loop-i.invariant.progress w h) c.raise_due.ensures.acts
-    c.in-Err.ensures.monitor c.in-Err.ensures.acts
+    c.in_err-watch_once.ensures.monitor c.in_err-watch_once.ensures.acts)
 
 pub loop-i-preserved : goal.loop-i-preserved
 loop-i-preserved g c = record {
   count = search rules;
   calm = search rules;
   progress = λ w h. step_on _ _ _ w _ c.args.lines.now c.args.count c.loop-i.i c.loop-i.monitor c.watch_once.new.monitor
-      c.loop-i-test.true _ _ _ (c.loop-i.invariant.progress w h) c.raise_due.ensures.acts c.in-Ok.ensures.monitor
-      c.in-Ok.ensures.acts;
+      c.loop-i-test.true _ _ _ (c.loop-i.invariant.progress w h) c.raise_due.ensures.acts
+      c.in_ok-watch_once.ensures.monitor
+      c.in_ok-watch_once.ensures.acts;
 }
 
 pub returns-clause-acts : goal.returns-clause-acts

@@ -1,10 +1,13 @@
+use Rattle.std.proofs.lemmas.Result.{MatchResult-from_err}
 use Rattle.pip_dis.proofs.Written.{part_of_more}
 use Rattle.pip_commands.proofs.Reports.{ended_text}
 use Rattle.pip_commands.proofs.commands.run.report.write_tree.Goals as goal
 
-pub returns-in-Ok-clause-wrote : goal.returns-in-Ok-clause-wrote
-returns-in-Ok-clause-wrote g c =
-    λ t h. ended_text c.write_end.result _ _ _ _ _ (c.in-Ok.ensures.text t h) c.write_end.ensures.wrote
+pub returns-clause-wrote : goal.returns-clause-wrote
+returns-clause-wrote g c =
+    λ t h. ended_text c.write_end.result _ _ _ _ _ (c.in_ok-tree_text.ensures.text t h) c.write_end.ensures.wrote
 
-pub returns-in-Err-clause-wrote : goal.returns-in-Err-clause-wrote
-returns-in-Err-clause-wrote g c = λ t h. part_of_more _ _ _ _ (c.in-Err.ensures.text t h)
+pub returns-in_err-tree_text-clause-wrote : goal.returns-in_err-tree_text-clause-wrote
+returns-in_err-tree_text-clause-wrote g c = λ t h.
+    MatchResult-from_err c.from_residual.result _ _ c.from_residual.ensures.0 (λ _.
+    part_of_more _ _ _ _ (c.in_err-tree_text.ensures.text t h))

@@ -1,0 +1,2 @@
+-- Texts of numbers, read back.
+pub mod Numbers

@@ -1,0 +1,30 @@
+//! The numbers of the calls, and what a yield can name in place of a handler's vector: docs/FORMATS.md, "Calls by
+//! number". Any other number is that of no call.
+
+/// createPartition.
+pub const CREATE_PARTITION: u32 = 0;
+/// deletePartition.
+pub const DELETE_PARTITION: u32 = 1;
+/// countToMap.
+pub const COUNT_TO_MAP: u32 = 2;
+/// prepare.
+pub const PREPARE: u32 = 3;
+/// collect.
+pub const COLLECT: u32 = 4;
+/// addVAddr.
+pub const ADD_VADDR: u32 = 5;
+/// removeVAddr.
+pub const REMOVE_VADDR: u32 = 6;
+/// mappedInChild.
+pub const MAPPED_IN_CHILD: u32 = 7;
+/// yield.
+pub const YIELD: u32 = 8;
+/// Vcli.
+pub const VCLI: u32 = 10;
+/// Vsti.
+pub const VSTI: u32 = 11;
+
+/// The vector in whose block a partition is saved at faults, traps and interrupts.
+pub const SAVED: u32 = 63;
+/// In place of the vector of the block in which the caller of a yield is saved: it isn't saved.
+pub const NOT_SAVED: u32 = 256;
