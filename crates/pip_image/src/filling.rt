@@ -1,8 +1,7 @@
 //! Buffers that are filled from a source.
-ghost use Rattle.std.specs.Prelude.{◌≡◌, ◌≤◌, ◌<◌, [], length, take, true, false};
-ghost use Rattle.std.specs.Io.KnownBytes.{Consumes, IsAtEnd};
-ghost use Rattle.pip_io.specs.Causes.{RoseByOne};
+ghost use Rattle.std.specs.Prelude.{◌≡◌, ◌≤◌, [], length};
 ghost use Rattle.pip_io.specs.Pacing.{MayRead};
+ghost use Rattle.pip_image.specs.Filling.{IsFilled};
 ghost use Rattle.pip_image.specs.Pacing.{IsUnfilled};
 ghost use Rattle.pip_image.specs.Reading.{fault_of};
 ghost use Rattle.pip_image.specs.Sought.{IsSought, is_wrong};
@@ -72,16 +71,10 @@ pub fn fill<S: Source, K: Sink>(
         (S.faults joint.old.source.now) (K.written joint.old.sink.now) (K.faults joint.old.sink.now) }
     ensures same_source { joint.new.source.ghost_name ≡ joint.old.source.ghost_name }
     ensures sink { joint.new.sink ≡ joint.old.sink }
-    ensures count { result.count ≤ length buf.new }
-    ensures taken { Consumes (S.left joint.old.source.now) (S.left joint.new.source.now) (take result.count buf.new) }
-    ensures ended { result.failed ≡ false → result.count < length buf.new →
-        is_wrong sought.now (take result.count buf.new) ≡ false → IsAtEnd (S.left joint.new.source.now) }
+    ensures filled { IsFilled (is_wrong sought.now) result buf.new (S.left joint.old.source.now)
+        (S.left joint.new.source.now) (S.faults joint.old.source.now) (S.faults joint.new.source.now) }
     ensures later { S.faults joint.old.source.now ≤ S.faults joint.new.source.now }
-    ensures rose { result.failed ≡ true → RoseByOne (S.faults joint.old.source.now) (S.faults joint.new.source.now) }
-    ensures right { result.failed ≡ true → is_wrong sought.now (take result.count buf.new) ≡ false }
-    ensures few { result.failed ≡ true → result.count < length buf.new }
     ensures is_open { result.count ≡ length buf.new → S.is_open joint.new.source.now }
-    ensures calm { result.failed ≡ false → S.faults joint.new.source.now ≡ S.faults joint.old.source.now }
 {
     let mut taken = 0;
     while taken < buf.len() && !sought.is_wrong(&buf[..taken]) {

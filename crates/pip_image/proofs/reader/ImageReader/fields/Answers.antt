@@ -1,71 +1,30 @@
 use Rattle.std.proofs.Common.{rules, arith, ◌<◌, length, subst, sym}
 use Rattle.pip_model.specs.Images.{fields_of}
 use Rattle.pip_image.specs.Reading.{Refuses}
-use Rattle.pip_image.specs.Sought.{is_fault}
 use Rattle.pip_image.proofs.Parsing.{fields_goes}
-use Rattle.pip_image.proofs.ReadParts.{IsFilled, filled_calm, filled_whole, fields_open, fields_taken, fields_refused}
+use Rattle.pip_image.proofs.ReadParts.{filled_calm, filled_whole, fields_open, fields_taken, fields_refused}
 use Rattle.pip_image.proofs.reader.ImageReader.fields.Goals as goal
 
 pub returns-in-Ok-clause-reads : goal.returns-in-Ok-clause-reads
 returns-in-Ok-clause-reads g c =
-    let filled : IsFilled 24 (λ bs. is_fault (fields_of bs)) c.fill-filled.result.count c.fill-filled.new.buf
-    c.fill-filled.result.failed (g.S.Source.left c.args.joint.now.source.now)
-    (g.S.Source.left c.fill-filled.new.joint.source.now) (g.S.Source.faults c.args.joint.now.source.now)
-    (g.S.Source.faults c.fill-filled.new.joint.source.now) =
-    record {
-      size = search (rules, arith);
-      count = c.fill-filled.ensures.count;
-      taken = c.fill-filled.ensures.taken;
-      over = c.fill-filled.ensures.ended;
-      rose = c.fill-filled.ensures.rose;
-      right = c.fill-filled.ensures.right;
-      few = c.fill-filled.ensures.few;
-      calm = c.fill-filled.ensures.calm;
-    } in
     let e = c.pass_fields.ensures in
-    fields_taken c.pass_fields.new.self _ _ _ _ _ _ _ _ _ filled c.in-Ok.ensures.same e.at e.frames e.plans e.line
-    e.pages e.seen
+    fields_taken c.pass_fields.new.self _ _ _ _ _ _ _ _ c.fill-filled.ensures.filled (search (rules, arith))
+    c.in-Ok.ensures.same e.at e.frames e.plans e.line e.pages e.seen
 
 pub returns-in-Ok-clause-calm : goal.returns-in-Ok-clause-calm
 returns-in-Ok-clause-calm g c =
-    let filled : IsFilled 24 (λ bs. is_fault (fields_of bs)) c.fill-filled.result.count c.fill-filled.new.buf
-    c.fill-filled.result.failed (g.S.Source.left c.args.joint.now.source.now)
-    (g.S.Source.left c.fill-filled.new.joint.source.now) (g.S.Source.faults c.args.joint.now.source.now)
-    (g.S.Source.faults c.fill-filled.new.joint.source.now) =
-    record {
-      size = search (rules, arith);
-      count = c.fill-filled.ensures.count;
-      taken = c.fill-filled.ensures.taken;
-      over = c.fill-filled.ensures.ended;
-      rose = c.fill-filled.ensures.rose;
-      right = c.fill-filled.ensures.right;
-      few = c.fill-filled.ensures.few;
-      calm = c.fill-filled.ensures.calm;
-    } in
-    filled_calm 24 _ _ _ _ _ _ _ fields_of _ _ fields_goes filled c.in-Ok.ensures.same
+    filled_calm 24 _ _ _ _ _ _ fields_of _ _ fields_goes c.fill-filled.ensures.filled (search (rules, arith))
+    c.in-Ok.ensures.same
 
 pub returns-in-Ok-clause-is_open : goal.returns-in-Ok-clause-is_open
 returns-in-Ok-clause-is_open g c =
-    c.fill-filled.ensures.is_open (filled_whole 24 _ c.fill-filled.new.buf fields_of _ _ fields_goes
-    (search (rules, arith)) c.fill-filled.ensures.count c.in-Ok.ensures.same)
+    c.fill-filled.ensures.is_open (filled_whole 24 _ _ _ _ _ _ fields_of _ _ fields_goes
+    c.fill-filled.ensures.filled (search (rules, arith)) c.in-Ok.ensures.same)
 
 pub returns-in-Err-clause-reads : goal.returns-in-Err-clause-reads
 returns-in-Err-clause-reads g c =
-    let filled : IsFilled 24 (λ bs. is_fault (fields_of bs)) c.fill-filled.result.count c.fill-filled.new.buf
-    c.fill-filled.result.failed (g.S.Source.left c.args.joint.now.source.now)
-    (g.S.Source.left c.fill-filled.new.joint.source.now) (g.S.Source.faults c.args.joint.now.source.now)
-    (g.S.Source.faults c.fill-filled.new.joint.source.now) =
-    record {
-      size = search (rules, arith);
-      count = c.fill-filled.ensures.count;
-      taken = c.fill-filled.ensures.taken;
-      over = c.fill-filled.ensures.ended;
-      rose = c.fill-filled.ensures.rose;
-      right = c.fill-filled.ensures.right;
-      few = c.fill-filled.ensures.few;
-      calm = c.fill-filled.ensures.calm;
-    } in
-    subst (Refuses _ _ _ _ _ _) (sym c.fault.ensures) (fields_refused _ _ _ _ _ _ _ _ filled c.in-Err.ensures.same)
+    subst (Refuses _ _ _ _ _ _) (sym c.fault.ensures) (fields_refused _ _ _ _ _ _ _ c.fill-filled.ensures.filled
+    (search (rules, arith)) c.in-Err.ensures.same)
 
 pub fill-filled-requires-clause-paced : goal.fill-filled-requires-clause-paced
 fill-filled-requires-clause-paced g c = λ bytes left taken is.

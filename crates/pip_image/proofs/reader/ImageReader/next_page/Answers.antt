@@ -3,80 +3,41 @@ use Rattle.pip_model.specs.Images.{is_seen, front_page}
 use Rattle.pip_image.specs.Reading.{Refuses}
 use Rattle.pip_image.specs.Sought.{is_fault}
 use Rattle.pip_image.proofs.Parsing.{page_goes}
-use Rattle.pip_image.proofs.ReadParts.{IsFilled, filled_calm, filled_whole, page_open, page_same, page_taken}
-use Rattle.pip_image.proofs.ReadParts.{page_refused}
+use Rattle.pip_image.proofs.ReadParts.{filled_calm, filled_whole, page_filled, page_open, page_refused}
+use Rattle.pip_image.proofs.ReadParts.{page_same, page_taken}
 use Rattle.pip_image.proofs.reader.ImageReader.next_page.Goals as goal
 
 pub returns-in-Ok-clause-reads : goal.returns-in-Ok-clause-reads
 returns-in-Ok-clause-reads g c =
-    let filled = subst (λ s. IsFilled 4100 (λ bs.
-    is_fault (front_page c.args.self.now.place.frames s c.args.self.now.place.at bs)) c.fill-filled.result.count
-    c.fill-filled.new.buf c.fill-filled.result.failed (g.S.Source.left c.args.joint.now.source.now)
-    (g.S.Source.left c.fill-filled.new.joint.source.now) (g.S.Source.faults c.args.joint.now.source.now)
-    (g.S.Source.faults c.fill-filled.new.joint.source.now)) c.deref.ensures.0
-    (record {
-      size = search (rules, arith);
-      count = c.fill-filled.ensures.count;
-      taken = c.fill-filled.ensures.taken;
-      over = c.fill-filled.ensures.ended;
-      rose = c.fill-filled.ensures.rose;
-      right = c.fill-filled.ensures.right;
-      few = c.fill-filled.ensures.few;
-      calm = c.fill-filled.ensures.calm;
-    }) in
     let e = c.pass_page.ensures in
-    page_taken c.args.self.now.place c.pass_page.new.self _ _ _ _ _ _ _ _ _ filled (page_same _ _ _ _ _ _
-    c.deref-2.ensures.0 c.in-Ok.ensures.same) c.requires.plans e.at e.frames e.plans e.pages e.seen
+    page_taken c.args.self.now.place c.pass_page.new.self _ _ _ _ _ _ _ _
+    (page_filled _ _ _ _ _ _ _ _ _ _ c.deref.ensures.0 c.fill-filled.ensures.filled) (search (rules, arith))
+    (page_same _ _ _ _ _ _ c.deref-2.ensures.0 c.in-Ok.ensures.same) c.requires.plans e.at e.frames e.plans e.pages
+    e.seen
 
 pub returns-in-Ok-clause-calm : goal.returns-in-Ok-clause-calm
 returns-in-Ok-clause-calm g c =
-    let filled = subst (λ s. IsFilled 4100 (λ bs.
-    is_fault (front_page c.args.self.now.place.frames s c.args.self.now.place.at bs)) c.fill-filled.result.count
-    c.fill-filled.new.buf c.fill-filled.result.failed (g.S.Source.left c.args.joint.now.source.now)
-    (g.S.Source.left c.fill-filled.new.joint.source.now) (g.S.Source.faults c.args.joint.now.source.now)
-    (g.S.Source.faults c.fill-filled.new.joint.source.now)) c.deref.ensures.0
-    (record {
-      size = search (rules, arith);
-      count = c.fill-filled.ensures.count;
-      taken = c.fill-filled.ensures.taken;
-      over = c.fill-filled.ensures.ended;
-      rose = c.fill-filled.ensures.rose;
-      right = c.fill-filled.ensures.right;
-      few = c.fill-filled.ensures.few;
-      calm = c.fill-filled.ensures.calm;
-    }) in
-    filled_calm 4100 _ _ _ _ _ _ _ (front_page c.args.self.now.place.frames c.args.self.now.place.seen.items
-    c.args.self.now.place.at) _ _ (page_goes c.args.self.now.place.frames c.args.self.now.place.seen.items
-    c.args.self.now.place.at) filled (page_same _ _ _ _ _ _ c.deref-2.ensures.0 c.in-Ok.ensures.same)
+    let place = c.args.self.now.place in
+    filled_calm 4100 _ _ _ _ _ _ (front_page place.frames place.seen.items place.at) _ _
+    (page_goes place.frames place.seen.items place.at)
+    (page_filled _ _ _ _ _ _ _ _ _ _ c.deref.ensures.0 c.fill-filled.ensures.filled) (search (rules, arith))
+    (page_same _ _ _ _ _ _ c.deref-2.ensures.0 c.in-Ok.ensures.same)
 
 pub returns-in-Ok-clause-is_open : goal.returns-in-Ok-clause-is_open
 returns-in-Ok-clause-is_open g c =
     let place = c.args.self.now.place in
-    c.fill-filled.ensures.is_open (filled_whole 4100 _ c.fill-filled.new.buf
+    c.fill-filled.ensures.is_open (filled_whole 4100 _ _ _ _ _ _
     (front_page place.frames place.seen.items place.at) _ _ (page_goes place.frames place.seen.items place.at)
-    (search (rules, arith)) c.fill-filled.ensures.count
+    (page_filled _ _ _ _ _ _ _ _ _ _ c.deref.ensures.0 c.fill-filled.ensures.filled) (search (rules, arith))
     (page_same _ _ _ _ _ _ c.deref-2.ensures.0 c.in-Ok.ensures.same))
 
 pub returns-in-Err-clause-reads : goal.returns-in-Err-clause-reads
 returns-in-Err-clause-reads g c =
-    let filled = subst (λ s. IsFilled 4100 (λ bs.
-    is_fault (front_page c.args.self.now.place.frames s c.args.self.now.place.at bs)) c.fill-filled.result.count
-    c.fill-filled.new.buf c.fill-filled.result.failed (g.S.Source.left c.args.joint.now.source.now)
-    (g.S.Source.left c.fill-filled.new.joint.source.now) (g.S.Source.faults c.args.joint.now.source.now)
-    (g.S.Source.faults c.fill-filled.new.joint.source.now)) c.deref.ensures.0
-    (record {
-      size = search (rules, arith);
-      count = c.fill-filled.ensures.count;
-      taken = c.fill-filled.ensures.taken;
-      over = c.fill-filled.ensures.ended;
-      rose = c.fill-filled.ensures.rose;
-      right = c.fill-filled.ensures.right;
-      few = c.fill-filled.ensures.few;
-      calm = c.fill-filled.ensures.calm;
-    }) in
-    subst (Refuses _ _ _ _ _ _) (sym c.fault.ensures) (page_refused c.args.self.now.place
-    (c.args.self.now.place.pages - 1) _ _ _ _ _ _ _ _ c.requires.plans (let h = c.requires.pages in
-    omega (arith, h)) filled (page_same _ _ _ _ _ _ c.deref-2.ensures.0 c.in-Err.ensures.same))
+    let place = c.args.self.now.place in
+    subst (Refuses _ _ _ _ _ _) (sym c.fault.ensures) (page_refused place (place.pages - 1) _ _ _ _ _ _ _
+    c.requires.plans (let h = c.requires.pages in omega (arith, h))
+    (page_filled _ _ _ _ _ _ _ _ _ _ c.deref.ensures.0 c.fill-filled.ensures.filled) (search (rules, arith))
+    (page_same _ _ _ _ _ _ c.deref-2.ensures.0 c.in-Err.ensures.same))
 
 pub returns-in-Ok-clause-next : goal.returns-in-Ok-clause-next
 returns-in-Ok-clause-next g c = record {
