@@ -212,13 +212,14 @@ module _ (n k : ℕ) (m : Memory) (left a : Option (List ℕ)) (i : Held) (at : 
 
 -- a line was read, and does this
 pub after_line : (n n' k c before : ℕ) (s : CoreState) (st : CoreStep) (i : Held) (held line more : List ℕ)
-    (left a b : Option (List ℕ))
+    (left a b : Option (List ℕ)) (end : LineEnd)
     → IsAt n k s held left a → Keeps (prepend_known held a) (prepend_known i.bytes b)
-    → HoldsLine before i b (E.Newline c)
-    → n' ≡ n → line ≡ take c i.bytes → more ≡ drop (c + 1) i.bytes → st ≡ core_step n' s (core_line line)
+    → end ≡ E.Newline c → HoldsLine before i b end → n' ≡ n
+    → line ≡ take c i.bytes → more ≡ drop (c + 1) i.bytes → st ≡ core_step n' s (core_line line)
     → IsAfter n k st more left b
-after_line n n' k c before s st i held line more left a b at keeps h n_is line_is more_is st_is =
-    let one = take_one n k c s i.bytes left b h.2 (at_kept n k s held i.bytes left a b keeps at) in
+after_line n n' k c before s st i held line more left a b end at keeps end_is h n_is line_is more_is st_is =
+    let begins = (subst (HoldsLine before i b) end_is h).2 in
+    let one = take_one n k c s i.bytes left b begins (at_kept n k s held i.bytes left a b keeps at) in
     let is : core_step n s (core_line (take c i.bytes)) ≡ st =
     sym (st_is ∙ ap (λ m. core_step m s (core_line line)) n_is ∙ ap (λ l. core_step n s (core_line l)) line_is) in
     record {
@@ -230,10 +231,11 @@ after_line n n' k c before s st i held line more left a b at keeps h n_is line_i
     }
 
 -- how many bytes may still be taken
-pub room_after : (k c before : ℕ) (i j : Held) (b : Option (List ℕ)) → HoldsLine before i b (E.Newline c)
-    → j.bytes ≡ drop (c + 1) i.bytes → j.room ≡ i.room
+pub room_after : (k c before : ℕ) (i j : Held) (b : Option (List ℕ)) (end : LineEnd)
+    → end ≡ E.Newline c → HoldsLine before i b end → j.bytes ≡ drop (c + 1) i.bytes → j.room ≡ i.room
     → 1 ≤ k → 2 ^ 26 ≤ before + 121 * (k - 1) → 2 ^ 26 ≤ still j + 121 * (k + 1 - 1)
-room_after k c before i j b h bytes room one most =
+room_after k c before i j b end end_is ends bytes room one most =
+    let h = subst (HoldsLine before i b) end_is ends in
     let size : length j.bytes ≡ length i.bytes - (c + 1) = ap length bytes ∙ length-drop (c + 1) i.bytes in
     let same = h.0 in let short = h.1 in let inside = h.2.inside in
     omega (arith, size, same, short, inside, room, one, most)

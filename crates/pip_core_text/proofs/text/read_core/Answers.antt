@@ -33,18 +33,15 @@ returns-in_err-next_line-in-Ends-clause-reads g c =
     let m = g.M.Frames.memory c.loop-k.mem in
     let u = g.M.Frames.memory c.take_line-step.new.mem in
     let s = state_at c.loop-k.place m in
-    let line = subst (HoldsLine (still c.loop-k.input) c.next_line.new.input
-    (g.S.Source.left c.next_line.new.joint.source.now))
-    c.in-Newline.is c.in_ok-count.ensures.line in
     let p = err_from_is_err_and c.from_residual-in_err-next_line-in-Ends.result
     c.from_residual-in_err-next_line-in-Ends.ensures.1 in
     read_failed n (g.S.Source.faults c.args.joint.now.source.now)
     (g.S.Source.faults c.next_line-in-Ends.new.joint.source.now) _ _
     c.from_residual-in_err-next_line-in-Ends.result p.0 _ p.1 p.2
     (unread_after n c.loop-k.k u (still c.take.new.self) c.take.new.self.bytes c.next_line-in-Ends.new.input _ _ _
-    (after_line n (length m) c.loop-k.k c.in-Newline.count (still c.loop-k.input) s (Ends u) c.next_line.new.input
-    c.loop-k.input.bytes c.head.result.now c.take.new.self.bytes _ _ _
-    was.at c.in_ok-count.ensures.kept line was.count c.head.ensures c.take.ensures.bytes c.in-Ends.ensures.step)
+    (after_line n (length m) c.loop-k.k _ _ s (Ends u) c.next_line.new.input _ _ _ _ _ _ _ was.at
+    c.in_ok-count.ensures.kept c.in-Newline.is c.in_ok-count.ensures.line was.count c.head.ensures
+    c.take.ensures.bytes c.in-Ends.ensures.step)
     c.in_err-next_line-in-Ends.ensures.kept c.in_err-next_line-in-Ends.ensures.part)
     (subst (λ k. RoseByOne k (g.S.Source.faults c.next_line-in-Ends.new.joint.source.now))
     (c.in_ok-count.ensures.cause.calm ∙ was.calm) c.in_err-next_line-in-Ends.ensures.cause.failed)
@@ -76,14 +73,11 @@ returns-in-Bad-clause-reads g c =
     let was = c.loop-k.invariant in
     let n = length (g.M.Frames.memory c.args.mem.now) in
     let m = g.M.Frames.memory c.loop-k.mem in
-    let s = state_at c.loop-k.place m in
-    let line = subst (HoldsLine (still c.loop-k.input) c.next_line.new.input
-    (g.S.Source.left c.next_line.new.joint.source.now))
-    c.in-Newline.is c.in_ok-count.ensures.line in (
+    let s = state_at c.loop-k.place m in (
       bad_step n c.loop-k.k Bad c.take.new.self.bytes _ _ refl
-          (after_line n (length m) c.loop-k.k c.in-Newline.count (still c.loop-k.input) s Bad c.next_line.new.input
-          c.loop-k.input.bytes c.head.result.now c.take.new.self.bytes _ _ _
-          was.at c.in_ok-count.ensures.kept line was.count c.head.ensures c.take.ensures.bytes c.in-Bad.ensures.step),
+          (after_line n (length m) c.loop-k.k _ _ s Bad c.next_line.new.input _ _ _ _ _ _ _ was.at
+          c.in_ok-count.ensures.kept c.in-Newline.is c.in_ok-count.ensures.line was.count c.head.ensures
+          c.take.ensures.bytes c.in-Bad.ensures.step),
       c.in_ok-count.ensures.cause.calm ∙ was.calm,
     )
 
@@ -94,17 +88,14 @@ returns-in-End-clause-reads g c =
     let m = g.M.Frames.memory c.loop-k.mem in
     let u = g.M.Frames.memory c.take_line-step.new.mem in
     let s = state_at c.loop-k.place m in
-    let line = subst (HoldsLine (still c.loop-k.input) c.next_line.new.input
-    (g.S.Source.left c.next_line.new.joint.source.now))
-    c.in-Newline.is c.in_ok-count.ensures.line in
     let end = subst (HoldsLine (still c.take.new.self) c.next_line-in-Ends.new.input _) c.in-End.is
     c.in_ok-next_line-in-Ends.ensures.line in (
       whole_text n c.loop-k.k u _ _ c.next_line-in-Ends.new.input
           (after_kept n c.loop-k.k (Ends u) c.take.new.self.bytes c.next_line-in-Ends.new.input.bytes _ _ _
           c.in_ok-next_line-in-Ends.ensures.kept
-          (after_line n (length m) c.loop-k.k c.in-Newline.count (still c.loop-k.input) s (Ends u) c.next_line.new.input
-          c.loop-k.input.bytes c.head.result.now c.take.new.self.bytes _ _ _
-          was.at c.in_ok-count.ensures.kept line was.count c.head.ensures c.take.ensures.bytes c.in-Ends.ensures.step))
+          (after_line n (length m) c.loop-k.k _ _ s (Ends u) c.next_line.new.input _ _ _ _ _ _ _ was.at
+          c.in_ok-count.ensures.kept c.in-Newline.is c.in_ok-count.ensures.line was.count c.head.ensures
+          c.take.ensures.bytes c.in-Ends.ensures.step))
           (still c.take.new.self) end,
       c.in_ok-next_line-in-Ends.ensures.cause.calm ∙ c.in_ok-count.ensures.cause.calm ∙ was.calm,
     )
@@ -116,18 +107,14 @@ returns-in_default-2 g c =
     let m = g.M.Frames.memory c.loop-k.mem in
     let u = g.M.Frames.memory c.take_line-step.new.mem in
     let s = state_at c.loop-k.place m in
-    let line = subst (HoldsLine (still c.loop-k.input) c.next_line.new.input
-    (g.S.Source.left c.next_line.new.joint.source.now))
-    c.in-Newline.is c.in_ok-count.ensures.line in
     record {
       reads = (
         more_text n c.loop-k.k u _ _ c.next_line-in-Ends.new.input
             (after_kept n c.loop-k.k (Ends u) c.take.new.self.bytes c.next_line-in-Ends.new.input.bytes _ _ _
             c.in_ok-next_line-in-Ends.ensures.kept
-            (after_line n (length m) c.loop-k.k c.in-Newline.count (still c.loop-k.input) s (Ends u)
-            c.next_line.new.input c.loop-k.input.bytes c.head.result.now c.take.new.self.bytes _ _ _
-            was.at c.in_ok-count.ensures.kept line was.count c.head.ensures c.take.ensures.bytes
-            c.in-Ends.ensures.step))
+            (after_line n (length m) c.loop-k.k _ _ s (Ends u) c.next_line.new.input _ _ _ _ _ _ _ was.at
+            c.in_ok-count.ensures.kept c.in-Newline.is c.in_ok-count.ensures.line was.count c.head.ensures
+            c.take.ensures.bytes c.in-Ends.ensures.step))
             (still c.take.new.self) c.in_ok-next_line-in-Ends.field-0 c.in_ok-next_line-in-Ends.ensures.line
             c.in_default-2.not-End,
         c.in_ok-next_line-in-Ends.ensures.cause.calm ∙ c.in_ok-count.ensures.cause.calm ∙ was.calm,
@@ -144,23 +131,19 @@ loop-k-preserved g c =
     let m = g.M.Frames.memory c.loop-k.mem in
     let u = state_at c.in-Goes.next (g.M.Frames.memory c.take_line-step.new.mem) in
     let s = state_at c.loop-k.place m in
-    let line = subst (HoldsLine (still c.loop-k.input) c.next_line.new.input
-    (g.S.Source.left c.next_line.new.joint.source.now))
-    c.in-Newline.is c.in_ok-count.ensures.line in
     let rises = step_rises n s u (core_line c.head.result.now) was.placed
     (sym (c.in-Goes.ensures.step ∙ ap (λ x. core_step x s (core_line c.head.result.now)) was.count)) in
     let more = rises.more in let rose = was.rose in let first = was.first in
     record {
       at = goes_on n c.loop-k.k (Goes u) u c.take.new.self.bytes _ _ refl
-          (after_line n (length m) c.loop-k.k c.in-Newline.count (still c.loop-k.input) s (Goes u) c.next_line.new.input
-          c.loop-k.input.bytes c.head.result.now c.take.new.self.bytes _ _ _
-          was.at c.in_ok-count.ensures.kept line was.count c.head.ensures c.take.ensures.bytes c.in-Goes.ensures.step);
+          (after_line n (length m) c.loop-k.k _ _ s (Goes u) c.next_line.new.input _ _ _ _ _ _ _ was.at
+          c.in_ok-count.ensures.kept c.in-Newline.is c.in_ok-count.ensures.line was.count c.head.ensures
+          c.take.ensures.bytes c.in-Goes.ensures.step);
       placed = rises.placed;
       rose = omega (arith, more, rose, first);
       first = omega (arith, first);
       room = room_after c.loop-k.k c.in-Newline.count (still c.loop-k.input) c.next_line.new.input c.take.new.self
-          (g.S.Source.left c.next_line.new.joint.source.now) line c.take.ensures.bytes c.take.ensures.room was.first
-          was.room;
+          _ _ c.in-Newline.is c.in_ok-count.ensures.line c.take.ensures.bytes c.take.ensures.room was.first was.room;
       count = c.take_line-step.ensures.count ∙ was.count;
       name = search rules;
       sink = search rules;
@@ -187,11 +170,9 @@ next_line-requires-in-Ends-clause-paced g c =
     let m = g.M.Frames.memory c.loop-k.mem in
     let u = g.M.Frames.memory c.take_line-step.new.mem in
     let s = state_at c.loop-k.place m in
-    let line = subst (HoldsLine (still c.loop-k.input) c.next_line.new.input
-    (g.S.Source.left c.next_line.new.joint.source.now)) c.in-Newline.is c.in_ok-count.ensures.line in
-    let at = after_line n (length m) c.loop-k.k c.in-Newline.count (still c.loop-k.input) s (Ends u)
-    c.next_line.new.input c.loop-k.input.bytes c.head.result.now c.take.new.self.bytes _ _ _
-    was.at c.in_ok-count.ensures.kept line was.count c.head.ensures c.take.ensures.bytes c.in-Ends.ensures.step in
+    let at = after_line n (length m) c.loop-k.k _ _ s (Ends u) c.next_line.new.input _ _ _ _ _ _ _ was.at
+    c.in_ok-count.ensures.kept c.in-Newline.is c.in_ok-count.ensures.line was.count c.head.ensures
+    c.take.ensures.bytes c.in-Ends.ensures.step in
     let paced = paced_after g.S.Source.allows (BeginsLines n) (IsLineless c.take.new.self) _ _ _ _
     (g.K.Sink.written c.args.joint.now.sink.now) (g.K.Sink.faults c.args.joint.now.sink.now)
     (at.taken ++ c.take.new.self.bytes) (c.in_ok-count.ensures.cause.calm ∙ was.calm) at.read
