@@ -1,5 +1,5 @@
 -- What a key tells of the moments that have it.
-use Rattle.std.proofs.Common.{◌≡◌, ℕ, ◌≤◌, List, ◌∷◌, ◌++◌, length, drop, take, ◌-◌}
+use Rattle.std.proofs.Common.{◌≡◌, ℕ, ◌≤◌, List, [], ◌∷◌, ◌++◌, length, drop, take, ◌-◌}
 use Rattle.std.proofs.Common.{Option, Result, Ok, Err, IfOk, slice_index, sym, ap, subst}
 use Rattle.std.proofs.Common.{◌∙◌, arith}
 use Rattle.std.proofs.Math.Logic.{∥∥₁_elim}
@@ -56,68 +56,65 @@ a_cache_each : (p : State) → length p.caches ≡ length p.cpus
 a_cache_each p = ∥∥₁_elim p.world (ℕ_set (length p.caches) (length p.cpus))
     (λ (k : HasCachedWorld p.memory p.cpus p.caches). k.stands.each)
 
--- what was read of a key
-abbrev pub WasRead : List ℕ → ℕ → List (Option Occupant) → List ℕ → Type 0
-WasRead key n cpus words = (os : List (Option Occupant)) (rest : List ℕ) → StartsWithAll (drop 1 key) n os rest
-    → (cpus ≡ os) × (words ≡ rest)
-
 -- there is a world of what was read
 pub record HasRead (first : Memory) (n : ℕ) (cpus : List (Option Occupant)) (words : List ℕ) : Type 0 where
   pub places : ArePlaces (length first) words
   pub count : length cpus ≡ n
   pub world : HasWorld (rewritten first words) cpus
 
-pub has_read : (first : Memory) (g : Scope) (key : List ℕ) (m : Moment) (cpus : List (Option Occupant)) (words : List ℕ)
-    → IsMemory first → IsKeyOf first g key m → WasRead key g.cpus cpus words → HasRead first g.cpus cpus words
-has_read first g key m cpus words shape k read =
-    let h : HasParts first key g.cpus m k.memory = parts first g key m shape k in
-    let r : (cpus ≡ m.world.cpus) × (words ≡ changes first k.memory) =
-    read m.world.cpus (changes first k.memory) h.begins in
-    record {
-      places = subst (λ v. ArePlaces (length first) v) (sym r.1) h.places;
-      count = ap length r.0 ∙ k.cpus;
-      world = record {
-        world = m.world;
-        stands = subst (λ v. StandsFor (rewritten first v) cpus m.world) (sym r.1)
-            (subst (λ v. StandsFor v cpus m.world) (sym h.same)
-            (subst (λ v. StandsFor k.memory v m.world) (sym r.0) k.stands));
-      };
-    }
+-- the words after the first are those of the processors, and then of the memory
+key_begins : {first : Memory} {g : Scope} {key : List ℕ} {m : Moment} {n : ℕ} → IsMemory first
+    → (k : IsKeyOf first g key m) → n ≡ g.cpus
+    → StartsWithAll (take (length key - 1) (drop 1 key)) n m.world.cpus (changes first k.memory)
+key_begins {first} {g} {key} {m} {n} shape k same =
+    subst (λ v. StartsWithAll v n m.world.cpus (changes first k.memory)) (sym (take_rest key 1))
+    (subst (λ v. StartsWithAll (drop 1 key) v m.world.cpus (changes first k.memory)) (sym same)
+    (parts first g key m shape k).begins)
 
--- a machine that was taken there is at the moments that have the key
-pub moved_to : (first : Memory) (g : Scope) (key : List ℕ) (m : Moment) (p q : State) (cpus : List (Option Occupant))
-    (words : List ℕ) → IsMemory first → IsKeyOf first g key m → g.cpus ≡ length p.cpus → WasRead key g.cpus cpus words
-    → q.memory ≡ rewritten first words → q.cpus ≡ cpus → q.caches ≡ all_emptied p.caches → IsAtWorld q m.world
-moved_to first g key m p q cpus words shape k same read memory runs emptied =
-    let h : HasParts first key g.cpus m k.memory = parts first g key m shape k in
-    let r : (cpus ≡ m.world.cpus) × (words ≡ changes first k.memory) =
-    read m.world.cpus (changes first k.memory) h.begins in
-    let memory_is : q.memory ≡ k.memory = memory ∙ (ap (λ v. rewritten first v) r.1 ∙ h.same) in
-    let cpus_are : q.cpus ≡ m.world.cpus = runs ∙ r.0 in
-    rewound q.memory q.cpus p.caches q.caches emptied
-    (a_cache_each p ∙ (sym same ∙ (sym k.cpus ∙ ap length (sym cpus_are)))) m.world
-    (subst (λ v. StandsFor v q.cpus m.world) (sym memory_is)
-    (subst (λ v. StandsFor k.memory v m.world) (sym cpus_are) k.stands))
+-- so they can be read
+pub can_read : {first : Memory} {g : Scope} {key : List ℕ} {m : Moment} {n : ℕ} → IsMemory first
+    → IsKeyOf first g key m → n ≡ g.cpus → (os : List (Option Occupant))
+    × ((rest : List ℕ) × StartsWithAll (take (length key - 1) (drop 1 key)) n os rest)
+can_read {first} {g} {key} {m} {n} shape k same =
+    (m.world.cpus, (changes first k.memory, key_begins shape k same))
 
--- the words after the first were read, as the code has them
-pub was_read : (key : List ℕ) (n k : ℕ) (cpus : List (Option Occupant)) (words : List ℕ) → n ≡ k
-    → ((os : List (Option Occupant)) (rest : List ℕ) → StartsWithAll (take (length key - 1) (drop 1 key)) n os rest
-    → (cpus ≡ os) × (words ≡ rest)) → WasRead key k cpus words
-was_read key n k cpus words same read os rest b =
-    read os rest (subst (λ v. StartsWithAll v n os rest) (sym (take_rest key 1))
-    (subst (λ v. StartsWithAll (drop 1 key) v os rest) (sym same) b))
+-- a key of a moment, of which this was read
+module _ {first : Memory} {g : Scope} {key : List ℕ} {m : Moment} {n : ℕ} {cpus : List (Option Occupant)}
+    {words : List ℕ} (shape : IsMemory first) (k : IsKeyOf first g key m) (same : n ≡ g.cpus)
+    (read : (os : List (Option Occupant)) (rest : List ℕ) → StartsWithAll (take (length key - 1) (drop 1 key)) n os rest
+    → (cpus ≡ os) × (words ≡ rest)) where
+  -- it is what runs at the moment, and how its memory differs
+  was_read : (cpus ≡ m.world.cpus) × (words ≡ changes first k.memory)
+  was_read = read m.world.cpus (changes first k.memory) (key_begins shape k same)
 
-pub can_read : (first : Memory) (key : List ℕ) (n k : ℕ) (m : Moment) (memory : Memory) → n ≡ k
-    → HasParts first key k m memory
-    → (os : List (Option Occupant)) × ((rest : List ℕ) × StartsWithAll (take (length key - 1) (drop 1 key)) n os rest)
-can_read first key n k m memory same h = (
-  m.world.cpus,
-  (
-    changes first memory,
-    subst (λ v. StartsWithAll v n m.world.cpus (changes first memory)) (sym (take_rest key 1))
-        (subst (λ v. StartsWithAll (drop 1 key) v m.world.cpus (changes first memory)) (sym same) h.begins),
-  ),
-)
+  -- so there is a world of it
+  pub has_read : HasRead first g.cpus cpus words
+  has_read =
+      let h : HasParts first key g.cpus m k.memory = parts first g key m shape k in
+      let r = was_read in
+      record {
+        places = subst (λ v. ArePlaces (length first) v) (sym r.1) h.places;
+        count = ap length r.0 ∙ k.cpus;
+        world = record {
+          world = m.world;
+          stands = subst (λ v. StandsFor (rewritten first v) cpus m.world) (sym r.1)
+              (subst (λ v. StandsFor v cpus m.world) (sym h.same)
+              (subst (λ v. StandsFor k.memory v m.world) (sym r.0) k.stands));
+        };
+      }
+
+  -- a machine that was taken there is at the moment
+  pub moved_to : (p q : State) → g.cpus ≡ length p.cpus → q.memory ≡ rewritten first words → q.cpus ≡ cpus
+      → q.caches ≡ all_emptied p.caches → IsAtWorld q m.world
+  moved_to p q count memory runs emptied =
+      let h : HasParts first key g.cpus m k.memory = parts first g key m shape k in
+      let r = was_read in
+      let memory_is : q.memory ≡ k.memory = memory ∙ (ap (λ v. rewritten first v) r.1 ∙ h.same) in
+      let cpus_are : q.cpus ≡ m.world.cpus = runs ∙ r.0 in
+      rewound q.memory q.cpus p.caches q.caches emptied
+      (a_cache_each p ∙ (sym count ∙ (sym k.cpus ∙ ap length (sym cpus_are)))) m.world
+      (subst (λ v. StandsFor v q.cpus m.world) (sym memory_is)
+      (subst (λ v. StandsFor k.memory v m.world) (sym cpus_are) k.stands))
 
 -- the moment after a choice has the key of the machine that made it
 pub keyed : (first : Memory) (g : Scope) (m : Moment) (k : ℕ) (q : State) (turns : ℕ) (label key : List ℕ)
@@ -140,19 +137,21 @@ pub same_key : (first : Memory) (g : Scope) (key : List ℕ) (m n : Moment) → 
     → IsKeyOf first g key n
 same_key first g key m n e k = subst (λ v. IsKeyOf first g key v) (sym e) k
 
--- the first moment has the key of a machine that begins
-pub begun : (first : Memory) (g : Scope) (n : ℕ) (words : ℕ → ℕ → ℕ) (p : State) (key : List ℕ)
-    → StandsAs p (boot_world_with words n g.cpus) → length p.memory ≡ length first → length p.cpus ≡ g.cpus
-    → key ≡ key_words first 0 p.cpus p.memory → IsKeyOf first g key (first_moment words n g.cpus)
-begun first g n words p key s frames count is =
-    let w : World = boot_world_with words n g.cpus in
-    let cpus_are : w.cpus ≡ p.cpus = s.bare.shows.cpus in
+-- the first moment has the key that was added of a machine that begins
+pub begun : {first : Memory} {g : Scope} {p q : State} {start key : List ℕ} (n cpus : ℕ) (words : ℕ → ℕ → ℕ)
+    → StandsAs p (boot_world_with words n cpus) → q ≡ p → length q.memory ≡ length first → length q.cpus ≡ g.cpus
+    → start ≡ [] → key ≡ start ++ key_words first 0 q.cpus q.memory → IsKeyOf first g key (first_moment words n cpus)
+begun {first} {g} {p} {q} n cpus words stands same frames count none is =
+    let w : World = boot_world_with words n cpus in
+    let s : StandsAs q w = subst (λ v. StandsAs v w) (sym same) stands in
+    let cpus_are : w.cpus ≡ q.cpus = s.bare.shows.cpus in
     record {
-      memory = p.memory;
-      stands = subst (λ v. StandsFor p.memory v w) (sym cpus_are) s.bare;
+      memory = q.memory;
+      stands = subst (λ v. StandsFor q.memory v w) (sym cpus_are) s.bare;
       frames = frames;
       cpus = ap length cpus_are ∙ count;
-      whole = is ∙ ap (λ v. key_words first 0 v p.memory) (sym cpus_are);
+      whole = is ∙ (ap (λ v. v ++ key_words first 0 q.cpus q.memory) none ∙
+          ap (λ v. key_words first 0 v q.memory) (sym cpus_are));
     }
 
 -- scopes with the same processors, lines and first turn are one
