@@ -178,7 +178,7 @@ pub page_same : (n at : ℕ) (bs s t : List ℕ) (r : Result (Page × List ℕ) 
     → r ≡ front_page n t at bs
 page_same n at bs s t r e h = subst (λ u. r ≡ front_page n u at bs) e h
 
--- also of a buffer filled with it
+-- a buffer that was filled, too, where the pages before it are named otherwise
 pub page_filled : (n at : ℕ) (filled : Filled) (buf s t : List ℕ) (left left' : Option (List ℕ)) (before now : ℕ)
     → s ≡ t → IsFilled (λ bs. is_fault (front_page n s at bs)) filled buf left left' before now
     → IsFilled (λ bs. is_fault (front_page n t at bs)) filled buf left left' before now
