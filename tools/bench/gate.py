@@ -3,9 +3,9 @@
     bench/gate rt ci                    the whole gate, from nothing
     bench/gate rt must-fail pip_kern    a crate's edits
 
-Kinds: the crate's own proof, the proof and the build of its tests, the seed of its edits (one more check of the whole crate), and the
-edits. Processes are looked at every second, so one that ends between two looks loses up to that; what a process had used when it was
-seen last is counted.
+Kinds: the crate's own proof, with the second check of a program for Rattle's own compiler; the proof and the build of its tests; and its
+edits, with their seed (one more check of the whole crate). Processes are looked at every second, so one that ends between two looks
+loses up to that; what a process had used when it was seen last is counted.
 """
 
 from __future__ import annotations
@@ -20,7 +20,7 @@ from collections import defaultdict
 from typing import DefaultDict, Dict, Tuple
 
 Used = DefaultDict[Tuple[str, str], Dict[int, float]]      # by crate and kind: the seconds of each process
-KINDS = ("proof", "tests", "seed", "edits")
+KINDS = ("proof", "tests", "edits")
 TICKS = os.sysconf("SC_CLK_TCK")
 NAME = re.compile(rb"\0--crate-name\0([^\0]+)\0")
 
@@ -64,12 +64,10 @@ def key_of(pid: int, parents: dict[int, int]) -> tuple[str, str] | None:
 def kind_of(pid: int, line: bytes) -> str:
     if b"\0--test\0" in line:
         return "tests"
-    if line.split(b"\0")[1:2] != [b"check"]:
-        return "proof"
     try:
-        return "edits" if "/rt-edit-" in os.readlink(f"/proc/{pid}/cwd") else "seed"
+        return "edits" if "/rt-edit-" in os.readlink(f"/proc/{pid}/cwd") else "proof"
     except OSError:
-        return "edits"
+        return "proof" if line.split(b"\0")[1:2] == [b"build"] else "edits"
 
 
 def show(used: Used, wall: float) -> None:
