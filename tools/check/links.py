@@ -16,7 +16,7 @@ LEFT_OUT_PATHS = ("/out/", "NAME")         # what is built, and what stands for 
 
 def links(program: str) -> None:
     anchors: dict[str, set[str]] = {}
-    for path in documents():
+    for path in documents(REPOSITORY):
         for name in PATH.findall(without_code(path)):
             if not any(part in name for part in LEFT_OUT_PATHS) and not os.path.exists(os.path.join(REPOSITORY, name)):
                 raise Differs(f"{os.path.relpath(path, REPOSITORY)}: {name} isn't there")
@@ -31,8 +31,8 @@ def links(program: str) -> None:
                 raise Differs(f"{os.path.relpath(path, REPOSITORY)}: {target} names no heading")
 
 
-def documents() -> Iterator[str]:
-    for folder, folders, files in os.walk(REPOSITORY):
+def documents(top: str) -> Iterator[str]:
+    for folder, folders, files in os.walk(top):
         folders[:] = [name for name in folders if name not in LEFT_OUT]
         yield from (os.path.join(folder, name) for name in files if name.endswith(".md"))
 
