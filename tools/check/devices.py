@@ -36,14 +36,14 @@ def full_devices(program: str) -> None:
 
 
 def interrupted(program: str) -> None:
-    """Ctrl-C ends a tool that waits for its input, and checks that wait for a program, without a traceback."""
+    """Ctrl-C ends a tool that waits for its input, and checks that wait for programs, with these programs and without a traceback."""
     with tempfile.TemporaryDirectory() as place:
         waits = os.path.join(place, "pip")
         with open(waits, "w") as file:
             file.write(f"#!/bin/sh\nexec sleep {SECONDS}\n")
         os.chmod(waits, 0o755)
         stop("why", ("-",), program)
-        stop("check/run.py", ("--only", "empty-script", "--program", waits), program)
+        stop("check/run.py", ("--only", "script", "--program", waits), program)
 
 
 def stop(name: str, words: tuple[str, ...], program: str) -> None:

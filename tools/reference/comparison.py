@@ -46,10 +46,15 @@ def job(given: tuple[str, str, int]) -> tuple[int, Difference | None]:
     return given[2], difference(*given)
 
 
+def do_no_more(*_: object) -> None:
+    """A worker at Ctrl-C: the program that it runs is stopped by that, too, and the one that waits for the worker ends it."""
+    signal.pause()
+
+
 def first_difference(path: str, command: str, cases: int, seed: int, jobs: int | None) -> tuple[int, Difference] | None:
     """The first seed whose case differs, with the difference; None where all agree."""
     work = ((path, command, seed + k) for k in range(cases))
-    with multiprocessing.Pool(jobs, signal.signal, (signal.SIGINT, signal.SIG_IGN)) as pool:       # Ctrl-C is for the one that waits
+    with multiprocessing.Pool(jobs, signal.signal, (signal.SIGINT, do_no_more)) as pool:
         for at, found in pool.imap(job, work, chunksize=20):
             if found:
                 pool.terminate()
