@@ -22,6 +22,23 @@ use pip_entry::descriptor::{PARENT, PENDING, SELF_FRAME};
 use pip_frames::Frames;
 use std::sync::ledger::Ledger;
 
+// The parts of soundness, by their numbers in the answer `no unsound P`.
+const PARENTS_COME_FIRST: u32 = 1;
+
+const BOOT_ROOT: u32 = 2;
+
+const PAGES_APART: u32 = 3;
+
+const LENT: u32 = 4;
+
+const SIBLINGS_APART: u32 = 5;
+
+const RIGHTS: u32 = 6;
+
+const TABLES: u32 = 7;
+
+const NO_LINES_BUT_THE_ROOT: u32 = 8;
+
 impl Auditor {
     // The page of node `x`.
     pub(crate) fn name<M: Frames>(&self, mem: &M, x: usize) -> Frame
@@ -252,20 +269,22 @@ impl Auditor {
         ensures read { IsRead (M.memory mem.now) self.new }
     {
         match part {
-            1 => self.each_node::<IsLater, M, L>(mem, 1, steps) && self.up(mem, 0, steps) == 1,
-            2 => self.has_boot_root(mem, steps),
-            3 => self.each_node::<IsApart, M, L>(mem, 0, steps),
-            4 => {
+            PARENTS_COME_FIRST => {
+                self.each_node::<IsLater, M, L>(mem, 1, steps) && self.up(mem, 0, steps) == 1
+            }
+            BOOT_ROOT => self.has_boot_root(mem, steps),
+            PAGES_APART => self.each_node::<IsApart, M, L>(mem, 0, steps),
+            LENT => {
                 self.load_parent(mem, Frame::new(ROOT), steps);
                 self.each_node::<IsLent, M, L>(mem, 1, steps)
                     && self.each_node::<IsNamed, M, L>(mem, 1, steps)
             }
-            5 => self.each_node::<HasChildrenApart, M, L>(mem, 0, steps),
-            6 => {
+            SIBLINGS_APART => self.each_node::<HasChildrenApart, M, L>(mem, 0, steps),
+            RIGHTS => {
                 self.load_parent(mem, Frame::new(ROOT), steps);
                 self.each_node::<IsGranted, M, L>(mem, 1, steps)
             }
-            7 => self.each_node::<HasTables, M, L>(mem, 0, steps),
+            TABLES => self.each_node::<HasTables, M, L>(mem, 0, steps),
             _ => self.each_node::<HasNoLines, M, L>(mem, 1, steps),
         }
     }
@@ -280,7 +299,7 @@ impl Auditor {
         ensures part { result ≡ broken_part (tree_in (M.memory mem.now)) }
         ensures read { IsRead (M.memory mem.now) self.new }
     {
-        for part in 1..9u32 {
+        for part in PARENTS_COME_FIRST..NO_LINES_BUT_THE_ROOT + 1 {
             if !self.keeps_to(mem, part, steps) {
                 return Some(part);
             }
