@@ -5,6 +5,8 @@ use Rattle.std.specs.Io.KnownBytes as IO
 use Rattle.std.specs.Io.KnownBytes.{Consumes, prepend_known}
 use Rattle.std.proofs.KnownBytes as KB
 use Rattle.pip_input.specs.Held.{Held}
+use Rattle.pip_input.specs.Lines.{HoldsLine, still}
+use Rattle.pip_input.specs.declared.input.LineEnd.{LineEnd}
 use Rattle.pip_input.proofs.Taking.{all_read}
 use Rattle.pip_io.specs.Causes.{RoseByOne}
 use Rattle.pip_io.specs.Taken.{Taken, Appends, Keeps, SendsPart}
@@ -13,6 +15,7 @@ use Rattle.pip_model.specs.Grammar.{lines_of}
 use Rattle.pip_model.specs.Text.{transcript_from}
 use Rattle.pip_model.specs.Worlds.{World}
 use Rattle.pip_switch.specs.Standing.{State}
+use Rattle.pip_commands.specs.Machines.{StandsIfAny}
 use Rattle.pip_commands.specs.Progress.{EndsTurn, HasNoLine, IsSettled, IsUnread, IsUnwritten, Names, Settles}
 use Rattle.pip_commands.specs.Progress.{TakesLast, TurnDoes, bytes_coming, status_of}
 use Rattle.pip_commands.specs.Streams.{Streams}
@@ -169,6 +172,20 @@ module _ (a : Streams) (w : Taken) (m : ℕ) (kept : Keeps a.written w) (same : 
     record { reads = h.0.reads; writes = λ not. h.0.writes not ∙ same },
     λ v stands. ends_after e v n i b machine' (h.1 v stands),
   )
+
+-- a turn that ends at what stands at the head of the input
+pub ends_settled : {a b : Streams} {w : Taken} {m : ℕ} (machine machine' : Option State) (n : ℕ) (i j : Held)
+    (e : End) {found head : LineEnd} → found ≡ head
+    → HoldsLine (still i) j b.left found × (b.reads ≡ a.reads) × (m ≡ a.writes) → Keeps a.written w
+    → (status_of e ≢ 4 → b.writes ≡ m)
+    → (HoldsLine (still i) j b.left head → (v : Option World) → StandsIfAny machine v
+    → EndsTurn e v n i (record { left = a.left; written = w; reads = a.reads; writes = m }) b machine')
+    → TurnDoes (Some e) machine machine' n i j a b
+ends_settled {a} {b} {w} {m} machine machine' n i j e {found} {head} is line taken calm ends =
+    did_after a w m taken line.2 (Some e) machine machine' n i j b (
+      record { reads = λ not. line.1; writes = calm },
+      ends (subst (HoldsLine (still i) j b.left) is line.0),
+    )
 
 -- ---- before a settling
 
