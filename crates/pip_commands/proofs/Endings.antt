@@ -9,7 +9,7 @@ use Rattle.pip_switch.specs.Standing.{State}
 use Rattle.pip_commands.specs.Machines.{StandsIfAny}
 use Rattle.pip_commands.specs.EndsBy.{Response, GivesAnswer, Due, EndsBy, IsAnswered, IsOfAnswer, IsSoFar, PassesLimit}
 use Rattle.pip_commands.specs.EndsBy.{WritesPart, plainly}
-use Rattle.pip_commands.specs.Streams.{EndsLine, IsCalm, Streams}
+use Rattle.pip_commands.specs.Streams.{EndsLine, IsCalm, Streams, beside}
 
 -- a status between 3 and 6 is none of an answer
 pub outside : (code k : ℕ) → IsOfAnswer code → code ≡ k → 3 ≤ k → k ≤ 6 → ⊥
@@ -52,6 +52,15 @@ part_plain d a b bytes text v due f l none part = record {
   out = past_nothing a.written b.written text none part;
   part = part;
 }
+
+-- what ends from a sink that is the same, where nothing was held
+pub ends_same : {K : Type 0} (written : K → Taken) (writes : K → ℕ) {sink mid : K} {d : Due} {code : ℕ}
+    {p : Option State} {left : Option (List ℕ)} {reads : ℕ} {b : Streams} → mid ≡ sink → (written sink).held ≡ []
+    → ((written mid).held ≡ [] → EndsBy d code p (beside left reads (written mid) (writes mid)) b)
+    → EndsBy d code p (beside left reads (written sink) (writes sink)) b
+ends_same written writes {sink} {mid} {d} {code} {p} {left} {reads} {b} same none ends =
+    subst (λ k. EndsBy d code p (beside left reads (written k) (writes k)) b) same
+    (ends (subst (λ k. (written k).held ≡ []) (sym same) none))
 
 -- ---- the ways to end, from a to b
 

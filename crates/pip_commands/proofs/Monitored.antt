@@ -1,5 +1,6 @@
 -- How `native` ends. The streams go from a to c.
-use Rattle.std.proofs.Common.{◌≡◌, ◌≢◌, ℕ, inl, inr, Option, None, Some, List, [], refl, sym, ap, subst, arith}
+use Rattle.std.proofs.Common.{◌≡◌, ◌≢◌, ℕ, inl, inr, Option, None, Some, List, [], refl, sym, ap, ◌∙◌, subst}
+use Rattle.std.proofs.Common.{arith}
 use Rattle.std.specs.Prelude.{MatchOption, option_map}
 use Rattle.pip_base.specs.declared.types.Plan.{Plan}
 use Rattle.pip_image.specs.Reading.{IsFault}
@@ -13,8 +14,10 @@ use Rattle.pip_commands.specs.EndsBy.{Response, Due, EndsBy, IsAnswered, plainly
 use Rattle.pip_commands.specs.Faults.{image_line}
 use Rattle.pip_commands.specs.Dues.{IsNativeAnswer, IsRoomy, IsShort, IsUnshort, native_due}
 use Rattle.pip_commands.specs.Machines.{StandsIfAny}
-use Rattle.pip_commands.specs.NativeLoading.{IsFew, LacksMemoryNative, LoadsNative, RefusesUnshort}
+use Rattle.pip_commands.specs.NativeLoading.{LoadsNative, RefusesUnshort, StoppedNative}
 use Rattle.pip_commands.specs.Streams.{EndsLine, IsCalm, Streams}
+use Rattle.pip_commands.specs.declared.commands.native.loading.Stop.{Stop}
+use Rattle.pip_commands.specs.declared.commands.native.loading.Stop.TheVariants as T
 use Rattle.pip_commands.proofs.Endings.{apart, by_answer, by_memory, by_plain, by_write_fault, part_plain}
 use Rattle.pip_commands.proofs.ImageFaults.{is_faulty, no_image}
 use Rattle.pip_commands.proofs.Refused.{by_refusal}
@@ -24,7 +27,7 @@ module _ (n count code : ℕ) (p : Option State) (a c : Streams) (settled : code
   due = native_due n count
 
   -- the answer to an image with room
-  module _ (frames pages : ℕ) (plans : List Plan) (s : State) (l : LoadsNative n a.left c.left frames pages plans s)
+  module _ {frames pages : ℕ} {plans : List Plan} {s : State} (l : LoadsNative n a.left c.left frames pages plans s)
     where
       abbrev text : List ℕ
       text = native_text l.loads.parsed n count
@@ -62,26 +65,29 @@ module _ (n count code : ℕ) (p : Option State) (a c : Streams) (settled : code
 
   module _ (none : p ≡ None) where
     -- there was no memory after the header
-    pub native_lacks : code ≡ 5 → LacksMemoryNative n a.left c.left → Keeps a.written c.written → IsCalm code a c
-        → EndsBy due code p a c
-    native_lacks is h kept calm =
-        by_memory due code p a c calm settled apart h.read.bytes h.read.read none is
-        (h.read.header, subst (IsRoomy n) (sym h.read.same) h.roomy) kept
+    pub native_lacks : code ≡ 5 → {stop : Stop} → stop ≡ T.Memory → StoppedNative n stop a.left c.left a.reads c.reads
+        → Keeps a.written c.written → c.writes ≡ a.writes → EndsBy due code p a c
+    native_lacks is {stop} why stopped kept quiet =
+        let h : StoppedNative n T.Memory a.left c.left a.reads c.reads =
+        subst (λ s. StoppedNative n s a.left c.left a.reads c.reads) why stopped in
+        let few = h.0.read in
+        by_memory due code p a c (record { reads = λ not. h.1; writes = λ not. quiet }) settled apart few.bytes few.read
+        none is (few.header, subst (IsRoomy n) (sym few.same) h.0.roomy) kept
 
     -- the header has too few frames
-    pub native_short : a.written.held ≡ [] → (frames : ℕ) → IsFew n a.left c.left frames → c.reads ≡ a.reads
-        → (code ≢ 4 → c.writes ≡ a.writes)
-        → EndsLine 8 (short_line frames n) code a.written c.written a.writes c.writes → EndsBy due code p a c
-    native_short start frames h reads quiet told =
-        let short : IsShort n h.read.bytes =
-        record { header = h.read.header; few = let e = h.read.same in let l = h.few in omega (arith, e, l) } in
-        by_plain due code p a c (record { reads = λ not. reads; writes = quiet }) settled apart h.read.bytes
-        h.read.read none start 8
-        (short_line frames n) (inr (omega arith))
-        (record {
-          is = inl (short, ap (λ f. plainly 8 (short_line f n) None) (sym h.read.same));
-          decided = inl
-              (inl short);
+    pub native_short : a.written.held ≡ [] → {stop : Stop} {frames : ℕ} → stop ≡ T.Short frames
+        → StoppedNative n stop a.left c.left a.reads c.reads → (code ≢ 4 → c.writes ≡ a.writes) → {line : List ℕ}
+        → line ≡ short_line frames n → EndsLine 8 line code a.written c.written a.writes c.writes → EndsBy due code p a c
+    native_short start {stop} {frames} why stopped quiet {line} named told =
+        let h : StoppedNative n (T.Short frames) a.left c.left a.reads c.reads =
+        subst (λ s. StoppedNative n s a.left c.left a.reads c.reads) why stopped in
+        let few = h.0.read in
+        let short : IsShort n few.bytes =
+        record { header = few.header; few = let e = few.same in let l = h.0.few in omega (arith, e, l) } in
+        by_plain due code p a c (record { reads = λ not. h.1; writes = quiet }) settled apart few.bytes few.read none
+        start 8 line (inr (omega arith)) (record {
+          is = inl (short, ap (λ t. plainly 8 t None) (named ∙ ap (λ f. short_line f n) (sym few.same)));
+          decided = inl (inl short);
         }) told
 
     is_refused : (parts : List Part) (bytes : List ℕ) (e : ImageError) → IsUnshort n bytes → (line : List ℕ)
@@ -98,11 +104,13 @@ module _ (n count code : ℕ) (p : Option State) (a c : Streams) (settled : code
     }
 
     -- the image has a fault, or its reading failed
-    pub native_faulted : a.written.held ≡ [] → (e : ImageError) → RefusesUnshort n a.left c.left a.reads c.reads e
-        → (code ≢ 4 → c.writes ≡ a.writes)
+    pub native_faulted : a.written.held ≡ [] → {stop : Stop} {e : ImageError} → stop ≡ T.Image e
+        → StoppedNative n stop a.left c.left a.reads c.reads → (code ≢ 4 → c.writes ≡ a.writes)
         → MatchOption (image_line e) ((code ≡ 3) × Keeps a.written c.written)
         (λ line. EndsLine 2 line code a.written c.written a.writes c.writes) → EndsBy due code p a c
-    native_faulted start e h quiet ends =
+    native_faulted start {stop} {e} why stopped quiet ends =
+        let h : RefusesUnshort n a.left c.left a.reads c.reads e =
+        subst (λ s. StoppedNative n s a.left c.left a.reads c.reads) why stopped in
         by_refusal due code p a c start settled apart none quiet e h.parts h.refused tt
         (λ good. (good, h.unshort, refl))
-        (is_refused h.parts h.refused.bytes e h.unshort) ends
+        (is_refused h.parts h.refused.bytes e h.unshort) refl ends

@@ -23,10 +23,11 @@ module _ (d : Due) (code : ℕ) (p : Option State) (a c : Streams) (start : a.wr
   -- by what is due of a failed read, and of a fault
   pub by_refusal : IsWithin d.limit x.bytes → (EndsAtMost (image_parts x.bytes).fault → d.so_far x.bytes [])
       → ((line : List ℕ) → image_line e ≡ Some line → IsFault image_parts parts x.bytes c.left e
-      → IsAnswered d x.bytes (plainly 2 line None) c.left)
-      → MatchOption (image_line e) ((code ≡ 3) × Keeps a.written c.written)
+      → IsAnswered d x.bytes (plainly 2 line None) c.left) → {f : ImageError} → f ≡ e
+      → MatchOption (image_line f) ((code ≡ 3) × Keeps a.written c.written)
       (λ line. EndsLine 2 line code a.written c.written a.writes c.writes) → EndsBy d code p a c
-  by_refusal limit so_far refused ends =
+  by_refusal limit so_far refused {f} same wrote =
+      let ends : Ends (image_line e) = subst (λ e. Ends (image_line e)) same wrote in
       let A = IsCut image_parts parts x.bytes a.reads c.reads in
       let B = IsFault image_parts parts x.bytes c.left e × (c.reads ≡ a.reads) in
       elim (by_line e A B x.why) [

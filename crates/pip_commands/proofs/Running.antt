@@ -12,9 +12,11 @@ use Rattle.pip_switch.specs.Standing.{StandsAs, State}
 use Rattle.pip_commands.specs.EndsBy.{Response, Due, EndsBy, IsAnswered, plainly}
 use Rattle.pip_commands.specs.Faults.{image_line}
 use Rattle.pip_commands.specs.Dues.{last_world, run_answer, run_due, shown}
-use Rattle.pip_commands.specs.Loading.{LacksMemoryAfterHeader, LoadsImage}
+use Rattle.pip_commands.specs.Loading.{LoadsImage, StoppedLoading}
 use Rattle.pip_commands.specs.Machines.{StandsIfAny}
 use Rattle.pip_commands.specs.Streams.{EndsLine, IsCalm, Streams}
+use Rattle.pip_commands.specs.declared.commands.run.loading.Stop.{Stop}
+use Rattle.pip_commands.specs.declared.commands.run.loading.Stop.TheVariants as T
 use Rattle.pip_commands.specs.declared.commands.run.report.Report.{Report}
 use Rattle.pip_commands.proofs.Endings.{apart, by_answer, by_memory, by_write_fault, part_plain}
 use Rattle.pip_commands.proofs.ImageFaults.{is_faulty, no_image}
@@ -46,11 +48,11 @@ module _ (r : Report) (count seed code : ℕ) (p : Option State) (a c : Streams)
   }
 
   -- the text was written
-  pub run_shown : (frames pages : ℕ) (plans : List Plan) (s q : State) → code ≡ 0 → p ≡ Some q
+  pub run_shown : {frames pages : ℕ} {plans : List Plan} {s : State} (q : State) → code ≡ 0 → p ≡ Some q
       → (l : LoadsImage a.left c.left frames pages plans s)
       → Appends a.written c.written (shown r l.parsed count seed) × StandsAs q (last_world r l.parsed count seed)
       → IsCalm code a c → EndsBy due code p a c
-  run_shown frames pages plans s q is some l did calm =
+  run_shown {frames} {pages} {plans} {s} q is some l did calm =
       by_answer due code p a c calm settled apart l.input l.read (inl (omega (arith, is))) (record {
         answer = good frames pages plans s l;
         due = is_good frames pages plans s l;
@@ -61,26 +63,32 @@ module _ (r : Report) (count seed code : ℕ) (p : Option State) (a c : Streams)
 
   module _ (none : p ≡ None) where
     -- there was no memory after the header
-    pub run_lacks : code ≡ 5 → LacksMemoryAfterHeader a.left c.left → Keeps a.written c.written → IsCalm code a c
-        → EndsBy due code p a c
-    run_lacks is h kept calm = by_memory due code p a c calm settled apart h.bytes h.read none is h.header kept
+    pub run_lacks : code ≡ 5 → {stop : Stop} → stop ≡ T.Memory → StoppedLoading stop a.left c.left a.reads c.reads
+        → Keeps a.written c.written → c.writes ≡ a.writes → EndsBy due code p a c
+    run_lacks is {stop} why stopped kept quiet =
+        let h : StoppedLoading T.Memory a.left c.left a.reads c.reads =
+        subst (λ s. StoppedLoading s a.left c.left a.reads c.reads) why stopped in
+        by_memory due code p a c (record { reads = λ not. h.1; writes = λ not. quiet }) settled apart h.0.bytes h.0.read
+        none is h.0.header kept
 
     -- a write of the text failed
-    pub run_cut : a.written.held ≡ [] → (frames pages : ℕ) (plans : List Plan) (s : State) → code ≡ 4
+    pub run_cut : a.written.held ≡ [] → {frames pages : ℕ} {plans : List Plan} {s : State} → code ≡ 4
         → (l : LoadsImage a.left c.left frames pages plans s) → SendsPart a.written c.written
         (shown r l.parsed count seed)
         → RoseByOne a.writes c.writes → c.reads ≡ a.reads → EndsBy due code p a c
-    run_cut start frames pages plans s is l part rose reads =
+    run_cut start {frames} {pages} {plans} {s} is l part rose reads =
         by_write_fault due code p a c (record { reads = λ not. reads; writes = λ not. absurd (not is) }) settled apart
         l.input l.read
         none is (part_plain due a c l.input (shown r l.parsed count seed) (good frames pages plans s l)
         (is_good frames pages plans s l) refl refl start part) rose
 
     -- the image has a fault, or its reading failed
-    pub run_faulted : a.written.held ≡ [] → (e : ImageError) → RefusesAfter image_parts a.left c.left a.reads c.reads e
-        → (code ≢ 4 → c.writes ≡ a.writes)
-        → MatchOption (image_line e) ((code ≡ 3) × Keeps a.written c.written)
+    pub run_faulted : a.written.held ≡ [] → {stop : Stop} {e f : ImageError} → stop ≡ T.Image e
+        → StoppedLoading stop a.left c.left a.reads c.reads → (code ≢ 4 → c.writes ≡ a.writes) → f ≡ e
+        → MatchOption (image_line f) ((code ≡ 3) × Keeps a.written c.written)
         (λ line. EndsLine 2 line code a.written c.written a.writes c.writes) → EndsBy due code p a c
-    run_faulted start e (parts, x) quiet ends =
-        by_refusal due code p a c start settled apart none quiet e parts x tt (λ good. (good, refl))
-        (is_refused parts x.bytes e) ends
+    run_faulted start {stop} {e} {f} why stopped quiet same ends =
+        let h : RefusesAfter image_parts a.left c.left a.reads c.reads e =
+        subst (λ s. StoppedLoading s a.left c.left a.reads c.reads) why stopped in
+        by_refusal due code p a c start settled apart none quiet e h.0 h.1 tt (λ good. (good, refl))
+        (is_refused h.0 h.1.bytes e) same ends

@@ -26,10 +26,12 @@ use Rattle.pip_commands.specs.EndsBy.{Due, EndsBy, IsAnswered, plainly}
 use Rattle.pip_commands.specs.EveryText.{every_text, lines_planned}
 use Rattle.pip_commands.specs.Faults.{image_line}
 use Rattle.pip_commands.specs.Dues.{IsEveryAnswer, IsSearched, every_due, most_choices}
-use Rattle.pip_commands.specs.Loading.{BeginsFrames, LacksMemoryAfterHeader, LoadsFrames}
+use Rattle.pip_commands.specs.Loading.{BeginsFrames, LoadsFrames, StoppedLoading}
 use Rattle.pip_commands.specs.Searches.{EndsSearch, IsToldFrom, told_text}
 use Rattle.pip_commands.specs.Streams.{EndsLine, IsCalm, Streams}
 use Rattle.pip_commands.specs.declared.commands.every.searching.Told.{Told}
+use Rattle.pip_commands.specs.declared.commands.run.loading.Stop.{Stop}
+use Rattle.pip_commands.specs.declared.commands.run.loading.Stop.TheVariants as T
 use Rattle.pip_commands.proofs.Endings.{apart, by_memory, by_plain}
 use Rattle.pip_commands.proofs.ImageFaults.{is_faulty, no_image}
 use Rattle.pip_commands.proofs.Refused.{by_refusal}
@@ -134,24 +136,30 @@ module _ (states from : ℕ) (depth : Option ℕ) (code : ℕ) (p : Option State
   }
 
   -- the search ended, and its text was written or not; or there was no memory for it
-  pub every_searched : (h : Header) (m : Memory) (l : LoadsFrames a.left c.left h m) → IsCalm code a c
+  pub every_searched : {h : Header} {m : Memory} (l : LoadsFrames a.left c.left h m) → IsCalm code a c
       → EndsSearch states from depth l.parsed code a.written c.written a.writes c.writes → EndsBy due code p a c
-  every_searched h m l calm (inl (text, (found, ends))) =
+  every_searched {h} {m} l calm (inl (text, (found, ends))) =
       by_plain due code p a c calm settled apart l.input l.read none start 0 text (inl (omega arith))
       (is_searched h m l text found) ends
-  every_searched h m l calm (inr (is, kept)) =
+  every_searched {h} {m} l calm (inr (is, kept)) =
       by_memory due code p a c calm settled apart l.input l.read none is (inr (l.whole, (l.parsed, l.good))) kept
 
   -- there was no memory after the header
-  pub every_lacks : code ≡ 5 → LacksMemoryAfterHeader a.left c.left → Keeps a.written c.written → IsCalm code a c
-      → EndsBy due code p a c
-  every_lacks is h kept calm = by_memory due code p a c calm settled apart h.bytes h.read none is (inl h.header) kept
+  pub every_lacks : code ≡ 5 → {stop : Stop} → stop ≡ T.Memory → StoppedLoading stop a.left c.left a.reads c.reads
+      → Keeps a.written c.written → c.writes ≡ a.writes → EndsBy due code p a c
+  every_lacks is {stop} why stopped kept quiet =
+      let h : StoppedLoading T.Memory a.left c.left a.reads c.reads =
+      subst (λ s. StoppedLoading s a.left c.left a.reads c.reads) why stopped in
+      by_memory due code p a c (record { reads = λ not. h.1; writes = λ not. quiet }) settled apart h.0.bytes h.0.read
+      none is (inl h.0.header) kept
 
   -- the image has a fault, or its reading failed
-  pub every_faulted : (e : ImageError) → RefusesAfter image_parts a.left c.left a.reads c.reads e
-      → (code ≢ 4 → c.writes ≡ a.writes)
-      → MatchOption (image_line e) ((code ≡ 3) × Keeps a.written c.written)
+  pub every_faulted : {stop : Stop} {e f : ImageError} → stop ≡ T.Image e
+      → StoppedLoading stop a.left c.left a.reads c.reads → (code ≢ 4 → c.writes ≡ a.writes) → f ≡ e
+      → MatchOption (image_line f) ((code ≡ 3) × Keeps a.written c.written)
       (λ line. EndsLine 2 line code a.written c.written a.writes c.writes) → EndsBy due code p a c
-  every_faulted e (parts, x) quiet ends =
-      by_refusal due code p a c start settled apart none quiet e parts x tt (λ good. (good, refl))
-      (is_refused parts x.bytes e) ends
+  every_faulted {stop} {e} {f} why stopped quiet same ends =
+      let h : RefusesAfter image_parts a.left c.left a.reads c.reads e =
+      subst (λ s. StoppedLoading s a.left c.left a.reads c.reads) why stopped in
+      by_refusal due code p a c start settled apart none quiet e h.0 h.1 tt (λ good. (good, refl))
+      (is_refused h.0 h.1.bytes e) same ends

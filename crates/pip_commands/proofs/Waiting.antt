@@ -1,6 +1,7 @@
--- Where a command waits at first: nothing was read.
-use Rattle.std.specs.Prelude.{◌≡◌, refl, ℕ, [], Option}
+-- Where a command waits: at first nothing was read.
+use Rattle.std.specs.Prelude.{◌≡◌, refl, ℕ, List, [], Option}
 use Rattle.std.proofs.Common.{ap, sym, subst, arith, inl}
+use Rattle.std.specs.Io.KnownBytes.{Consumes}
 use Rattle.std.proofs.KnownBytes.{Consumes-nil}
 use Rattle.pip_core_text.specs.Core.{at_first}
 use Rattle.pip_core_text.specs.CoreRead.{BeginsLines}
@@ -42,15 +43,21 @@ begins_none n =
     }
 
 module _ (a : Streams) (none : a.written.held ≡ []) where
-  waits_first : (d : Due) → d.so_far [] [] → IsWithin d.limit [] → Waits d a a
-  waits_first d due limit = record {
-    bytes = [];
-    read = Consumes-nil a.left;
+  -- and nothing was written yet
+  pub waits_after : (d : Due) (bytes : List ℕ) (left : Option (List ℕ)) → Consumes a.left left bytes
+      → d.so_far bytes [] → IsWithin d.limit bytes
+      → Waits d a (record { left = left; written = a.written; reads = a.reads; writes = a.writes })
+  waits_after d bytes left read due limit = record {
+    bytes = bytes;
+    read = read;
     so_far = record { text = []; due = due; limit = limit; wrote = Appends-nil a.written };
     out = none;
     reads = refl;
     writes = refl;
   }
+
+  waits_first : (d : Due) → d.so_far [] [] → IsWithin d.limit [] → Waits d a a
+  waits_first d due limit = waits_after d [] a.left (Consumes-nil a.left) due limit
 
   pub script_waits : Waits script_due a a
   script_waits = waits_first script_due (record {
