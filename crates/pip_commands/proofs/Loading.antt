@@ -6,13 +6,17 @@ use Rattle.pip_base.specs.Memory.{Memory}
 use Rattle.pip_base.specs.declared.types.Plan.{Plan}
 use Rattle.pip_image.specs.Coming.{IsAfter, IsHeader as IsLimited, coming, header_parts}
 use Rattle.pip_image.specs.Loading.{IsLoaded, LoadsAll, LoadsUpTo}
+use Rattle.pip_image.specs.Pacing.{IsFaultless}
 use Rattle.pip_image.specs.Reading.{Refuses, TakesParts, parts_then}
 use Rattle.pip_image.specs.declared.header.Header.{Header}
 use Rattle.pip_image.specs.declared.place.Place.{Place}
 use Rattle.pip_image.proofs.Loaded.{image_loaded, image_with}
-use Rattle.pip_image.proofs.Steps.{takes_refused}
+use Rattle.pip_image.proofs.Steps.{faultless_after, takes_refused}
+use Rattle.pip_io.specs.Pacing.{MayRead}
+use Rattle.pip_io.specs.Taken.{Taken}
+use Rattle.pip_io.proofs.Pacing.{paced_after}
 use Rattle.pip_model.specs.Booted.{HasBooted, IsBooted}
-use Rattle.pip_model.specs.Images.{Holds, Page, Part, image_parts, page_parts, plan_parts, image_word}
+use Rattle.pip_model.specs.Images.{Holds, Page, Part, PartsRead, image_parts, page_parts, plan_parts, image_word}
 use Rattle.pip_model.specs.Worlds.{boot_world_with}
 use Rattle.pip_model.specs.declared.image.ImageError.{ImageError}
 use Rattle.pip_switch.specs.Standing.{StandsAs, State}
@@ -124,3 +128,14 @@ loads h a c m s plans l same cpus stands = record {
         l.begins.cpus (stands l.parsed.frames (image_word l.parsed.frames l.parsed.pages) l.begins.booted);
   };
 }
+
+-- where the image may be read, its pages may be once the header was, if the sink is the same
+pub pages_paced : {K : Type 0} (allows : Option (List ℕ) → ℕ → Taken → ℕ → Type 0) (written : K → Taken)
+    (writes : K → ℕ) {sink mid : K} {next : List ℕ → PartsRead} {parts : List Part}
+    {a b : Option (List ℕ)} {m n : ℕ} → mid ≡ sink → n ≡ m → TakesParts image_parts next parts a b
+    → MayRead allows (IsFaultless image_parts) a m (written sink) (writes sink)
+    → MayRead allows (IsFaultless next) b n (written mid) (writes mid)
+pages_paced allows written writes {sink} {mid} {next} {parts} {a} {b} {m} {n} kept same took paced =
+    subst (λ k. MayRead allows (IsFaultless next) b n (written k) (writes k)) (sym kept)
+    (paced_after allows (IsFaultless image_parts) (IsFaultless next) a b m n (written sink) (writes sink) took.bytes same
+    took.taken (λ bytes is. faultless_after image_parts next parts a b took bytes is) paced)

@@ -70,9 +70,9 @@ module _ (n count code : ℕ) (p : Option State) (a c : Streams) (settled : code
     native_lacks is {stop} why stopped kept quiet =
         let h : StoppedNative n T.Memory a.left c.left a.reads c.reads =
         subst (λ s. StoppedNative n s a.left c.left a.reads c.reads) why stopped in
-        let few = h.0.read in
-        by_memory due code p a c (record { reads = λ not. h.1; writes = λ not. quiet }) settled apart few.bytes few.read
-        none is (few.header, subst (IsRoomy n) (sym few.same) h.0.roomy) kept
+        let head = h.0.read in
+        by_memory due code p a c (record { reads = λ not. h.1; writes = λ not. quiet }) settled apart head.bytes head.read
+        none is (head.header, subst (IsRoomy n) (sym head.same) h.0.roomy) kept
 
     -- the header has too few frames
     pub native_short : a.written.held ≡ [] → {stop : Stop} {frames : ℕ} → stop ≡ T.Short frames
@@ -81,12 +81,12 @@ module _ (n count code : ℕ) (p : Option State) (a c : Streams) (settled : code
     native_short start {stop} {frames} why stopped quiet {line} named told =
         let h : StoppedNative n (T.Short frames) a.left c.left a.reads c.reads =
         subst (λ s. StoppedNative n s a.left c.left a.reads c.reads) why stopped in
-        let few = h.0.read in
-        let short : IsShort n few.bytes =
-        record { header = few.header; few = let e = few.same in let l = h.0.few in omega (arith, e, l) } in
-        by_plain due code p a c (record { reads = λ not. h.1; writes = quiet }) settled apart few.bytes few.read none
+        let head = h.0.read in
+        let short : IsShort n head.bytes =
+        record { header = head.header; few = let e = head.same in let l = h.0.few in omega (arith, e, l) } in
+        by_plain due code p a c (record { reads = λ not. h.1; writes = quiet }) settled apart head.bytes head.read none
         start 8 line (inr (omega arith)) (record {
-          is = inl (short, ap (λ t. plainly 8 t None) (named ∙ ap (λ f. short_line f n) (sym few.same)));
+          is = inl (short, ap (λ t. plainly 8 t None) (named ∙ ap (λ f. short_line f n) (sym head.same)));
           decided = inl (inl short);
         }) told
 

@@ -43,7 +43,7 @@ begins_none n =
     }
 
 module _ (a : Streams) (none : a.written.held ≡ []) where
-  -- and nothing was written yet
+  -- after bytes for which no text is due
   pub waits_after : (d : Due) (bytes : List ℕ) (left : Option (List ℕ)) → Consumes a.left left bytes
       → d.so_far bytes [] → IsWithin d.limit bytes
       → Waits d a (record { left = left; written = a.written; reads = a.reads; writes = a.writes })

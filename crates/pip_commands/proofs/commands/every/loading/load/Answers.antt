@@ -1,11 +1,5 @@
-use Rattle.std.proofs.Common.{subst, sym}
-use Rattle.pip_image.specs.Coming.{coming}
-use Rattle.pip_io.specs.Pacing.{MayRead}
-use Rattle.pip_io.proofs.Pacing.{paced_after}
-use Rattle.pip_image.specs.Pacing.{IsFaultless}
-use Rattle.pip_image.proofs.Steps.{faultless_after}
-use Rattle.pip_model.specs.Images.{image_parts}
-use Rattle.pip_commands.proofs.Loading.{stops, weaker}
+use Rattle.std.proofs.Common.{ap}
+use Rattle.pip_commands.proofs.Loading.{pages_paced, stops, weaker}
 use Rattle.pip_commands.specs.declared.commands.run.loading.Stop.TheVariants as T
 use Rattle.pip_commands.proofs.commands.every.loading.load.Goals as goal
 
@@ -29,11 +23,5 @@ header-requires-clause-paced g c = λ bytes left taken is. c.requires.paced byte
 pub load_frames-requires-clause-paced : goal.load_frames-requires-clause-paced
 load_frames-requires-clause-paced g c =
     let head = c.in_ok-head.ensures in
-    let next = coming c.header.new.self.place in
-    let paced = paced_after g.S.Source.allows (IsFaultless image_parts) (IsFaultless next) _ _ _ _
-    (g.K.Sink.written c.args.joint.now.sink.now) (g.K.Sink.faults c.args.joint.now.sink.now) head.reads.bytes
-    head.calm head.reads.taken
-    (λ bytes is. faultless_after image_parts next _ _ _ head.reads bytes is) c.requires.paced in
-    subst (λ s. MayRead g.S.Source.allows (IsFaultless next) (g.S.Source.left c.header.new.joint.source.now)
-    (g.S.Source.faults c.header.new.joint.source.now) (g.K.Sink.written s.now) (g.K.Sink.faults s.now))
-    (sym head.sink) paced
+    pages_paced g.S.Source.allows g.K.Sink.written g.K.Sink.faults (ap (λ s. s.now) head.sink) head.calm head.reads
+    c.requires.paced
