@@ -6,7 +6,8 @@ use Rattle.std.specs.Io.KnownBytes.{Consumes}
 use Rattle.std.proofs.KnownBytes.{Consumes-nil}
 use Rattle.pip_base.specs.Memory.{IsMemory, Memory}
 use Rattle.pip_core_text.specs.Core.{Whole, core_text}
-use Rattle.pip_core_text.specs.CoreRead.{BeginsText, IsBadLineOf, IsBadText, IsText}
+use Rattle.pip_core_text.specs.CoreRead.{BeginsText, IsBadLineOf, IsBadText, IsText, RefusesText}
+use Rattle.pip_core_text.specs.declared.text.CoreError.{CoreError}
 use Rattle.pip_core_text.proofs.CanonicalRun.{only_texts}
 use Rattle.pip_dis.proofs.Written.{part_of_more}
 use Rattle.pip_io.specs.Causes.{RoseByOne}
@@ -125,6 +126,12 @@ not_five status line code before after writes writes' not (inl h) five =
 not_five status line code before after writes writes' not (inr h) five =
     let e = eqb-true code 5 five in let f = h.0 in absurd (omega (arith, e, f))
 
+-- why no memory was read, where the number of its frames and the error are known
+pub refused_as : (left left' : Option (List ℕ)) (before now : ℕ) {k n : ℕ} {x e : CoreError} → k ≡ n → x ≡ e
+    → RefusesText k left left' before now x → RefusesText n left left' before now e
+refused_as left left' before now {k} {n} {x} {e} count is refused =
+    subst (λ n. RefusesText n left left' before now e) count (subst (RefusesText k left left' before now) is refused)
+
 module _ (n code : ℕ) (p : Option State) (a c : Streams) (none : p ≡ None) (calm : IsCalm code a c)
     (settled : code ≢ 4 → c.written.held ≡ []) where
   abbrev due : Due
@@ -159,10 +166,11 @@ module _ (n code : ℕ) (p : Option State) (a c : Streams) (none : p ≡ None) (
         none start status line of is told
 
     -- by a line that names a fault
-    pub ends_bad : (k : ℕ) → IsBadText n a.left c.left k
-        → EndsLine 2 (bad_line k) code a.written c.written a.writes c.writes → EndsBy due code p a c
-    ends_bad k h told =
-        by_answer_line h.bytes h.taken 2 (bad_line k) (inl (omega arith)) (λ e. omega (arith, e)) (is_bad h.fault) told
+    pub ends_bad : (k : ℕ) → IsBadText n a.left c.left k → {line : List ℕ} → line ≡ bad_line k
+        → EndsLine 2 line code a.written c.written a.writes c.writes → EndsBy due code p a c
+    ends_bad k h {line} named told =
+        by_answer_line h.bytes h.taken 2 (bad_line k) (inl (omega arith)) (λ e. omega (arith, e)) (is_bad h.fault)
+        (subst (λ t. EndsLine 2 t code a.written c.written a.writes c.writes) named told)
       where
         is_bad : IsBadLineOf n h.bytes c.left k → IsAnswered due h.bytes (plainly 2 (bad_line k) None) c.left
         is_bad (inl all) = record {

@@ -129,13 +129,14 @@ loads h a c m s plans l same cpus stands = record {
   };
 }
 
--- where the image may be read, its pages may be once the header was, if the sink is the same
+-- where an image may be read, its pages may be once the header was, if the sink is the same
 pub pages_paced : {K : Type 0} (allows : Option (List ℕ) → ℕ → Taken → ℕ → Type 0) (written : K → Taken)
-    (writes : K → ℕ) {sink mid : K} {next : List ℕ → PartsRead} {parts : List Part}
-    {a b : Option (List ℕ)} {m n : ℕ} → mid ≡ sink → n ≡ m → TakesParts image_parts next parts a b
-    → MayRead allows (IsFaultless image_parts) a m (written sink) (writes sink)
+    (writes : K → ℕ) {sink mid : K} {next : List ℕ → PartsRead} {parts : List Part} {a b : Option (List ℕ)} {m n : ℕ}
+    {P : List ℕ → Type 0} → mid ≡ sink → n ≡ m → (took : TakesParts image_parts next parts a b)
+    → ((bytes : List ℕ) → IsFaultless image_parts (took.bytes ++ bytes) → P (took.bytes ++ bytes))
+    → MayRead allows P a m (written sink) (writes sink)
     → MayRead allows (IsFaultless next) b n (written mid) (writes mid)
-pages_paced allows written writes {sink} {mid} {next} {parts} {a} {b} {m} {n} kept same took paced =
+pages_paced allows written writes {sink} {mid} {next} {parts} {a} {b} {m} {n} {P} kept same took more paced =
     subst (λ k. MayRead allows (IsFaultless next) b n (written k) (writes k)) (sym kept)
-    (paced_after allows (IsFaultless image_parts) (IsFaultless next) a b m n (written sink) (writes sink) took.bytes same
-    took.taken (λ bytes is. faultless_after image_parts next parts a b took bytes is) paced)
+    (paced_after allows P (IsFaultless next) a b m n (written sink) (writes sink) took.bytes same took.taken
+    (λ bytes is. more bytes (faultless_after image_parts next parts a b took bytes is)) paced)

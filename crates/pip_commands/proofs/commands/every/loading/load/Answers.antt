@@ -24,4 +24,4 @@ pub load_frames-requires-clause-paced : goal.load_frames-requires-clause-paced
 load_frames-requires-clause-paced g c =
     let head = c.in_ok-head.ensures in
     pages_paced g.S.Source.allows g.K.Sink.written g.K.Sink.faults (ap (λ s. s.now) head.sink) head.calm head.reads
-    c.requires.paced
+    (λ bytes is. is) c.requires.paced

@@ -1,15 +1,11 @@
-use Rattle.std.proofs.Common.{◌∙◌, ◌++◌, ap, subst, sym}
+use Rattle.std.proofs.Common.{◌∙◌, ◌++◌, ap, subst}
 use Rattle.pip_image.specs.Coming.{coming, header_parts}
-use Rattle.pip_io.specs.Pacing.{MayRead}
-use Rattle.pip_io.proofs.Pacing.{paced_after}
-use Rattle.pip_image.specs.Pacing.{IsFaultless}
 use Rattle.pip_image.specs.Reading.{Refuses}
-use Rattle.pip_image.proofs.Steps.{after_parts, faultless_after}
+use Rattle.pip_image.proofs.Steps.{after_parts}
 use Rattle.pip_model.specs.Images.{image_parts}
 use Rattle.pip_commands.specs.Loading.{StoppedAfter}
-use Rattle.pip_commands.specs.Pacing.{IsFaultlessUnshort}
 use Rattle.pip_commands.specs.declared.commands.run.loading.Stop.TheVariants as R
-use Rattle.pip_commands.proofs.Loading.{lacks_memory}
+use Rattle.pip_commands.proofs.Loading.{lacks_memory, pages_paced}
 use Rattle.pip_commands.proofs.Shortness.{unshort_header, unshort_lacking, unshort_roomy, unshort_told}
 use Rattle.pip_commands.proofs.commands.native.loading.load.Goals as goal
 
@@ -77,15 +73,10 @@ pub load_after-requires-clause-paced : goal.load_after-requires-clause-paced
 load_after-requires-clause-paced g c =
     let head = c.in-Ok.ensures in
     let next = coming c.header.new.self.place in
-    let parts = header_parts c.in-Ok.head in
-    let paced = paced_after g.S.Source.allows (IsFaultlessUnshort c.args.n) (IsFaultless next) _ _ _ _
-    (g.K.Sink.written c.args.joint.now.sink.now) (g.K.Sink.faults c.args.joint.now.sink.now) head.reads.bytes
-    head.calm head.reads.taken
+    pages_paced g.S.Source.allows g.K.Sink.written g.K.Sink.faults (ap (λ s. s.now) head.sink) head.calm head.reads
     (λ bytes is. (
-      faultless_after image_parts next parts _ _ head.reads bytes is,
-      unshort_told c.args.n c.in-Ok.head (next bytes).parts (head.reads.bytes
-          ++ bytes) (ap (λ t. t.parts) (head.reads.is bytes) ∙ after_parts parts (next bytes)) c.if-head-n.false,
-    )) c.requires.paced in
-    subst (λ s. MayRead g.S.Source.allows (IsFaultless next) (g.S.Source.left c.header.new.joint.source.now)
-    (g.S.Source.faults c.header.new.joint.source.now) (g.K.Sink.written s.now) (g.K.Sink.faults s.now))
-    (sym head.sink) paced
+      is,
+      unshort_told c.args.n c.in-Ok.head (next bytes).parts (head.reads.bytes ++ bytes)
+          (ap (λ t. t.parts) (head.reads.is bytes) ∙ after_parts (header_parts c.in-Ok.head) (next bytes))
+          c.if-head-n.false,
+    )) c.requires.paced
