@@ -71,13 +71,14 @@ module _ (n count code : ℕ) (p : Option State) (a c : Streams) (settled : code
         let h : StoppedNative n T.Memory a.left c.left a.reads c.reads =
         subst (λ s. StoppedNative n s a.left c.left a.reads c.reads) why stopped in
         let head = h.0.read in
-        by_memory due code p a c (record { reads = λ not. h.1; writes = λ not. quiet }) settled apart head.bytes head.read
-        none is (head.header, subst (IsRoomy n) (sym head.same) h.0.roomy) kept
+        by_memory due code p a c (record { reads = λ not. h.1; writes = λ not. quiet }) settled apart head.bytes
+        head.read none is (head.header, subst (IsRoomy n) (sym head.same) h.0.roomy) kept
 
     -- the header has too few frames
     pub native_short : a.written.held ≡ [] → {stop : Stop} {frames : ℕ} → stop ≡ T.Short frames
         → StoppedNative n stop a.left c.left a.reads c.reads → (code ≢ 4 → c.writes ≡ a.writes) → {line : List ℕ}
-        → line ≡ short_line frames n → EndsLine 8 line code a.written c.written a.writes c.writes → EndsBy due code p a c
+        → line ≡ short_line frames n → EndsLine 8 line code a.written c.written a.writes c.writes
+        → EndsBy due code p a c
     native_short start {stop} {frames} why stopped quiet {line} named told =
         let h : StoppedNative n (T.Short frames) a.left c.left a.reads c.reads =
         subst (λ s. StoppedNative n s a.left c.left a.reads c.reads) why stopped in

@@ -41,8 +41,8 @@ returns-in-Err-run_line-clause-does g c =
     let run = c.in-Err-run_line in
     let names = c.end_at.ensures.names in
     ends_settled _ _ _ _ _ c.end_at.result c.in-Ok-Last.field-0-is c.in-Ok-Last.ensures.line c.next_line.ensures.taken
-    (ended_calm run.stop c.end_at.result c.args.number _ _ _ _ _ names (λ not. run.ensures.calm (λ is. not
-    (err_same is))) c.end_at.ensures.calm)
+    (ended_calm run.stop c.end_at.result c.args.number _ _ _ _ _ names
+    (λ not. run.ensures.calm (λ is. not (err_same is))) c.end_at.ensures.calm)
     (λ holds v stands. ends_last v _ _ _ _ _ _ c.in-Ok-Last.count c.head.result.now c.head.ensures
     c.next_line.ensures.kept _ _ run.stop c.end_at.result (λ not. run.ensures.calm (λ is. not (err_same is)))
     (λ is. run.ensures.write (ap Err is)) (run.ensures.did v stands) names holds)
@@ -53,8 +53,8 @@ returns-in-Err-run_line-clause-none g c = λ is. absurd (not_read c.in-Err-run_l
 
 pub returns-in-Ok-End-clause-does : goal.returns-in-Ok-End-clause-does
 returns-in-Ok-End-clause-does g c =
-    ends_settled _ _ _ _ _ Finished c.in-Ok-End.field-0-is c.in-Ok-End.ensures.line c.next_line.ensures.taken (λ not. refl)
-    (λ holds v stands. ends_empty v _ _ _ _ _ _ c.next_line.ensures.kept holds (Keeps-refl _) stands)
+    ends_settled _ _ _ _ _ Finished c.in-Ok-End.field-0-is c.in-Ok-End.ensures.line c.next_line.ensures.taken
+    (λ not. refl) (λ holds v stands. ends_empty v _ _ _ _ _ _ c.next_line.ensures.kept holds (Keeps-refl _) stands)
 
 pub returns-in-Ok-TooLong-clause-does : goal.returns-in-Ok-TooLong-clause-does
 returns-in-Ok-TooLong-clause-does g c =
@@ -70,5 +70,6 @@ returns-in-Ok-TooLong-clause-none g c = λ is. absurd (not_read Bad c.end_at-in-
 
 pub returns-in-Ok-Over-clause-does : goal.returns-in-Ok-Over-clause-does
 returns-in-Ok-Over-clause-does g c =
-    ends_settled _ c.args.machine.now c.args.number _ _ Limit c.in-Ok-Over.field-0-is c.in-Ok-Over.ensures.line c.next_line.ensures.taken (λ not. refl)
+    ends_settled _ c.args.machine.now c.args.number _ _ Limit c.in-Ok-Over.field-0-is c.in-Ok-Over.ensures.line
+    c.next_line.ensures.taken (λ not. refl)
     (λ holds v stands. overruns _ _ _ _ c.next_line.ensures.kept holds (Keeps-refl _))
