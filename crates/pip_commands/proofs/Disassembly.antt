@@ -1,6 +1,5 @@
 -- How `dis` ends, from how its disassembly did. The streams go from a to c; `mid` and `half` are what the sink tells
--- before
--- the line of a fault, if there is one.
+-- before the line of a fault, if there is one.
 use Rattle.std.proofs.Common.{◌≡◌, ◌≢◌, ℕ, inl, inr, Option, None, Some, List, [], ◌∷◌, Result, Ok, Err}
 use Rattle.std.proofs.Common.{refl, sym, ap, ◌∙◌, subst, append-nil, arith}
 use Rattle.std.specs.Prelude.{IsOk, MatchOption, option_map}

@@ -185,8 +185,7 @@ LineComes (Ok count) machine machine' n i j a b = HasLine count machine machine'
 LineComes (Err e) machine machine' n i j a b = TurnDoes (Some e) machine machine' n i j a b
 
 -- why it isn't known what stands at the head of the input: a read failed, and nothing was held; or what was held could
--- not be
--- written. Nothing was taken to be written. i was held of the input before, and j is held now
+-- not be written. Nothing was taken to be written. i was held of the input before, and j is held now
 abbrev pub HasNoLine : End → Held → Held → Streams → Streams → Type 0
 HasNoLine ReadFault i j a b =
     HoldsPart (still i) j × (b.writes ≡ a.writes) × RoseByOne a.reads b.reads × (b.written.held ≡ [])

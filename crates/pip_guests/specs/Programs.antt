@@ -49,8 +49,7 @@ pub record IsGuestTurn (p : ℕ) (w : World) (cpu step : ℕ) : Type 0 where
   pub fits : AllStayOrLeave p w (events_made (fetch_acts w step cpu))
 
 -- the turn has the same events in both worlds, is one of the guest in v, too, and leaves the guest the same. The line
--- of what
--- leaves names the partition that took it, which may differ
+-- of what leaves names the partition that took it, which may differ
 pub record HasSameEvents (p cpu step : ℕ) (w v : World) : Type 0 where
   pub events : events_made (turn w cpu step) ≡ events_made (turn v cpu step)
   pub there : IsGuestTurn p v cpu step
@@ -241,8 +240,7 @@ turns_among w (Turn s ∷ is) = turn_of w s ++ turns_among (after_acts w (turn_o
 turns_among w (Other e ∷ is) = turns_among (event w e).world is
 
 -- two runs, from w and from v, in which the guest has turns of the same slots, which stay inside and whose polls are in
--- vain, and
--- with these the same inputs. Between them each run has events of others that leave the guest as it was
+-- vain, and with these the same inputs. Between them each run has events of others that leave the guest as it was
 pub data RunOnInputs (p : ℕ) : World → List Item → World → List Item → Type 0 where
   ended : {w v : World} → RunOnInputs p w [] v []
   own : {w v : World} {is js : List Item} (s : Slot) → IsInsideTurn p w s.cpu s.step → PollsInVain w s.cpu

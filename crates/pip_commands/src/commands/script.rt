@@ -19,7 +19,7 @@ use std::sync::ledger::{Blank, Ledger};
 use turn::{End, take_turn};
 
 /// Runs a script (docs/FORMATS.md, "Scripts"). What was answered is written before more is read. At status 0 the
-/// machine is handed back that its boot line made.
+/// machine that its boot line made is handed back.
 pub fn script<S: Source, K: Sink>(alloc: Global, source: &mut S, sink: &mut K) -> Ended
     requires none { (K.written sink.old).held ≡ [] }
     requires paced { IsPaced script_due (S.is_open source.old) S.allows

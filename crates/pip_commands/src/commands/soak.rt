@@ -25,8 +25,8 @@ const FRAMES: u32 = 64;
 const PROCESSORS: u32 = 2;
 
 /// Writes the counts of a generated load of `count` steps, at most 1,000,000, that the number `seed`, not 0, draws
-/// (docs/FORMATS.md, "Texts of tree, core and soak"). Nothing is read. At status 0 the machine is handed back that made
-/// the load.
+/// (docs/FORMATS.md, "Texts of tree, core and soak"). Nothing is read. At status 0 the machine that made the load is
+/// handed back.
 pub fn soak<S: Source, K: Sink>(
     alloc: Global,
     count: u32,
