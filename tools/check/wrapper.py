@@ -25,7 +25,7 @@ WRONG = ((), ("help",), ("--help",), ("script", "x"), ("run", "06", "1"), ("run"
          ("run", "0x123456789", "1"), ("run", "1"), ("dis", ""), ("script:1",), ("run", "-1", "1"), ("run", "1", "0xA"))
 RIGHT = (("script",), ("run", "0", "1"), ("run", "0x989680", "4294967295"), ("soak", "1000000", "0xffffffff"),
          ("native", "0x8", "10000000"), ("audit", "16"), ("audit", "0x1000"),
-         ("every", "1"), ("every", "0x989680", "0"), ("every", "1", "10000000", "10000000"))
+         ("every", "1"), ("every", "0x5f5e100", "0"), ("every", "1", "10000000", "10000000"))
 BUILDS = "proving and building pip; this takes some minutes, and what the prover says goes into "
 BY_CARGO = "building pip of its export by cargo; this takes about a minute, and what cargo says goes into "
 OF_CARGO = "unproved: cargo built this program of the same text, and nothing is proved of it\n"

@@ -61,7 +61,9 @@ def search_of(words: Sequence[str]) -> tuple[int, int, int | None] | None:
         given = [script.number(word.encode()) for word in words]
     except (ValueError, script.Bad):
         return None
-    if not 1 <= len(given) <= 3 or any(number > every.MOST for number in given) or 0 in given[:1] + given[2:]:
+    if not 1 <= len(given) <= 3 or 0 in given[:1] + given[2:]:
+        return None
+    if given[0] > every.MOST_STATES or any(number > every.MOST for number in given[1:]):
         return None
     return given[0], given[1] if len(given) > 1 else 0, given[2] if len(given) > 2 else None
 

@@ -41,8 +41,7 @@ def made(machine: Image, first: int, before: Reached, choice: int) -> Reached:
     else:
         was = world.processors[choice]
         runs.Turn(world, choice, 0, told.append).take()
-        if was or world.processors[choice]:
-            turns = min(turns + 1, first)
+        turns = min(turns + 1, first) if was or world.processors[choice] else first
     return Reached(before.choices + (choice,), world, turns, told[0] if told else None)
 
 
@@ -121,9 +120,24 @@ class Every(unittest.TestCase):
                          ["image 16 3 0 1", "1 0 out 0x00000001: 0x2", "states 4 depth 3 stopped"])
 
     def test_no_line_comes_before_so_many_turns(self) -> None:
+        told = every.every(read(PARKS.replace(b".cpus 2", b".cpus 1")), 1000, 2, None)
+        self.assertEqual([line for line in told if " switch " in line], ["3 0 switch 0 1 35: 0x2 raise3 0"])
+
+    def test_a_turn_of_an_idle_processor_stands_for_all_that_are_left(self) -> None:
         told = every.every(read(PARKS), 1000, 2, None)
-        self.assertEqual([line for line in told if " switch " in line],
-                         ["3 0 switch 0 1 35: 0x2 raise3 0", "3 1 switch 0 1 35: 0x2 raise3 1"])
+        self.assertEqual([line for line in told if " switch " in line], [
+            "2 0 switch 1 1 35: 1 raise3 0", "3 0 switch 0 1 35: 0x2 raise3 0", "3 1 switch 0 1 35: 0x2 raise3 1"])
+
+    def test_a_closed_search_names_each_line_of_each_run(self) -> None:
+        for seed in range(1, 40):
+            machine = read("\n".join(generate_every.Small(seed).image()).encode() + b"\n")
+            first = min((plan.first for plan in machine.plans), default=0)
+            *told, last = every.every(machine, 600, first, None)
+            if last.endswith("closed"):
+                named = {line.split(":")[0].split(" ", 1)[1] for line in told[1:]}
+                for order in range(1, 6):
+                    shown = runs.run(machine, 300, order)[0][1:-1]
+                    self.assertLessEqual({line.split(" ", 1)[1] for line in shown}, named, (seed, order))
 
     def test_each_way_of_a_generated_image_shows_its_line(self) -> None:
         for seed in range(1, 20):

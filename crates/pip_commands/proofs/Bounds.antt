@@ -68,13 +68,13 @@ every_within : (a b depth : Option ℕ) → AreWithin (every_words a b depth)
 every_within None b depth = tt
 every_within (Some n) None depth = tt
 every_within (Some n) (Some from) depth =
-    go ((nat_le 1 n && nat_le n 10000000) && nat_le from 10000000) refl
+    go ((nat_le 1 n && nat_le n 100000000) && nat_le from 10000000) refl
   where
-    go : (b : Bool) → ((nat_le 1 n && nat_le n 10000000) && nat_le from 10000000) ≡ b
+    go : (b : Bool) → ((nat_le 1 n && nat_le n 100000000) && nat_le from 10000000) ≡ b
         → AreWithin (cond b (Some (C.Every n from depth)) None)
     go true e =
-        let (x, y) = both (nat_le 1 n && nat_le n 10000000) (nat_le from 10000000) e in
-        leb-true 1 n (both (nat_le 1 n) (nat_le n 10000000) x).0
+        let (x, y) = both (nat_le 1 n && nat_le n 100000000) (nat_le from 10000000) e in
+        leb-true 1 n (both (nat_le 1 n) (nat_le n 100000000) x).0
     go false e = tt
 
 three_within : (word : List ℕ) (a b : Option ℕ) → AreWithin (three_words word a b)

@@ -23,6 +23,8 @@ pub mod Running
 pub mod Searched
 pub mod EveryOnce
 pub mod EveryLines
+pub mod RunsChosen
+pub mod InTime
 -- `soak`
 pub mod Soaked
 -- `native`

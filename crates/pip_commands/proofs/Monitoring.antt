@@ -53,7 +53,7 @@ is_one (Some k) = k == 1
 
 -- what the machine says of processor 0, whose root has the name 1
 pub root_there : (w : World) (o : Option Occupant) → w.tree.root.name ≡ 1
-    → is_root w o ≡ is_one (option_map (λ r. r.name) o)
+    → is_root w.tree o ≡ is_one (option_map (λ r. r.name) o)
 root_there w None is = refl
 root_there w (Some r) is = ap (λ k. r.name == k) is
 

@@ -14,4 +14,5 @@ pub mod NativeLoading
 pub mod AuditTexts
 pub mod AuditLaw
 pub mod EveryLaw
+pub mod RunLaw
 pub mod Pacing

@@ -25,11 +25,11 @@ abbrev pub audit_words : Option ℕ → Option Command
 audit_words (Some frames) = if nat_le 16 frames && nat_le frames 4096 then Some (C.Audit frames) else None
 audit_words None = None
 
--- `every` takes how many states there is room for, 1 to 10,000,000, the turns before which no line comes, at most as
--- many, and how many choices are made at most, 1 to 10,000,000, if there is a bound
+-- `every` takes how many states there is room for, 1 to 100,000,000, the turns before which no line comes, at most
+-- 10,000,000, and how many choices are made at most, 1 to 10,000,000, if there is a bound
 abbrev pub every_words : Option ℕ → Option ℕ → Option ℕ → Option Command
 every_words (Some states) (Some from) depth =
-    if (nat_le 1 states && nat_le states 10000000) && nat_le from 10000000 then Some (C.Every states from depth)
+    if (nat_le 1 states && nat_le states 100000000) && nat_le from 10000000 then Some (C.Every states from depth)
     else None
 every_words _ _ depth = None
 

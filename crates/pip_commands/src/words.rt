@@ -48,8 +48,11 @@ const MAX_CHILDREN: u32 = 8;
 /// The most events of `soak`.
 const MAX_EVENTS: u32 = 1_000_000;
 
-/// The most states of `every`, turns before its first line, and choices.
-const MAX_STATES: u32 = 10_000_000;
+/// The most states of `every`.
+const MAX_STATES: u32 = 100_000_000;
+
+/// The most turns of `every` before its first line, and the most choices.
+const MAX_CHOICES: u32 = 10_000_000;
 
 /// The command, or `None` where the words are none of the forms.
 pub fn read_words(words: &[String]) -> Option<Command>
@@ -158,17 +161,17 @@ fn read_four(
     let (Some(states), Some(from), Some(depth)) = (first, second, third) else {
         return None;
     };
-    if word != b"every".as_slice() || depth < 1 || depth > MAX_STATES {
+    if word != b"every".as_slice() || depth < 1 || depth > MAX_CHOICES {
         return None;
     }
     read_every(states, from, Some(depth))
 }
 
-// Room for 1 to 10,000,000 states, and a bound for choices, if there is one.
+// Room for 1 to 100,000,000 states, and a bound for choices, if there is one.
 fn read_every(states: u32, from: u32, depth: Option<u32>) -> Option<Command>
     ensures { result ≡ every_words (Some states) (Some from) depth }
 {
-    (states >= 1 && states <= MAX_STATES && from <= MAX_STATES).then_some(Command::Every {
+    (states >= 1 && states <= MAX_STATES && from <= MAX_CHOICES).then_some(Command::Every {
         states,
         from,
         depth,

@@ -9,6 +9,6 @@ mod turns;
 mod words;
 
 pub use effects::effect_of;
-pub use lines::write_line;
+pub use lines::{write_call, write_line, write_moved};
 pub use pip_model::{Effect, TurnEnd};
 pub use turns::turn;

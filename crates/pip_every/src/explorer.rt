@@ -35,12 +35,13 @@ pub(crate) struct Explorer<F: First, L: Ledger> {
     ghost few: { length lines.items ≤ 16 },
 }
 
-// How many turns were made after one that ended so, counted up to `from`. That of an idle processor isn't counted.
+// How many turns were made after one that ended so, counted up to `from`. That of an idle processor can be made again
+// and again, and stands for all that are left.
 fn turns_after(from: u32, turns: u32, end: TurnEnd) -> u32
     ensures { result ≡ moments.turns_after from turns end }
 {
     match end {
-        TurnEnd::Polled(Outcome::Idle) => turns,
+        TurnEnd::Polled(Outcome::Idle) => from,
         _ => { if turns < from { turns + 1 } else { turns } }
     }
 }

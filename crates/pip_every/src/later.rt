@@ -18,7 +18,7 @@ use std::sync::ledger::{Blank, Ledger};
 struct Advancing;
 
 /// How many turns each processor has before words are noted.
-const TURNS: u32 = 125;
+const TURNS: u32 = 1000;
 
 /// How often words are noted.
 const TIMES: u32 = 4;

@@ -10,7 +10,7 @@ use pip_model::Occupant;
 use std::alloc::AllocError;
 
 /// 1 to 4 processors, each with what it runs.
-pub(crate) type Processors = ArrayVec<Option<Occupant>, 4>;
+pub type Processors = ArrayVec<Option<Occupant>, 4>;
 
 /// How many words a processor has where a partition runs on it: its name, its pc and its registers.
 const RUNNING: usize = 18;
@@ -33,7 +33,7 @@ fn add_running(runs: &Option<Occupant>, to: &mut Vec<u32>) -> Result<(), AllocEr
 }
 
 /// Adds the words of what runs on processors. The only error is that memory is out.
-pub(crate) fn add_processors(cpus: &[Option<Occupant>], to: &mut Vec<u32>) -> Result<(), AllocError>
+pub fn add_processors(cpus: &[Option<Occupant>], to: &mut Vec<u32>) -> Result<(), AllocError>
     ensures { IfOk result (λ _. to.new.items ≡ to.old.items ++ processor_words cpus.now) }
 {
     for runs in cpus {
@@ -72,7 +72,7 @@ fn read_running(words: &[u32]) -> (Option<Occupant>, &[u32])
 }
 
 /// What runs on `count` processors, by words that begin with theirs, and the words after them.
-pub(crate) fn read_processors(words: &[u32], count: u32) -> (Processors, &[u32])
+pub fn read_processors(words: &[u32], count: u32) -> (Processors, &[u32])
     requires begins { (os : List (Option Occupant)) × ((rest : List ℕ) × StartsWithAll words.now count os rest) }
     requires most { count ≤ 4 }
     ensures { (os : List (Option Occupant)) (rest : List ℕ) → StartsWithAll words.now count os rest

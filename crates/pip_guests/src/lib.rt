@@ -1,6 +1,7 @@
 //! The laws of whole guests: docs/GUARANTEES.md, "Whole guests". They compute nothing: what each says is its contract.
 #![tactic(auto)]
 
+ghost use Rattle.pip_guests.specs.Ancestors.{AncestorsLeaveGuestsAlone, AncestorsOnMachines};
 ghost use Rattle.pip_guests.specs.Guests.{EventsAreKnown, GuestsAreLeftAlike, GuestsDependOnThemselves};
 ghost use Rattle.pip_guests.specs.Guests.{GuestsLeaveOthersAlone, GuestsRunAsAlone, IsInside};
 ghost use Rattle.pip_guests.specs.Guests.{OthersDoNotMatterToGuests, OthersLeaveGuestsAlone};
@@ -32,6 +33,14 @@ pub fn law_inputs()
     ensures stores { StoresAreInputs }
     ensures calls { CallsAreInputs }
     ensures interrupts { InterruptsAreInputs }
+{}
+
+/// What partitions above do that is no matter of a guest: loads, stores to pages that it doesn't have, calls that
+/// concern another child, yields elsewhere, and faults, traps and lines by which their context goes to none of its
+/// pages.
+pub fn law_ancestors()
+    ensures model { AncestorsLeaveGuestsAlone }
+    ensures machines { AncestorsOnMachines }
 {}
 
 /// Guests that run programs, as long as no interrupt line is taken.

@@ -2,11 +2,12 @@
 ghost use Rattle.std.specs.Prelude.{◌≡◌};
 ghost use Rattle.pip_search.specs.Naming.{hash_after, hash_by_eights, hash_of, hash_step};
 
-// A hash and one more number.
+// A hash and one more number. The product's upper half depends on all bits of both, and comes into the lower half too.
 fn stir(sum: u64, number: u64) -> u64
     ensures { result ≡ hash_step sum number }
 {
-    (sum ^ number).wrapping_mul(0x9e3779b97f4a7c15)
+    let product = (sum ^ number).wrapping_mul(0x9e3779b97f4a7c15);
+    product ^ (product >> 32)
 }
 
 // A hash and more bytes, one by one.
@@ -37,5 +38,5 @@ fn stir_eights(start: u64, bytes: &[u8]) -> u64
 pub(crate) fn hash_bytes(bytes: &[u8]) -> u32
     ensures { result ≡ hash_of bytes.now }
 {
-    (stir_eights(0xcbf29ce484222325, bytes) >> 32) as u32
+    (stir_eights(0xcbf29ce484222325, bytes) % 0x100000000) as u32
 }

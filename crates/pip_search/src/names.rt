@@ -13,8 +13,8 @@ pub(crate) trait Named {
         ensures { result.now ≡ name_of self.now };
 }
 
-// Whether two names are the same.
-fn is_same(a: &[u8], b: &[u8]) -> bool
+/// Whether two names are the same.
+pub(crate) fn is_same(a: &[u8], b: &[u8]) -> bool
     ensures same { IsTrue result → a.now ≡ b.now }
     ensures other { result ≡ false → a.now ≢ b.now }
 {

@@ -51,14 +51,26 @@ pub struct Search {
     pub(crate) labels: Index,
 }
 
-// What is used again for each choice: the words of the key from which it is made, those of the next key, its bytes, and
-// what was shown.
+/// What is used again for each choice: the words of the key from which it is made, those of the next key, its bytes,
+/// and what was shown.
 #[derive(Drop)]
-struct Buffers {
-    from: Vec<u32>,
-    to: Vec<u32>,
-    bytes: Vec<u8>,
-    shown: Vec<u8>,
+pub(crate) struct Buffers {
+    pub(crate) from: Vec<u32>,
+    pub(crate) to: Vec<u32>,
+    pub(crate) bytes: Vec<u8>,
+    pub(crate) shown: Vec<u8>,
+}
+
+impl Buffers {
+    /// Empty ones.
+    pub(crate) fn new(alloc: Global) -> Buffers {
+        Buffers {
+            from: Vec::new(alloc),
+            to: Vec::new(alloc),
+            bytes: Vec::new(alloc),
+            shown: Vec::new(alloc),
+        }
+    }
 }
 
 // A search that has visited the first state.
@@ -215,12 +227,7 @@ pub fn explore<S: System>(
     ensures traced { IfOk result (λ r. AreTraced r.0.visits.items r.0.found.items) }
     ensures base { S.base system.new ≡ S.base system.old }
 {
-    let mut buffers = Buffers {
-        from: Vec::new(alloc),
-        to: Vec::new(alloc),
-        bytes: Vec::new(alloc),
-        shown: Vec::new(alloc),
-    };
+    let mut buffers = Buffers::new(alloc);
     let mut search = begin(alloc, start, &mut buffers)?;
     let mut i = 0;
     while (i as usize) < search.visits.len() {

@@ -79,9 +79,10 @@ fn a_root_without_a_program_parks(rt: HostRuntime) -> Result<(), Fail> {
     let mem = root_with(rt.alloc(), &[])?;
     let ended = search(rt.alloc(), mem, 1, &[], 0, 100, 100)?;
     check(&rt, &ended, 2, parks, &PARKS);
-    // Both states, each with none, one or both of the lines; then no line before the root has
-    // parked; and then none at all, for a turn of a processor that runs nothing isn't counted.
-    for (from, count, depth) in [(0, 8, 3), (1, 5, 3), (2, 2, 1)] {
+    // Both states, each with none, one or both of the lines; then the first state once more, before
+    // a turn was made; and then the second once more, too. A turn of the processor that runs nothing
+    // stands for all that are left.
+    for (from, count, depth) in [(0, 8, 3), (1, 9, 3), (2, 10, 4)] {
         let mem = root_with(rt.alloc(), &[])?;
         let ended = search(rt.alloc(), mem, 2, &[3, 5], from, 100, 100)?;
         check(&rt, &ended, count, Verdict::Closed { depth }, &PARKS);

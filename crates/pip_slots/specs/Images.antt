@@ -1,0 +1,63 @@
+-- Time slots of images. The children of the root are built of an image's pages, as `native` builds them, and the plan
+-- of slots runs them. What a child does, and when, depends on its own two pages of the image alone.
+use Rattle.std.specs.Prelude.{◌≡◌, ℕ, zero, suc, ◌+◌, ◌≤◌, ◌<◌, List, [], ◌++◌, map, Some}
+use Rattle.std.specs.List.{AllByRecursion}
+use Rattle.pip_model.specs.Boot.{frame_of_root}
+use Rattle.pip_model.specs.Images.{Image, image_word}
+use Rattle.pip_model.specs.Run.{image_world}
+use Rattle.pip_model.specs.Sound.{IsWord}
+use Rattle.pip_model.specs.Tree.{vpage}
+use Rattle.pip_model.specs.Worlds.{IsSoundWorld}
+use Rattle.pip_watch.specs.Watching.{addresses, fresh, page_address, pages_taken, ready_world}
+use Rattle.pip_slots.specs.declared.time_slot.TimeSlot.{TimeSlot}
+use Rattle.pip_slots.specs.Slots.{IsBetweenSlots, IsRootsChild, lines_of_child, rounds}
+
+-- two images have the same words in the root's page at an address
+abbrev pub AgreeAt : ℕ → Image → Image → Type 0
+AgreeAt va a b = (g i : ℕ) → frame_of_root a.frames (vpage va) ≡ Some g → i < 1024
+    → image_word a.frames a.pages g i ≡ image_word b.frames b.pages g i
+
+-- two images for machines of one size that have child k of n in common: its program, and the page of its handlers
+pub record AgreeOnChild (n k : ℕ) (a b : Image) : Type 0 where
+  pub frames : a.frames ≡ b.frames
+  pub cpus : a.cpus ≡ b.cpus
+  pub program : AgreeAt (page_address k) a b
+  pub handlers : AgreeAt (fresh n k 11) a b
+
+-- an image has room for n children, 1 to 8, and its machine begins soundly
+pub record HasRooms (n : ℕ) (a : Image) : Type 0 where
+  pub most : n ≤ 8
+  pub frames : pages_taken n + 13 ≤ a.frames
+  pub sound : IsSoundWorld (image_world a)
+
+-- the lines of child k of n, from step t on
+abbrev pub child_lines : Image → ℕ → ℕ → List TimeSlot → ℕ → List ℕ
+child_lines a n k ss t = lines_of_child (fresh n k 0) (ready_world (image_world a) n) ss t
+
+-- for two images that have child k in common its lines are the same, with the numbers of the steps, whatever the images
+-- have for the other children
+abbrev pub ImagesSeparate : Type 0
+ImagesSeparate = (a b : Image) (n k t : ℕ) (ss : List TimeSlot) → k < n → HasRooms n a → HasRooms n b → AgreeOnChild n
+    k a b
+    → AllByRecursion (λ s. IsWord s.child) ss → child_lines a n k ss t ≡ child_lines b n k ss t
+
+-- ---- in turn
+
+-- a slot of this many turns for each child
+abbrev pub round : ℕ → List ℕ → List TimeSlot
+round turns children = map (λ d. record { child = d; turns = turns }) children
+
+-- the plan in which each of n children has a slot in turn
+abbrev pub in_turn : ℕ → ℕ → ℕ → List TimeSlot
+in_turn n turns c = rounds (round turns (addresses n n)) c
+
+-- so in any number of rounds of slots in turn, each child's lines are those of its own two pages
+abbrev pub ImagesSeparateInTurn : Type 0
+ImagesSeparateInTurn = (a b : Image) (n k turns c : ℕ) → k < n → HasRooms n a → HasRooms n b → AgreeOnChild n k a b
+    → child_lines a n k (in_turn n turns c) 0 ≡ child_lines b n k (in_turn n turns c) 0
+
+-- the law of slots speaks of every image with room: its machine is at the beginning of a slot once the children are
+-- built, and each of them is there
+abbrev pub ImagesBegin : Type 0
+ImagesBegin = (a : Image) (n : ℕ) → HasRooms n a → IsBetweenSlots (ready_world (image_world a) n)
+    × ((k : ℕ) → k < n → (p : ℕ) × IsRootsChild (ready_world (image_world a) n) (fresh n k 0) p)
