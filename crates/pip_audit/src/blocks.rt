@@ -10,14 +10,14 @@ use pip_frames::Frames;
 use std::alloc::{AllocError, Global};
 use std::sync::ledger::Ledger;
 
-/// What a word is looked for as: as one that isn't 0, or as one of a first shadow that tells of a child's descriptor.
+/// Which words are sought: those that aren't 0, or those of a first shadow that mark a child's descriptor.
 #[derive(Clone, Copy, Debug, PartialEq, Eq)]
 pub(crate) enum Kind {
     Filled,
     Descriptor,
 }
 
-/// For each block of 32 words of each frame, which of them may be of a kind: bit i for word i of the block.
+/// Per frame and block of 32 words, the words that may be of a kind: bit i for word i of the block.
 #[derive(Drop)]
 pub(crate) struct Masks {
     // The blocks of the frames that were read, in the order of reading.
@@ -71,7 +71,7 @@ fn masks_of<M: Frames, L: Ledger>(kind: Kind, mem: &M, f: Frame, steps: &mut Ste
 }
 
 impl Masks {
-    /// For a memory of `n` frames, 4096 at most. Nothing was read.
+    /// Nothing is known of a memory of `n` frames, 4096 at most.
     fn new(alloc: Global, n: usize) -> Result<Masks, AllocError>
         requires { n ≤ 4096 }
     {
@@ -107,7 +107,7 @@ impl Masks {
         }
     }
 
-    // Reads the blocks of a frame that wasn't read. Where there is no room for them they stay unread.
+    // Reads the blocks of a frame, unless it was read or there is no room for them.
     fn learn<M: Frames, L: Ledger>(&mut self, kind: Kind, mem: &M, f: Frame, steps: &mut Steps<L>)
         requires frame { f < length (M.memory mem.now) }
         requires masks { AreMasks kind (M.memory mem.now) self.old }
@@ -128,7 +128,7 @@ impl Masks {
 }
 
 impl Blocks {
-    /// For a memory of `n` frames, 4096 at most. Nothing was read.
+    /// Nothing is known of a memory of `n` frames, 4096 at most.
     pub(crate) fn new(alloc: Global, n: usize) -> Result<Blocks, AllocError>
         requires { n ≤ 4096 }
     {
@@ -147,7 +147,7 @@ impl Blocks {
         self.descriptors.forget();
     }
 
-    /// Whether block `b` of the tables of a directory index is known to have none of the rows that are sought.
+    /// Whether block `b` of the tables of a directory index is known to lack the rows that are sought.
     pub(crate) fn lacks(&self, sought: Sought, tables: Triple, b: u32) -> bool
         requires mmu { tables.mmu < 4096 }
         requires shadow { tables.shadow1 < 4096 }

@@ -34,7 +34,7 @@ const LIST: u32 = 5;
 // The frame of its first table. The others come after it, three for a directory index.
 const FIRST_TABLE: u32 = 6;
 
-// Whether two words name this page, and no address in a parent.
+// Whether the two words of a page name this frame, and no address in a parent.
 fn is_own<M: Frames, L: Ledger>(mem: &M, f: Frame, i: u32, frame: u32, steps: &mut Steps<L>) -> bool
     requires frame { f < length (M.memory mem.now) }
     requires index { i < 1023 }
@@ -55,7 +55,7 @@ pub(crate) fn has_boot_base<M: Frames, L: Ledger>(mem: &M, steps: &mut Steps<L>)
         && is_own(mem, root, LIST_VA, LIST, steps)
 }
 
-// Whether the first place of a table in a directory is this one, which isn't the first of all.
+// Whether a table's least place in a directory is `place`, which isn't 0.
 fn stands_at<M: Frames, L: Ledger>(
     mem: &M,
     directory: Frame,
@@ -107,7 +107,7 @@ pub(crate) fn has_boot_tables<M: Frames, L: Ledger>(mem: &M, steps: &mut Steps<L
     is_boot_slot(mem, count, VIDT / WORDS, steps)
 }
 
-// Whether the root has the boot's row at a virtual page, or none as the boot's.
+// Whether the root has the boot's row at a virtual page, or none if the boot's has none.
 fn has_boot_row<M: Frames, L: Ledger>(
     tables: &Tables,
     mem: &M,

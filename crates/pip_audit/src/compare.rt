@@ -1,5 +1,5 @@
-//! The pages of one node, compared with the words that the layout wants in them. What is kept is the difference in the
-//! lowest frame so far, so the order in which frames are judged doesn't matter.
+//! The pages of one node, compared with the words that the layout wants in them. The difference in the lowest frame so
+//! far is kept, so the order in which frames are judged doesn't matter.
 ghost use Rattle.std.specs.Prelude.{◌≡◌, ℕ, ◌<◌, None, length};
 ghost use Rattle.pip_base.specs.Memory.{word_at};
 ghost use Rattle.pip_model.specs.NodeIn.{directory_of};
@@ -20,7 +20,7 @@ use pip_frames::Frames;
 use pip_model::{Difference, lists};
 use std::sync::ledger::Ledger;
 
-// The difference in the lower frame.
+// The one of two differences that is in the lower frame.
 fn earlier(found: Option<Difference>, here: Option<Difference>) -> Option<Difference>
     ensures { result ≡ earlier_of found here }
 {
@@ -73,7 +73,7 @@ impl Auditor {
         earlier(found, here)
     }
 
-    /// Judges frame 0, which is nobody's.
+    /// Judges frame 0, which belongs to no node.
     pub(crate) fn judge_zero<M: Frames, L: Ledger>(
         &self,
         mem: &M,

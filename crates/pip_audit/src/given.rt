@@ -71,7 +71,7 @@ impl FrameWords {
         }
     }
 
-    // Holds for each page where a node has it first, 0 where it doesn't.
+    // Holds for each page the second shadow's word that names the first row in which a node has it; 0 if no row does.
     #[tactic(auto, using(crate::proofs::PartLaws::rows_are))]
     fn place_rows<M: Frames, L: Ledger>(
         &mut self,
@@ -96,8 +96,8 @@ impl FrameWords {
 }
 
 impl Auditor {
-    // Holds the words of all that node `x` holds, if it is a child of this parent. What is configuration and stands in
-    // a row too is told as configuration.
+    // Holds the words of all that node `x` holds, if it is a child of this parent. A page that is both configuration
+    // and in a row counts as configuration.
     fn give_child<M: Frames, L: Ledger>(
         &mut self,
         mem: &M,

@@ -102,8 +102,8 @@ impl Auditor {
 
     // ---- no node holds a page twice
 
-    // Meets all pages that node `x` holds, and says whether none was met before and none comes twice. It ends after the
-    // pages of configuration if one of these was.
+    // Meets all pages that node `x` holds, and answers whether none was met before and none comes twice. It ends after
+    // the pages of configuration if one of these was.
     fn meet_held<M: Frames, L: Ledger>(&mut self, mem: &M, x: usize, steps: &mut Steps<L>) -> bool
         requires read { IsRead (M.memory mem.now) self.old }
         requires node { x < self.old.count }
@@ -127,7 +127,7 @@ impl Auditor {
 
     // ---- all comes from the parent
 
-    // Whether a page of a child's configuration stands in a row of the parent, at the address that the child names.
+    // Whether a page of a child's configuration is in a row of the parent, at the address that the child names.
     fn is_lent<M: Frames, L: Ledger>(
         &self,
         mem: &M,
@@ -148,7 +148,7 @@ impl Auditor {
         false
     }
 
-    // Whether all pages of a child's configuration do.
+    // Whether all pages of a child's configuration are in such rows.
     fn pages_are_lent<M: Frames, L: Ledger>(
         &self,
         mem: &M,
@@ -212,7 +212,7 @@ impl Auditor {
         self.load_parent(mem, parent, steps);
     }
 
-    // Whether all that node `x` holds stands in rows of the node that is loaded.
+    // Whether all that node `x` holds is in rows of the node that is loaded.
     fn is_lent_by<M: Frames, L: Ledger>(&mut self, mem: &M, x: usize, steps: &mut Steps<L>) -> bool
         requires read { IsRead (M.memory mem.now) self.old }
         requires node { x < self.old.count }
@@ -340,7 +340,7 @@ impl NodeTest for IsApart {
     }
 }
 
-/// Whether all that it holds stands in rows of its parent.
+/// Whether all that it holds is in rows of its parent.
 pub(crate) struct IsLent;
 
 impl NodeTest for IsLent {

@@ -38,7 +38,7 @@ pub(crate) struct Row {
     pub rights: u32,
 }
 
-/// Which rows are sought: all, or those on whose page is a child's descriptor.
+/// Which rows are sought: all, or those whose page is a child's descriptor.
 #[derive(Clone, Copy, Debug, PartialEq, Eq)]
 pub(crate) enum Sought {
     Any,
@@ -50,7 +50,7 @@ pub(crate) enum Sought {
 pub(crate) struct Tables {
     // The node.
     part: Frame,
-    // Per frame, the least place of the MMU directory that has a table there.
+    // Per frame, the least place in the MMU directory that names it as a table.
     place: Vec<Option<u32>>,
     // Per directory index, the tables of the first slot that has it.
     of: Vec<Option<Triple>>,
@@ -81,7 +81,7 @@ impl Tables {
         self.place.fill(None);
     }
 
-    // Takes word `i` of a directory: it may be the place of a table that has none so far.
+    // Takes word `i` of a directory: its table gets this place, unless it has one.
     fn hold_place(&mut self, word: u32, i: u32)
         ensures room { length self.new.place.items ≡ length self.old.place.items }
         ensures places { (g : ℕ) → g < length self.old.place.items →
@@ -164,7 +164,7 @@ impl Tables {
         self.of[index as usize] = Some(triple);
     }
 
-    // Takes a slot that begins at word `i` of a list page, where it doesn't stop.
+    // Takes a slot that begins at word `i` of a list page and doesn't stop the reading.
     fn take_slot<M: Frames, L: Ledger>(
         &mut self,
         mem: &M,
@@ -495,7 +495,7 @@ impl Tables {
         self.later_row(mem, blocks, from, steps)
     }
 
-    /// Whether each row passes a test. It ends with the first that fails.
+    /// Whether each row passes a test. It ends at the first that fails.
     #[tactic(auto, using(crate::proofs::PartLaws::rows_are))]
     pub(crate) fn all_rows<M: Frames, L: Ledger, F: Fn(Row) -> bool>(
         &self,

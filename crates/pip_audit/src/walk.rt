@@ -18,7 +18,7 @@ use pip_frames::Frames;
 use pip_model::Stop;
 use std::sync::ledger::Ledger;
 
-/// A page to be read as a node: the virtual page of its row, and the word of a first shadow that says so.
+/// A page to be read as a node: the virtual page of its row, and the place of the first shadow's word that says so.
 #[derive(Clone, Copy, Debug, PartialEq, Eq)]
 struct Child {
     at: u32,
@@ -41,7 +41,7 @@ fn child_of(row: Row, shadow: Frame) -> Child
 }
 
 impl Auditor {
-    // Nothing was read. So no word tells of a first shadow.
+    // Nothing was read, so no first shadow is known.
     fn forget(&mut self)
         ensures count { self.new.count ≡ 0 }
         ensures depth { self.new.depth ≡ 0 }
@@ -77,7 +77,7 @@ impl Auditor {
         self.depth += 1;
     }
 
-    // The rows of the newest node are gone through up to this one.
+    // The rows of the newest node were read up to this one.
     fn pass_row(&mut self, at: u32)
         requires deep { 0 < self.old.depth }
         requires room { self.old.depth ≤ length self.old.from.items }
@@ -87,7 +87,7 @@ impl Auditor {
         self.from[self.depth - 1] = at + 1;
     }
 
-    // Reads the node that a word told of, the first that is left of the newest node, or stops.
+    // Reads the node that a first shadow's word named, the next child of the newest node, or stops.
     fn visit<M: Frames, L: Ledger>(
         &mut self,
         mem: &M,
@@ -125,8 +125,7 @@ impl Auditor {
     }
 
     // The first row from a virtual page on, in these tables of its directory index, whose page is a child's descriptor.
-    // Where they have none from their first row on, that is remembered: tables that many nodes share are gone through
-    // once.
+    // If they have none from their first row on, that is remembered: tables that many nodes share are read once.
     fn child_in<M: Frames, L: Ledger>(
         &mut self,
         mem: &M,

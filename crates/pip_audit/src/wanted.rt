@@ -67,7 +67,7 @@ fn is_zero_block(words: &[u32; 1024], b: u32) -> bool
         & are_zero(words, first + 24)
 }
 
-// Word `i` of a descriptor. Two words have room for more than a node has: the flags and the pending lines.
+// Word `i` of a descriptor. Two of its words have bits that no node uses: the flags and the pending lines.
 fn descriptor_word<M: Frames, L: Ledger>(mem: &M, part: Frame, i: u32, steps: &mut Steps<L>) -> u32
     requires part { part < length (M.memory mem.now) }
     requires index { i < 1024 }
@@ -89,7 +89,7 @@ fn descriptor_word<M: Frames, L: Ledger>(mem: &M, part: Frame, i: u32, steps: &m
     }
 }
 
-// Word `i` of list page `k`. What comes after the last link and the last slot is 0.
+// Word `i` of list page `k`. Words after the last link and the last slot are 0.
 fn list_word<M: Frames, L: Ledger>(
     mem: &M,
     part: Frame,
@@ -236,7 +236,7 @@ impl Auditor {
         }
     }
 
-    // Whether block `b` of a page has the words that are wanted because these are zeros.
+    // Whether block `b` of a page has zeros where the node is known to want zeros.
     fn is_blank_block<M: Frames, L: Ledger>(
         &self,
         mem: &M,
@@ -282,7 +282,7 @@ impl Auditor {
         None
     }
 
-    /// The first word of a page that isn't the one that is wanted of this role in the node.
+    /// The first word of a page that isn't the one that its role in the node wants.
     #[inline(always)]
     pub(crate) fn difference_in<M: Frames, L: Ledger>(
         &self,

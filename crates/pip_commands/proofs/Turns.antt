@@ -212,8 +212,7 @@ module _ (v : Option World) (n : ℕ) (i : Held) (a b : Streams) (machine : Opti
   ends_stopped Memory Limit ran rose stopped names = absurd names
 
 -- the count of failed writes, where the script doesn't end with a write that failed: x before the line, y when it was
--- stopped,
--- z at the end
+-- stopped, z at the end
 pub ended_calm : (stop : Stop) (e : End) (n : ℕ) (before after : Taken) (x y z : ℕ) → Names stop n e before after y z
     → (stop ≢ Write → y ≡ x) → (e ≢ WriteFault → z ≡ y) → status_of e ≢ 4 → z ≡ x
 ended_calm Bad e n before after x y z names ran named other = named (λ is. other (ap status_of is)) ∙ ran (λ is. cc)

@@ -25,7 +25,7 @@ const USAGE: &[u8] =
 /// Does what the words of the command line ask for. The words leave out the program's name (docs/FORMATS.md,
 /// "Statuses"). The sink holds nothing at first, and at each status but 4 it holds nothing at the end. Whatever the
 /// source asks for at a read, it is read nowhere but where what was read has no answer yet, and all that is due for it
-/// is out. It is read while it is open, so that its end is asked for once.
+/// is out. It is read only while it is open, so the end of the input is read once.
 pub fn pip<S: Source, K: Sink>(
     alloc: Global,
     words: &[String],

@@ -15,8 +15,7 @@ use pip_script::{push_decimal, push_word};
 /// Room for a line of a trace: the longest has 88 bytes.
 const ROOM: usize = 96;
 
-/// Writes a line by one `write_all`. It fails only where the sink's count of faults is one more; a part of it was
-/// written then.
+/// Writes a line by one `write_all`. Fails only if a write failed; the sink then has a part of the line.
 pub fn write_line<K: Sink, const N: usize>(
     sink: &mut K,
     line: &ArrayString<N>,

@@ -5,7 +5,7 @@ ghost use Rattle.pip_io.specs.Taken.{plain};
 use pip_io::{Failed, Sink};
 use std::alloc::Global;
 
-/// A sink that keeps all that is written. It fails only where memory is out.
+/// A sink that keeps all that is written. It fails only if memory is out.
 #[derive(Drop)]
 pub struct Label {
     bytes: Vec<u8>,

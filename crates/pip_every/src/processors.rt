@@ -12,7 +12,7 @@ use std::alloc::AllocError;
 /// 1 to 4 processors, each with what it runs.
 pub type Processors = ArrayVec<Option<Occupant>, 4>;
 
-/// How many words a processor has where a partition runs on it: its name, its pc and its registers.
+/// How many words a processor has if a partition runs on it: its name, its pc and its registers.
 const RUNNING: usize = 18;
 
 // Adds the words of what runs on a processor. The only error is that memory is out.

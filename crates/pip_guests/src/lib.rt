@@ -68,7 +68,7 @@ pub fn law_guests_of_machines()
     ensures inputs { MachinesDependOnInputs }
 {}
 
-/// What stays inside is no more than it is: one thing more let in, and a law is false.
+/// 'Inside' can't be widened: admit one more case, and a law is false.
 pub fn law_limits()
     ensures inside { OutcomesDepend IsInside }
     ensures parked { ParkedIsNotInside }

@@ -20,7 +20,7 @@ fn another(frame: Frame) -> Frame
     Frame::new(0)
 }
 
-// Writes the words of the parts that were opened over others.
+// Writes the words of the opened parts over another frame's.
 fn restore_parts(from: &[u32; 1024], to: &mut [u32; 1024], parts: &Parts)
     requires { TracksWords from.now to.old parts.now }
     ensures { to.new ≡ from.now }
@@ -33,7 +33,7 @@ fn restore_parts(from: &[u32; 1024], to: &mut [u32; 1024], parts: &Parts)
     }
 }
 
-/// Writes the words of a frame over the same frame of other frames, of which only opened parts have other words.
+/// Writes the words of a frame over those of the same frame of `to`, which differ in opened parts only.
 pub(crate) fn restore_frame<L: Ledger>(
     from: &RawFrames,
     to: &mut RawFrames,

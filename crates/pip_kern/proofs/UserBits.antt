@@ -105,8 +105,7 @@ row_rows m part v h = record { node = h.node; rows = h.rows; is_in = h.is_in; na
 -- ---- the climb
 
 -- a number of steps up from the caller, at a partition that has the page at vpage v: those passed are written, and it
--- and those
--- above it aren't yet
+-- and those above it aren't yet
 pub record Setting (t : Tree) (rows : ℕ → ℕ → Option FullRow)
     (caller g : ℕ) (b : Bool) (old m : Memory) (at v steps : ℕ) : Type 0 where
   pub x : Node

@@ -33,7 +33,7 @@ pub fn born_of<M: Frames, L: Ledger>(mem: &M, part: Frame, steps: &mut Steps<L>)
     mem.word(part, SELF_VA, steps)
 }
 
-// The page for which a word of an MMU table stands. None where it stands for none.
+// The page that a word of an MMU table names. None if it names none.
 fn page_of(word: u32) -> Option<Frame>
     ensures { (r : Option FullRow) → IsPacked r → word ≡ row_word Mmu r → result ≡ option_map (λ q. q.frame) r }
 {

@@ -19,8 +19,8 @@ use pip_script::push_decimal;
 use std::sync::ledger::Ledger;
 
 /// The whole trace of an image of that many frames, with that many pages, whose plans are those of `lines`: its first
-/// line, the steps as `run_lines` makes them, the last line (docs/FORMATS.md, "Trace lines"). It fails only where the
-/// sink's count of faults is one more; all was done then up to the line that was not written whole.
+/// line, the steps as `run_lines` makes them, the last line (docs/FORMATS.md, "Trace lines"). Fails only if a write
+/// failed; all was done then up to the line that was not written whole.
 pub fn trace<P: Port, K: Sink, F: Callback, L: Ledger>(
     port: &mut P,
     lines: &[Line<F>],

@@ -1,8 +1,9 @@
-//! Hashes of bytes. What the search promises doesn't depend on which they are.
+//! Hashes of bytes. What the search promises doesn't depend on the hash function.
 ghost use Rattle.std.specs.Prelude.{◌≡◌};
 ghost use Rattle.pip_search.specs.Naming.{hash_after, hash_by_eights, hash_of, hash_step};
 
-// A hash and one more number. The product's upper half depends on all bits of both, and comes into the lower half too.
+// A hash with one more number stirred in. The product's upper half depends on all bits of both, so it is mixed into the
+// lower half.
 fn stir(sum: u64, number: u64) -> u64
     ensures { result ≡ hash_step sum number }
 {
@@ -10,7 +11,7 @@ fn stir(sum: u64, number: u64) -> u64
     product ^ (product >> 32)
 }
 
-// A hash and more bytes, one by one.
+// A hash with more bytes stirred in, one by one.
 fn stir_bytes(start: u64, bytes: &[u8]) -> u64
     ensures { result ≡ hash_after start bytes.now }
 {
@@ -21,7 +22,7 @@ fn stir_bytes(start: u64, bytes: &[u8]) -> u64
     sum
 }
 
-// A hash and more bytes, eight at a time while there are eight.
+// A hash with more bytes stirred in, eight at a time while there are eight.
 fn stir_eights(start: u64, bytes: &[u8]) -> u64
     ensures { result ≡ hash_by_eights start bytes.now }
 {

@@ -18,19 +18,19 @@ use crate::system::System;
 use crate::visits::{Step, Visit, kept, reach, run_from};
 use std::alloc::{AllocError, Global};
 
-/// How far a search went.
+/// How far a search came.
 #[derive(Clone, Copy, Debug, PartialEq, Eq)]
 pub enum Verdict {
-    /// Each choice of each state that was visited leads to one that was visited. To the deepest lead that many choices.
+    /// Every choice of every visited state leads to a visited one. `depth` choices lead to the deepest.
     Closed { depth: u32 },
-    /// All states were visited to which that many choices or fewer lead: the depth that was asked for.
+    /// Every state that `depth` or fewer choices lead to was visited: the depth that was asked for.
     Within { depth: u32 },
-    /// There are more states than there is room for. All were visited to which that many choices or fewer lead.
+    /// There are more states than there is room for. Every state that `depth` or fewer choices lead to was visited.
     Stopped { depth: u32 },
 }
 
 impl Verdict {
-    /// Whether all ways of that many choices were gone through.
+    /// Whether all ways of `count` choices were searched.
     pub fn covers(self, count: u32) -> bool
         ensures { result ≡ is_covered self count }
     {
@@ -51,7 +51,7 @@ pub struct Search {
     pub(crate) labels: Index,
 }
 
-/// What is used again for each choice: the words of the key from which it is made, those of the next key, its bytes,
+/// Buffers that each choice uses again: the words of the key from which it is made, those of the next key, its bytes,
 /// and what was shown.
 #[derive(Drop)]
 pub(crate) struct Buffers {
@@ -102,7 +102,7 @@ fn begin(alloc: Global, start: &[u32], buffers: &mut Buffers) -> Result<Search, 
     })
 }
 
-// Makes a choice of visit `i`, whose key is at hand. False where its next state is new, and there is no room for it.
+// Makes a choice of visit `i`, whose key is at hand. False if its next state is new and there is no room for it.
 fn make<S: System>(
     search: &mut Search,
     system: &mut S,
@@ -168,7 +168,7 @@ fn make<S: System>(
     Ok(true)
 }
 
-// Makes all choices of visit `i`. False where there was no room for a visit.
+// Makes all choices of visit `i`. False if there was no room for a visit.
 fn expand<S: System>(
     search: &mut Search,
     system: &mut S,
@@ -203,8 +203,8 @@ fn expand<S: System>(
     Ok(true)
 }
 
-/// Searches from the state of a key, breadth first: until nothing new is found, or to all states to which `most`
-/// choices lead, or until there is one more state than `limit`. The only error is that memory is out.
+/// Searches breadth first from the state of a key, until nothing new is found, or every state that `most` choices lead
+/// to is visited, or there are more states than `limit`. The only error is that memory is out.
 pub fn explore<S: System>(
     system: &mut S,
     alloc: Global,

@@ -142,8 +142,7 @@ fn write_totals<K: Sink>(totals: &Totals, sink: &mut K) -> Result<(), Failed>
 }
 
 /// Writes the text of a load: the counts, the totals of the machine's tree, and a last line with the number of steps
-/// (docs/FORMATS.md, "soak"). Fails only where the sink's count of faults is one more; a prefix of the text was written
-/// then.
+/// (docs/FORMATS.md, "soak"). Fails only if a write failed; a prefix of the text was written then.
 pub fn load_text<K: Sink>(
     counts: &Counts,
     totals: &Totals,

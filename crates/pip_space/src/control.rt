@@ -1,6 +1,6 @@
-//! What a partition's descriptor says of its control: whether it is masked, and the lines that are pending in it. Other
-//! than the rest of this crate, this speaks of whole trees: after a write the memory lays out the tree in which the
-//! control of this partition alone has changed.
+//! What a partition's descriptor says of its control: whether it is masked, and the lines that are pending in it.
+//! Unlike the rest of this crate, this speaks of whole trees: after a write the memory lays out the tree in which only
+//! the control of this partition has changed.
 ghost use Rattle.std.specs.Prelude.{◌≡◌, ℕ, ◌+◌, ◌^◌, List, length, sum_by};
 ghost use Rattle.pip_model.specs.Layout.{LaysOut};
 ghost use Rattle.pip_model.specs.NodeWords.{flag};
@@ -52,7 +52,7 @@ pub fn set_masked<M: Frames>(mem: &mut M, part: Frame, masked: bool)
     mem.set_word(part, FLAGS, flags_word(masked));
 }
 
-/// Gives the root other pending lines, bit k for line k.
+/// Sets the root's pending lines, bit k for line k.
 pub fn set_pending<M: Frames>(mem: &mut M, lines: u32)
     requires { HasPartition (M.memory mem.old) 1 }
     ensures tree { (t : Tree) (js : List ℕ) → IsSound t → LaysOut t (M.memory mem.old) → AreLines 0 js →

@@ -15,7 +15,7 @@ pub enum Level {
     Shadow2,
 }
 
-/// The index of the descriptor's word that has the frame of the directory.
+/// The index of the descriptor's word that names the directory's frame.
 pub(crate) fn place(level: Level) -> u32
     ensures { result ≡ descriptor_index level }
 {

@@ -1,4 +1,4 @@
-//! Where a partition's tables are noted.
+//! Where a partition's tables are listed.
 ghost use Rattle.std.specs.Prelude.{◌≡◌, ◌<◌, ◌≤◌, length};
 ghost use Rattle.pip_base.specs.Memory.{put_word};
 ghost use Rattle.pip_base.specs.Words.{directory_word};
@@ -14,7 +14,7 @@ use pip_entry::{DirWord, pack_dir};
 use pip_frames::Frames;
 use std::sync::ledger::Ledger;
 
-/// What a descriptor says of where the tables are noted: the first list page, the number of tables, and the three
+/// Where a descriptor says that the tables are listed: the first list page, the number of tables, and the three
 /// directories.
 #[derive(Clone, Copy, Debug, PartialEq, Eq)]
 pub(crate) struct TableRoots {

@@ -61,8 +61,8 @@ fn set_words<M: Frames, L: Ledger>(
     set_level_word(mem, part, Level::Shadow2, v, from, steps);
 }
 
-/// Gives `part` a row at a virtual page that has a table. READ is among the rights of the row, none is but READ, WRITE
-/// and EXEC, and where `given` isn't `Free` its vpage isn't 0. A row that stood there is replaced.
+/// Gives `part` a row at a virtual page that has a table. READ is among the rights of the row, which has no others than
+/// READ, WRITE and EXEC, and the vpage of `given`, unless that is `Free`, isn't 0. A row that was there is replaced.
 #[inline(always)]
 pub fn map<M: Frames, L: Ledger>(
     mem: &mut M,
@@ -89,7 +89,7 @@ pub fn map<M: Frames, L: Ledger>(
     set_words(mem, part, v, word, given, from, steps);
 }
 
-/// Takes the row at a virtual page away.
+/// Removes the row at a virtual page.
 pub fn unmap<M: Frames, L: Ledger>(mem: &mut M, part: Frame, v: VPage, steps: &mut Steps<L>)
     requires { HasRow (M.memory mem.old) part v }
     ensures count { length (M.memory mem.new) ≡ length (M.memory mem.old) }
@@ -122,7 +122,7 @@ pub fn set_user<M: Frames, L: Ledger>(
     mem.set_word(page, i, word);
 }
 
-/// Says to which child the page of a row is given. Where `given` isn't `Free` its vpage isn't 0.
+/// Writes to which child the page of a row is given. The vpage of `given`, unless that is `Free`, isn't 0.
 pub fn set_given<M: Frames, L: Ledger>(
     mem: &mut M,
     part: Frame,

@@ -29,7 +29,7 @@ use pip_model::{CallName, MemoryCall};
 use pip_space::set_masked;
 use std::sync::ledger::Ledger;
 
-// What goes into r0 and r1 after a call that has a value.
+// The status and the value of a call that has a value.
 fn reply(answered: Result<u32, Status>) -> (Status, u32)
     ensures { (call : Tree → Answer) (p : ℕ) (m n : Memory) → DoesWithValue call p answered m n →
         Does call p result.0 result.1 m n }
@@ -151,7 +151,7 @@ fn empty_after(caches: &mut Caches, status: Status, name: CallName, value: u32)
     }
 }
 
-/// What runs on a processor makes a call. Accepted, one that takes pages from a partition empties all caches.
+/// What runs on a processor makes a call. All caches are emptied if it is accepted and takes pages from a partition.
 pub(crate) fn call<M: Frames, L: Ledger>(
     mem: &mut M,
     cpus: &mut Processors,

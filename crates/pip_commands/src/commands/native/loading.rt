@@ -16,7 +16,7 @@ use pip_model::ImageError;
 use std::alloc::Global;
 use std::sync::ledger::Ledger;
 
-/// Why there is no run.
+/// Why loading failed.
 #[derive(Clone, Copy, Debug, PartialEq, Eq)]
 pub enum Stop {
     Image(ImageError),

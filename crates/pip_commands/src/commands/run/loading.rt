@@ -31,7 +31,7 @@ pub struct Loaded<F: Callback> {
     pub machine: Machine<RawFrames>,
 }
 
-/// Why there is no run.
+/// Why loading failed.
 #[derive(Clone, Copy, Debug, PartialEq, Eq)]
 pub enum Stop {
     Image(ImageError),

@@ -102,8 +102,8 @@ fn run_first<K: Sink, L: Ledger>(
     }
 }
 
-// Makes the machine that a boot line asks for, and tells of it. It stands apart, since a machine takes much room among
-// locals, which is zeroed at each entry.
+// Makes the machine that a boot line asks for, and reports it. Out of line, since a machine is large among locals,
+// which are zeroed at each entry.
 #[inline(never)]
 fn boot<K: Sink, L: Ledger>(
     alloc: Global,

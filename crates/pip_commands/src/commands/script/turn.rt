@@ -134,8 +134,7 @@ fn whole_line<S: Source, K: Sink, L: Ledger>(
     }
 }
 
-// The line where something else stands at the head, or more has to be read to tell. It stands apart, since few lines
-// come here.
+// The line if something else is at the head, or more has to be read to know. Out of line, since it is rarely taken.
 #[inline(never)]
 fn other_line<S: Source, K: Sink, L: Ledger>(
     ahead: Option<LineEnd>,
