@@ -1,4 +1,5 @@
-//! The laws of whole guests: docs/GUARANTEES.md, "Whole guests". They compute nothing: what each says is its contract.
+//! The laws of whole guests, in the model and for machines: docs/GUARANTEES.md, "Whole guests". They compute nothing:
+//! what each says is its contract.
 #![tactic(auto)]
 
 ghost use Rattle.pip_guests.specs.Ancestors.{AncestorsLeaveGuestsAlone, AncestorsOnMachines};
