@@ -10,7 +10,7 @@ counter of its own, too: its choices are calls of a trait of pip_search, which k
 import os
 import re
 import tempfile
-from typing import Dict, Iterator, List
+from typing import Dict, Iterator, List, Set
 
 from .running import REPOSITORY, Differs
 from .sources import sources, write
@@ -39,6 +39,9 @@ DEFINITION = {
     os.path.join("crates", "pip_every", "src", "searching.rt"):
         ("use std::marker::Brand;", "use std::sync::ledger::{Blank, Ledger};", "blank: Blank,", "requires ledger {",
          "words_later::<Brand>(alloc, &mem, cpus, Blank::new(1))", "search_from::<Brand, Brand>(", "limit,\n        Blank::new(1),"),
+    os.path.join("crates", "pip_every", "src", "parts.rt"):
+        ("use std::marker::Brand;", "use std::sync::ledger::{Blank, Ledger};", "blank: Blank,", "requires ledger {",
+         "part_from::<Brand, Brand>(", "marks,\n        Blank::new(1),"),
     os.path.join("crates", "pip_base", "src", "steps.rt"):
         ("use std::sync::ledger::{Blank, Book, Ledger, Share};", "pub fn new(blank: Blank) -> Self"),
 }
@@ -59,15 +62,21 @@ def step_counters(program: str) -> None:
 
 def counters_named(top: str) -> Iterator[str]:
     """Where a crate that may not make a counter names what one is made of, or stands on a crate of tests."""
-    programs = {crate for crate, path, text in sources(top) if is_program(path, text)}
+    found = programs(top)
     for crate, path, text in sources(top):
-        if crate != COMMANDS and crate not in programs and not is_of_tests(crate):
+        if crate != COMMANDS and crate not in found and not is_of_tests(crate):
             for name in NAMES.findall(code_of(path, text)):
                 yield f"{path} names {name}"
-    yield from test_crates_used(top)
+    yield from ends_used(top, found)
 
 
-def is_program(path: str, text: str) -> bool:
+def programs(top: str) -> Set[str]:
+    """The crates that are programs and nothing else."""
+    mains = {crate for crate, path, text in sources(top) if is_main(path, text)}
+    return mains - {crate for crate, path, _ in sources(top) if path.endswith(os.path.join("src", "lib.rt"))}
+
+
+def is_main(path: str, text: str) -> bool:
     return path.endswith(os.path.join("src", "main.rt")) and re.search(r"\bfn\s+main\s*\(", without_texts(text)) is not None
 
 
@@ -88,18 +97,18 @@ def without_texts(text: str) -> str:
     return NO_CODE.sub(" ", text)
 
 
-def test_crates_used(top: str) -> Iterator[str]:
-    """The crates of no tests that stand on one of tests, by crates.txt."""
+def ends_used(top: str, found: Set[str]) -> Iterator[str]:
+    """The crates that stand on a program, and those of no tests that stand on one of tests, by crates.txt."""
     try:
         with open(os.path.join(top, "crates.txt"), encoding="utf-8") as file:
             lines = [line.split("#")[0] for line in file]
     except FileNotFoundError:
         return
     for line in lines:
-        words = line.replace(":", " ").split()
-        if words and not is_of_tests(words[0]):
-            for used in filter(is_of_tests, words[1:]):
-                yield f"{words[0]} stands on {used}"
+        crate, *used = line.replace(":", " ").split() or [""]
+        for other in used:
+            if other in found or is_of_tests(other) and not is_of_tests(crate):
+                yield f"{crate} stands on {other}"
 
 
 def found_in(files: Dict[str, str]) -> List[str]:
@@ -148,6 +157,11 @@ FOUND = {
     "in a crate of tests that another stands on": {"crates/pip_test_counter/src/lib.rt": OWN, "crates/pip_mmu/src/lib.rt": "",
                                                    "crates.txt": "pip_test_counter: pip_base\npip_mmu: pip_base pip_test_counter\n"},
     "offered by pip_audit": {"crates/pip_audit/src/lib.rt": OWN},
+    "in the library part of a program": {"crates/pip_own/src/main.rt": "fn main(rt: HostRuntime) {}\n",
+                                         "crates/pip_own/src/lib.rt": OWN,
+                                         "crates.txt": "pip_own: pip_base\npip_mmu: pip_base pip_own\n"},
+    "in a program that another stands on": {"crates/pip_own/src/main.rt": OWN + "fn main(rt: HostRuntime) {}\n",
+                                            "crates/pip_mmu/src/lib.rt": "", "crates.txt": "pip_own: pip_base\npip_mmu: pip_own\n"},
     "in a file main.rt without main": {"crates/pip_mmu/src/main.rt": OWN + "// fn main()\n"},
 }
 

@@ -60,7 +60,7 @@ abbrev pub NoneLeaves : List Witness → Type 0
 NoneLeaves ws = (k : ℕ) (x : Witness) (text : List ℕ) → slice_get ws k ≡ Some x → x.label ≢ mark ∷ text
 
 -- a search of a guest alone closed, and found these lines and no turn that leaves
-pub record IsSearched (w : World) (p : ℕ) (ws : List Witness) : Type 0 where
+pub record IsSearchedAlone (w : World) (p : ℕ) (ws : List Witness) : Type 0 where
   pub first : Memory
   pub machine : ℕ
   pub cpus : List ℕ
@@ -75,7 +75,7 @@ pub record IsSearched (w : World) (p : ℕ) (ws : List Witness) : Type 0 where
 -- then it stays inside, if the root takes no line
 abbrev pub SearchedGuestsStay : Type 0
 SearchedGuestsStay = (w : World) (p : ℕ) (ws : List Witness) → IsSoundWorld w → In p (names_of (nodes w.tree))
-    → p ≢ w.tree.root.name → TakesNoLine w (p ∷ []) → IsSearched w p ws → StaysAlone w p
+    → p ≢ w.tree.root.name → TakesNoLine w (p ∷ []) → IsSearchedAlone w p ws → StaysAlone w p
 
 -- and where a search found a turn that leaves, it does not, however the search ended
 abbrev pub MarkedGuestsLeave : Type 0
@@ -95,7 +95,7 @@ pub record AreSearched (w : World) (ps : List ℕ) (found : ℕ → List Witness
   pub names : (p : ℕ) → In p ps → In p (names_of (nodes w.tree))
   pub not_root : (p : ℕ) → In p ps → p ≢ w.tree.root.name
   pub aside : (p q : ℕ) → In p ps → In q ps → p ≢ q → IsAside w.tree p q
-  pub searched : (p : ℕ) → In p ps → IsSearched w p (found p)
+  pub searched : (p : ℕ) → In p ps → IsSearchedAlone w p (found p)
   pub lines : TakesNoLine w ps
 
 -- a line was found by the search of one guest, on a way of so many choices at most

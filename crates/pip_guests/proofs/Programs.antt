@@ -299,7 +299,8 @@ pub apart_acts : (p : ℕ) (acts : List Act) (w : World) → IsSoundWorld w → 
 apart_acts p acts w s n m h =
     subst (KeptList p w) (sym (after-events w acts)) (apart_list p (events_made acts) w s n m h)
 
-pub raises_apart : (p : ℕ) (plans : List Plan) (t : ℕ) (w : World) → IsSoundWorld w → IsName w.tree p → p ≢ w.tree.root.name
+pub raises_apart : (p : ℕ) (plans : List Plan) (t : ℕ) (w : World) → IsSoundWorld w → IsName w.tree p
+    → p ≢ w.tree.root.name
     → AllByRecursion (λ x. x.line < 16) plans → AllStayApart p w (events_made (raises plans t))
 raises_apart p [] t w s n m all = tt
 raises_apart p (x ∷ xs) t w s n m all = go (is_due x t) (λ z sz nz mz. raises_apart p xs t z sz nz mz all.1)

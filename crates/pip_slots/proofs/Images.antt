@@ -138,8 +138,8 @@ images_separate a b n k t ss low ra rb g all =
 
 -- ---- in turn
 
-words_append : (xs ys : List TimeSlot) → AllByRecursion (λ s. IsWord s.child) xs → AllByRecursion (λ s. IsWord s.child) ys
-    → AllByRecursion (λ s. IsWord s.child) (xs ++ ys)
+words_append : (xs ys : List TimeSlot) → AllByRecursion (λ s. IsWord s.child) xs
+    → AllByRecursion (λ s. IsWord s.child) ys → AllByRecursion (λ s. IsWord s.child) (xs ++ ys)
 words_append [] ys h k = k
 words_append (x ∷ xs) ys h k = (h.0, words_append xs ys h.1 k)
 

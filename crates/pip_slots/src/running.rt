@@ -8,10 +8,10 @@ ghost use Rattle.pip_watch.specs.Watching.{root_runs};
 ghost use Rattle.pip_switch.specs.Standing.{StandsAs};
 
 use crate::edges::{close_slot, inner_once, open_slot};
+use crate::time_slot::TimeSlot;
 use pip_base::Steps;
 use pip_frames::Frames;
 use pip_io::{Failed, Sink};
-use crate::time_slot::TimeSlot;
 use pip_switch::Machine;
 use std::sync::ledger::Ledger;
 
