@@ -12,9 +12,8 @@ pub record Alone : Type 0 where
   pub top : ℕ
   pub cpus : List ℕ
 
--- a processor had its turn: the frames and processors of a machine stand for the world after it, and this was shown;
--- the
--- guest ran there before and after it, and asked nobody, or not
+-- a processor had its turn: the frames and processors of a machine stand for the world after it; the label is what it
+-- showed; and `kept` says whether the guest ran there before and after it, and asked nobody
 pub record HasTurned (w : World) (p cpu : ℕ) (asks : Bool) (m : State) (label : List ℕ) (kept : Bool) : Type 0 where
   pub world : StandsFor m.memory m.cpus (after_acts w (turn w cpu 0))
   pub label_is : label ≡ text_of (turn w cpu 0)

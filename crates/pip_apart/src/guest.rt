@@ -1,5 +1,5 @@
 //! A machine as a system of the turns of one guest alone.
-ghost use Rattle.std.specs.Prelude.{◌≡◌, ◌==◌, ◌&&◌, ◌<◌, ◌≤◌, ◌++◌, [], All, not, length, slice_index, IfOk};
+ghost use Rattle.std.specs.Prelude.{◌≡◌, ◌==◌, ◌&&◌, ◌<◌, ◌≤◌, ◌++◌, All, length, IfOk};
 ghost use Rattle.pip_base.specs.Memory.{IsMemory};
 ghost use Rattle.pip_model.specs.InstrRead.{instr_of};
 ghost use Rattle.pip_model.specs.Effects.{word_effect};
@@ -21,6 +21,7 @@ use pip_isa::decode;
 use pip_journal::{First, Journal};
 use pip_kern::is_below;
 use pip_model::Port;
+use pip_model::call_number::YIELD;
 use pip_search::System;
 use pip_switch::Machine;
 use std::alloc::{AllocError, Global};
@@ -28,9 +29,6 @@ use std::sync::ledger::Ledger;
 
 // Names the caller of a turn.
 struct Turning;
-
-/// The number of the call that yields.
-const YIELD: u32 = 8;
 
 /// What stands before the line of a turn in which the guest leaves.
 pub(crate) const MARK: u8 = 33;

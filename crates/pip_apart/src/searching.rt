@@ -1,5 +1,5 @@
 //! The search of a guest alone.
-ghost use Rattle.std.specs.Prelude.{◌≡◌, ◌∷◌, ◌<◌, ◌≤◌, ℕ, List, true, IfOk, length};
+ghost use Rattle.std.specs.Prelude.{◌≡◌, ◌∷◌, ◌<◌, ℕ, List, true, IfOk, length};
 ghost use Rattle.pip_model.specs.Worlds.{World};
 ghost use Rattle.pip_search.specs.Summary.{IsTold};
 ghost use Rattle.pip_search.specs.Ways.{AreTraced, witnesses_of};
