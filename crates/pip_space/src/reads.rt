@@ -1,5 +1,5 @@
 //! Reading rows and tables.
-ghost use Rattle.std.specs.Prelude.{◌≡◌, ℕ, ◌+◌, ◌<◌, ◌≤◌, ◌/◌, ◌↔◌, IsTrue, Option, None, IfSome, is_some, length};
+ghost use Rattle.std.specs.Prelude.{◌≡◌, ℕ, ◌+◌, ◌*◌, ◌<◌, ◌≤◌, ◌/◌, ◌↔◌, IsTrue, Option, None, IfSome, is_some, length};
 ghost use Rattle.std.specs.Prelude.{option_map};
 ghost use Rattle.pip_model.specs.FullRows.{row_word};
 ghost use Rattle.pip_entry.specs.Sh1.{packed_sh1};
@@ -7,6 +7,7 @@ ghost use Rattle.pip_entry.specs.Sh2.{packed_sh2};
 ghost use Rattle.pip_model.specs.NodeWords.{Mmu, Shadow1, Shadow2};
 ghost use Rattle.pip_model.specs.NodeIn.{HasNode, HasTableFor, directory_of};
 ghost use Rattle.pip_model.specs.Tree.{table_at};
+ghost use Rattle.pip_table.specs.Table.{tables_below};
 ghost use Rattle.pip_space.specs.Nodes.{InEachNode, InEachSpace};
 ghost use Rattle.pip_space.specs.Levels.{table_level, table_frame_at};
 ghost use Rattle.pip_space.specs.Rows.{HasRows, IsNextRow, full_of};
@@ -211,7 +212,7 @@ pub fn is_table_empty<M: Frames, L: Ledger>(
 }
 
 /// The row of `part` at the least virtual page above `after`, or of all where that is None, with this page. None
-/// exactly where there is none. A directory entry without a table takes one step.
+/// exactly where there is none. It takes at most 1031 steps, and 1024 more for each table of the partition.
 pub fn next_row<M: Frames, L: Ledger>(
     mem: &M,
     part: Frame,
@@ -219,7 +220,9 @@ pub fn next_row<M: Frames, L: Ledger>(
     steps: &mut Steps<L>,
 ) -> Option<(VPage, Row)>
     requires { HasNode (M.memory mem.now) part }
-    ensures { InEachSpace (M.memory mem.now) part (λ x rows. IsNextRow rows after result) }
+    ensures row { InEachSpace (M.memory mem.now) part (λ x rows. IsNextRow rows after result) }
+    ensures steps { InEachSpace (M.memory mem.now) part (λ x rows. steps.new ≤ steps.old + 1031
+        + 1024 * tables_below (M.memory mem.now) (directory_of Mmu x.base).frame 1024) }
 {
     let top = directory(mem, part, Level::Mmu, steps);
     let (v, leaf) = next_leaf(mem, top, after, steps)?;
