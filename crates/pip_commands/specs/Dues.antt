@@ -29,12 +29,15 @@ use Rattle.pip_model.specs.declared.image.ImageError.{ImageError}
 use Rattle.pip_model.specs.declared.script.ScriptLine.TheVariants.{Boot}
 use Rattle.pip_search.specs.Summary.{IsTold, Witness}
 use Rattle.pip_search.specs.declared.searching.Verdict.{Verdict}
-use Rattle.pip_watch.specs.Watching.{native_text, native_world, pages_taken, short_line}
+use Rattle.pip_watch.specs.Watching.{pages_taken, short_line}
 use Rattle.pip_commands.specs.AuditTexts.{bad_line, differs_line, unread_line, unsound_line, yes_line}
+use Rattle.pip_commands.specs.Children.{children_text, children_world}
 use Rattle.pip_commands.specs.EndsBy.{Due, Response, plainly}
 use Rattle.pip_commands.specs.EveryText.{every_text, lines_planned}
 use Rattle.pip_commands.specs.Faults.{asm_line, image_line}
 use Rattle.pip_commands.specs.Words.{usage}
+use Rattle.pip_commands.specs.declared.commands.children.scheduling.Scheduling.{Scheduling}
+use Rattle.pip_commands.specs.declared.commands.children.scheduling.Scheduling.TheVariants as V
 use Rattle.pip_commands.specs.declared.commands.run.report.Report.{Report}
 use Rattle.pip_commands.specs.declared.commands.run.report.Report.TheVariants as R
 use Rattle.pip_commands.specs.declared.words.Command.{Command}
@@ -244,23 +247,23 @@ pub record IsShort (n : ℕ) (bytes : List ℕ) : Type 0 where
 abbrev pub IsUnshort : ℕ → List ℕ → Type 0
 IsUnshort n bytes = (front back : List ℕ) → bytes ≡ front ++ back → IsShort n front → ⊥
 
--- the text of the native run of an image with room, and its last world; or the line that names the first fault, where
--- no header of too few frames stands before it
-abbrev pub IsNativeAnswer : ℕ → ℕ → List ℕ → Result Image ImageError → Response → Type 0
-IsNativeAnswer n count bytes (Ok i) v =
-    IsRoomy n i.frames × (v ≡ plainly 0 (native_text i n count) (Some (native_world i n count)))
-IsNativeAnswer n count bytes (Err e) v =
+-- the text of the run of an image's children, if it has room, and its last world; or the line that names the first
+-- fault, where no header of too few frames stands before it
+abbrev pub IsChildrenAnswer : Scheduling → ℕ → List ℕ → Result Image ImageError → Response → Type 0
+IsChildrenAnswer s n bytes (Ok i) v =
+    IsRoomy n i.frames × (v ≡ plainly 0 (children_text s i n) (Some (children_world s i n)))
+IsChildrenAnswer s n bytes (Err e) v =
     IsUnshort n bytes × (option_map (λ line. plainly 2 line None) (image_line e) ≡ Some v)
 
 -- the line of a header of too few frames
 abbrev pub IsShortAnswer : ℕ → List ℕ → Response → Type 0
 IsShortAnswer n bytes v = (s : IsShort n bytes) × (v ≡ plainly 8 (short_line s.header.fields.frames n) None)
 
--- `native` stops after a header of too few frames or at the first fault, and writes nothing before. It asks for memory
--- after a header with room
-abbrev pub native_due : ℕ → ℕ → Due
-native_due n count = record {
-  answer = λ input v. IsShortAnswer n input v ⊎ IsNativeAnswer n count input (image input) v;
+-- `native` and `slots` stop after a header of too few frames or at the first fault, and write nothing before. They ask
+-- for memory after a header with room
+abbrev pub children_due : Scheduling → ℕ → Due
+children_due s n = record {
+  answer = λ input v. IsShortAnswer n input v ⊎ IsChildrenAnswer s n input (image input) v;
   enough = λ bytes. IsShort n bytes ⊎ IsFaulty bytes;
   so_far = λ bytes text. EndsAtMost (image_parts bytes).fault × IsUnshort n bytes × (text ≡ []);
   midway = λ bytes front last. ⊥;
@@ -268,6 +271,14 @@ native_due n count = record {
   limit = None;
   unread = λ status. false;
 }
+
+-- `native`: a monitor runs n children for this many steps
+abbrev pub native_due : ℕ → ℕ → Due
+native_due n count = children_due (V.Monitor count) n
+
+-- `slots`: each of n children has a slot of this many turns in turn, in this many rounds
+abbrev pub slots_due : ℕ → ℕ → ℕ → Due
+slots_due n turns rounds = children_due (V.Slots turns rounds) n
 
 -- what is searched of an image: no line comes before that many turns
 abbrev pub image_scope : Image → ℕ → Scope
@@ -349,5 +360,6 @@ due_of (Some (C.Tree count seed)) = run_due R.Tree count seed
 due_of (Some (C.Core count seed)) = run_due R.Frames count seed
 due_of (Some (C.Soak count seed)) = soak_due count seed
 due_of (Some (C.Native n count)) = native_due n count
+due_of (Some (C.Slots n turns rounds)) = slots_due n turns rounds
 due_of (Some (C.Audit frames)) = audit_due frames
 due_of (Some (C.Every states from depth)) = every_due states from depth

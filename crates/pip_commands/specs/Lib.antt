@@ -5,6 +5,7 @@ pub mod Runs
 pub mod Answered
 pub mod EndsBy
 pub mod EveryText
+pub mod Children
 pub mod Dues
 pub mod Progress
 pub mod Faults

@@ -1,16 +1,17 @@
 -- Time slots of images. The children of the root are built of an image's pages, as `native` builds them, and the plan
 -- of slots runs them. What a child does, and when, depends on its own two pages of the image alone.
-use Rattle.std.specs.Prelude.{◌≡◌, ℕ, zero, suc, ◌+◌, ◌≤◌, ◌<◌, List, [], ◌++◌, map, Some}
+use Rattle.std.specs.Prelude.{◌≡◌, ℕ, ◌+◌, ◌*◌, ◌≤◌, ◌<◌, List, ◌++◌, length, map, Some}
 use Rattle.std.specs.List.{AllByRecursion}
+use Rattle.pip_model.specs.Acts.{Act, after_acts, text_of}
 use Rattle.pip_model.specs.Boot.{frame_of_root}
 use Rattle.pip_model.specs.Images.{Image, image_word}
-use Rattle.pip_model.specs.Run.{image_world}
+use Rattle.pip_model.specs.Run.{end_line, image_world, trace_image_line}
 use Rattle.pip_model.specs.Sound.{IsWord}
 use Rattle.pip_model.specs.Tree.{vpage}
-use Rattle.pip_model.specs.Worlds.{IsSoundWorld}
-use Rattle.pip_watch.specs.Watching.{addresses, fresh, page_address, pages_taken, ready_world}
+use Rattle.pip_model.specs.Worlds.{IsSoundWorld, World}
+use Rattle.pip_watch.specs.Watching.{addresses, built_from, fresh, page_address, pages_taken, ready_world}
 use Rattle.pip_slots.specs.declared.time_slot.TimeSlot.{TimeSlot}
-use Rattle.pip_slots.specs.Slots.{IsBetweenSlots, IsRootsChild, lines_of_child, rounds}
+use Rattle.pip_slots.specs.Slots.{IsBetweenSlots, IsRootsChild, lines_of_child, rounds, slot_run}
 
 -- two images have the same words in the root's page at an address
 abbrev pub AgreeAt : ℕ → Image → Image → Type 0
@@ -61,3 +62,23 @@ ImagesSeparateInTurn = (a b : Image) (n k turns c : ℕ) → k < n → HasRooms 
 abbrev pub ImagesBegin : Type 0
 ImagesBegin = (a : Image) (n : ℕ) → HasRooms n a → IsBetweenSlots (ready_world (image_world a) n)
     × ((k : ℕ) → k < n → (p : ℕ) × IsRootsChild (ready_world (image_world a) n) (fresh n k 0) p)
+
+-- ---- the command: n children of an image, and then `c` rounds in which each has a slot of this many turns
+
+-- what is done in these rounds
+abbrev pub slots_acts : Image → ℕ → ℕ → ℕ → List Act
+slots_acts a n turns c = slot_run (ready_world (image_world a) n) (in_turn n turns c) 0
+
+-- the world after them
+abbrev pub slots_world : Image → ℕ → ℕ → ℕ → World
+slots_world a n turns c = after_acts (ready_world (image_world a) n) (slots_acts a n turns c)
+
+-- how many steps they have
+abbrev pub steps_in_turn : ℕ → ℕ → ℕ → ℕ
+steps_in_turn n turns c = c * (n * (turns + 2))
+
+-- the whole text: the image line, a line for each child, the lines of the steps, and the last line
+abbrev pub slots_text : Image → ℕ → ℕ → ℕ → List ℕ
+slots_text a n turns c =
+    trace_image_line a.frames a.cpus (length a.plans) (length a.pages)
+    ++ (built_from 0 (addresses n n) ++ (text_of (slots_acts a n turns c) ++ end_line (steps_in_turn n turns c)))

@@ -4,7 +4,7 @@ use Rattle.pip_lines.proofs.Progress.{Progress, progress_end}
 use Rattle.pip_switch.specs.Standing.{StandsAs}
 use Rattle.pip_watch.specs.Watching.{watched_steps}
 use Rattle.pip_watch.proofs.Steps.{step_cut, step_on, steps_begun}
-use Rattle.pip_commands.proofs.commands.native.showing.watch.Goals as goal
+use Rattle.pip_commands.proofs.commands.children.showing.watch.Goals as goal
 
 pub loop-i-init : goal.loop-i-init
 loop-i-init g c = record {

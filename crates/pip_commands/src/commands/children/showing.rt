@@ -1,4 +1,4 @@
-//! The run of a monitor, and its text.
+//! The run of the children, and its text.
 ghost use Rattle.std.specs.Prelude.{◌≡◌, ◌<◌, ◌≤◌, [], length, OnOk};
 ghost use Rattle.std.specs.List.{AllByRecursion};
 ghost use Rattle.pip_cpu.specs.Made.{Acts};
@@ -8,10 +8,12 @@ ghost use Rattle.pip_model.specs.Worlds.{World};
 ghost use Rattle.pip_native.specs.Choice.{AnswersNext};
 ghost use Rattle.pip_switch.specs.Standing.{StandsAs};
 ghost use Rattle.pip_watch.specs.Watching.{root_runs as runs_root, watched_steps};
+ghost use Rattle.pip_commands.specs.Children.{IsBounded};
 ghost use Rattle.pip_commands.specs.Dues.{IsRoomy};
 ghost use Rattle.pip_commands.specs.Loading.{Begins, HasImage};
-ghost use Rattle.pip_commands.specs.NativeLoading.{ShowsNative, ShowsNativeOut};
+ghost use Rattle.pip_commands.specs.NativeLoading.{ShowsChildren, ShowsChildrenOut};
 
+use super::scheduling::Scheduling;
 use crate::commands::run::loading::Loaded;
 use pip_base::Steps;
 use pip_frames::Frames;
@@ -23,11 +25,11 @@ use pip_switch::Machine;
 use pip_watch::{build_children, set_handlers, watch_once, write_children};
 use std::sync::ledger::Ledger;
 
-/// Builds `n` children, makes `count` steps, and writes the text, and all that the sink holds.
+/// Builds `n` children, makes their steps, and writes the text, and all that the sink holds.
 pub fn show<F: Callback, C: Chooser + Drop, K: Sink, L: Ledger>(
     loaded: &mut Loaded<F>,
     n: u32,
-    count: u32,
+    scheduling: Scheduling,
     choose: C,
     sink: &mut K,
     steps: &mut Steps<L>,
@@ -38,12 +40,13 @@ pub fn show<F: Callback, C: Chooser + Drop, K: Sink, L: Ledger>(
     requires next { AnswersNext (C.may_choose choose) (C.chooses choose) n }
     requires least { 1 ≤ n }
     requires most { n ≤ 8 }
+    requires bounded { IsBounded scheduling n }
     ensures shows { (i : Image) → Begins i loaded.old.frames loaded.old.pages loaded.old.lines.items loaded.old.machine
-        → ShowsNativeOut result i n count (K.written sink.old) (K.written sink.new) loaded.new.machine }
+        → ShowsChildrenOut result scheduling i n (K.written sink.old) (K.written sink.new) loaded.new.machine }
     ensures none { OnOk result ((K.written sink.new).held ≡ []) }
     ensures cause { HasCause (K.faults sink.old) (K.faults sink.new) result }
 {
-    give(loaded, n, count, choose, sink, steps)?;
+    give(loaded, n, scheduling, choose, sink, steps)?;
     sink.settle()
 }
 
@@ -51,7 +54,7 @@ pub fn show<F: Callback, C: Chooser + Drop, K: Sink, L: Ledger>(
 fn give<F: Callback, C: Chooser + Drop, K: Sink, L: Ledger>(
     loaded: &mut Loaded<F>,
     n: u32,
-    count: u32,
+    scheduling: Scheduling,
     choose: C,
     sink: &mut K,
     steps: &mut Steps<L>,
@@ -62,8 +65,9 @@ fn give<F: Callback, C: Chooser + Drop, K: Sink, L: Ledger>(
     requires next { AnswersNext (C.may_choose choose) (C.chooses choose) n }
     requires least { 1 ≤ n }
     requires most { n ≤ 8 }
+    requires bounded { IsBounded scheduling n }
     ensures shows { (i : Image) → Begins i loaded.old.frames loaded.old.pages loaded.old.lines.items loaded.old.machine
-        → ShowsNative result i n count (K.written sink.old) (K.written sink.new) loaded.new.machine }
+        → ShowsChildren result scheduling i n (K.written sink.old) (K.written sink.new) loaded.new.machine }
     ensures cause { HasCause (K.faults sink.old) (K.faults sink.new) result }
 {
     let machine = &mut loaded.machine;
@@ -78,14 +82,13 @@ fn give<F: Callback, C: Chooser + Drop, K: Sink, L: Ledger>(
     set_handlers(machine, steps);
     let children = build_children(machine, n, steps);
     write_children(children.as_slice(), sink)?;
-    let mut monitor = Monitor::new(children, choose);
-    watch(machine, lines, &mut monitor, count, sink, steps)?;
-    write_end(sink, count)
+    scheduling.run(machine, lines, children, choose, sink, steps)?;
+    write_end(sink, scheduling.step_count(n))
 }
 
-// Makes the steps 0 to `count` - 1: at each the lines that are due are raised, and then the root's monitor decides, or
-// the processor takes its turn.
-fn watch<M: Frames, F: Callback, C: Chooser, K: Sink, L: Ledger>(
+/// Makes the steps 0 to `count` - 1: at each the lines that are due are raised, and then the root's monitor decides, or
+/// the processor takes its turn.
+pub fn watch<M: Frames, F: Callback, C: Chooser, K: Sink, L: Ledger>(
     machine: &mut Machine<M>,
     lines: &[Line<F>],
     monitor: &mut Monitor<C>,

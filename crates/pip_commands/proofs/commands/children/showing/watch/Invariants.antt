@@ -3,7 +3,7 @@ use Rattle.pip_lines.proofs.Progress.{Progress}
 use Rattle.pip_model.specs.Worlds.{World}
 use Rattle.pip_switch.specs.Standing.{StandsAs}
 use Rattle.pip_watch.specs.Watching.{watched_steps}
-use Rattle.pip_commands.proofs.commands.native.showing.watch.Given as goal
+use Rattle.pip_commands.proofs.commands.children.showing.watch.Given as goal
 
 abbrev pub invariant-loop-i : goal.invariant-loop-i
 invariant-loop-i g l = record {

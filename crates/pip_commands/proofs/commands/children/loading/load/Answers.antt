@@ -7,7 +7,7 @@ use Rattle.pip_commands.specs.Loading.{StoppedAfter}
 use Rattle.pip_commands.specs.declared.commands.run.loading.Stop.TheVariants as R
 use Rattle.pip_commands.proofs.Loading.{lacks_memory, pages_paced}
 use Rattle.pip_commands.proofs.Shortness.{unshort_header, unshort_lacking, unshort_roomy, unshort_told}
-use Rattle.pip_commands.proofs.commands.native.loading.load.Goals as goal
+use Rattle.pip_commands.proofs.commands.children.loading.load.Goals as goal
 
 pub returns-in-Err-clause-loads : goal.returns-in-Err-clause-loads
 returns-in-Err-clause-loads g c =
