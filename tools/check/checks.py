@@ -100,6 +100,7 @@ CHECKS: dict[str, Check] = {
     "core": tools.compared("core", 100),
     "soak": tools.compared("soak", 200),
     "native": tools.compared("native", 200),
+    "slots": tools.compared("slots", 200),
     "audit": tools.compared("audit", 200),
     "every": tools.compared("every", 500),
     "audits-of-core": audits.round_trips,

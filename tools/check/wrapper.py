@@ -19,12 +19,13 @@ from .running import SECONDS, Differs, Skipped, expect as expect_output, part, r
 WRONG = ((), ("help",), ("--help",), ("script", "x"), ("run", "06", "1"), ("run", "1", "0"), ("run", "0x", "1"),
          ("run", "10000001", "1"), ("tree", "1", "4294967296"), ("core", "1", "99999999999"), ("soak", "1000001", "1"),
          ("native", "1"), ("native", "0", "1"), ("native", "9", "1"), ("native", "1", "10000001"),
+         ("slots", "1", "1"), ("slots", "9", "1", "1"), ("slots", "1", "9999999", "1"), ("slots", "8", "8", "125001"),
          ("audit",), ("audit", "15"), ("audit", "4097"), ("audit", "016"), ("audit", "16", "1"),
          ("every",), ("every", "0"), ("every", "1", ""), ("every", "1", "10000001"), ("every", "1", "0", "0"),
          ("every", "1", "0", "1", "1"),
          ("run", "0x123456789", "1"), ("run", "1"), ("dis", ""), ("script:1",), ("run", "-1", "1"), ("run", "1", "0xA"))
 RIGHT = (("script",), ("run", "0", "1"), ("run", "0x989680", "4294967295"), ("soak", "1000000", "0xffffffff"),
-         ("native", "0x8", "10000000"), ("audit", "16"), ("audit", "0x1000"),
+         ("native", "0x8", "10000000"), ("slots", "8", "8", "125000"), ("audit", "16"), ("audit", "0x1000"),
          ("every", "1"), ("every", "0x5f5e100", "0"), ("every", "1", "10000000", "10000000"))
 BUILDS = "proving and building pip; this takes some minutes, and what the prover says goes into "
 BY_CARGO = "building pip of its export by cargo; this takes about a minute, and what cargo says goes into "

@@ -14,11 +14,11 @@ import sys
 from collections.abc import Callable, Iterable, Sequence
 from typing import List, Optional, Tuple
 
-from . import assembly, audit, every, image, native, runs, script
+from . import assembly, audit, every, image, native, runs, script, slots
 from .model import World
 
 USAGE = b"usage: pip script | run STEPS SEED | asm | dis | tree STEPS SEED | core STEPS SEED | soak COUNT SEED" \
-    b" | native N STEPS | audit FRAMES | every STATES [FROM [DEPTH]]\n"
+    b" | native N STEPS | slots N TURNS ROUNDS | audit FRAMES | every STATES [FROM [DEPTH]]\n"
 Ended = Tuple[bytes, int, Optional[World]]       # output and status, and the world that the command leaves
 OnImage = Callable[[image.Image, int, int], Tuple[List[str], World]]
 MOST_STEPS, MOST_COUNT = 10000000, 1000000
@@ -53,6 +53,17 @@ def children_and_steps(words: Sequence[str]) -> tuple[int, int] | None:
     """The same of `native`: how many children, and how many steps."""
     given = two_numbers(words)
     return given if given and 1 <= given[0] <= native.MOST_CHILDREN and given[1] <= MOST_STEPS else None
+
+
+def slots_of(words: Sequence[str]) -> tuple[int, int, int] | None:
+    """How many children, the turns of a slot, and the rounds, or None where the words don't say it."""
+    try:
+        n, turns, rounds = [script.number(word.encode()) for word in words]
+    except (ValueError, script.Bad):
+        return None
+    if not 1 <= n <= native.MOST_CHILDREN or max(turns, rounds, slots.steps_of(n, turns, rounds)) > MOST_STEPS:
+        return None
+    return n, turns, rounds
 
 
 def search_of(words: Sequence[str]) -> tuple[int, int, int | None] | None:
@@ -93,7 +104,11 @@ def ended(words: Sequence[str], text: bytes) -> Ended:
     if words and words[0] == "native":
         given = children_and_steps(words[1:])
         if given:
-            return natively(*given, text)
+            return of_children(lambda machine: native.native(machine, *given), given[0], text)
+    if words and words[0] == "slots":
+        shares = slots_of(words[1:])
+        if shares:
+            return of_children(lambda machine: slots.slots(machine, *shares), shares[0], text)
     if words and words[0] == "audit":
         frames = frames_of(words[1:])
         if frames:
@@ -167,14 +182,14 @@ def shown(text: bytes) -> None:
     sys.stdout.buffer.flush()
 
 
-def natively(n: int, count: int, data: bytes) -> Ended:
+def of_children(command: Callable[[image.Image], Tuple[List[str], World]], n: int, data: bytes) -> Ended:
     try:
         machine = image.read(data, native.frames_needed(n))
     except image.BadImage as bad:
         return in_lines([f"bad image {bad.kind} {bad.at}"]), 2, None
     except image.TooFew as few:
         return in_lines([native.short_line(few.frames, n)]), 8, None
-    told, world = native.native(machine, n, count)
+    told, world = command(machine)
     return in_lines(told), 0, world
 
 

@@ -540,7 +540,7 @@ def script(seed: int) -> bytes:
     return b"\n".join(lines) + (b"" if rng.random() < 0.1 else b"\n")
 
 
-COMMANDS = ("script", "asm", "dis", "run", "tree", "core", "soak", "native", "audit", "every")
+COMMANDS = ("script", "asm", "dis", "run", "tree", "core", "soak", "native", "slots", "audit", "every")
 
 
 def case(command: str, seed: int) -> tuple[list[str], bytes]:
@@ -564,6 +564,10 @@ def case(command: str, seed: int) -> tuple[list[str], bytes]:
     if command == "native":
         n, data = generate_native.case(seed)
         return [command, str(n), str(count)], data
+    if command == "slots":
+        n, data = generate_native.case(seed)
+        turns = rng.choice((0, 1, 2, 5, 11, 30, 100))
+        return [command, str(n), str(turns), str(count // (n * (turns + 2)))], data
     return [command, str(count), str(start)], generate_programs.image_bytes(seed, 0.08)
 
 

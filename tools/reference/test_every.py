@@ -155,7 +155,7 @@ class Every(unittest.TestCase):
             self.assertEqual(len(values), len(search.visits), seed)
 
     def test_words_that_are_no_search(self) -> None:
-        for words in ("", "0", "1 2 3 4", "10000001", "1 10000001", "1 0 0", "1 0 10000001", "01", "x", "1 -1"):
+        for words in ("", "0", "1 2 3 4", "100000001", "1 10000001", "1 0 0", "1 0 10000001", "01", "x", "1 -1"):
             self.assertEqual(commands.pip(["every", *words.split()], b""), (commands.USAGE, 1), words)
         self.assertEqual(commands.pip(["every", "0x10", "0", "1"], b"PIPIMG1\n"), (b"bad image oldversion 0\n", 2))
 
