@@ -6,7 +6,7 @@ const USAGE: &str =
     "usage: pip script | run STEPS SEED | asm | dis | tree STEPS SEED | core STEPS SEED | soak COUNT SEED | native N STEPS | slots N TURNS ROUNDS | audit FRAMES | every STATES [FROM [DEPTH]]\n";
 
 // The words of a command line, the status where the first read fails, and what is written.
-static ROWS: [(&str, u8, &str); 38] = [
+static ROWS: [(&str, u8, &str); 42] = [
     ("run 6 1", 3, ""),
     ("run 0x6 1", 3, ""),
     ("script", 3, ""),
