@@ -10,16 +10,17 @@ use Rattle.pip_model.specs.Run.{image_world}
 use Rattle.pip_model.specs.Lists.{In}
 use Rattle.pip_model.specs.Sound.{IsWord}
 use Rattle.pip_model.specs.Tree.{child_at, node, row_pages, vpage, word_of}
-use Rattle.pip_model.specs.Worlds.{World, boot_cpus, boot_world_with, idle_cpus}
-use Rattle.pip_model.proofs.Events.Soundness.{at_cpu}
+use Rattle.pip_model.specs.Worlds.{IsSoundWorld, World, boot_cpus, boot_world_with, idle_cpus}
+use Rattle.pip_model.proofs.Events.Soundness.{at_cpu, boot_world-sound_with}
 use Rattle.pip_model.proofs.Trees.Ancestry.{named_node}
 use Rattle.pip_model.proofs.Trees.Children.{child_is}
 use Rattle.pip_model.proofs.Trees.Lookup.{in_other, root_found}
 use Rattle.pip_watch.specs.Watching.{addresses, fresh, page_address, ready_world, with_handlers}
 use Rattle.pip_watch.proofs.Beginning.{room_first}
-use Rattle.pip_slots.specs.Images.{AgreeOnChild, ImagesBegin, ImagesSeparate, ImagesSeparateInTurn, HasRooms, in_turn}
+use Rattle.pip_slots.specs.Images.{AgreeOnChild, HasRooms, ImagesBegin, ImagesSeparate, ImagesSeparateInTurn}
+use Rattle.pip_slots.specs.Images.{ImagesSeparateSlots, in_turn}
 use Rattle.pip_slots.specs.Images.{round}
-use Rattle.pip_slots.specs.Slots.{IsBetweenSlots, IsRootsChild, rounds}
+use Rattle.pip_slots.specs.Slots.{IsBetweenSlots, IsRootsChild, IsSameInSlots, rounds}
 use Rattle.pip_watch.specs.Watching.{is_root}
 use Rattle.pip_slots.specs.declared.time_slot.TimeSlot.{TimeSlot}
 use Rattle.pip_slots.proofs.Slots.{slots_separate}
@@ -38,11 +39,15 @@ alone_first zero j n = refl
 alone_first (suc c) zero n = absurd (n refl)
 alone_first (suc c) (suc j) n = idle_at c j
 
+begins_soundly : (a : Image) (n : ℕ) → HasRooms n a → IsSoundWorld (image_world a)
+begins_soundly a n r = boot_world-sound_with (image_word a.frames a.pages) a.frames a.cpus r.frames_least r.frames_most
+    r.cpus_least r.cpus_most r.words
+
 first_stage : (a : Image) (n : ℕ) → HasRooms n a → Stage a.frames n 0 0 (image_world a)
 first_stage a n r = record {
-  sound = r.sound;
+  sound = begins_soundly a n r;
   size = refl;
-  room = room_first n a.frames a.cpus (image_word a.frames a.pages) r.sound r.most r.frames;
+  room = room_first n a.frames a.cpus (image_word a.frames a.pages) (begins_soundly a n r) r.most r.room;
   alone = alone_first a.cpus;
   quiet = refl;
   table = λ b k e l. absurd (let z : ⊥ = omega (arith, l) in z);
@@ -116,8 +121,11 @@ images_begin a n r = (
   (λ k low. (((ready_stage a n r).children k low).node.name, child_there a n k r low)),
 )
 
-pub images_separate : ImagesSeparate
-images_separate a b n k t ss low ra rb g all =
+-- the child has the same slots in both
+images_same : (a b : Image) (n k t : ℕ) (ss : List TimeSlot) → k < n → HasRooms n a → HasRooms n b → AgreeOnChild n k a b
+    → AllByRecursion (λ s. IsWord s.child) ss → (p : ℕ) × IsSameInSlots (fresh n k 0) p
+    (ready_world (image_world a) n) (ready_world (image_world b) n) ss t
+images_same a b n k t ss low ra rb g all =
     let h = ready_stage a n ra in
     let h' = ready_stage b n rb in
     let w = ready_world (image_world a) n in
@@ -130,11 +138,18 @@ images_separate a b n k t ss low ra rb g all =
     subst (λ F. (frame_of_root F (vpage (page_address k)) ≡ Some f) ⊎ (frame_of_root F (vpage (fresh n k 11)) ≡ Some f))
     size (c.pages f (subst (λ x. In f (row_pages x)) same j)) in
     let twin = twin_ready (Its a b n k low ra rb g) a.frames n ra.most (image_world a) (image_world b)
-    (first_stage a n ra) (image_twin a b n k low ra rb g) in
-    (slots_separate w v (fresh n k 0) c.node.name ss t (stage_between a.frames n n w h) (stage_between b.frames n n v
-    h')
-    (child_there a n k ra low)
-    (twin_guest (Its a b n k low ra rb g) c.node.name w v inside twin) all).lines
+    (first_stage a n ra) (image_twin a b n k low ra rb g) in (
+      c.node.name,
+      slots_separate w v (fresh n k 0) c.node.name ss t (stage_between a.frames n n w h)
+          (stage_between b.frames n n v h') (child_there a n k ra low)
+          (twin_guest (Its a b n k low ra rb g) c.node.name w v inside twin) all,
+    )
+
+pub images_separate : ImagesSeparate
+images_separate a b n k t ss low ra rb g all = (images_same a b n k t ss low ra rb g all).1.lines
+
+pub images_separate_slots : ImagesSeparateSlots
+images_separate_slots a b n k t ss low ra rb g all = (images_same a b n k t ss low ra rb g all).1.texts
 
 -- ---- in turn
 

@@ -1,8 +1,9 @@
 -- The law of slots: over a whole plan.
 use Rattle.std.proofs.Common.{◌≡◌, ◌≢◌, ℕ, ◌+◌, ◌==◌, inl, inr, Bool, true, false, cond, List, [], ◌∷◌, ◌++◌, refl, sym}
 use Rattle.std.proofs.Common.{ap, ap₂, ◌∙◌, subst, eq-eqb, arith}
-use Rattle.std.specs.Prelude.{◌%◌}
+use Rattle.std.specs.Prelude.{◌%◌, zero, suc, Some, slice_get}
 use Rattle.std.specs.List.{AllByRecursion}
+use Rattle.std.proofs.Math.Option.{some-injective}
 use Rattle.std.proofs.lemmas.Bool.{cases_eq, ne_eqb}
 use Rattle.pip_model.specs.Acts.{Act, after_acts, text_of}
 use Rattle.pip_model.specs.Sound.{IsLentBy, IsSound, IsWord}
@@ -14,7 +15,7 @@ use Rattle.pip_model.proofs.Trees.Free.{row_found}
 use Rattle.pip_guests.proofs.Elsewhere.{same_sym, same_trans}
 use Rattle.pip_slots.specs.declared.time_slot.TimeSlot.{TimeSlot}
 use Rattle.pip_slots.specs.Slots.{SlotsSeparate, acts_of_child, after_slot}
-use Rattle.pip_slots.specs.Slots.{slot_turns, next_step, opening, rest_acts, slot_acts, slot_run}
+use Rattle.pip_slots.specs.Slots.{slot_turns, next_step, opening, rest_acts, slot_acts, slot_run, slot_texts}
 use Rattle.pip_slots.proofs.Kids.{Kid, kid_of, kid_other, kid_same}
 use Rattle.pip_slots.proofs.Own.{Both, both_same, both_step, both_tops}
 use Rattle.pip_slots.proofs.Opening.{own_opened}
@@ -103,6 +104,8 @@ other_slots d p t w v x b wd n =
 
 record RunAlike (d p t : ℕ) (w v : World) (ss : List TimeSlot) : Type 0 where
   acts : acts_of_child d w ss t ≡ acts_of_child d v ss t
+  texts : (j : ℕ) (s : TimeSlot) → slice_get ss j ≡ Some s → s.child ≡ d
+      → slice_get (slot_texts w ss t) j ≡ slice_get (slot_texts v ss t) j
   next : Slotted d p (after_acts w (slot_run w ss t)) (after_acts v (slot_run v ss t))
 
 -- what comes after a slot comes after it in both
@@ -114,7 +117,7 @@ after_both d p w v xs ys xs' ys' h = subst (λ x. Slotted d p x (after_acts v (y
 
 run_alike : (d p : ℕ) (ss : List TimeSlot) (t : ℕ) (w v : World) → Slotted d p w v
     → AllByRecursion (λ s. IsWord s.child) ss → RunAlike d p t w v ss
-run_alike d p [] t w v b all = record { acts = refl; next = b }
+run_alike d p [] t w v b all = record { acts = refl; texts = λ j s at own. refl; next = b }
 run_alike d p (x ∷ ss) t w v b all = elim (cases_eq x.child d) [
   | inl e ↦
       let z = own_slot d p t w v x b all.0 e in
@@ -122,6 +125,7 @@ run_alike d p (x ∷ ss) t w v b all = elim (cases_eq x.child d) [
       record {
         acts = on w true (eq-eqb x.child d e) ∙ ap₂ (λ a b. a ++ b) z.acts h.acts
             ∙ sym (on v true (eq-eqb x.child d e));
+        texts = each (λ own. ap (λ l. Some (text_of l)) z.acts) h.texts;
         next = after_both d p w v (slot_acts w x t) (slot_acts v x t) _ _ h.next;
       }
   | inr n ↦
@@ -129,6 +133,7 @@ run_alike d p (x ∷ ss) t w v b all = elim (cases_eq x.child d) [
       all.1 in
       record {
         acts = on w false (ne_eqb x.child d n) ∙ h.acts ∙ sym (on v false (ne_eqb x.child d n));
+        texts = each (λ own. absurd (n own)) h.texts;
         next = after_both d p w v (slot_acts w x t) (slot_acts v x t) _ _ h.next;
       }
 ]
@@ -139,7 +144,17 @@ run_alike d p (x ∷ ss) t w v b all = elim (cases_eq x.child d) [
     on w c e = ap (λ c. cond c (slot_acts w x t ++ acts_of_child d (after_slot w x t) ss (next_step x t))
         (acts_of_child d (after_slot w x t) ss (next_step x t))) e
 
+    -- the first slot and those after it
+    each : (x.child ≡ d → Some (text_of (slot_acts w x t)) ≡ Some (text_of (slot_acts v x t)))
+        → ((j : ℕ) (s : TimeSlot) → slice_get ss j ≡ Some s → s.child ≡ d
+        → slice_get (slot_texts (after_slot w x t) ss (next_step x t)) j
+        ≡ slice_get (slot_texts (after_slot v x t) ss (next_step x t)) j)
+        → (j : ℕ) (s : TimeSlot) → slice_get (x ∷ ss) j ≡ Some s → s.child ≡ d
+        → slice_get (slot_texts w (x ∷ ss) t) j ≡ slice_get (slot_texts v (x ∷ ss) t) j
+    each first later zero s at own = first (ap (λ y. y.child) (some-injective x s at) ∙ own)
+    each first later (suc j) s at own = later j s at own
+
 pub slots_separate : SlotsSeparate
 slots_separate w v d p ss t b b' c g all =
     let h = run_alike d p ss t w v (record { left = b; right = b'; kid = kid_of w d p b.sound c; guest = g }) all in
-    record { acts = h.acts; lines = ap text_of h.acts; guest = h.next.guest }
+    record { acts = h.acts; lines = ap text_of h.acts; texts = h.texts; guest = h.next.guest }

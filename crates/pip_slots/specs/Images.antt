@@ -1,17 +1,18 @@
 -- Time slots of images. The children of the root are built of an image's pages, as `native` builds them, and the plan
 -- of slots runs them. What a child does, and when, depends on its own two pages of the image alone.
 use Rattle.std.specs.Prelude.{◌≡◌, ℕ, ◌+◌, ◌*◌, ◌≤◌, ◌<◌, List, ◌++◌, length, map, Some}
+use Rattle.std.specs.Prelude.{slice_get}
 use Rattle.std.specs.List.{AllByRecursion}
 use Rattle.pip_model.specs.Acts.{Act, after_acts, text_of}
 use Rattle.pip_model.specs.Boot.{frame_of_root}
 use Rattle.pip_model.specs.Images.{Image, image_word}
 use Rattle.pip_model.specs.Run.{end_line, image_world, trace_image_line}
-use Rattle.pip_model.specs.Sound.{IsWord}
+use Rattle.pip_model.specs.Sound.{ArePageWords, IsWord}
 use Rattle.pip_model.specs.Tree.{vpage}
-use Rattle.pip_model.specs.Worlds.{IsSoundWorld, World}
+use Rattle.pip_model.specs.Worlds.{World}
 use Rattle.pip_watch.specs.Watching.{addresses, built_from, fresh, page_address, pages_taken, ready_world}
 use Rattle.pip_slots.specs.declared.time_slot.TimeSlot.{TimeSlot}
-use Rattle.pip_slots.specs.Slots.{IsBetweenSlots, IsRootsChild, lines_of_child, rounds, slot_run}
+use Rattle.pip_slots.specs.Slots.{IsBetweenSlots, IsRootsChild, lines_of_child, rounds, slot_run, slot_texts}
 
 -- two images have the same words in the root's page at an address
 abbrev pub AgreeAt : ℕ → Image → Image → Type 0
@@ -25,11 +26,16 @@ pub record AgreeOnChild (n k : ℕ) (a b : Image) : Type 0 where
   pub program : AgreeAt (page_address k) a b
   pub handlers : AgreeAt (fresh n k 11) a b
 
--- an image has room for n children, 1 to 8, and its machine begins soundly
+-- an image has room for n children, 8 at most; and its numbers are within their ranges, as those of each image are
+-- that can be read
 pub record HasRooms (n : ℕ) (a : Image) : Type 0 where
   pub most : n ≤ 8
-  pub frames : pages_taken n + 13 ≤ a.frames
-  pub sound : IsSoundWorld (image_world a)
+  pub room : pages_taken n + 13 ≤ a.frames
+  pub frames_least : 16 ≤ a.frames
+  pub frames_most : a.frames ≤ 4096
+  pub cpus_least : 1 ≤ a.cpus
+  pub cpus_most : a.cpus ≤ 4
+  pub words : ArePageWords (image_word a.frames a.pages)
 
 -- the lines of child k of n, from step t on
 abbrev pub child_lines : Image → ℕ → ℕ → List TimeSlot → ℕ → List ℕ
@@ -38,9 +44,15 @@ child_lines a n k ss t = lines_of_child (fresh n k 0) (ready_world (image_world 
 -- for two images that have child k in common its lines are the same, with the numbers of the steps, whatever the images
 -- have for the other children
 abbrev pub ImagesSeparate : Type 0
-ImagesSeparate = (a b : Image) (n k t : ℕ) (ss : List TimeSlot) → k < n → HasRooms n a → HasRooms n b → AgreeOnChild n
-    k a b
-    → AllByRecursion (λ s. IsWord s.child) ss → child_lines a n k ss t ≡ child_lines b n k ss t
+ImagesSeparate = (a b : Image) (n k t : ℕ) (ss : List TimeSlot) → k < n → HasRooms n a → HasRooms n b
+    → AgreeOnChild n k a b → AllByRecursion (λ s. IsWord s.child) ss → child_lines a n k ss t ≡ child_lines b n k ss t
+
+-- so is what each slot of the child writes
+abbrev pub ImagesSeparateSlots : Type 0
+ImagesSeparateSlots = (a b : Image) (n k t : ℕ) (ss : List TimeSlot) → k < n → HasRooms n a → HasRooms n b
+    → AgreeOnChild n k a b → AllByRecursion (λ s. IsWord s.child) ss → (j : ℕ) (s : TimeSlot)
+    → slice_get ss j ≡ Some s → s.child ≡ fresh n k 0 → slice_get (slot_texts (ready_world (image_world a) n) ss t) j
+    ≡ slice_get (slot_texts (ready_world (image_world b) n) ss t) j
 
 -- ---- in turn
 

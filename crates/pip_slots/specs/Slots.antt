@@ -2,7 +2,7 @@
 -- each slot by a yield of the root, and takes the processor back at its end by an interrupt line. What a child does in
 -- its slots, and at which steps, depends on that child alone.
 use Rattle.std.specs.Prelude.{◌≡◌, ◌≢◌, ℕ, zero, suc, ◌+◌, ◌*◌, ◌<◌, ◌==◌, true, cond, List, [], ◌∷◌, ◌++◌}
-use Rattle.std.specs.Prelude.{Some, None}
+use Rattle.std.specs.Prelude.{Some, None, slice_get}
 use Rattle.std.specs.List.{AllByRecursion}
 use Rattle.pip_base.specs.declared.types.Access.TheVariants.{Load}
 use Rattle.pip_base.specs.declared.types.Size.TheVariants.{Word}
@@ -81,6 +81,11 @@ abbrev pub rounds : List TimeSlot → ℕ → List TimeSlot
 rounds ss zero = []
 rounds ss (suc c) = ss ++ rounds ss c
 
+-- what each slot of a plan writes
+abbrev pub slot_texts : World → List TimeSlot → ℕ → List (List ℕ)
+slot_texts w [] t = []
+slot_texts w (s ∷ ss) t = text_of (slot_acts w s t) ∷ slot_texts (after_slot w s t) ss (next_step s t)
+
 -- what of this happens in the slots of the child at an address: events, and lines with the numbers of their steps
 abbrev pub acts_of_child : ℕ → World → List TimeSlot → ℕ → List Act
 acts_of_child d w [] t = []
@@ -131,11 +136,13 @@ pub record IsRootsChild (w : World) (d p : ℕ) : Type 0 where
 
 -- ---- the law
 
--- the child's slots are the same, event by event and line by line, with the numbers of the steps, and it is the same in
--- the end
+-- the child's slots are the same, event by event and line by line, with the numbers of the steps, also each of them by
+-- itself, and it is the same in the end
 pub record IsSameInSlots (d p : ℕ) (w v : World) (ss : List TimeSlot) (t : ℕ) : Type 0 where
   pub acts : acts_of_child d w ss t ≡ acts_of_child d v ss t
   pub lines : lines_of_child d w ss t ≡ lines_of_child d v ss t
+  pub texts : (j : ℕ) (s : TimeSlot) → slice_get ss j ≡ Some s → s.child ≡ d
+      → slice_get (slot_texts w ss t) j ≡ slice_get (slot_texts v ss t) j
   pub guest : IsSameGuest p (after_acts w (slot_run w ss t)) (after_acts v (slot_run v ss t))
 
 -- that is so in any two worlds that have the child in common, whatever the other children are, and whatever any of them

@@ -7,6 +7,7 @@ mod running;
 mod time_slot;
 
 ghost use Rattle.pip_slots.specs.Images.{ImagesBegin, ImagesSeparate, ImagesSeparateInTurn};
+ghost use Rattle.pip_slots.specs.Images.{ImagesSeparateSlots};
 ghost use Rattle.pip_slots.specs.Slots.{SlotsSeparate};
 
 pub use running::{run_rounds, run_slots};
@@ -17,6 +18,7 @@ pub use time_slot::TimeSlot;
 pub fn law_slots()
     ensures separate { SlotsSeparate }
     ensures images { ImagesSeparate }
+    ensures slots { ImagesSeparateSlots }
     ensures in_turn { ImagesSeparateInTurn }
     ensures begins { ImagesBegin }
 {}
