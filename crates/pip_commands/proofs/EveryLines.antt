@@ -63,7 +63,7 @@ alone t a b is =
 
 -- ---- the lines
 
-moved_at : (t cpu : ℕ) (o : Outcome) → IsLineAt t (moved_line 0 cpu o) (moved_line t cpu o)
+pub moved_at : (t cpu : ℕ) (o : Outcome) → IsLineAt t (moved_line 0 cpu o) (moved_line t cpu o)
 moved_at t cpu (O.Switched from to k) =
     stepped t cpu (codes " switch " ++ decimal from ++ codes " " ++ decimal to ++ codes " " ++ decimal k)
 moved_at t cpu (O.Parked from k) = stepped t cpu (codes " park " ++ decimal from ++ codes " " ++ decimal k)
@@ -72,7 +72,7 @@ moved_at t cpu O.Done = inl (refl, refl)
 moved_at t cpu (O.Reply s v) = inl (refl, refl)
 moved_at t cpu O.Idle = inl (refl, refl)
 
-call_at : (t cpu n : ℕ) (o : Outcome) → IsLineAt t (call_line 0 cpu n o) (call_line t cpu n o)
+pub call_at : (t cpu n : ℕ) (o : Outcome) → IsLineAt t (call_line 0 cpu n o) (call_line t cpu n o)
 call_at t cpu n (O.Reply s v) =
     alike t cpu
     (codes " call " ++ decimal n ++ codes " reply " ++ decimal (status_number s) ++ codes " " ++ word_text v)

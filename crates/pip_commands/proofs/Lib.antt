@@ -36,3 +36,5 @@ pub mod Monitoring
 pub mod Audited
 pub mod LayoutWords
 pub mod CoreAudited
+pub mod Accepted
+pub mod SlotsApart

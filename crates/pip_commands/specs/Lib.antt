@@ -16,4 +16,5 @@ pub mod AuditTexts
 pub mod AuditLaw
 pub mod EveryLaw
 pub mod RunLaw
+pub mod SlotsLaw
 pub mod Pacing

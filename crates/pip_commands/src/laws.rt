@@ -3,6 +3,7 @@ ghost use Rattle.pip_commands.specs.Answered.{InputsAreAnswered};
 ghost use Rattle.pip_commands.specs.AuditLaw.{CoreIsAudited};
 ghost use Rattle.pip_commands.specs.EveryLaw.{LinesAreOfRuns, SearchesSayOnce};
 ghost use Rattle.pip_commands.specs.RunLaw.{ChoicesKeepTime, ClosedNamesRuns, RunsAreChoices};
+ghost use Rattle.pip_commands.specs.SlotsLaw.{ChildrenAreSeparate};
 
 /// What `core` writes of a sound tree's frames, `audit` answers with the text of that tree and `yes`.
 pub fn law_core_audited()
@@ -27,4 +28,9 @@ pub fn law_every_runs()
     ensures choices { RunsAreChoices }
     ensures time { ChoicesKeepTime }
     ensures closed { ClosedNamesRuns }
+{}
+
+/// What `slots` writes in the time slots of a child is a matter of that child alone.
+pub fn law_slots_apart()
+    ensures { ChildrenAreSeparate }
 {}

@@ -39,7 +39,7 @@ pub use commands::script::script;
 pub use commands::slots::slots;
 pub use commands::soak::soak;
 pub use ended::Ended;
-pub use laws::{law_core_audited, law_every, law_every_runs, law_inputs_answered};
+pub use laws::{law_core_audited, law_every, law_every_runs, law_inputs_answered, law_slots_apart};
 pub use machines::new_machine;
 pub use monitor::MONITOR;
 pub use top::pip;

@@ -177,7 +177,10 @@ addresses_words n zero most l = tt
 addresses_words n (suc i) most l = one_more (addresses n i) (fresh n i 0) (addresses_words n i most (omega (arith, l)))
     (omega (arith, most, l))
 
+pub in_turn_words : (n turns c : ℕ) → n ≤ 8 → AllByRecursion (λ s. IsWord s.child) (in_turn n turns c)
+in_turn_words n turns c most = rounds_words (round turns (addresses n n)) c
+    (round_words turns (addresses n n) (addresses_words n n most (omega arith)))
+
 pub images_separate_in_turn : ImagesSeparateInTurn
-images_separate_in_turn a b n k turns c low ra rb g = images_separate a b n k 0 (in_turn n turns c) low ra rb g
-    (rounds_words (round turns (addresses n n)) c
-    (round_words turns (addresses n n) (addresses_words n n ra.most (omega arith))))
+images_separate_in_turn a b n k turns c low ra rb g =
+    images_separate a b n k 0 (in_turn n turns c) low ra rb g (in_turn_words n turns c ra.most)
