@@ -5,7 +5,7 @@ use Rattle.std.proofs.Common.{append-nil, append_assoc, arith, length-append}
 use Rattle.std.specs.List.{AllByRecursion, concat}
 use Rattle.std.specs.Prelude.{Ok, slice_get}
 use Rattle.std.proofs.lemmas.Bool.{cases_lt}
-use Rattle.std.proofs.Math.Nat.{mod-eq-sub-mod}
+use Rattle.std.proofs.Math.Nat.{mod-eq-sub-mod, mod-eq_of_lt}
 use Rattle.std.proofs.Math.Option.{some-injective}
 use Rattle.pip_model.specs.Acts.{Makes, after_acts, text_of}
 use Rattle.pip_model.specs.Events as E
@@ -192,7 +192,7 @@ rounds_get ss (suc c) j some low = go (cases_lt j (length ss))
     n = length ss
 
     go : (j < n) ⊎ (n ≤ j) → slice_get (ss ++ rounds ss c) j ≡ slice_get ss (j % n)
-    go (inl l) = front_get ss (rounds ss c) j l ∙ ap (slice_get ss) (sym (mod-small j n l))
+    go (inl l) = front_get ss (rounds ss c) j l ∙ ap (slice_get ss) (sym (mod-eq_of_lt l))
     go (inr h) =
         let m : suc c * n ≡ n + c * n = omega arith in
         back_get ss (rounds ss c) j h ∙ rounds_get ss c (j - n) some (omega (arith, low, m, h))
