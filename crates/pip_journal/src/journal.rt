@@ -82,6 +82,12 @@ impl<F: First> Frames for Journal<F> {
         self.frames.frame(f, steps)
     }
 
+    fn frame_mut<L: Ledger>(&mut self, f: Frame, steps: &mut Steps<L>) -> &mut [u32; 1024] {
+        self.opened[f.number() as usize] = true;
+        self.parts[f.number() as usize] = all_parts(true);
+        self.frames.frame_mut(f, steps)
+    }
+
     fn pair<L: Ledger>(
         &mut self,
         read: Frame,
