@@ -13,4 +13,4 @@ mod place;
 mod text;
 
 pub use laws::{law_first_bad, law_lines, law_round_trip};
-pub use text::{CoreError, read_core};
+pub use text::{CoreError, read_core, read_core_from_joint};

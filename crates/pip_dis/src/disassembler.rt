@@ -7,7 +7,7 @@ ghost use Rattle.pip_dis.specs.Stopping.{Stops};
 ghost use Rattle.pip_dis.specs.Writing.{Disassembles, Passes, PassesAll};
 
 use crate::output::{write_fields, write_page, write_plan};
-use pip_image::{ImageError, ImageReader};
+use pip_image::{ImageError, JointReader};
 use pip_io::{Joint, Sink, Source};
 use thiserror::Error;
 
@@ -42,13 +42,13 @@ pub fn disassemble<S: Source, K: Sink>(source: &mut S, sink: &mut K) -> Result<(
     ensures sink { K.faults sink.old ≤ K.faults sink.new }
 {
     let mut joint = Joint::new(source, sink);
-    pass_all(&mut ImageReader::new(), &mut joint)?;
+    pass_all(&mut JointReader::new(), &mut joint)?;
     Ok(())
 }
 
 // All parts.
 fn pass_all<S: Source, K: Sink>(
-    reader: &mut ImageReader,
+    reader: &mut JointReader,
     joint: &mut Joint<'_, S, K>,
 ) -> Result<(), DisError>
     requires new { IsNew reader.old.place }
@@ -78,7 +78,7 @@ fn pass_all<S: Source, K: Sink>(
 
 // The fields.
 fn pass_fields<S: Source, K: Sink>(
-    reader: &mut ImageReader,
+    reader: &mut JointReader,
     joint: &mut Joint<'_, S, K>,
 ) -> Result<(), DisError>
     requires new { IsNew reader.old.place }
@@ -113,7 +113,7 @@ fn pass_fields<S: Source, K: Sink>(
 
 // All plans.
 fn pass_plans<S: Source, K: Sink>(
-    reader: &mut ImageReader,
+    reader: &mut JointReader,
     joint: &mut Joint<'_, S, K>,
 ) -> Result<(), DisError>
     requires is_open { S.is_open joint.old.source.now }
@@ -151,7 +151,7 @@ fn pass_plans<S: Source, K: Sink>(
 
 // All pages, and the end.
 fn pass_pages<S: Source, K: Sink>(
-    reader: &mut ImageReader,
+    reader: &mut JointReader,
     joint: &mut Joint<'_, S, K>,
 ) -> Result<(), DisError>
     requires plans { reader.old.place.plans ≡ 0 }

@@ -10,17 +10,15 @@ ghost use Rattle.pip_image.specs.Loading.{AreWords, LoadsAll, LoadsUpTo, with_pa
 ghost use Rattle.pip_image.specs.Pacing.{IsFaultless};
 
 use crate::header::Header;
-use crate::reader::ImageReader;
+use crate::reader::JointReader;
 use pip_base::{Frame, VPage, WORDS};
 use pip_frames::Frames;
 use pip_io::{Joint, Sink, Source};
 use pip_model::{ImageError, root_frame};
 
-/// Reads the pages of an image into the frames that the root has at their vpages. The memory is that of a machine that
-/// has just begun; the reader's `header` answered `head`, and no page was read yet. After an error the pages before it
-/// are loaded.
-pub fn load_image<S: Source, K: Sink, M: Frames>(
-    reader: &mut ImageReader,
+/// `load_image` over a source that is joined with a sink.
+pub fn load_from_joint<S: Source, K: Sink, M: Frames>(
+    reader: &mut JointReader,
     joint: &mut Joint<'_, S, K>,
     head: &Header,
     mem: &mut M,

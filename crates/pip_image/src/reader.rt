@@ -17,19 +17,19 @@ use pip_base::{Plan, VPage};
 use pip_io::{Joint, Sink, Source};
 use pip_model::ImageError;
 
-/// Reads an image: first the fields, then the plans, then the pages. Each call is given the source, with a sink that
-/// holds nothing, and reads no further than its part needs.
+/// Reads an image: first the fields, then the plans, then the pages. Each call is given the source, joined with a sink
+/// that holds nothing, and reads no further than its part needs.
 #[derive(Drop)]
-pub struct ImageReader {
+pub struct JointReader {
     place: Place,
 }
 
-impl ImageReader {
+impl JointReader {
     /// A reader that has read nothing.
-    pub fn new() -> ImageReader
+    pub fn new() -> JointReader
         ensures { IsNew result.place }
     {
-        ImageReader {
+        JointReader {
             place: Place::new(),
         }
     }

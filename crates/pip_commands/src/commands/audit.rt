@@ -14,7 +14,7 @@ use crate::ended::{Ended, end_with};
 use crate::text::{bad_line, no_line};
 use pip_audit::{Auditor, Verdict};
 use pip_base::Steps;
-use pip_core_text::{CoreError, read_core};
+use pip_core_text::{CoreError, read_core_from_joint};
 use pip_dump::tree_text;
 use pip_frames::{Frames, RawFrames};
 use pip_io::{Joint, Sink, Source};
@@ -56,7 +56,7 @@ fn audit_input<S: Source, K: Sink>(alloc: Global, frames: u32, joint: &mut Joint
     let Ok(mut room) = take_room(alloc, frames) else {
         return Ended::with_status(5);
     };
-    match read_core(joint, &mut room.mem) {
+    match read_core_from_joint(joint, &mut room.mem) {
         Ok(()) => judge::<K, Brand>(&mut room, &mut *joint.sink, Blank::new(1)),
         Err(CoreError::Line(number)) => {
             end_with(&mut *joint.sink, bad_line(number).as_str().as_bytes(), 2)

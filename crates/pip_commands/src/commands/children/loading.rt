@@ -9,7 +9,7 @@ ghost use Rattle.pip_commands.specs.Pacing.{IsFaultlessUnshort};
 
 use crate::commands::run::loading::{self, Loaded, load_after};
 use pip_base::{Plan, Steps};
-use pip_image::ImageReader;
+use pip_image::JointReader;
 use pip_io::{Joint, Sink, Source};
 use pip_lines::Callback;
 use pip_model::ImageError;
@@ -53,7 +53,7 @@ pub fn load<S: Source, K: Sink, G: Fn(Plan) -> F, F: Callback + Drop, L: Ledger>
     ensures calm { OnOk result (S.faults joint.new.source.now ≡ S.faults joint.old.source.now) }
     ensures below { IfOk result (λ l. AllByRecursion (λ p. p.line < 16) l.lines.items) }
 {
-    let mut reader = ImageReader::new();
+    let mut reader = JointReader::new();
     let head = match reader.header(joint) {
         Ok(head) => head,
         Err(fault) => return Err(Stop::Image(fault)),

@@ -10,7 +10,7 @@ ghost use Rattle.pip_commands.specs.Loading.{LoadsFrames, StoppedLoading};
 use crate::commands::run::loading::{Stop, load_frames};
 use pip_base::Steps;
 use pip_frames::{Frames, RawFrames};
-use pip_image::{Header, ImageReader};
+use pip_image::{Header, JointReader};
 use pip_io::{Joint, Sink, Source};
 use std::alloc::Global;
 use std::sync::ledger::Ledger;
@@ -44,7 +44,7 @@ pub fn load<S: Source, K: Sink, L: Ledger>(
     ensures booted { IfOk result (λ b. HasBooted (⟦<RawFrames as Frames>⟧.memory b.mem)) }
     ensures calm { OnOk result (S.faults joint.new.source.now ≡ S.faults joint.old.source.now) }
 {
-    let mut reader = ImageReader::new();
+    let mut reader = JointReader::new();
     let head = reader.header(joint)?;
     let mem = load_frames(alloc, &mut reader, joint, &head, steps)?;
     Ok(Begun { head, mem })

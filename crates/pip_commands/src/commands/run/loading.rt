@@ -13,7 +13,7 @@ ghost use Rattle.pip_commands.specs.Loading.{LoadsFrames, LoadsImage, StoppedAft
 
 use pip_base::{Plan, Steps};
 use pip_frames::{Frames, RawFrames};
-use pip_image::{Header, ImageReader, load_image};
+use pip_image::{Header, JointReader, load_from_joint};
 use pip_io::{Joint, Sink, Source};
 use pip_kern::boot_zeros;
 use pip_lines::{Callback, Line};
@@ -83,7 +83,7 @@ pub fn load<S: Source, K: Sink, G: Fn(Plan) -> F, F: Callback + Drop, L: Ledger>
     ensures calm { OnOk result (S.faults joint.new.source.now ≡ S.faults joint.old.source.now) }
     ensures below { IfOk result (λ l. AllByRecursion (λ p. p.line < 16) l.lines.items) }
 {
-    let mut reader = ImageReader::new();
+    let mut reader = JointReader::new();
     let head = reader.header(joint)?;
     load_after(alloc, &mut reader, joint, &head, make, steps)
 }
@@ -91,7 +91,7 @@ pub fn load<S: Source, K: Sink, G: Fn(Plan) -> F, F: Callback + Drop, L: Ledger>
 /// Reads an image to its end by a reader whose `header` answered `head`, and which has read no page.
 pub fn load_after<S: Source, K: Sink, G: Fn(Plan) -> F, F: Callback + Drop, L: Ledger>(
     alloc: Global,
-    reader: &mut ImageReader,
+    reader: &mut JointReader,
     joint: &mut Joint<'_, S, K>,
     head: &Header,
     make: G,
@@ -132,7 +132,7 @@ pub fn load_after<S: Source, K: Sink, G: Fn(Plan) -> F, F: Callback + Drop, L: L
 /// The frames alone, by such a reader.
 pub fn load_frames<S: Source, K: Sink, L: Ledger>(
     alloc: Global,
-    reader: &mut ImageReader,
+    reader: &mut JointReader,
     joint: &mut Joint<'_, S, K>,
     head: &Header,
     steps: &mut Steps<L>,
@@ -158,7 +158,7 @@ pub fn load_frames<S: Source, K: Sink, L: Ledger>(
 {
     let mut mem = RawFrames::new(alloc, head.frames)?;
     boot_zeros(&mut mem, steps);
-    load_image(reader, joint, head, &mut mem)?;
+    load_from_joint(reader, joint, head, &mut mem)?;
     Ok(mem)
 }
 

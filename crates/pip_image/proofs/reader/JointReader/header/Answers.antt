@@ -10,7 +10,7 @@ use Rattle.pip_image.proofs.RisingPlans.{lines_of_rising, rises}
 use Rattle.pip_image.proofs.RisingPlans.{fewer_lines}
 use Rattle.pip_image.proofs.Steps.{after_parts, faultless_after, takes_then, takes_refused}
 use Rattle.std.proofs.lemmas.List.{map-append}
-use Rattle.pip_image.proofs.reader.ImageReader.header.Goals as goal
+use Rattle.pip_image.proofs.reader.JointReader.header.Goals as goal
 
 pub returns-in_err-plan-clause-reads : goal.returns-in_err-plan-clause-reads
 returns-in_err-plan-clause-reads g c =

@@ -7,7 +7,7 @@ use Rattle.pip_io.proofs.Pacing.{paced_after}
 use Rattle.pip_image.specs.Pacing.{IsFaultless, IsPartless}
 use Rattle.pip_image.proofs.Steps.{faultless_after}
 use Rattle.pip_image.proofs.Loaded.{loads_all, loads_page, loads_refused, match_some, some_is}
-use Rattle.pip_image.proofs.load.load_image.Goals as goal
+use Rattle.pip_image.proofs.load.load_from_joint.Goals as goal
 
 pub loop-vpage-preserved : goal.loop-vpage-preserved
 loop-vpage-preserved g c =

@@ -3,7 +3,7 @@ use Rattle.pip_model.specs.Images.{plan_at}
 use Rattle.pip_image.specs.Reading.{Refuses}
 use Rattle.pip_image.proofs.Parsing.{plan_goes}
 use Rattle.pip_image.proofs.ReadParts.{filled_calm, filled_whole, plan_open, plan_taken, plan_refused}
-use Rattle.pip_image.proofs.reader.ImageReader.plan.Goals as goal
+use Rattle.pip_image.proofs.reader.JointReader.plan.Goals as goal
 
 pub returns-in-Ok-clause-reads : goal.returns-in-Ok-clause-reads
 returns-in-Ok-clause-reads g c =

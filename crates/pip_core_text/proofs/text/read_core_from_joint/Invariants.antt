@@ -3,7 +3,7 @@ use Rattle.pip_input.specs.Lines.{still}
 use Rattle.pip_core_text.specs.CoreRead.{state_at}
 use Rattle.pip_core_text.proofs.Reading.{IsAt}
 use Rattle.pip_core_text.proofs.Rising.{IsPlaced, weight}
-use Rattle.pip_core_text.proofs.text.read_core.Given as goal
+use Rattle.pip_core_text.proofs.text.read_core_from_joint.Given as goal
 
 abbrev pub invariant-loop-k : goal.invariant-loop-k
 invariant-loop-k g l = let n = length (g.M.Frames.memory l.fn.mem) in record {

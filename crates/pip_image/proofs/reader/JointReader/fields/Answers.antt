@@ -3,7 +3,7 @@ use Rattle.pip_model.specs.Images.{fields_of}
 use Rattle.pip_image.specs.Reading.{Refuses}
 use Rattle.pip_image.proofs.Parsing.{fields_goes}
 use Rattle.pip_image.proofs.ReadParts.{filled_calm, filled_whole, fields_open, fields_taken, fields_refused}
-use Rattle.pip_image.proofs.reader.ImageReader.fields.Goals as goal
+use Rattle.pip_image.proofs.reader.JointReader.fields.Goals as goal
 
 pub returns-in-Ok-clause-reads : goal.returns-in-Ok-clause-reads
 returns-in-Ok-clause-reads g c =

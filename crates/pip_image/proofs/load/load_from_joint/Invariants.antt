@@ -1,7 +1,7 @@
 use Rattle.std.proofs.Common.{◌≡◌, length}
 use Rattle.pip_image.specs.Coming.{coming}
 use Rattle.pip_image.specs.Loading.{Loads}
-use Rattle.pip_image.proofs.load.load_image.Given as goal
+use Rattle.pip_image.proofs.load.load_from_joint.Given as goal
 
 abbrev pub invariant-loop-vpage : goal.invariant-loop-vpage
 invariant-loop-vpage g l = record {

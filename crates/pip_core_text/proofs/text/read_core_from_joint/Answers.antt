@@ -11,7 +11,7 @@ use Rattle.pip_core_text.proofs.Reading.{after_line, at_kept, bad_end, bad_step,
 use Rattle.pip_core_text.proofs.Reading.{room_after, whole_text}
 use Rattle.pip_core_text.proofs.Rising.{step_rises}
 use Rattle.pip_core_text.proofs.Unread.{lines_at, lines_after, read_failed, unread_at, unread_after}
-use Rattle.pip_core_text.proofs.text.read_core.Goals as goal
+use Rattle.pip_core_text.proofs.text.read_core_from_joint.Goals as goal
 
 pub returns-in_err-count-clause-reads : goal.returns-in_err-count-clause-reads
 returns-in_err-count-clause-reads g c =

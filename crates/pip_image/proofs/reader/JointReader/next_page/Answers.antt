@@ -5,7 +5,7 @@ use Rattle.pip_image.specs.Sought.{is_fault}
 use Rattle.pip_image.proofs.Parsing.{page_goes}
 use Rattle.pip_image.proofs.ReadParts.{filled_calm, filled_whole, page_filled, page_open, page_refused}
 use Rattle.pip_image.proofs.ReadParts.{page_same, page_taken}
-use Rattle.pip_image.proofs.reader.ImageReader.next_page.Goals as goal
+use Rattle.pip_image.proofs.reader.JointReader.next_page.Goals as goal
 
 pub returns-in-Ok-clause-reads : goal.returns-in-Ok-clause-reads
 returns-in-Ok-clause-reads g c =

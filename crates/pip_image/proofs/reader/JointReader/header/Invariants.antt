@@ -3,7 +3,7 @@ use Rattle.pip_model.specs.Images.{Head, Line, image_parts}
 use Rattle.pip_image.specs.Coming.{AreRising, coming}
 use Rattle.pip_image.specs.Reading.{TakesParts}
 use Rattle.pip_image.specs.Taking.{fields_seen, HasFieldsWithin}
-use Rattle.pip_image.proofs.reader.ImageReader.header.Given as goal
+use Rattle.pip_image.proofs.reader.JointReader.header.Given as goal
 
 abbrev pub invariant-loop-self : goal.invariant-loop-self
 invariant-loop-self g l = record {
