@@ -43,3 +43,4 @@ mod wanted;
 
 pub use auditor::{Auditor, Verdict};
 pub use laws::law_yes;
+pub use pip_core_text::{CoreError, read_core};
