@@ -1,6 +1,6 @@
 """The repository's own checks of the built program. The list of them is CHECKS.
 
-    tools/check/run.py [--only NAME ..] [--program PATH] [--list]
+    tools/check/run.py [--only NAME ..] [--program PATH] [--list] [--write-calls]
 
 The status is 0 where none fails, and 1 where one does; each that fails says why. One for which a tool is missing is skipped, and the
 last line counts it.
@@ -162,9 +162,13 @@ def checked() -> int:
     parser.add_argument("--only", nargs="+", choices=CHECKS, metavar="NAME", help="these checks alone")
     parser.add_argument("--program", help="the built program; without it ./pip builds and runs crates/pip/out/pip")
     parser.add_argument("--list", action="store_true", help="print the names of the checks")
+    parser.add_argument("--write-calls", action="store_true", help="write public_calls.txt as the sources have its calls")
     given = parser.parse_args()
     if given.list:
         print("\n".join(CHECKS))
+        return 0
+    if given.write_calls:
+        public_calls.rewrite()
         return 0
     program = os.path.abspath(given.program or os.path.join(REPOSITORY, "crates", "pip", "out", "pip"))
     if not given.program:
