@@ -236,15 +236,16 @@ def groups(program: str) -> None:
 def interleavings(program: str) -> None:
     """The race's lines with their ways: as a trace, as a script, and as a run that shows the same."""
     race, guests = (os.path.join(REPOSITORY, "examples", name) for name in ("every/race.asmx", "two_guests.s"))
-    all_of_race, early = (race, "10000"), (guests, "1000", "0", "8")
+    all_of_race = (race, "10000")
     told = tool(program, "every", *all_of_race)
     ends("tools/every", told, 0, "call 10 reply 0 0x00000000: 0    # vcli: Ok", "closed    # nothing else can come")
     lost = next(line.split()[0] for line in told[0].splitlines() if " out 0x00000002: " in line)
-    told = tool(program, "every", *early, "--trouble")
-    ends("tools/every --trouble", told, 0, "NotChild", "by 8 choices")
+    early = next(line.split()[0] for line in told[0].splitlines() if " switch 1 1 32: " in line)
+    ends("tools/every --page", tool(program, "every", *all_of_race, "--page", early), 0, "<title>race.asmx: switch 1 1 32")
+    told = tool(program, "every", guests, "2000", "--trouble")
+    ends("tools/every --trouble", told, 0, "Running", "by 905 choices")
     if len(told[0].splitlines()) != 3:
-        raise Differs(f"tools/every --trouble of a line before the first vcli: {told[0]!r}")
-    ends("tools/every --page", tool(program, "every", *early, "--page", "6"), 0, "<title>two_guests.s: call 8 reply 5")
+        raise Differs(f"tools/every --trouble of two guests: {told[0]!r}")
     told = tool(program, "every", *all_of_race, "--script", lost)
     ends("tools/every --script", told, 0, "raise 0", "answers of the reference")
     if run([program, "script"], told[0].encode())[1]:

@@ -20,7 +20,7 @@ from types import FrameType
 
 from ..common import calling
 from . import (answering, audits, authors, cheats, counters, counts, devices, documents, endings, examples, exercises,
-               exporting, hints, house, links, memory, pages, playground, playground_judge,
+               exporting, guests, hints, house, links, memory, pages, playground, playground_judge,
                playground_runs, playing, public_calls, releasing, shells, sources, tools,
                tutorial, wrapper)
 from .running import REPOSITORY, Check, Differs, Skipped
@@ -49,6 +49,7 @@ CHECKS: dict[str, Check] = {
     "programs": examples.programs,
     "searches": examples.searches,
     "retries": examples.retries,
+    "hostile-guests": guests.hostile_guests,
     "tutorial-sessions": tutorial.sessions,
     "tutorial-blocks": tutorial.blocks,
     "wrapper": wrapper.wrapper,
