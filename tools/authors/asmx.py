@@ -31,6 +31,8 @@ BRANCHES = {"beq": 2, "bne": 2, "blt": 2, "bltu": 2, "jal": 1, "j": 0}     # whi
 PAGE, WORDS = 4096, 1024
 DEEPEST = 16             # files in files
 MOST_LINES = 1 << 20
+MOST_FILES = 64          # that are included, each as often as it is
+MOST_NUMBER = 1 << 32    # what a number, and each product on the way to it, is below
 MOST_TOLD = 20           # lines that are wrong
 
 
@@ -87,11 +89,32 @@ class Collected:
 
 # The lines of all files
 
-def lines_of(path: str, above: tuple[str, ...] = ()) -> Iterator[tuple[Place, list[str]]]:
+
+class Files:
+    """The files that a source is made of. Any file may be included."""
+
+    def __init__(self) -> None:
+        self.count = 0
+
+    def inner(self, place: Place, path: str) -> str:
+        """The file that a line includes."""
+        inner = os.path.join(os.path.dirname(place.file) if place.file != "-" else "", path)
+        if not os.path.isfile(inner):
+            raise Wrong(place, f"there is no file {inner}")
+        return inner
+
+    def contents(self, path: str) -> bytes:
+        self.count += 1
+        if self.count > MOST_FILES:
+            raise Failed(f"{path}: more than {MOST_FILES} files are included")
+        return calling.contents(path)
+
+
+def lines_of(path: str, files: Files, above: tuple[str, ...] = ()) -> Iterator[tuple[Place, list[str]]]:
     """The lines of a file and of those that it includes, without remarks: a place and its words each."""
     if len(above) > DEEPEST:
         raise Failed(f"{path}: files are included more than {DEEPEST} deep")
-    text = calling.contents(path).decode("utf-8", "replace").removeprefix("\ufeff")
+    text = files.contents(path).decode("utf-8", "replace").removeprefix("\ufeff")
     for number, line in enumerate(text.split("\n"), 1):
         place = Place(path, number)
         words = REMARK.sub("", line).split()
@@ -100,12 +123,10 @@ def lines_of(path: str, above: tuple[str, ...] = ()) -> Iterator[tuple[Place, li
             continue
         if len(words) != 2:
             raise Wrong(place, ".include has one path, without spaces")
-        inner = os.path.join(os.path.dirname(path) if path != "-" else "", words[1])
-        if not os.path.isfile(inner):
-            raise Wrong(place, f"there is no file {inner}")
+        inner = files.inner(place, words[1])
         if os.path.realpath(inner) in [os.path.realpath(file) for file in (*above, path)]:
             raise Wrong(place, f"{inner} includes itself")
-        yield from lines_of(inner, above + (path,))
+        yield from lines_of(inner, files, above + (path,))
 
 
 # Pages
@@ -326,8 +347,11 @@ class Text:
         signs = re.split(r"([+-])", word if word[:1] in ("+", "-") else "+" + word)
         if signs[0] or len(signs) > 64:
             raise Wrong(place, f"{word!r} is no number")
-        return sum((1 if sign == "+" else -1) * self.product(place, part, with_labels)
-                   for sign, part in zip(signs[1::2], signs[2::2]))
+        value = sum((1 if sign == "+" else -1) * self.product(place, part, with_labels)
+                    for sign, part in zip(signs[1::2], signs[2::2]))
+        if abs(value) >= MOST_NUMBER:
+            raise Wrong(place, f"{word!r} has more than 32 bits")
+        return value
 
     def product(self, place: Place, text: str, with_labels: bool) -> int:
         value, terms = 1, text.split("*")
@@ -347,6 +371,8 @@ class Text:
             else:
                 raise Wrong(place, f"no line defines the name {term}" if NAME.fullmatch(term)
                             else f"{term!r} is no number")
+            if abs(value) >= MOST_NUMBER:
+                raise Wrong(place, f"{text!r} has more than 32 bits")
         return value
 
     def written(self, collected: Collected) -> list[tuple[Place, str]]:
@@ -370,12 +396,12 @@ class Text:
         return lines
 
 
-def processed(path: str) -> tuple[list[tuple[Place, str]], Text]:
-    """The lines of the assembly text of a file, each with its place in the source."""
+def processed(path: str, files: Files | None = None) -> tuple[list[tuple[Place, str]], Text]:
+    """The lines of the assembly text of a file, each with its place in the source. `files` says what may be included."""
     text, collected = Text(), Collected()
     places: list[Place] = []
     with collected:
-        for place, words in lines_of(path):
+        for place, words in lines_of(path, files or Files()):
             places.append(place)
             take_line(text, collected, place, words)
             if len(places) > MOST_LINES:

@@ -271,13 +271,18 @@ def why(program: str, name: str, text: bytes, as_assembly: bool | None = None) -
     found = re.search(rb"bad line (\d+)(?: (\w+))?\n$", output)
     if found is None:
         raise Failed(f"the program refuses {name}, and names no line")
-    place = int(found[1])
+    return refused(name, text, int(found[1]), found[2].decode() if assembles else None), False
+
+
+def refused(name: str, text: bytes, place: int, kind: str | None) -> list[str]:
+    """The sentences about a text whose first bad line is known; that of an assembly text has a kind."""
+    lines = list(script.lines(text))
     try:
-        if assembles:
-            judge_assembly(lines, place, found[2].decode())
+        if kind is not None:
+            judge_assembly(lines, place, kind)
         judge_script(lines, place)
     except Cause as cause:
-        return told(name, place, lines, cause), False
+        return told(name, place, lines, cause)
 
 
 def told(name: str, place: int, lines: list[bytes], cause: Cause) -> list[str]:

@@ -34,6 +34,21 @@ class Engine {
     }
   }
 
+  // What the judge answers to a request
+  judge(request) {
+    const written = new Written();
+    Object.assign(this, {write: bytes => written.take(bytes), owner: null});
+    const made = this.instance(), bytes = encoder.encode(request), at = made.room(bytes.length) >>> 0;
+    new Uint8Array(made.memory.buffer).set(bytes, at);
+    try {
+      made.judge(at, bytes.length);
+    } catch (failed) {
+      this.made = null;
+      throw failed;
+    }
+    return decoder.decode(written.bytes());
+  }
+
   // The words of frames, from `first` on, of the machine that the last run handed back, one frame after the other
   frames(count, first = 0) {
     const at = this.made.room(FRAME_BYTES * count) >>> 0, found = this.made.frames(first, count, at) >>> 0;

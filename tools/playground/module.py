@@ -11,12 +11,13 @@ from ..common import calling
 from ..common.calling import Failed
 from ..exporter import crates, workspace
 from ..exporter.tokens import Trouble
+from ..judge import building
 from . import compilers
 
 HERE = Path(__file__).resolve().parent
 REPOSITORY = HERE.parent.parent
 NAME = "pip_module"
-STANDS_ON = "pip_commands"
+STANDS_ON = ["pip_commands", *building.USES]
 
 
 def main() -> None:
@@ -43,8 +44,8 @@ def make(to: Path, debian: Optional[Path]) -> None:
 def build(place: Path, compiler: compilers.Compiler) -> Path:
     """Writes everything into a folder, and answers where cargo puts the module."""
     try:
-        found = crates.chosen(crates.crates_of(REPOSITORY), [STANDS_ON])
-        workspace.write(place, {**workspace.files_of(found, REPOSITORY, None), **own_files()})
+        found = crates.chosen(crates.crates_of(REPOSITORY), STANDS_ON)
+        workspace.write(place, {**workspace.files_of(found, REPOSITORY, None), **own_files(), **building.own_files()})
     except (Trouble, OSError) as trouble:
         raise Failed(str(trouble)) from None
     target = place / "target"

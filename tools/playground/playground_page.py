@@ -14,14 +14,13 @@ from ..common import calling, meanings
 from ..common.calling import Failed
 from ..reference import assembly, instructions, script
 from ..step import page
-from . import module, translating
+from . import module
 
 HERE = Path(__file__).resolve().parent
 REPOSITORY = HERE.parent.parent
 EXAMPLES = REPOSITORY / "examples"
 FIRST = "first.pip"
 MOST_EDITED = 1 << 18          # bytes; a longer text is run, and not shown
-MODULES = ("reached", "goals", "on_memory", "on_control", "on_tree", "programs", "break_in", "tasks")     # of the judge, each after those that it uses
 WIDTH = 100                    # of an exercise's lines
 BEGINNING = ".frames 64\n.cpus 1\n.page 0x400000\n"      # without these lines a program is refused
 
@@ -50,9 +49,8 @@ def write(to: Path, made: Optional[Path], debian: Optional[Path]) -> None:
 
 
 def written(binary: bytes) -> str:
-    judge = translating.translated(REPOSITORY / "tools" / "exercises", MODULES)
     packed = base64.b64encode(gzip.compress(binary, mtime=0)).decode()
-    told = {"/* facts */": page.as_data(facts()), "/* modules */": judge, "/* module */": packed}
+    told = {"/* facts */": page.as_data(facts()), "/* module */": packed}
     return page.filled("page.html", [str(HERE), page.HERE], told)
 
 

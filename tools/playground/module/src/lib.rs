@@ -79,6 +79,19 @@ pub unsafe extern "C" fn run(at: *const u8, count: usize) -> u32 {
     })
 }
 
+/// Answers a request to the judge of the exercises, which is the `count` bytes from `at` on; the host is written the answer. Both are lines:
+/// see tools/judge.
+///
+/// # Safety
+/// As for `run`.
+#[unsafe(no_mangle)]
+pub unsafe extern "C" fn judge(at: *const u8, count: usize) {
+    // SAFETY: as above.
+    let answer = pip_judge::answer(unsafe { slice::from_raw_parts(at, count) });
+    // SAFETY: the host reads these bytes alone.
+    unsafe { write(answer.as_ptr(), answer.len()) };
+}
+
 /// Puts the words of frames from `first` on at `at`, 1024 of each, up to `count` frames. It answers of how many frames they are: as many as
 /// the machine has that the last run handed back, and none where it handed none back.
 ///

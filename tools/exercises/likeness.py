@@ -1,0 +1,55 @@
+"""Which works are the same text but for remarks, names and how numbers are written, or nearly so."""
+
+from __future__ import annotations
+
+import difflib
+import itertools
+import re
+from collections.abc import Iterator, Mapping, Sequence
+
+MOST_LINES = 3000            # of a work that are looked at
+LEAST_LINES = 16             # a shorter work is like another one only where it is the same
+NEAR = 0.92                  # of the lines are the same
+WORD = re.compile(r"[<>]?[A-Za-z_.][A-Za-z0-9_.]*|0x[0-9a-f]+|-?[0-9]+|\S")
+NUMBER = re.compile(r"0x[0-9a-f]{1,16}|[0-9]{1,16}")
+NAME = re.compile(r"[A-Za-z_][A-Za-z0-9_]*")
+REGISTER = re.compile(r"r([0-9]|1[0-5])")
+
+
+def essence(text: bytes, is_program: bool) -> list[str]:
+    """The lines of a text without remarks and blank lines; its names are numbered as they come, and its numbers are decimal."""
+    names: dict[str, str] = {}
+    lines = text.decode("utf-8", "replace").split("\n")
+    told = (" ".join(plain(words, names, is_program)) for words in map(words_of, lines) if words)
+    return list(itertools.islice(told, MOST_LINES))
+
+
+def words_of(line: str) -> list[str]:
+    return WORD.findall(line.split("#", 1)[0])
+
+
+def plain(words: list[str], names: dict[str, str], is_program: bool) -> Iterator[str]:
+    for place, word in enumerate(words):
+        half, name = (word[0], word[1:]) if word[0] in "<>" else ("", word)
+        if NUMBER.fullmatch(word):
+            yield str(int(word, 16) if word.startswith("0x") else int(word))
+        elif is_program and NAME.fullmatch(name) and not REGISTER.fullmatch(name) and (place or words[1:2] == [":"]):
+            yield half + names.setdefault(name, f"name{len(names)}")
+        else:
+            yield word
+
+
+def alike(texts: Mapping[str, Sequence[str]]) -> list[tuple[str, str, str]]:
+    """The pairs of works that are the same, or nearly: who, how, whom."""
+    found = []
+    for (one, a), (other, b) in itertools.combinations(texts.items(), 2):
+        if a and a == b:
+            found.append((one, "the same text as", other))
+        elif min(len(a), len(b)) >= LEAST_LINES and is_near(a, b):
+            found.append((one, "nearly the same text as", other))
+    return found
+
+
+def is_near(a: Sequence[str], b: Sequence[str]) -> bool:
+    matcher = difflib.SequenceMatcher(None, a, b, autojunk=False)
+    return matcher.real_quick_ratio() >= NEAR and matcher.quick_ratio() >= NEAR and matcher.ratio() >= NEAR

@@ -1,0 +1,69 @@
+"""The judge as a program: the export with the crate of this folder, built by cargo where a source is newer."""
+
+from __future__ import annotations
+
+import os
+import shutil
+import subprocess
+import sys
+from pathlib import Path
+
+from ..common import calling
+from ..common.calling import Failed
+from ..exporter import crates, workspace
+from ..exporter.tokens import Trouble
+
+HERE = Path(__file__).resolve().parent
+REPOSITORY = Path(calling.REPOSITORY)
+NAME = "pip_judge"
+USES = ["pip_asm", "pip_cpu", "pip_image", "pip_kern", "pip_script", "pip_switch"]
+FOLDER = REPOSITORY / "out" / "judge"
+BUILT = FOLDER / "judge" / "target" / "release" / NAME
+NO_CARGO = ("the judge is a program that cargo builds, and there is no cargo here: install Rust 1.85 or later, or name one that was built "
+            "on a machine like this, out/judge/judge/target/release/pip_judge, by the environment's PIP_JUDGE")
+
+
+def program() -> str:
+    """The path of the judge. It is built first where it isn't there, or a source is newer."""
+    given = os.environ.get("PIP_JUDGE")
+    if given:
+        return given
+    if not is_new():
+        build()
+    return str(BUILT)
+
+
+def sources() -> list[Path]:
+    folders = [REPOSITORY / "crates", REPOSITORY / "tools" / "exporter", HERE]
+    return [REPOSITORY / "crates.txt", *(path for folder in folders for path in folder.rglob("*") if path.suffix in (".rt", ".rs", ".toml", ".py"))]
+
+
+def is_new() -> bool:
+    if not BUILT.exists():
+        return False
+    made = BUILT.stat().st_mtime
+    return all(path.stat().st_mtime <= made for path in sources() if "out" not in path.relative_to(REPOSITORY).parts)
+
+
+def own_files() -> dict[str, str]:
+    """The files of the judge's crate in an export."""
+    manifest = workspace.PACKAGE.format(name=NAME) + "\n" + (HERE / "manifest.toml").read_text(encoding="utf-8")
+    files = {"judge/Cargo.toml": manifest, "judge/LICENSE": (REPOSITORY / "LICENSE").read_text(encoding="utf-8")}
+    return {**files, **{f"judge/src/{path.name}": path.read_text(encoding="utf-8") for path in sorted((HERE / "src").glob("*.rs"))}}
+
+
+def build() -> None:
+    if not shutil.which("cargo"):
+        raise Failed(NO_CARGO)
+    print("building the judge by cargo; this takes about half a minute, once", file=sys.stderr)
+    try:
+        found = crates.chosen(crates.crates_of(REPOSITORY), USES)
+        FOLDER.mkdir(parents=True, exist_ok=True)
+        workspace.write(FOLDER, {**workspace.files_of(found, REPOSITORY, None), **own_files()})
+    except (Trouble, OSError) as trouble:
+        raise Failed(str(trouble)) from None
+    words = ["cargo", "build", "--release", "--quiet", "--offline", "--features", "host"]
+    done = subprocess.run(words, cwd=FOLDER / "judge", stdin=subprocess.DEVNULL, stdout=subprocess.DEVNULL, stderr=subprocess.PIPE, text=True)
+    if done.returncode:
+        raise Failed(f"cargo can't build the judge: {done.stderr.strip()[-4000:]}")
+    os.utime(BUILT)

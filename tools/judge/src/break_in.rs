@@ -1,0 +1,246 @@
+//! The exercise 'break-in': the student's lines are a child's, and its sibling has a word that is drawn each time.
+
+use crate::memory::CHILD_PAGES;
+use crate::random::Random;
+use crate::script::{Refused, Script, lines_of, take};
+use crate::values::Choice::{After, Steps};
+use crate::values::{Value, Values, value};
+use crate::verdict::Verdict;
+use crate::world::{Act, CREATE, Event, Id, Moved, PAGE, ROOT, World, YIELD};
+use alloc::collections::BTreeSet;
+use alloc::format;
+use alloc::string::{String, ToString};
+use alloc::vec::Vec;
+use pip_base::{Outcome, Size, Status};
+use pip_script::outcome_text;
+
+const CHILD: u32 = 0x40_1000;
+const FIRST_PAGE: u32 = 0xffc0_0000;
+const PAGES: u32 = 16;
+const LAST_PAGE: u32 = 0xffff_f000;
+/// Of the sibling's word, in its page.
+const WORD_AT: u32 = 0x20;
+/// The root's pages are below this, but for its last.
+const MOST_ROOT: u32 = 0x48_0000;
+const LEAST_ATTEMPTS: usize = 12;
+const MAY: [&str; 9] = ["ld", "lb", "st", "sb", "fetch", "trap", "call", "pc", "reg"];
+
+pub const BREAK_IN: &[Value] = &[
+    value("sibling", 0x42_0000, Steps(0x42_1000, 0x3000, 23), "{x}"),
+    value("page", 0x1000_0000, CHILD_PAGES, "{x}"),
+    value("at", 0x1000_0020, After("page", WORD_AT, 1, 1), "{x}"),
+];
+
+fn made(first: u32, page: u32) -> String {
+    let pages: Vec<String> = (0..8).map(|k| format!("{:#x}", first + PAGE * k)).collect();
+    let (five, a, b, c) = (pages[..5].join(" "), &pages[5], &pages[6], &pages[7]);
+    format!("call 0 0 {five}\nst 0 {a} {b}\nst 0 {b} {c}\ncall 0 3 {first:#x} {page:#x} {a}\n")
+}
+
+// The machine: the child with its pages, the sibling with its word, and the root's handlers.
+fn setup(v: &Values, secret: u32) -> String {
+    let (table, kept, sibling, page) = (CHILD + 8 * PAGE, v.get("sibling") + 8 * PAGE, v.get("sibling"), v.get("page"));
+    let mut text = format!("boot 128 1\n{}", made(CHILD, LAST_PAGE));
+    text += &format!("st 0 {:#x} 0xfffff400\nst 0 {:#x} {FIRST_PAGE:#x}\nst 0 {:#x} 0xfffff444\n", table + 0x100, table + 0x400, table + 0xfc);
+    text += &format!("call 0 5 {table:#x} {CHILD:#x} {LAST_PAGE:#x} 3\n");
+    for k in 0..PAGES {
+        text += &format!("call 0 5 {:#x} {CHILD:#x} {:#x} 7\n", table + PAGE * (1 + k), FIRST_PAGE + PAGE * k);
+    }
+    text += &format!("{}st 0 {:#x} {secret:#x}\ncall 0 5 {kept:#x} {sibling:#x} {page:#x} 3\n", made(sibling, page), kept + WORD_AT);
+    for vector in [14, 17, 64] {
+        text += &format!("st 0 {:#x} 0xfffff400\n", LAST_PAGE + 4 * vector);
+    }
+    text + &format!("st 0 0xfffff400 0x400100\ncall 0 8 {CHILD:#x} 64 256\n")
+}
+
+/// What was run: all lines with what the root does, the machine after them, and why the student's lines ended early.
+struct Attack {
+    lines: String,
+    script: Script,
+    stopped: Option<String>,
+    /// The first event that is the student's.
+    own: usize,
+}
+
+fn attack(v: &Values, text: &[u8], secret: u32) -> Result<Attack, Refused> {
+    for (number, line) in lines_of(text) {
+        let name = String::from_utf8_lossy(line.split(|byte| *byte == b' ').next().unwrap_or(&[])).to_string();
+        if !MAY.contains(&name.as_str()) {
+            return Err(Refused::Cant(format!("line {number}: the child can't say '{name}': its lines begin with {}", MAY.join(", "))));
+        }
+    }
+    let (mut script, lines) = (None, setup(v, secret));
+    for line in lines.lines() {
+        take(&mut script, 0, line.as_bytes())?;
+    }
+    let Some(script) = script else { return Err(Refused::Cant("no machine was begun".into())) };
+    let mut attack = Attack { own: script.world.events.len(), lines, script, stopped: None };
+    for (number, line) in lines_of(text) {
+        if attack.stopped.is_none() {
+            attack.take(number, line)?;
+        }
+    }
+    Ok(attack)
+}
+
+impl Attack {
+    fn line(&mut self, number: u32, line: &[u8]) -> Result<(), Refused> {
+        let script = Script { world: core::mem::replace(&mut self.script.world, empty()?), boot: self.script.boot };
+        let mut held = Some(script);
+        let taken = take(&mut held, number, line);
+        if let Some(script) = held {
+            self.script = script;
+        }
+        self.lines += &format!("{}\n", String::from_utf8_lossy(line));
+        taken
+    }
+
+    // A line of the child. Where the root is entered by it, it lets the child go on.
+    fn take(&mut self, number: u32, line: &[u8]) -> Result<(), Refused> {
+        self.line(number, line)?;
+        let mut why = self.told();
+        if self.script.world.runs(0) == Some(ROOT) {
+            self.line(0, format!("call 0 8 {CHILD:#x} 63 256").as_bytes())?;
+            why = format!("the root couldn't let the child go on: {}", self.told());
+        }
+        if self.script.world.runs(0).is_none_or(|id| id == ROOT) {
+            self.stopped = Some(format!("line {number}: {why}"));
+        }
+        Ok(())
+    }
+
+    fn told(&self) -> String {
+        self.script.world.events.last().map_or(String::new(), |event| outcome_text(&event.outcome).as_str().into())
+    }
+
+    fn mine(&self) -> impl Iterator<Item = &Event> {
+        self.script.world.events[self.own..].iter().filter(|event| event.place > 0)
+    }
+}
+
+fn empty() -> Result<World, Refused> {
+    crate::script::run(b"boot 16 1\n").map(|script| script.world)
+}
+
+/// The whole script that is run for a student's lines.
+pub fn whole(v: &Values, text: &[u8], secret: u64) -> Result<String, Refused> {
+    attack(v, text, word_of(secret)).map(|attack| attack.lines)
+}
+
+fn word_of(secret: u64) -> u32 {
+    Random::new(secret).within(1 << 28, u32::MAX)
+}
+
+/// What an address is to the child.
+#[derive(Clone, Copy, PartialEq, Eq, PartialOrd, Ord)]
+enum Aim {
+    SiblingsPage,
+    SiblingsNumber,
+    RootsNumber,
+    Own,
+    Given,
+    Elsewhere,
+}
+
+fn aim(v: &Values, event: &Event, address: u32) -> Aim {
+    let page = address - address % PAGE;
+    let (sibling, is_hidden) = (v.get("sibling"), moved_for_hidden(event));
+    match page {
+        _ if page == v.get("page") => Aim::SiblingsPage,
+        _ if page == sibling => Aim::SiblingsNumber,
+        0x40_0000..MOST_ROOT => Aim::RootsNumber,
+        FIRST_PAGE..=LAST_PAGE if is_hidden => Aim::Given,
+        FIRST_PAGE..=LAST_PAGE => Aim::Own,
+        _ => Aim::Elsewhere,
+    }
+}
+
+// The kind of a fault: 0 alignment, 1 unmapped, 2 hidden, 3 a right.
+fn kind(moved: &Moved) -> u32 {
+    moved.entered.regs[2] % 16
+}
+
+fn moved_for_hidden(event: &Event) -> bool {
+    event.moved.as_ref().is_some_and(|moved| kind(moved) == 2)
+}
+
+/// What an attempt means: access or call, what it aims at, and how it was refused. None of a line that isn't refused for what the child
+/// has or hasn't: an address that isn't aligned, is 0 or comes twice, a number that isn't a call's, a vector.
+fn meaning(v: &Values, event: &Event) -> Option<(u32, Aim, u32)> {
+    let access = match event.act {
+        Act::Load { va, .. } => Some((100, va)),
+        Act::Store { va, .. } => Some((101, va)),
+        Act::Fetch => event.before.map(|ctx| (102, ctx.pc)),
+        _ => None,
+    };
+    if let Some((access, va)) = access {
+        let kind = event.moved.as_ref().map(|moved| if moved.to == Some(ROOT) { kind(moved) } else { 1 })?;
+        return (kind != 0).then_some((access, aim(v, event, va), kind));
+    }
+    let Act::Call { no, args } = event.act else { return None };
+    let status = event.status()?.number();
+    let is_meant = status > 4 && status != Status::BadVector.number();
+    is_meant.then(|| (no, aims(v, event, no, &args), status))
+}
+
+// The first that isn't the child's own among the addresses that a call names.
+fn aims(v: &Values, event: &Event, no: u32, args: &[u32; 5]) -> Aim {
+    let named: &[u32] = match no {
+        CREATE => args,
+        5 => &args[..2],
+        _ => &args[..1],
+    };
+    named.iter().map(|address| aim(v, event, *address)).min().unwrap_or(Aim::Own)
+}
+
+pub fn break_in(v: &Values, text: &[u8], secret: u64) -> Result<Verdict, Refused> {
+    let word = word_of(secret);
+    let attack = attack(v, text, word)?;
+    let (page, at, sibling) = (v.get("page"), v.get("at"), v.get("sibling"));
+    let mut verdict = Verdict::new(&[
+        (&format!("at least {LEAST_ATTEMPTS} attempts were made, each with another meaning"),
+            "access or call, what it aims at, how it is refused: where all three are the same, it is the same attempt"),
+        ("a load or store at the sibling's address faulted, since the child has no page there", &format!("the sibling has its page at {page:#x}: what does the child have there?")),
+        ("it was tried to run elsewhere", "pc 0 A, then fetch 0"),
+        ("a call that names the sibling was refused, and one that names a page of the root",
+            &format!("the root knows its children as {CHILD:#x} and {sibling:#x}. What are these numbers to the child?")),
+        ("the child made a child of its own", "could a child of its own reach more than itself? call 0 0 with five of its pages"),
+        ("a page that the child gave as configuration was tried", "load from a page that it has just given to its own child: a page table would be worth a lot"),
+    ]);
+    let attempts: Vec<(u32, Aim, u32)> = attack.mine().filter_map(|event| meaning(v, event)).collect();
+    let meant = |test: &dyn Fn(u32, Aim) -> bool| attempts.iter().any(|(act, aim, _)| test(*act, *aim));
+    let made = attack.mine().any(|event| event.call(CREATE).is_some() && event.is_ok());
+    verdict.story(&[
+        attempts.iter().collect::<BTreeSet<_>>().len() >= LEAST_ATTEMPTS,
+        meant(&|act, aim| (act == 100 || act == 101) && aim == Aim::SiblingsPage),
+        meant(&|act, aim| act == 102 && !matches!(aim, Aim::Own | Aim::Given)),
+        meant(&|act, aim| act <= YIELD && aim == Aim::SiblingsNumber) && meant(&|act, aim| act <= YIELD && aim == Aim::RootsNumber),
+        made,
+        meant(&|act, aim| (act == 100 || act == 101) && aim == Aim::Given),
+    ]);
+    remark(&attack, &mut verdict, at, word, attempts.iter().collect::<BTreeSet<_>>().len());
+    verdict.trouble = if verdict.is_whole() { Vec::new() } else { crate::script::trouble(&attack.script.world, text) };
+    Ok(verdict)
+}
+
+fn remark(attack: &Attack, verdict: &mut Verdict, at: u32, word: u32, meanings: usize) {
+    if let Some(stopped) = &attack.stopped {
+        verdict.remarks.push(stopped.clone());
+        verdict.remarks.push("the child doesn't run any more, and no line after that one was run".into());
+    }
+    let shows = |event: &&Event| is_of_child(attack, event) && matches!(event.outcome, Outcome::Word(shown) | Outcome::Reply { value: shown, .. } if shown == word);
+    if let Some(event) = attack.mine().find(shows) {
+        verdict.remarks.push(format!("THE CHILD READ {word:#010x} by line {}.", event.place));
+        verdict.remarks.push("The child ran there. That would be an error of the program or of its proof: tell its authors.".into());
+        return;
+    }
+    let faults = attack.mine().filter(|event| event.moved.is_some() && event.call(YIELD).is_none()).count();
+    let refused = attack.mine().filter(|event| event.status().is_some_and(|status| status != Status::Ok)).count();
+    verdict.remarks.push(format!("the sibling's word at its {at:#x} was {word:#010x} this time, and the child never read it:"));
+    verdict.remarks.push(format!("{} lines, {faults} faults and traps, {refused} refused calls, {meanings} attempts of different meaning", attack.mine().count()));
+}
+
+fn is_of_child(attack: &Attack, event: &Event) -> bool {
+    let is_below = |id: Id| id != ROOT && attack.script.world.parts[id].born != ROOT as u32;
+    event.who.is_some_and(is_below) && !matches!(event.act, Act::Load { size: Size::Byte, .. })
+}
