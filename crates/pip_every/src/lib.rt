@@ -5,6 +5,7 @@
 //! those of a later time. To make a choice, [`search`] takes its one machine to the key's moments, has it make its
 //! turn, and writes its next key; what it shows goes to a sink that grows. A machine represents every world that its
 //! frames lay out, so one run of the kernel is a step of each moment that has the key (`HasChosen` of specs/Choosing).
+//! [`part`] checks a part of a search in the same way, for a certificate.
 #![tactic(auto)]
 
 mod explorer;

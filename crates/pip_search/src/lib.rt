@@ -9,6 +9,12 @@
 //! what was found, and `Ends` (specs/Ending) why the search ended. A visit keeps its key as bytes, one to five a word
 //! (specs/Packing). Keys and labels are found by their hashes (specs/Filing); it is proved that the table has none
 //! twice, whatever the hash is.
+//!
+//! A search that is too large for one process is a certificate of parts (specs/Certificates). [`check_part`] checks a
+//! part by itself: it begins where a way leads, makes every choice at every key of the part, and a mark for each choice
+//! says whether the next key is the part's own; any other key it asks of the other parts. So it reads no keys, only a
+//! way and marks. [`merged`] finds all that is asked among the keys of all parts, [`are_rising`] says that none comes
+//! twice, and [`law_certificates`] says what follows.
 #![tactic(auto)]
 
 mod found;

@@ -1,5 +1,9 @@
-//! Time slots: which steps each child of the root has is fixed before the run (docs/GUARANTEES.md, "Time slots"). A
-//! monitor outside the machine opens each slot, and closes it.
+//! Time slots: which steps each child of the root has is fixed before the run (docs/MODEL.md, "Time slots").
+//!
+//! specs/Slots says what a plan of slots does (`slot_run`), and what of it happens in the slots of one child
+//! (`acts_of_child`). [`law_slots`] says that this is a matter of the child alone, in any two worlds that have it in
+//! common (`SlotsSeparate`), and so for images whose children are built as pip_watch builds them (specs/Images).
+//! [`run_slots`] and [`run_rounds`] run a plan on a machine, and what they do and write is `slot_run`.
 #![tactic(auto)]
 
 mod edges;
