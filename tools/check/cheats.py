@@ -79,13 +79,13 @@ def replaced(cheat: Cheat, text: str, old: str, new: list[str]) -> str:
     return text.replace(old, "\n".join(new))
 
 
-def judged(name: str, text: str, ending: str, is_program: bool, seed: str | None = None) -> judging.Judged:
+def judged(name: str, text: str, ending: str, is_program: bool, seed: str | None = None, secret: str | None = None) -> judging.Judged:
     """What is said of a text in a file of its own."""
     with tempfile.TemporaryDirectory() as place:
         path = os.path.join(place, name + ending)
         with open(path, "w", encoding="utf-8") as file:
             file.write(text)
-        return judging.judged(name, path, text.encode(), is_program, seed)
+        return judging.judged(name, path, text.encode(), is_program, seed, secret)
 
 
 def fault(cheat: Cheat, is_program: bool) -> str | None:

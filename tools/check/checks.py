@@ -20,7 +20,7 @@ from types import FrameType
 
 from ..common import calling
 from . import (answering, audits, authors, cheats, counters, counts, devices, documents, endings, examples, exercises,
-               exporting, guests, hints, house, links, memory, pages, playground, playground_judge,
+               exporting, grading, guests, hints, house, links, memory, pages, playground, playground_judge,
                playground_runs, playing, public_calls, releasing, shells, sources, tools,
                tutorial, wrapper)
 from .running import REPOSITORY, Check, Differs, Skipped
@@ -71,7 +71,7 @@ CHECKS: dict[str, Check] = {
     "exercises": exercises.solutions,
     "exercise-seeds": exercises.by_seeds,
     "cheats": cheats.cheats,
-    "grade": exercises.grades,
+    "grade": grading.grades,
     "full-devices": devices.full_devices,
     "tools-interrupted": devices.interrupted,
     "step-pages": pages.pages,
@@ -82,7 +82,6 @@ CHECKS: dict[str, Check] = {
     "export-unproved": exporting.unproved,
     "export-clippy": exporting.clippy,
     "export-miri": exporting.miri,
-    "playground-tests": tools.unit_tests("tools/playground"),
     "module": playground.module,
     "playground-states": playground.states,
     "playground-runs": playground_runs.runs,

@@ -20,7 +20,7 @@ TOOLS = (("exercise", "map", MAP), ("exercise", "--list"), ("grade", "examples")
 
 
 def command(name: str, words: tuple[str, ...], program: str) -> list[str]:
-    takes = ["--program", program] if "." not in name else []
+    takes = ["--program", program] if "." not in name and name not in ("exercise", "grade") else []
     return [sys.executable, "-B", os.path.join(REPOSITORY, "tools", name), *words, *takes]
 
 

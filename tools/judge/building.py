@@ -10,8 +10,6 @@ from pathlib import Path
 
 from ..common import calling
 from ..common.calling import Failed
-from ..exporter import crates, workspace
-from ..exporter.tokens import Trouble
 
 HERE = Path(__file__).resolve().parent
 REPOSITORY = Path(calling.REPOSITORY)
@@ -47,12 +45,15 @@ def is_new() -> bool:
 
 def own_files() -> dict[str, str]:
     """The files of the judge's crate in an export."""
+    from ..exporter import workspace         # here, since a verdict doesn't need it
     manifest = workspace.PACKAGE.format(name=NAME) + "\n" + (HERE / "manifest.toml").read_text(encoding="utf-8")
     files = {"judge/Cargo.toml": manifest, "judge/LICENSE": (REPOSITORY / "LICENSE").read_text(encoding="utf-8")}
     return {**files, **{f"judge/src/{path.name}": path.read_text(encoding="utf-8") for path in sorted((HERE / "src").glob("*.rs"))}}
 
 
 def build() -> None:
+    from ..exporter import crates, workspace
+    from ..exporter.tokens import Trouble
     if not shutil.which("cargo"):
         raise Failed(NO_CARGO)
     print("building the judge by cargo; this takes about half a minute, once", file=sys.stderr)

@@ -7,7 +7,6 @@ use crate::values::Choice::{After, Steps};
 use crate::values::{Value, Values, value};
 use crate::verdict::Verdict;
 use crate::world::{Act, CREATE, Event, Id, Moved, PAGE, ROOT, World, YIELD};
-use alloc::collections::BTreeSet;
 use alloc::format;
 use alloc::string::{String, ToString};
 use alloc::vec::Vec;
@@ -164,8 +163,9 @@ fn moved_for_hidden(event: &Event) -> bool {
     event.moved.as_ref().is_some_and(|moved| kind(moved) == 2)
 }
 
-/// What an attempt means: access or call, what it aims at, and how it was refused. None of a line that isn't refused for what the child
-/// has or hasn't: an address that isn't aligned, is 0 or comes twice, a number that isn't a call's, a vector.
+/// What an attempt means: access or call, what it aims at, and how it was refused; a trap by what it forges, a fault, a line or nothing.
+/// None of a line that isn't refused for what the child has or hasn't: an address that isn't aligned, is 0 or comes twice, a number that
+/// isn't a call's, a vector.
 fn meaning(v: &Values, event: &Event) -> Option<(u32, Aim, u32)> {
     let access = match event.act {
         Act::Load { va, .. } => Some((100, va)),
@@ -173,6 +173,9 @@ fn meaning(v: &Values, event: &Event) -> Option<(u32, Aim, u32)> {
         Act::Fetch => event.before.map(|ctx| (102, ctx.pc)),
         _ => None,
     };
+    if let Act::Trap { vector } = event.act {
+        return Some((103, Aim::Own, u32::from(matches!(vector, 0 | 6 | 14 | 17)) + 2 * u32::from((32..48).contains(&vector))));
+    }
     if let Some((access, va)) = access {
         let kind = event.moved.as_ref().map(|moved| if moved.to == Some(ROOT) { kind(moved) } else { 1 })?;
         return (kind != 0).then_some((access, aim(v, event, va), kind));
@@ -207,18 +210,23 @@ pub fn break_in(v: &Values, text: &[u8], secret: u64) -> Result<Verdict, Refused
         ("the child made a child of its own", "could a child of its own reach more than itself? call 0 0 with five of its pages"),
         ("a page that the child gave as configuration was tried", "load from a page that it has just given to its own child: a page table would be worth a lot"),
     ]);
-    let attempts: Vec<(u32, Aim, u32)> = attack.mine().filter_map(|event| meaning(v, event)).collect();
+    let mut attempts: Vec<(u32, Aim, u32)> = Vec::new();
+    for attempt in attack.mine().filter_map(|event| meaning(v, event)) {
+        if !attempts.contains(&attempt) {
+            attempts.push(attempt);
+        }
+    }
     let meant = |test: &dyn Fn(u32, Aim) -> bool| attempts.iter().any(|(act, aim, _)| test(*act, *aim));
     let made = attack.mine().any(|event| event.call(CREATE).is_some() && event.is_ok());
     verdict.story(&[
-        attempts.iter().collect::<BTreeSet<_>>().len() >= LEAST_ATTEMPTS,
+        attempts.len() >= LEAST_ATTEMPTS,
         meant(&|act, aim| (act == 100 || act == 101) && aim == Aim::SiblingsPage),
         meant(&|act, aim| act == 102 && !matches!(aim, Aim::Own | Aim::Given)),
         meant(&|act, aim| act <= YIELD && aim == Aim::SiblingsNumber) && meant(&|act, aim| act <= YIELD && aim == Aim::RootsNumber),
         made,
         meant(&|act, aim| (act == 100 || act == 101) && aim == Aim::Given),
     ]);
-    remark(&attack, &mut verdict, at, word, attempts.iter().collect::<BTreeSet<_>>().len());
+    remark(&attack, &mut verdict, at, word, attempts.len());
     verdict.trouble = if verdict.is_whole() { Vec::new() } else { crate::script::trouble(&attack.script.world, text) };
     Ok(verdict)
 }

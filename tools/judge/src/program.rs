@@ -203,7 +203,9 @@ pub fn trouble(world: &World) -> Vec<String> {
     let mut found = Vec::new();
     for event in world.events.iter().filter(|event| event.is_trouble()) {
         let call = if let Act::Call { no, .. } = event.act { format!("call {no} ") } else { String::new() };
-        let place = event.before.zip(event.who).and_then(|(ctx, who)| world.at(who, ctx.pc));
+        // A call and a trap leave the pc of the next instruction.
+        let back = if matches!(event.act, Act::Call { .. } | Act::Trap { vector: 64.. }) { 4 } else { 0 };
+        let place = event.before.zip(event.who).and_then(|(ctx, who)| world.at(who, ctx.pc.wrapping_sub(back)));
         let address = place.and_then(|at| world.root_address(at)).map_or("-".into(), |address| format!("{address:#010x}"));
         let name = event.who.map_or(0, |who| world.parts[who].name);
         let answer = outcome_text(&event.outcome);

@@ -66,13 +66,13 @@ pub fn shown(value: &Value, number: u32) -> String {
 
 /// A text with the values in the place of the usual ones. Words may have the end of a line between them, and a remark's mark.
 pub fn retold(text: &str, values: &[Value], found: &Values) -> String {
-    let mut pairs: Vec<(String, String)> = values.iter().map(|value| (shown(value, value.usual), shown(value, found.get(value.name)))).collect();
-    pairs.sort_by_key(|(usual, _)| core::cmp::Reverse(usual.len()));
+    let pairs: Vec<(String, String)> = values.iter().map(|value| (shown(value, value.usual), shown(value, found.get(value.name)))).collect();
     let mut told = String::new();
     let mut at = 0;
     while let Some(letter) = text[at..].chars().next() {
         let after_word = told.chars().next_back().is_some_and(|last| last.is_alphanumeric() || last == '_' || last == '.');
-        let hit = pairs.iter().filter(|_| !after_word).find_map(|(usual, new)| length(&text[at..], usual).map(|length| (length, new)));
+        let hits = pairs.iter().filter(|_| !after_word).filter_map(|(usual, new)| length(&text[at..], usual).map(|length| (length, new)));
+        let hit = hits.max_by_key(|(length, _)| *length);
         match hit {
             Some((length, new)) => {
                 told.push_str(new);

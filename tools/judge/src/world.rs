@@ -2,7 +2,6 @@
 
 use crate::random::Random;
 use alloc::boxed::Box;
-use alloc::collections::BTreeSet;
 use alloc::vec;
 use alloc::vec::Vec;
 use pip_base::{Ctx, Outcome, Size, Status, Steps};
@@ -303,7 +302,7 @@ impl World {
         rows
     }
 
-    pub fn hidden_frames(&self) -> BTreeSet<u32> {
+    pub fn hidden_frames(&self) -> Vec<u32> {
         self.root_rows().iter().filter(|(_, word, _)| word & USER == 0).map(|(_, word, _)| word / PAGE).collect()
     }
 
