@@ -16,6 +16,7 @@ COMMANDS = {
     "gate": "bench.gate",
     "grade": "exercises.grade",
     "growth.py": "bench.growth",
+    "make_judge": "judge.building",
     "make_module": "playground.module",
     "make_page": "playground.playground_page",
     "program.py": "reference.commands",

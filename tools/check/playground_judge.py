@@ -35,10 +35,14 @@ def judge(program: str) -> None:
         raise Differs(f"the module's judge answers {len(found)} requests of {len(asked)}")
     path = building.program()
     with ThreadPoolExecutor(os.cpu_count()) as pool:
-        due = pool.map(lambda one: subprocess.run([path], input=one.encode(), stdout=subprocess.PIPE).stdout.decode(), asked)
+        due = pool.map(lambda one: answered(path, one), asked)
         for one, got, wanted in zip(asked, found, due):
             if got != wanted:
                 raise Differs(f"the module's judge says {got}, where {wanted} is due, of the request\n{one[:1000]}")
+
+
+def answered(path: str, one: str) -> str:
+    return subprocess.run([path], input=one.encode(), stdout=subprocess.PIPE).stdout.decode()
 
 
 def requests() -> Iterator[bytes]:
@@ -53,9 +57,9 @@ def requests() -> Iterator[bytes]:
         yield request("values", name, SEED, b"")
         yield request("tell", name, SEED, exercise.told(name).encode())
     for cheat in cheats.all_cheats():
-        text, ending = cheats.edited(cheat)
+        told, ending = cheats.edited(cheat)
         if ending != ".asmx":
-            yield request("judge", cheat.name, "", text.encode())
+            yield request("judge", cheat.name, "", told.encode())
 
 
 def request(act: str, name: str, seed: str, text: bytes) -> bytes:

@@ -13,6 +13,7 @@ from collections.abc import Iterable
 from concurrent.futures import ThreadPoolExecutor
 from dataclasses import dataclass, field
 
+from ..authors import asmx
 from ..common import calling
 from ..common.calling import Failed
 from ..judge import building
@@ -170,7 +171,7 @@ def of_solution(name: str, is_program: bool) -> list[str]:
     path = next(os.path.join(SOLUTIONS, file) for file in os.listdir(SOLUTIONS) if file.rsplit(".", 1)[0] == name)
     if not is_program:
         return likeness.essence(calling.contents(path), False)
-    return likeness.essence("".join(line + "\n" for _, line in judging.asmx.processed(path)[0]).encode(), True)
+    return likeness.essence("".join(line + "\n" for _, line in asmx.processed(path)[0]).encode(), True)
 
 
 def lines(table: Table) -> list[str]:

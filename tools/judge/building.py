@@ -2,6 +2,7 @@
 
 from __future__ import annotations
 
+import argparse
 import os
 import shutil
 import subprocess
@@ -16,14 +17,26 @@ REPOSITORY = Path(calling.REPOSITORY)
 NAME = "pip_judge"
 USES = ["pip_asm", "pip_cpu", "pip_image", "pip_kern", "pip_script", "pip_switch"]
 FOLDER = REPOSITORY / "out" / "judge"
+SHIPPED = HERE / NAME            # where a release has it
 BUILT = FOLDER / "judge" / "target" / "release" / NAME
-NO_CARGO = ("the judge is a program that cargo builds, and there is no cargo here: install Rust 1.85 or later, or name one that was built "
-            "on a machine like this, out/judge/judge/target/release/pip_judge, by the environment's PIP_JUDGE")
+NO_CARGO = ("the judge is a program that cargo builds, and there is no cargo here: install Rust 1.85 or later, or copy the file that "
+            "tools/judge/make_judge --to FILE writes on a machine like this, and name it by the environment's PIP_JUDGE")
+
+
+def main() -> None:
+    parser = argparse.ArgumentParser(prog="make_judge", description="The judge of the exercises as a program, which cargo builds.")
+    parser.add_argument("--to", type=Path, required=True, metavar="FILE", help="a copy of it")
+    given = parser.parse_args()
+    calling.guarded("make_judge", lambda: make(given.to))
+
+
+def make(to: Path) -> None:
+    shutil.copy(program(), to)
 
 
 def program() -> str:
     """The path of the judge. It is built first where it isn't there, or a source is newer."""
-    given = os.environ.get("PIP_JUDGE")
+    given = os.environ.get("PIP_JUDGE") or (str(SHIPPED) if SHIPPED.exists() else None)
     if given:
         return given
     if not is_new():

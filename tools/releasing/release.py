@@ -76,6 +76,7 @@ def made(given: argparse.Namespace, found: Checkout, to: Path) -> Path:
         make_page(given, found, top / proof.PAGE)
         documents(top)
         export(found, top / EXPORT)
+        run("the judge", found, "tools/judge/make_judge", "--to", str(top / "tools" / "judge" / "pip_judge"))
         page_sum = repository.sum_of(top / proof.PAGE)
         told = proof.text(given.version, record, found, given.again is not None, page_sum)
         (top / "PROOF").write_text(told, encoding="utf-8")

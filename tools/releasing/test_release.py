@@ -26,6 +26,7 @@ FILES = {
     "README.md": "# A title\n\nSee [what is proved](docs/PROVED.md#trusted).\n",
     "docs/PROVED.md": "# Proved\n\n## Trusted\n\n- The kit.\n\n## More\n\nIt.\n",
     "tools/playground/make_page": TOOL + "open(to, 'w').write('a page')\n",
+    "tools/judge/make_judge": TOOL + "open(to, 'w').write('a judge')\n",
     "tools/export": TOOL + "os.makedirs(to)\nopen(os.path.join(to, 'Cargo.toml'), 'w').write('exported')\n",
 }
 
