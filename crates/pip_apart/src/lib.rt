@@ -1,11 +1,11 @@
 //! Guests that are searched alone hold in any company (docs/GUARANTEES.md, "Every interleaving").
 //!
 //! [`law_company`] is about runs: guests that stay inside alone do so beside each other, in every order of their turns
-//! and with lines raised at any time, if the root takes no line (specs/Company). [`Guest`] is a machine as a `System` of
-//! pip_search, whose choices are the turns of the processors on which one guest runs; a turn in which the guest leaves
-//! has a mark in its label, and leads nowhere (specs/Alone). [`search_guest`] searches it, and [`stays`] says whether it
-//! closed without such a turn. [`law_searches`] joins both: where each guest was searched so, every line that all of
-//! them together can show is among those that were found (`SearchesAdd`).
+//! and with lines raised at any time, if the root takes no line (specs/Company). [`Guest`] is a machine as a `System`
+//! of pip_search, whose choices are the turns of the processors on which one guest runs; a turn in which the guest
+//! leaves has a mark in its label, and leads nowhere (specs/Alone). [`search_guest`] searches it, and [`stays`] says
+//! whether it closed without such a turn. [`law_searches`] joins both: where each guest was searched so, every line
+//! that all of them together can show is among those that were found (`SearchesAdd`).
 #![tactic(auto)]
 
 mod guest;

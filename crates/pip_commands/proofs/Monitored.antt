@@ -24,7 +24,8 @@ use Rattle.pip_commands.proofs.Endings.{apart, by_answer, by_memory, by_plain, b
 use Rattle.pip_commands.proofs.ImageFaults.{is_faulty, no_image}
 use Rattle.pip_commands.proofs.Refused.{by_refusal}
 
-module _ (s : Scheduling) (n code : ℕ) (p : Option State) (a c : Streams) (settled : code ≢ 4 → c.written.held ≡ []) where
+module _ (s : Scheduling) (n code : ℕ) (p : Option State) (a c : Streams)
+    (settled : code ≢ 4 → c.written.held ≡ []) where
   abbrev due : Due
   due = children_due s n
 

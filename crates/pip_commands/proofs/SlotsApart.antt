@@ -97,7 +97,8 @@ rest_lines w (suc n) t =
         (t + 1 + n)
     after w t n =
         let e : t + suc n ≡ t + 1 + n = omega arith in
-        ap (λ v. closing v (t + suc n)) (after-append w (slot_turn w t) (slot_turns (after_acts w (slot_turn w t)) n (t + 1)))
+        ap (λ v. closing v (t + suc n))
+        (after-append w (slot_turn w t) (slot_turns (after_acts w (slot_turn w t)) n (t + 1)))
         ∙ ap (closing (after_acts (after_acts w (slot_turn w t))
         (slot_turns (after_acts w (slot_turn w t)) n (t + 1)))) e
 
@@ -252,7 +253,8 @@ texts_are a n turns c =
           ∙ ap (λ m. c * m) (round_count turns (addresses n n) ∙ address_count n n);
       whole = ap (λ l. trace_image_line a.frames a.cpus (length a.plans) (length a.pages)
           ++ (built_from 0 (addresses n n) ++ (l ++ end_line (steps_in_turn n turns c)))) (sym (texts_joined w ss 0));
-      lines = λ j slot at. each_slot turns w ss 0 j slot (rounds_turns turns r c (round_turns turns (addresses n n))) at;
+      lines = λ j slot at.
+          each_slot turns w ss 0 j slot (rounds_turns turns r c (round_turns turns (addresses n n))) at;
     }
 
 rooms : (n : ℕ) (a : Image) → IsAccepted a → n ≤ 8 → IsRoomy n a.frames → HasRooms n a

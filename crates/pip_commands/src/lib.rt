@@ -10,8 +10,9 @@
 //!   (`LineComes`); the sink is settled before more is read, and at the end. Between two turns `HasRun` holds: all
 //!   lines before were run, their text was given to the sink, and the machine, if there is one, represents their world.
 //! - `run`, `tree` and `core` are one body: `run/loading` reads an image into a new machine (`LoadsImage`) and makes a
-//!   callback of each plan, `run/report` makes the steps and shows the trace, the tree or the frames. `children/loading`
-//!   judges the frames of the header before the rest is read; `native/showing` builds the children and makes the steps.
+//!   callback of each plan, `run/report` makes the steps and shows the trace, the tree or the frames.
+//!   `children/loading` judges the frames of the header before the rest is read; `children/showing` builds the children
+//!   and `children/scheduling` makes their steps.
 //! - `soak` has pip_soak make its load on a new machine, and write the counts with pip_dump's totals of its frames.
 //! - `audit` takes all its memory, has pip_core_text read frames and pip_audit judge them (`found_answer`).
 //!   `law_core_audited` joins two commands: what `core` writes of a sound tree's frames is read as these frames, and

@@ -122,8 +122,8 @@ images_begin a n r = (
 )
 
 -- the child has the same slots in both
-images_same : (a b : Image) (n k t : ℕ) (ss : List TimeSlot) → k < n → HasRooms n a → HasRooms n b → AgreeOnChild n k a b
-    → AllByRecursion (λ s. IsWord s.child) ss → (p : ℕ) × IsSameInSlots (fresh n k 0) p
+images_same : (a b : Image) (n k t : ℕ) (ss : List TimeSlot) → k < n → HasRooms n a → HasRooms n b
+    → AgreeOnChild n k a b → AllByRecursion (λ s. IsWord s.child) ss → (p : ℕ) × IsSameInSlots (fresh n k 0) p
     (ready_world (image_world a) n) (ready_world (image_world b) n) ss t
 images_same a b n k t ss low ra rb g all =
     let h = ready_stage a n ra in

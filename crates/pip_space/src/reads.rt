@@ -1,6 +1,6 @@
 //! Reading rows and tables.
-ghost use Rattle.std.specs.Prelude.{◌≡◌, ℕ, ◌+◌, ◌*◌, ◌<◌, ◌≤◌, ◌/◌, ◌↔◌, IsTrue, Option, None, IfSome, is_some, length};
-ghost use Rattle.std.specs.Prelude.{option_map};
+ghost use Rattle.std.specs.Prelude.{◌≡◌, ℕ, ◌+◌, ◌*◌, ◌<◌, ◌≤◌, ◌/◌, ◌↔◌, IsTrue, Option, None, IfSome, is_some};
+ghost use Rattle.std.specs.Prelude.{length, option_map};
 ghost use Rattle.pip_model.specs.FullRows.{row_word};
 ghost use Rattle.pip_entry.specs.Sh1.{packed_sh1};
 ghost use Rattle.pip_entry.specs.Sh2.{packed_sh2};

@@ -14,8 +14,8 @@ use std::alloc::Global;
 use std::marker::Brand;
 use std::sync::ledger::Blank;
 
-/// Builds `n` children of the root of an image, 1 to 8, and writes the trace of `rounds` rounds in which each has a slot
-/// of `turns` turns in turn (docs/FORMATS.md, "slots"). At status 0 the machine is handed back.
+/// Builds `n` children of the root of an image, 1 to 8, and writes the trace of `rounds` rounds in which each has a
+/// slot of `turns` turns in turn (docs/FORMATS.md, "slots"). At status 0 the machine is handed back.
 pub fn slots<S: Source, K: Sink>(
     alloc: Global,
     n: u32,

@@ -21,7 +21,8 @@ returns-in-Ok-clause-ends g c =
     let show = c.in-Err.ensures in
     let is = ap (λ e. e.status) c.with_status.ensures in
     ends_same g.K.Sink.written g.K.Sink.faults (ap (λ s. s.now) c.in-Ok.ensures.sink) c.requires.none (λ none.
-    children_cut c.args.scheduling c.args.n _ _ _ _ (λ not. absurd (not is)) load (ap (λ e. e.machine) c.with_status.ensures)
+    children_cut c.args.scheduling c.args.n _ _ _ _ (λ not. absurd (not is)) load
+    (ap (λ e. e.machine) c.with_status.ensures)
     none is (show.shows load.loads.parsed load.loads.begins) show.cause.failed c.in-Ok.ensures.calm)
 
 pub returns-in-Err-Image-clause-ends : goal.returns-in-Err-Image-clause-ends
