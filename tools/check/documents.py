@@ -48,14 +48,16 @@ def sessions(text: str) -> list[list[tuple[str, bytes]]]:
 
 def examples_with_arrows(program: str) -> None:
     """Each session of the documents' blocks whose lines have their answer after an arrow, by program and reference."""
-    for name in ("docs/MODEL.md", "docs/FORMATS.md"):
-        for lines, answers in arrow_sessions(read(name)):
-            text = "".join(line + "\n" for line in lines).encode()
-            shown = "".join(answer + "\n" for answer in answers).encode()
-            status = 2 if answers[-1].startswith("bad line") else 0
-            what = f"{name}, the session from '{lines[0]}' on"
-            expect(what + ", by the reference", script.run(text), (shown, status))
-            expect(what, run([program, "script"], text), (shown, status))
+    sessions_shown = arrow_sessions(read("docs/FORMATS.md"))
+    if not sessions_shown:
+        raise Differs("docs/FORMATS.md has no session")
+    for lines, answers in sessions_shown:
+        text = "".join(line + "\n" for line in lines).encode()
+        shown = "".join(answer + "\n" for answer in answers).encode()
+        status = 2 if answers[-1].startswith("bad line") else 0
+        what = f"docs/FORMATS.md, the session from '{lines[0]}' on"
+        expect(what + ", by the reference", script.run(text), (shown, status))
+        expect(what, run([program, "script"], text), (shown, status))
 
 
 def arrow_sessions(text: str) -> list[tuple[list[str], list[str]]]:
