@@ -6,7 +6,6 @@ use Rattle.std.specs.List.{AllByRecursion, concat}
 use Rattle.std.specs.Prelude.{Ok, slice_get}
 use Rattle.std.proofs.lemmas.Bool.{cases_lt}
 use Rattle.std.proofs.Math.Nat.{mod-eq-sub-mod, mod-eq_of_lt}
-use Rattle.std.proofs.Math.Option.{some-injective}
 use Rattle.pip_model.specs.Acts.{Makes, after_acts, text_of}
 use Rattle.pip_model.specs.Events as E
 use Rattle.pip_model.specs.Images.{Image, image}
@@ -29,6 +28,9 @@ use Rattle.pip_commands.specs.declared.commands.children.scheduling.Scheduling.T
 use Rattle.pip_commands.proofs.Accepted.{IsAccepted, accepted}
 use Rattle.pip_commands.proofs.EveryLines.{call_at, lines_are_of_runs, moved_at}
 use Rattle.pip_commands.proofs.Monitoring.{address_count}
+
+some_same : {A : Type 0} {x y : A} → Some x ≡ Some y → x ≡ y
+some_same e = cc
 
 -- ---- the lines of a slot are of its steps
 
@@ -127,7 +129,7 @@ each_slot turns w (s ∷ ss) t zero slot all at =
     let e : t ≡ t + 0 * (turns + 2) = omega arith in
     subst (λ x. AreLinesOf Any x (turns + 2) slot) e
     (subst (λ n. AreLinesOf Any t (n + 2) slot) all.0
-    (subst (AreLinesOf Any t (s.turns + 2)) (some-injective _ _ at) (slot_lines w s t)))
+    (subst (AreLinesOf Any t (s.turns + 2)) (some_same at) (slot_lines w s t)))
 each_slot turns w (s ∷ ss) t (suc j) slot all at =
     let e : (t + (turns + 2)) + j * (turns + 2) ≡ t + suc j * (turns + 2) = omega arith in
     subst (λ x. AreLinesOf Any x (turns + 2) slot) e
@@ -217,7 +219,7 @@ address_get n (suc i) k low = go (cases_lt k i)
 round_get : (turns : ℕ) (ds : List ℕ) (k d : ℕ) → slice_get ds k ≡ Some d
     → slice_get (round turns ds) k ≡ Some (record { child = d; turns = turns })
 round_get turns [] k d at = absurd (cc)
-round_get turns (x ∷ ds) zero d at = ap (λ y. Some (record { child = y; turns = turns })) (some-injective _ _ at)
+round_get turns (x ∷ ds) zero d at = ap (λ y. Some (record { child = y; turns = turns })) (some_same at)
 round_get turns (x ∷ ds) (suc k) d at = round_get turns ds k d at
 
 -- slot j is one of child k, if j modulo n is k

@@ -1,7 +1,8 @@
 -- The steps within a slot, and the slots of a plan, on their way.
-use Rattle.std.proofs.Common.{◌≡◌, ℕ, suc, ◌+◌, ◌-◌, ◌<◌, List, [], ◌∷◌, ◌++◌, length, drop, refl, sym, ap, ◌∙◌}
+use Rattle.std.proofs.Common.{◌≡◌, ℕ, suc, ◌+◌, ◌-◌, ◌*◌, ◌<◌, ◌≤◌, List, [], ◌∷◌, ◌++◌, length, drop, refl, sym, ap, ◌∙◌}
 use Rattle.std.proofs.Common.{subst, arith, append_assoc}
 use Rattle.std.proofs.Math.Seq.{drop-length}
+use Rattle.std.proofs.Math.Nat.{mul-le-mul_left}
 use Rattle.pip_cpu.specs.Made.{Cut, Made}
 use Rattle.pip_io.specs.Taken.{Taken}
 use Rattle.pip_io.proofs.Taken.{Appends-nil}
@@ -130,9 +131,11 @@ module _ (old mid new : Taken) (w : World) (all : List Act) (ss : List TimeSlot)
         text = q.text;
       }
 
-  pub rounds_on : ((v : World) → S v → Made U mid new v (slot_run v ss t)) → Progress U old new w all others
-  rounds_on made = progress_on S U old mid new w all [] (λ v. slot_run v ss t) others split refl
-      (made split.world split.holds)
+  pub rounds_on : ((v : World) → S v → Made U mid new v (slot_run v ss t)) → (u : ℕ) → u ≡ t + plan_steps ss
+      → Progress U old new w all (λ v. slot_run v (rounds ss (c - (j + 1))) u)
+  rounds_on made u e =
+      subst (λ x. Progress U old new w all (λ v. slot_run v (rounds ss (c - (j + 1))) x)) (sym e)
+      (progress_on S U old mid new w all [] (λ v. slot_run v ss t) others split refl (made split.world split.holds))
 
   pub rounds_cut : ((v : World) → S v → Cut U mid new v (slot_run v ss t)) → Cut U old new w all
   rounds_cut cut = progress_cut S U old mid new w all [] (λ v. slot_run v ss t) others split refl
@@ -143,3 +146,10 @@ pub rounds_end : (S : World → Type 0) (old new : Taken) (w : World) (all : Lis
     → n ≡ 0 → Progress S old new w all (λ v. slot_run v (rounds ss n) t) → Made S old new w all
 rounds_end S old new w all ss n t e p = progress_end S old new w all
     (subst (λ m. Progress S old new w all (λ v. slot_run v (rounds ss m) t)) e p)
+
+-- the steps of one round more
+pub one_round_more : (p k c : ℕ) → k < c → p * k + p ≤ p * c
+one_round_more p k c low =
+    let e : p * suc k ≡ p * k + p = omega arith in
+    let h : p * suc k ≤ p * c = mul-le-mul_left p low in
+    omega (arith, e, h)

@@ -3,7 +3,6 @@ use Rattle.std.proofs.Common.{◌≡◌, ◌≢◌, ℕ, ◌+◌, ◌==◌, inl,
 use Rattle.std.proofs.Common.{ap, ap₂, ◌∙◌, subst, eq-eqb, arith}
 use Rattle.std.specs.Prelude.{◌%◌, zero, suc, Some, slice_get}
 use Rattle.std.specs.List.{AllByRecursion}
-use Rattle.std.proofs.Math.Option.{some-injective}
 use Rattle.std.proofs.lemmas.Bool.{cases_eq, ne_eqb}
 use Rattle.pip_model.specs.Acts.{Act, after_acts, text_of}
 use Rattle.pip_model.specs.Sound.{IsLentBy, IsSound, IsWord}
@@ -102,6 +101,9 @@ other_slots d p t w v x b wd n =
 
 -- ---- a whole plan
 
+some_same : (x y : TimeSlot) → Some x ≡ Some y → x ≡ y
+some_same x y e = cc
+
 record RunAlike (d p t : ℕ) (w v : World) (ss : List TimeSlot) : Type 0 where
   acts : acts_of_child d w ss t ≡ acts_of_child d v ss t
   texts : (j : ℕ) (s : TimeSlot) → slice_get ss j ≡ Some s → s.child ≡ d
@@ -151,7 +153,7 @@ run_alike d p (x ∷ ss) t w v b all = elim (cases_eq x.child d) [
         ≡ slice_get (slot_texts (after_slot v x t) ss (next_step x t)) j)
         → (j : ℕ) (s : TimeSlot) → slice_get (x ∷ ss) j ≡ Some s → s.child ≡ d
         → slice_get (slot_texts w (x ∷ ss) t) j ≡ slice_get (slot_texts v (x ∷ ss) t) j
-    each first later zero s at own = first (ap (λ y. y.child) (some-injective x s at) ∙ own)
+    each first later zero s at own = first (ap (λ y. y.child) (some_same x s at) ∙ own)
     each first later (suc j) s at own = later j s at own
 
 pub slots_separate : SlotsSeparate

@@ -32,7 +32,7 @@ pub fn run_rounds<M: Frames, K: Sink, L: Ledger>(
     ensures count { length machine.new.cpus ≡ length machine.old.cpus }
 {
     let mut t = 0u64;
-    for _round in 0..count {
+    for k in 0..count {
         t = run_slots(machine, round, t, sink, steps)?;
     }
     Ok(())
