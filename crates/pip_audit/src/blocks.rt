@@ -1,10 +1,10 @@
 //! What is known of the words of frames, by blocks of 32.
-ghost use Rattle.std.specs.Prelude.{◌≡◌, ℕ, ◌+◌, ◌*◌, ◌<◌, ◌≤◌, false, true, None, length};
+ghost use Rattle.std.specs.Prelude.{◌≡◌, ℕ, ◌+◌, ◌*◌, ◌%◌, ◌<◌, ◌≤◌, ◌==◌, false, true, None, length};
 ghost use Rattle.std.specs.Int.{bit_at};
 ghost use Rattle.pip_base.specs.Memory.{word_at};
 ghost use Rattle.pip_audit.specs.Blocks.{AreKnown, AreMasks, AreMasksOf, IsNone, LacksSought, mask_in, place_in};
 
-use crate::tables::{Sought, Triple};
+use crate::tables::{SoughtRows, Triple};
 use pip_base::{Frame, Steps};
 use pip_frames::Frames;
 use std::alloc::{AllocError, Global};
@@ -33,13 +33,21 @@ pub(crate) struct Blocks {
     descriptors: Masks,
 }
 
+/// Whether a word of a first shadow marks its page as a child's descriptor. In a raw memory it may name vpage 0, so it
+/// isn't one for `unpack_sh1`.
+pub(crate) fn marks_descriptor(word: u32) -> bool
+    ensures { result ≡ (word % 4096 == 1) }
+{
+    word % 4096 == 1
+}
+
 // Whether a word is of a kind.
 fn is_of(kind: Kind, word: u32) -> bool
     ensures { result ≡ false → IsNone kind word }
 {
     match kind {
         Kind::Filled => word != 0,
-        Kind::Descriptor => word % 4096 == 1,
+        Kind::Descriptor => marks_descriptor(word),
     }
 }
 
@@ -148,7 +156,7 @@ impl Blocks {
     }
 
     /// Whether block `b` of the tables of a directory index is known to lack the rows that are sought.
-    pub(crate) fn lacks(&self, sought: Sought, tables: Triple, b: u32) -> bool
+    pub(crate) fn lacks(&self, sought: SoughtRows, tables: Triple, b: u32) -> bool
         requires mmu { tables.mmu < 4096 }
         requires shadow { tables.shadow1 < 4096 }
         requires block { b < 32 }
@@ -156,8 +164,8 @@ impl Blocks {
     {
         let rows = self.rows.at(tables.mmu, b);
         match sought {
-            Sought::Any => rows == 0,
-            Sought::Child => rows & self.descriptors.at(tables.shadow1, b) == 0,
+            SoughtRows::Any => rows == 0,
+            SoughtRows::Child => rows & self.descriptors.at(tables.shadow1, b) == 0,
         }
     }
 

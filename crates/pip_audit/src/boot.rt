@@ -13,11 +13,8 @@ use pip_base::{Frame, Steps, VIDT, VPage, WORDS};
 use pip_entry::descriptor::{LIST_VA, MMU_VA, SELF_VA, SHADOW1_VA, SHADOW2_VA, TABLES};
 use pip_entry::list_page::{FIRST_SLOT, SLOT_WORDS};
 use pip_frames::Frames;
-use pip_model::{root_frame, root_tables};
+use pip_model::{ROOT, root_frame, root_tables};
 use std::sync::ledger::Ledger;
-
-/// The frame of the root's descriptor, with which reading begins.
-pub(crate) const ROOT: u32 = 1;
 
 // The frame of its MMU directory at the boot.
 const MMU: u32 = 2;

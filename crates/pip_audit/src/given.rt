@@ -14,8 +14,9 @@ use crate::blocks::Blocks;
 use crate::frame_words::FrameWords;
 use crate::pages::{count_pages, page};
 use crate::tables::Tables;
-use pip_base::{Frame, Steps};
+use pip_base::{Frame, Steps, VPage};
 use pip_entry::descriptor::{PARENT, SELF_VA};
+use pip_entry::{Sh2, pack_sh2};
 use pip_frames::Frames;
 use std::sync::ledger::Ledger;
 
@@ -89,7 +90,7 @@ impl FrameWords {
         self.fill(0);
         let mut from = 0;
         while let Some(row) = tables.next_row(mem, blocks, from, steps) {
-            self.hold_if_none(row.frame, row.at * 4096 + 1);
+            self.hold_if_none(row.frame, pack_sh2(Sh2::Of(VPage::new(row.at))));
             from = row.at + 1;
         }
     }

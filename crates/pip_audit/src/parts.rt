@@ -5,7 +5,8 @@ ghost use Rattle.pip_model.specs.ReadOff.{node_read, node_stop};
 ghost use Rattle.pip_model.specs.Tree.{held_pages, page_at, pairs, vpage};
 ghost use Rattle.std.specs.List.{list_all};
 ghost use Rattle.pip_model.specs.Parts.{broken_part, gives_no_more, has_no_lines, has_tables, is_lent_by};
-ghost use Rattle.pip_model.specs.Parts.{is_named_by_base, is_page, keeps_pages_apart, part_1, part_2};
+ghost use Rattle.pip_model.specs.Parts.{is_named_by_base, is_page, keeps_pages_apart, part_boot_root};
+ghost use Rattle.pip_model.specs.Parts.{part_parents_come_first};
 ghost use Rattle.pip_audit.specs.Comparing.{tree_in};
 ghost use Rattle.pip_audit.specs.Judging.{HasParent, IsReadLater, KeepsBefore, KeepsNodes, Lends, TellsApart, held_by};
 ghost use Rattle.pip_audit.specs.Judging.{is_placed, keeps_to, parent_test};
@@ -14,12 +15,13 @@ ghost use Rattle.pip_audit.specs.Tables.{IsOf};
 ghost use Rattle.pip_audit.specs.Reading.{IsRead};
 
 use crate::auditor::Auditor;
-use crate::boot::{ROOT, has_boot_base, has_boot_rows, has_boot_tables};
+use crate::boot::{has_boot_base, has_boot_rows, has_boot_tables};
 use crate::each_node::NodeTest;
 use crate::pages::{count_pages, page};
 use pip_base::{Frame, LINES, Steps};
 use pip_entry::descriptor::{PARENT, PENDING, SELF_FRAME};
 use pip_frames::Frames;
+use pip_model::ROOT;
 use std::sync::ledger::Ledger;
 
 // The parts of soundness, by their numbers in the answer `no unsound P`.
@@ -35,7 +37,7 @@ const SIBLINGS_APART: u32 = 5;
 
 const RIGHTS: u32 = 6;
 
-const TABLES: u32 = 7;
+const TABLES_OF_ROWS: u32 = 7;
 
 const NO_LINES_BUT_THE_ROOT: u32 = 8;
 
@@ -69,7 +71,7 @@ impl Auditor {
         steps: &mut Steps<L>,
     ) -> Frame
         requires read { IsRead (M.memory mem.now) self.now }
-        requires parents { part_1 (tree_in (M.memory mem.now)) ≡ true }
+        requires parents { part_parents_come_first (tree_in (M.memory mem.now)) ≡ true }
         requires other { 1 ≤ x }
         requires node { x < self.now.count }
         ensures parent { result ≡ word_at (M.memory mem.now) (slice_index self.now.names.items x) 11 }
@@ -82,7 +84,7 @@ impl Auditor {
     // Whether the root is that of the boot.
     fn has_boot_root<M: Frames, L: Ledger>(&mut self, mem: &M, steps: &mut Steps<L>) -> bool
         requires { IsRead (M.memory mem.now) self.old }
-        ensures tests { result ≡ part_2 (tree_in (M.memory mem.now)) }
+        ensures tests { result ≡ part_boot_root (tree_in (M.memory mem.now)) }
         ensures read { IsRead (M.memory mem.now) self.new }
     {
         let root = Frame::new(ROOT);
@@ -195,7 +197,7 @@ impl Auditor {
     // Loads the parent of node `x`, unless it is loaded.
     fn lend_to<M: Frames, L: Ledger>(&mut self, mem: &M, x: usize, steps: &mut Steps<L>)
         requires read { IsRead (M.memory mem.now) self.old }
-        requires parents { part_1 (tree_in (M.memory mem.now)) ≡ true }
+        requires parents { part_parents_come_first (tree_in (M.memory mem.now)) ≡ true }
         requires other { 1 ≤ x }
         requires node { x < self.old.count }
         requires lends { Lends (M.memory mem.now) self.old }
@@ -284,7 +286,7 @@ impl Auditor {
                 self.load_parent(mem, Frame::new(ROOT), steps);
                 self.each_node::<IsGranted, M, L>(mem, 1, steps)
             }
-            TABLES => self.each_node::<HasTables, M, L>(mem, 0, steps),
+            TABLES_OF_ROWS => self.each_node::<HasTables, M, L>(mem, 0, steps),
             _ => self.each_node::<HasNoLines, M, L>(mem, 1, steps),
         }
     }

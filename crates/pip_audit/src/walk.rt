@@ -11,11 +11,10 @@ ghost use Rattle.pip_model.specs.declared.reading.Stop.{Stop};
 ghost use Rattle.pip_model.specs.ReadOff.{Halts, tree_of};
 
 use crate::auditor::Auditor;
-use crate::boot::ROOT;
-use crate::tables::{Row, Sought, Triple};
-use pip_base::{Frame, Steps, VPAGES};
+use crate::tables::{FoundRow, SoughtRows, Triple};
+use pip_base::{Frame, Steps, VPAGES, WORDS};
 use pip_frames::Frames;
-use pip_model::Stop;
+use pip_model::{ROOT, Stop};
 use std::sync::ledger::Ledger;
 
 /// A page to be read as a node: the virtual page of its row, and the place of the first shadow's word that says so.
@@ -27,7 +26,7 @@ struct Child {
 }
 
 // The page of a row, which this first shadow says is a child's descriptor.
-fn child_of(row: Row, shadow: Frame) -> Child
+fn child_of(row: FoundRow, shadow: Frame) -> Child
     ensures { result ≡ child_told row shadow }
 {
     Child {
@@ -35,7 +34,7 @@ fn child_of(row: Row, shadow: Frame) -> Child
         page: row.frame,
         told: Stop {
             frame: shadow.number(),
-            index: row.at % 1024,
+            index: row.at % WORDS,
         },
     }
 }
@@ -154,11 +153,11 @@ impl Auditor {
         self.blocks.learn_descriptors(mem, tables.shadow1, steps);
         if let Some(row) = self
             .node
-            .next_in_table(mem, &self.blocks, Sought::Child, from, steps)
+            .next_in_table(mem, &self.blocks, SoughtRows::Child, from, steps)
         {
             return Some(child_of(row, tables.shadow1));
         }
-        if from % 1024 == 0 {
+        if from % WORDS == 0 {
             self.words.quiet.hold(tables.mmu.number(), shadow);
         }
         None
@@ -184,7 +183,7 @@ impl Auditor {
         ensures known { AreKnown (M.memory mem.now) self.new.blocks }
         ensures rest { self.new ≡ record self.old { words = self.new.words; blocks = self.new.blocks } }
     {
-        if let Some(tables) = self.node.at(from / 1024) {
+        if let Some(tables) = self.node.at(from / WORDS) {
             return self.child_in(mem, tables, from, steps);
         }
         None
@@ -213,7 +212,7 @@ impl Auditor {
             if let Some(told) = self.child_of_index(mem, v, steps) {
                 return Some(told);
             }
-            v = v / 1024 * 1024 + 1024;
+            v = v / WORDS * WORDS + WORDS;
         }
         None
     }

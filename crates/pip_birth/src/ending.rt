@@ -15,7 +15,8 @@ use pip_config::read_pair;
 use pip_entry::descriptor::{LIST_VA, MMU_VA, SELF_VA, SHADOW1_VA, SHADOW2_VA, TABLES};
 use pip_frames::Frames;
 use pip_kern::{take_page, take_pages};
-use pip_space::{Level, next_tables, table_for};
+use pip_model::Level;
+use pip_space::{next_tables, table_for};
 use pip_table::first_index;
 use std::sync::ledger::Ledger;
 

@@ -24,7 +24,7 @@ use Rattle.pip_model.proofs.Nodes.Writes.{Space-same, Space-stays}
 use Rattle.pip_model.proofs.Trees.Numbers.{page_small}
 use Rattle.pip_model.proofs.Frames.ReadBack.{full-at}
 use Rattle.pip_entry.specs.declared.shadows.Sh2.{Sh2}
-use Rattle.pip_model.specs.NodeWords.{Shadow2}
+use Rattle.pip_model.specs.declared.level.Level.TheVariants.{Shadow2}
 use Rattle.pip_space.specs.Rows.{HasRow, HasRows}
 use Rattle.pip_kern.specs.Hiding.{CanSetUser, IsAbove, UserSet, UserSetIn}
 use Rattle.pip_kern.specs.declared.hiding.Above.{Above}

@@ -1,7 +1,7 @@
 //! Parents, children and chains of partitions.
 ghost use Rattle.std.specs.Prelude.{◌≡◌, ◌+◌, ◌%◌, ◌≤◌, ◌↔◌, Option, Some, option_map, true};
 ghost use Rattle.pip_model.specs.FullRows.{FullRow, row_word};
-ghost use Rattle.pip_model.specs.NodeWords.{Mmu};
+ghost use Rattle.pip_model.specs.declared.level.Level.TheVariants.{Mmu};
 ghost use Rattle.pip_model.specs.Midway.{OnChain};
 ghost use Rattle.pip_model.specs.Partitions.{HasPartition, InEach};
 ghost use Rattle.pip_model.specs.Tree.{child_at as tree_child_at};

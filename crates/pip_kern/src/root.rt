@@ -17,8 +17,8 @@ use pip_entry::descriptor::{
 };
 use pip_entry::{Sh1, Sh2};
 use pip_frames::Frames;
-use pip_model::root_tables;
-use pip_space::{ROOT, Row, install_table, map};
+use pip_model::{ROOT, root_tables};
+use pip_space::{Row, install_table, map};
 use std::sync::ledger::Ledger;
 
 // Zeroes every frame.

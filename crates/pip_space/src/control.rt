@@ -12,10 +12,8 @@ ghost use Rattle.pip_model.specs.Worlds.{with_masked, with_pending};
 use pip_base::{Frame, Steps};
 use pip_entry::descriptor::{FLAGS, MASKED, PENDING};
 use pip_frames::Frames;
+use pip_model::ROOT;
 use std::sync::ledger::Ledger;
-
-/// The number of the root's descriptor.
-pub const ROOT: u32 = 1;
 
 // The word of the flags.
 fn flags_word(masked: bool) -> u32

@@ -12,13 +12,13 @@ ghost use Rattle.pip_space.specs.Nodes.{InEachSpace};
 ghost use Rattle.pip_space.specs.Tables.{AreInPages, CanInstall, CanRemove, HasInstall, HasRemove, page_list};
 ghost use Rattle.pip_space.specs.Tables.{rows_beside};
 
-use crate::level::Level;
 use crate::lists::{add_list_page, drop_list_page, take_slot};
 use crate::reads::table;
 use crate::table_roots::{clear_entries, read_table_roots, set_entries};
 use pip_base::{Frame, Pair, Steps, never};
 use pip_config::{Slot, push_slot};
 use pip_frames::Frames;
+use pip_model::Level;
 use std::sync::ledger::Ledger;
 
 // Zeroes the three pages of a slot.

@@ -22,9 +22,8 @@ mod row;
 mod table_roots;
 mod writes;
 
-pub use control::{ROOT, is_masked, pending, set_masked, set_pending};
+pub use control::{is_masked, pending, set_masked, set_pending};
 pub use install::{install_table, remove_table};
-pub use level::Level;
 pub use reads::{
     given, has_table, is_table_empty, leaf_word, look, next_row, next_tables, place_above,
     table_for,

@@ -1,7 +1,7 @@
 //! Rows as the kernel reads and writes them.
 ghost use Rattle.std.specs.Prelude.{◌≡◌, Option, Some, option_map};
 ghost use Rattle.pip_model.specs.FullRows.{FullRow, row_word};
-ghost use Rattle.pip_model.specs.NodeWords.{Mmu, Shadow1, Shadow2};
+ghost use Rattle.pip_model.specs.declared.level.Level.TheVariants.{Mmu, Shadow1, Shadow2};
 ghost use Rattle.pip_model.specs.NodeIn.{IsFullRow};
 ghost use Rattle.pip_space.specs.Rows.{IsPacked, IsRowWord, full_of};
 

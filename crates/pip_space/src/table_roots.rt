@@ -6,12 +6,12 @@ ghost use Rattle.pip_model.specs.NodeIn.{HasNode};
 ghost use Rattle.pip_space.specs.Nodes.{InEachNode};
 ghost use Rattle.pip_space.specs.Tables.{AreTableRoots, AreInside};
 
-use crate::level::Level;
 use crate::reads::directory;
 use pip_base::{Frame, Steps};
 use pip_entry::descriptor::{LIST_FRAME, TABLES};
 use pip_entry::{DirWord, pack_dir};
 use pip_frames::Frames;
+use pip_model::Level;
 use std::sync::ledger::Ledger;
 
 /// Where a descriptor says that the tables are listed: the first list page, the number of tables, and the three

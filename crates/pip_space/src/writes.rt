@@ -2,19 +2,18 @@
 ghost use Rattle.std.specs.Prelude.{◌≡◌, ℕ, ◌<◌, Option, length};
 ghost use Rattle.pip_entry.specs.Sh1.{packed_sh1, IsSh1};
 ghost use Rattle.pip_model.specs.FullRows.{FullRow, row_word};
-ghost use Rattle.pip_model.specs.NodeWords.{Mmu, Shadow1, Shadow2};
+ghost use Rattle.pip_model.specs.declared.level.Level.TheVariants.{Mmu, Shadow1, Shadow2};
 ghost use Rattle.pip_model.specs.NodeIn.{HasTableFor, IsFullRow, NodeIn, OthersStay, Space, put_cell, put_row};
 ghost use Rattle.pip_model.specs.Tree.{Node};
 ghost use Rattle.pip_space.specs.Nodes.{InEachNode, InEachRow, InEachSpace};
-ghost use Rattle.pip_space.specs.Levels.{table_level};
 ghost use Rattle.pip_space.specs.Rows.{HasRow, IsPacked, full_of};
 
-use crate::level::Level;
 use crate::reads::table_for;
 use crate::row::{Row, with_user};
 use pip_base::{Frame, Steps, VPage};
 use pip_entry::{Leaf, Sh1, pack_leaf, pack_sh1, pack_sh2};
 use pip_frames::Frames;
+use pip_model::Level;
 use std::sync::ledger::Ledger;
 
 // Writes the word of a level at a virtual page that has a table.
@@ -29,7 +28,7 @@ fn set_level_word<M: Frames, L: Ledger>(
     requires { HasTableFor (M.memory mem.old) part v }
     ensures count { length (M.memory mem.new) ≡ length (M.memory mem.old) }
     ensures node { InEachNode (M.memory mem.old) part (λ x cells.
-        NodeIn (M.memory mem.new) x (put_cell cells (table_level level) v w)
+        NodeIn (M.memory mem.new) x (put_cell cells level v w)
         × OthersStay x (M.memory mem.old) (M.memory mem.new)) }
     ensures room { HasTableFor (M.memory mem.new) part v }
 {

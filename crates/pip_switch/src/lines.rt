@@ -22,7 +22,8 @@ use crate::processors::{Processors, entering, is_running, number_on, runner, run
 use crate::saves::save;
 use pip_base::{Ctx, Frame, Outcome, Steps};
 use pip_frames::Frames;
-use pip_space::{ROOT, is_masked, pending, set_masked, set_pending};
+use pip_model::ROOT;
+use pip_space::{is_masked, pending, set_masked, set_pending};
 use std::sync::ledger::Ledger;
 
 /// A line below 16 becomes pending in the root.

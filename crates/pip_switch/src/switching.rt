@@ -22,9 +22,9 @@ use crate::saves::save_to;
 use pip_base::{Frame, Outcome, Status, Steps};
 use pip_frames::Frames;
 use pip_kern::{child_at, parent_of};
-use pip_model::Occupant;
 use pip_model::call_number::NOT_SAVED;
-use pip_space::{ROOT, set_masked};
+use pip_model::{Occupant, ROOT};
+use pip_space::set_masked;
 use std::sync::ledger::Ledger;
 
 // The parent of a partition. None for the root.

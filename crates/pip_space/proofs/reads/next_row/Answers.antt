@@ -1,6 +1,6 @@
 use Rattle.std.proofs.Common.{ap, arith, sym, subst}
 use Rattle.pip_table.specs.Table.{IsDirectory, tables_below}
-use Rattle.pip_model.specs.NodeWords.{Mmu}
+use Rattle.pip_model.specs.declared.level.Level.TheVariants.{Mmu}
 use Rattle.pip_space.proofs.Tables.{is_table, next_found, next_none, next_not_none, next_word, packed_row}
 use Rattle.pip_space.proofs.reads.next_row.Goals as goal
 
