@@ -86,7 +86,7 @@ class Releases(unittest.TestCase):
         self.assertEqual(self.pass_gate(), 0)
         made = self.made()
         parts = {str(path.relative_to(made)) for path in made.rglob("*") if path.is_file()}
-        self.assertEqual(parts, {*FILES, "README.html", "docs/PROVED.html", "pip.html", "PROOF", "rust/Cargo.toml", release.MARK, "crates/pip/out/pip"})
+        self.assertEqual(parts, {*FILES, "README.html", "docs/PROVED.html", "pip.html", "PROOF", "rust/Cargo.toml", release.MARK, "crates/pip/out/pip", "tools/judge/pip_judge"})
         told = (made / "PROOF").read_text()
         for part in ("pip 1.2\n", self.found.commit(), KIT, "3 passed, 0 failed", "check: 2 of 2 checks pass", "- The kit.", "built once"):
             self.assertIn(part, told)

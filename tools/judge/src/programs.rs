@@ -7,7 +7,7 @@ use crate::script::Refused;
 use crate::values::Choice::{After, Steps};
 use crate::values::{Value, Values, value};
 use crate::verdict::Verdict;
-use crate::world::{Act, DELETE, Event, HANDLERS, Hostile, Id, Moved, ROOT, Why, World};
+use crate::world::{Act, DELETE, Event, Hostile, Id, Moved, ROOT, Why, World};
 use alloc::format;
 use alloc::string::String;
 use alloc::vec;
@@ -112,21 +112,22 @@ pub fn child_program(v: &Values, image: &Image, secret: u64) -> Result<Verdict, 
 // Whether the child had a handler table when it showed its word.
 fn has_had_handlers(image: &Image, world: &World, id: Id, at: usize) -> Result<bool, Refused> {
     let past = image.run(Course::plain(world.events[at].place))?;
-    Ok(id < past.parts.len() && has_handlers(&past, id) && past.at(id, HANDLERS).is_some())
+    Ok(id < past.parts.len() && has_handlers(&past, id))
 }
 
-// Whether the child shows what a register of its block has, where it has the word: another word there is shown in its place.
+// Whether the child shows what a register of a block has by which it began, where that has the word: another word there is shown in its place.
 fn follows_block(image: &Image, world: &World, id: Id, at: usize, word: u32, other: u32) -> Result<bool, Refused> {
-    let entry = world.events[..at].iter().rposition(|event| event.moved.as_ref().is_some_and(|moved| moved.to == Some(id)));
-    let Some((entry, moved)) = entry.and_then(|k| Some((k, world.events[k].moved.as_ref()?))) else { return Ok(false) };
-    if moved.from != Some(ROOT) || moved.why != Why::Yield {
-        return Ok(false);
-    }
-    for register in (0..16).filter(|register| moved.entered.regs[*register as usize] == word) {
-        let course = Course { edit: Some((entry, register, other)), ..Course::plain(world.events[at].place + 1) };
-        let changed = image.run(course)?;
-        if outs(&changed).iter().any(|(_, who, shown)| *who == id && *shown == other) {
-            return Ok(true);
+    let mut left = None;
+    for (entry, _, moved) in moves(world).take_while(|(k, _, _)| *k < at) {
+        let begins = moved.to == Some(id) && moved.from == Some(ROOT) && moved.why == Why::Yield && left != Some(moved.entered);
+        for register in (0..16).filter(|register| begins && moved.entered.regs[*register as usize] == word) {
+            let course = Course { edit: Some((entry, register, other)), ..Course::plain(world.events[at].place + 1) };
+            if outs(&image.run(course)?).iter().any(|(_, who, shown)| *who == id && *shown == other) {
+                return Ok(true);
+            }
+        }
+        if moved.from == Some(id) {
+            left = moved.left;
         }
     }
     Ok(false)
