@@ -1,5 +1,5 @@
 # misses: nothing
-# Right, but with all in memory: 14 instructions a round, so 300 rounds need more than the 4000 steps that are run.
+# All is in memory: 14 instructions a round.
 .frames 16
 .cpus 1
 .page 0x00400000
