@@ -44,7 +44,7 @@ def troubles(program: str, text: str, seed: int) -> list[str]:
     alone = second(trace(program, text, "", seed))
     if alone is None or len(alone) < LEAST:
         raise Differs(f"{MONITOR}, seed {seed}: the second guest has {len(alone or [])} lines beside an honest one")
-    drawn, found = random.Random(seed), []
+    drawn, found = random.Random(seed), list[str]()
     for number in range(PROGRAMS):
         beside = second(trace(program, text, guest(drawn), seed))
         if beside is None:
