@@ -5,7 +5,8 @@
 #
 # A guest is a partition, its top, with a worker below it. The worker counts; with every eighth number it asks its top
 # by `int 70` to show it, and then loads an address at which it has no page. Both come to the top, which lets it go on.
-# So from the line with which a guest begins on it has the lines that it would have alone.
+# So from the line with which a guest begins on it has the lines that it would have alone. two_guests.every goes through
+# the first turns in all orders: no line is taken before the root has made all its children.
 #
 # Interrupt line 0 only serves to bring the root to processor 1. Meanwhile the keeper runs on processor 0, a child of
 # the root that asks again and again to give its processor away. Before any guest runs the root takes its handler of the
