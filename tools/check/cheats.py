@@ -1,4 +1,4 @@
-"""tools/exercise: each cheat of tools/exercises/cheats misses the goals that it names, and no other.
+"""tools/exercise: each cheat of tools/exercises/cheats misses the goals that it names, and where nothing is drawn no other.
 
 A file there is a whole text, or NAME.edit, an edit of the exercise's solution: `old: ` is a line, or a part of one, that
 is in it once, and the lines `new: ` after it take its place; without any it goes. `file: ` names another file than the
@@ -18,7 +18,7 @@ from concurrent.futures import ThreadPoolExecutor
 from dataclasses import dataclass
 
 from ..common.calling import Failed
-from ..exercises import judging
+from ..exercises import exercise, judging
 from .running import REPOSITORY, Differs
 
 CHEATS = os.path.join(REPOSITORY, "tools", "exercises", "cheats")
@@ -97,7 +97,8 @@ def fault(cheat: Cheat, is_program: bool) -> str | None:
         return f"{cheat.told}: {failed}"
     if not due or not read(cheat.path).startswith("# misses: "):
         return f"{cheat.told}: its first line doesn't name the goal that it misses"
-    if found.refused or (found.missing() or ["nothing"]) != due:
+    missing = found.missing() or ["nothing"]
+    if found.refused or not set(due) <= set(missing) or missing != due and cheat.name not in exercise.DRAWS:
         return f"{cheat.told}: it misses {found.refused or found.missing()}, where {due} is due; --again {found.secret}"
     if (due == ["nothing"]) != cheat.is_good:
         return f"{cheat.told}: it is good, or its name says so"

@@ -238,7 +238,7 @@ def exercise(shown: browser.Browser) -> None:
     until(shown, "!pending.asked")
     shown.value("document.getElementById('student').value = ''")
     source = examples.contents(os.path.join(REPOSITORY, "examples", "timer_and_services.s")).decode()
-    judged(shown, source, "document.getElementById('judge').click()", "no-loss: 6 of 6 goals are reached")
+    judged(shown, source, "document.getElementById('judge').click()", "no-loss: 5 of 5 goals are reached")
     put(shown, CHILD, 2)
     due(shown, "the verdict of another text", text_of("#verdict"), "")
 

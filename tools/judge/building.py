@@ -46,7 +46,7 @@ def program() -> str:
 
 def sources() -> list[Path]:
     folders = [REPOSITORY / "crates", REPOSITORY / "tools" / "exporter", HERE]
-    return [REPOSITORY / "crates.txt", *(path for folder in folders for path in folder.rglob("*") if path.suffix in (".rt", ".rs", ".toml", ".py"))]
+    return [REPOSITORY / "crates.txt", *(path for folder in folders for path in folder.rglob("*") if path.suffix in (".rt", ".rs", ".toml", ".py", ".txt"))]
 
 
 def is_new() -> bool:
@@ -61,7 +61,7 @@ def own_files() -> dict[str, str]:
     from ..exporter import workspace         # here, since a verdict doesn't need it
     manifest = workspace.PACKAGE.format(name=NAME) + "\n" + (HERE / "manifest.toml").read_text(encoding="utf-8")
     files = {"judge/Cargo.toml": manifest, "judge/LICENSE": (REPOSITORY / "LICENSE").read_text(encoding="utf-8")}
-    return {**files, **{f"judge/src/{path.name}": path.read_text(encoding="utf-8") for path in sorted((HERE / "src").glob("*.rs"))}}
+    return {**files, **{f"judge/src/{path.name}": path.read_text(encoding="utf-8") for path in sorted((HERE / "src").iterdir())}}
 
 
 def build() -> None:

@@ -1,10 +1,8 @@
 //! The exercise 'break-in': the student's lines are a child's, and its sibling has a word that is drawn each time.
 
-use crate::memory::CHILD_PAGES;
 use crate::random::Random;
 use crate::script::{Refused, Script, lines_of, take};
-use crate::values::Choice::{After, Steps};
-use crate::values::{Value, Values, value};
+use crate::values::Values;
 use crate::verdict::Verdict;
 use crate::world::{Act, CREATE, Event, Id, Moved, PAGE, ROOT, World, YIELD};
 use alloc::format;
@@ -24,12 +22,6 @@ const MOST_ROOT: u32 = 0x48_0000;
 const LEAST_ATTEMPTS: usize = 12;
 const MAY: [&str; 9] = ["ld", "lb", "st", "sb", "fetch", "trap", "call", "pc", "reg"];
 
-pub const BREAK_IN: &[Value] = &[
-    value("sibling", 0x42_0000, Steps(0x42_1000, 0x3000, 23), "{x}"),
-    value("page", 0x1000_0000, CHILD_PAGES, "{x}"),
-    value("at", 0x1000_0020, After("page", WORD_AT, 1, 1), "{x}"),
-];
-
 fn made(first: u32, page: u32) -> String {
     let pages: Vec<String> = (0..8).map(|k| format!("{:#x}", first + PAGE * k)).collect();
     let (five, a, b, c) = (pages[..5].join(" "), &pages[5], &pages[6], &pages[7]);
@@ -40,12 +32,21 @@ fn made(first: u32, page: u32) -> String {
 fn setup(v: &Values, secret: u32) -> String {
     let (table, kept, sibling, page) = (CHILD + 8 * PAGE, v.get("sibling") + 8 * PAGE, v.get("sibling"), v.get("page"));
     let mut text = format!("boot 128 1\n{}", made(CHILD, LAST_PAGE));
-    text += &format!("st 0 {:#x} 0xfffff400\nst 0 {:#x} {FIRST_PAGE:#x}\nst 0 {:#x} 0xfffff444\n", table + 0x100, table + 0x400, table + 0xfc);
+    text += &format!(
+        "st 0 {:#x} 0xfffff400\nst 0 {:#x} {FIRST_PAGE:#x}\nst 0 {:#x} 0xfffff444\n",
+        table + 0x100,
+        table + 0x400,
+        table + 0xfc
+    );
     text += &format!("call 0 5 {table:#x} {CHILD:#x} {LAST_PAGE:#x} 3\n");
     for k in 0..PAGES {
         text += &format!("call 0 5 {:#x} {CHILD:#x} {:#x} 7\n", table + PAGE * (1 + k), FIRST_PAGE + PAGE * k);
     }
-    text += &format!("{}st 0 {:#x} {secret:#x}\ncall 0 5 {kept:#x} {sibling:#x} {page:#x} 3\n", made(sibling, page), kept + WORD_AT);
+    text += &format!(
+        "{}st 0 {:#x} {secret:#x}\ncall 0 5 {kept:#x} {sibling:#x} {page:#x} 3\n",
+        made(sibling, page),
+        kept + WORD_AT
+    );
     for vector in [14, 17, 64] {
         text += &format!("st 0 {:#x} 0xfffff400\n", LAST_PAGE + 4 * vector);
     }
@@ -65,7 +66,10 @@ fn attack(v: &Values, text: &[u8], secret: u32) -> Result<Attack, Refused> {
     for (number, line) in lines_of(text) {
         let name = String::from_utf8_lossy(line.split(|byte| *byte == b' ').next().unwrap_or(&[])).to_string();
         if !MAY.contains(&name.as_str()) {
-            return Err(Refused::Cant(format!("line {number}: the child can't say '{name}': its lines begin with {}", MAY.join(", "))));
+            return Err(Refused::Cant(format!(
+                "line {number}: the child can't say '{name}': its lines begin with {}",
+                MAY.join(", ")
+            )));
         }
     }
     let (mut script, lines) = (None, setup(v, secret));
@@ -99,8 +103,9 @@ impl Attack {
         self.line(number, line)?;
         let mut why = self.told();
         if self.script.world.runs(0) == Some(ROOT) {
-            self.line(0, format!("call 0 8 {CHILD:#x} 63 256").as_bytes())?;
-            why = format!("the root couldn't let the child go on: {}", self.told());
+            let call = format!("call 0 8 {CHILD:#x} 63 256");
+            self.line(0, call.as_bytes())?;
+            why = format!("the root couldn't let the child go on: {call} -> {}", self.told());
         }
         if self.script.world.runs(0).is_none_or(|id| id == ROOT) {
             self.stopped = Some(format!("line {number}: {why}"));
@@ -163,9 +168,9 @@ fn moved_for_hidden(event: &Event) -> bool {
     event.moved.as_ref().is_some_and(|moved| kind(moved) == 2)
 }
 
-/// What an attempt means: access or call, what it aims at, and how it was refused; a trap by what it forges, a fault, a line or nothing.
-/// None of a line that isn't refused for what the child has or hasn't: an address that isn't aligned, is 0 or comes twice, a number that
-/// isn't a call's, a vector.
+/// What an attempt means: access or call, what it aims at, and how it was refused; a trap by what it forges, a fault, a
+/// line or nothing. None of a line that isn't refused for what the child has or hasn't: an address that isn't aligned,
+/// is 0 or comes twice, a number that isn't a call's, a vector.
 fn meaning(v: &Values, event: &Event) -> Option<(u32, Aim, u32)> {
     let access = match event.act {
         Act::Load { va, .. } => Some((100, va)),
@@ -174,7 +179,11 @@ fn meaning(v: &Values, event: &Event) -> Option<(u32, Aim, u32)> {
         _ => None,
     };
     if let Act::Trap { vector } = event.act {
-        return Some((103, Aim::Own, u32::from(matches!(vector, 0 | 6 | 14 | 17)) + 2 * u32::from((32..48).contains(&vector))));
+        return Some((
+            103,
+            Aim::Own,
+            u32::from(matches!(vector, 0 | 6 | 14 | 17)) + 2 * u32::from((32..48).contains(&vector)),
+        ));
     }
     if let Some((access, va)) = access {
         let kind = event.moved.as_ref().map(|moved| if moved.to == Some(ROOT) { kind(moved) } else { 1 })?;
@@ -196,20 +205,10 @@ fn aims(v: &Values, event: &Event, no: u32, args: &[u32; 5]) -> Aim {
     named.iter().map(|address| aim(v, event, *address)).min().unwrap_or(Aim::Own)
 }
 
-pub fn break_in(v: &Values, text: &[u8], secret: u64) -> Result<Verdict, Refused> {
+pub fn break_in(v: &Values, text: &[u8], secret: u64, verdict: &mut Verdict) -> Result<(), Refused> {
     let word = word_of(secret);
     let attack = attack(v, text, word)?;
-    let (page, at, sibling) = (v.get("page"), v.get("at"), v.get("sibling"));
-    let mut verdict = Verdict::new(&[
-        (&format!("at least {LEAST_ATTEMPTS} attempts were made, each with another meaning"),
-            "access or call, what it aims at, how it is refused: where all three are the same, it is the same attempt"),
-        ("a load or store at the sibling's address faulted, since the child has no page there", &format!("the sibling has its page at {page:#x}: what does the child have there?")),
-        ("it was tried to run elsewhere", "pc 0 A, then fetch 0"),
-        ("a call that names the sibling was refused, and one that names a page of the root",
-            &format!("the root knows its children as {CHILD:#x} and {sibling:#x}. What are these numbers to the child?")),
-        ("the child made a child of its own", "could a child of its own reach more than itself? call 0 0 with five of its pages"),
-        ("a page that the child gave as configuration was tried", "load from a page that it has just given to its own child: a page table would be worth a lot"),
-    ]);
+    let at = v.get("at");
     let mut attempts: Vec<(u32, Aim, u32)> = Vec::new();
     for attempt in attack.mine().filter_map(|event| meaning(v, event)) {
         if !attempts.contains(&attempt) {
@@ -222,13 +221,14 @@ pub fn break_in(v: &Values, text: &[u8], secret: u64) -> Result<Verdict, Refused
         attempts.len() >= LEAST_ATTEMPTS,
         meant(&|act, aim| (act == 100 || act == 101) && aim == Aim::SiblingsPage),
         meant(&|act, aim| act == 102 && !matches!(aim, Aim::Own | Aim::Given)),
-        meant(&|act, aim| act <= YIELD && aim == Aim::SiblingsNumber) && meant(&|act, aim| act <= YIELD && aim == Aim::RootsNumber),
+        meant(&|act, aim| act <= YIELD && aim == Aim::SiblingsNumber)
+            && meant(&|act, aim| act <= YIELD && aim == Aim::RootsNumber),
         made,
         meant(&|act, aim| (act == 100 || act == 101) && aim == Aim::Given),
     ]);
-    remark(&attack, &mut verdict, at, word, attempts.len());
+    remark(&attack, verdict, at, word, attempts.len());
     verdict.trouble = if verdict.is_whole() { Vec::new() } else { crate::script::trouble(&attack.script.world, text) };
-    Ok(verdict)
+    Ok(())
 }
 
 fn remark(attack: &Attack, verdict: &mut Verdict, at: u32, word: u32, meanings: usize) {
@@ -236,16 +236,26 @@ fn remark(attack: &Attack, verdict: &mut Verdict, at: u32, word: u32, meanings: 
         verdict.remarks.push(stopped.clone());
         verdict.remarks.push("the child doesn't run any more, and no line after that one was run".into());
     }
-    let shows = |event: &&Event| is_of_child(attack, event) && matches!(event.outcome, Outcome::Word(shown) | Outcome::Reply { value: shown, .. } if shown == word);
+    let shows = |event: &&Event| {
+        is_of_child(attack, event)
+            && matches!(event.outcome, Outcome::Word(shown) | Outcome::Reply { value: shown, .. } if shown == word)
+    };
     if let Some(event) = attack.mine().find(shows) {
         verdict.remarks.push(format!("THE CHILD READ {word:#010x} by line {}.", event.place));
-        verdict.remarks.push("The child ran there. That would be an error of the program or of its proof: tell its authors.".into());
+        verdict.remarks.push(
+            "The child ran there. That would be an error of the program or of its proof: tell its authors.".into(),
+        );
         return;
     }
     let faults = attack.mine().filter(|event| event.moved.is_some() && event.call(YIELD).is_none()).count();
     let refused = attack.mine().filter(|event| event.status().is_some_and(|status| status != Status::Ok)).count();
-    verdict.remarks.push(format!("the sibling's word at its {at:#x} was {word:#010x} this time, and the child never read it:"));
-    verdict.remarks.push(format!("{} lines, {faults} faults and traps, {refused} refused calls, {meanings} attempts of different meaning", attack.mine().count()));
+    verdict
+        .remarks
+        .push(format!("the sibling's word at its {at:#x} was {word:#010x} this time, and the child never read it:"));
+    verdict.remarks.push(format!(
+        "{} lines, {faults} faults and traps, {refused} refused calls, {meanings} attempts of different meaning",
+        attack.mine().count()
+    ));
 }
 
 fn is_of_child(attack: &Attack, event: &Event) -> bool {

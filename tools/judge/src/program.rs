@@ -33,8 +33,8 @@ pub struct Image(Vec<u8>);
 pub enum Timer {
     /// By the plans of the text.
     Own,
-    /// This line alone, first at a step and then at distances that are drawn between two bounds; and, where it strikes, also at some of the
-    /// steps that follow the entry of the root by a trap or a yield.
+    /// This line alone, first at a step and then at distances that are drawn between two bounds; and, where it strikes,
+    /// also at some of the steps that follow the entry of the root by a trap or a yield.
     Drawn { line: u32, first: u32, least: u32, most: u32, strikes: bool, seed: u64 },
 }
 
@@ -198,7 +198,8 @@ pub fn has_refused(world: &World) -> bool {
     world.events.iter().any(|event| event.status().is_some_and(|status| status.number() != 0))
 }
 
-/// What was refused or parked: step, processor, partition, the root's address of the instruction, and the line of the trace.
+/// What was refused or parked: step, processor, partition, the root's address of the instruction, and the line of the
+/// trace.
 pub fn trouble(world: &World) -> Vec<String> {
     let mut found = Vec::new();
     for event in world.events.iter().filter(|event| event.is_trouble()) {
@@ -206,10 +207,16 @@ pub fn trouble(world: &World) -> Vec<String> {
         // A call and a trap leave the pc of the next instruction.
         let back = if matches!(event.act, Act::Call { .. } | Act::Trap { vector: 64.. }) { 4 } else { 0 };
         let place = event.before.zip(event.who).and_then(|(ctx, who)| world.at(who, ctx.pc.wrapping_sub(back)));
-        let address = place.and_then(|at| world.root_address(at)).map_or("-".into(), |address| format!("{address:#010x}"));
+        let address =
+            place.and_then(|at| world.root_address(at)).map_or("-".into(), |address| format!("{address:#010x}"));
         let name = event.who.map_or(0, |who| world.parts[who].name);
         let answer = outcome_text(&event.outcome);
-        found.push(format!("{}\t{}\t{name}\t{address}\t{call}{}", event.place, event.cpu.unwrap_or(0), answer.as_str()));
+        found.push(format!(
+            "{}\t{}\t{name}\t{address}\t{call}{}",
+            event.place,
+            event.cpu.unwrap_or(0),
+            answer.as_str()
+        ));
     }
     found
 }

@@ -4,8 +4,7 @@ use crate::memory::has_handlers;
 use crate::program::{Course, Image, Timer, has_parked, has_refused, li, outs, restless, trouble};
 use crate::random::Random;
 use crate::script::Refused;
-use crate::values::Choice::{After, Steps};
-use crate::values::{Value, Values, value};
+use crate::values::Values;
 use crate::verdict::Verdict;
 use crate::world::{Act, DELETE, Event, Hostile, Id, Moved, ROOT, Why, World};
 use alloc::format;
@@ -29,25 +28,16 @@ fn children(world: &World) -> impl Iterator<Item = Id> {
 
 // sum
 
-pub const SUM: &[Value] = &[value("first", 1, Steps(2, 1, 10), "from {d} to N"), value("place", 0x40_1000, Steps(0x40_1010, 0x24, 225), "{x}")];
 const MOST: u32 = 300;
 const STEPS_OF_SUM: u32 = 100_000;
 
-pub fn sum(v: &Values, image: &Image) -> Result<Verdict, Refused> {
+pub fn sum(v: &Values, image: &Image, _: u64, verdict: &mut Verdict) -> Result<(), Refused> {
     let (first, place) = (v.get("first"), v.get("place"));
     let due = |last: u32| (first..=last).sum::<u32>();
-    let mut verdict = Verdict::new(&[
-        ("the machine has 16 frames", ".frames 16"),
-        (&format!("the text has a page with the word at {place:#x}"), &format!("a .page, and in it the word at {place:#x}: the checker puts other numbers there")),
-        (&format!("with 100 there the program shows {:#010x}", due(100)), "out rN shows a register"),
-        ("with each number from 0 to 300 that the checker puts there, its sum", "load the number, ldw, and add up in a loop; with 0 there is nothing to add"),
-        ("once, and nothing else", "out is after the loop, and not in it"),
-        (&format!("then the processor parks, within {STEPS_OF_SUM} steps"), "a trap of the root, int 64, has nobody to go to"),
-    ]);
     let size = image.frames() == 16;
     if !image.has(place) {
         verdict.story(&[size, false, false, false, false, false]);
-        return Ok(verdict);
+        return Ok(());
     }
     let mut holds = [size, true, true, true, true, true];
     let usual = [100, 0, MOST].into_iter().chain(1..MOST);
@@ -61,7 +51,11 @@ pub fn sum(v: &Values, image: &Image) -> Result<Verdict, Refused> {
             holds[2] &= last != 100 || good[0];
             (holds[3], holds[4], holds[5]) = (holds[3] && good[0], holds[4] && good[1], holds[5] && good[2]);
             let words: Vec<String> = shown.iter().take(4).map(|word| format!("{word:#010x}")).collect();
-            verdict.remarks.push(format!("with the word {last} at {place:#x} it shows [{}], where {:#010x} is due", words.join(", "), due(last)));
+            verdict.remarks.push(format!(
+                "with the word {last} at {place:#x} it shows [{}], where {:#010x} is due",
+                words.join(", "),
+                due(last)
+            ));
             verdict.trouble = if has_parked(&world) { trouble(&world) } else { Vec::new() };
             if last != 100 {
                 break;
@@ -70,27 +64,21 @@ pub fn sum(v: &Values, image: &Image) -> Result<Verdict, Refused> {
     }
     verdict.remarks.truncate(1);
     verdict.story(&holds);
-    Ok(verdict)
+    Ok(())
 }
 
 // child-program
 
-pub const CHILD_PROGRAM: &[Value] = &[value("word", 42, Steps(43, 1, 200), "shows {d}")];
 const STEPS_OF_CHILD: u32 = 10_000;
 
-pub fn child_program(v: &Values, image: &Image, secret: u64) -> Result<Verdict, Refused> {
+pub fn child_program(v: &Values, image: &Image, secret: u64, verdict: &mut Verdict) -> Result<(), Refused> {
     let word = v.get("word");
-    let mut verdict = Verdict::new(&[
-        ("the root made a child", "chapter 12 of the tutorial has it, line by line"),
-        (&format!("with a handler table, and the child showed {word} ({word:#010x}), and nothing else"), "out, in the child's program"),
-        ("which its block had in a register: with another word there it shows that", "its registers begin as its block has them"),
-        ("after that it trapped by int, and so the root got control back", "int K, and a handler of the root for vector K"),
-        ("and the root deleted it", "deletePartition is sys 1, with the child's address in r1"),
-    ]);
     let world = image.run(Course::plain(STEPS_OF_CHILD))?;
     let mut random = Random::new(secret);
     for id in children(&world) {
-        let shown: Vec<usize> = (0..world.events.len()).filter(|k| world.events[*k].who == Some(id) && matches!(world.events[*k].act, Act::Out { .. })).collect();
+        let shown: Vec<usize> = (0..world.events.len())
+            .filter(|k| world.events[*k].who == Some(id) && matches!(world.events[*k].act, Act::Out { .. }))
+            .collect();
         let at = shown.first().copied().filter(|k| shown.len() == 1 && world.events[*k].act == Act::Out { word });
         let shows = at.is_some() && has_had_handlers(image, &world, id, at.unwrap_or(0))?;
         let Some(at) = at.filter(|_| shows) else {
@@ -99,14 +87,19 @@ pub fn child_program(v: &Values, image: &Image, secret: u64) -> Result<Verdict, 
         };
         let is_of_block = follows_block(image, &world, id, at, word, random.word())?;
         let trap = moves(&world).find(|(k, _, moved)| *k > at && moved.from == Some(id));
-        let trap = trap.filter(|(_, event, moved)| moved.to == Some(ROOT) && moved.why == Why::Trap && matches!(event.act, Act::Trap { vector: 64.. }));
+        let trap = trap.filter(|(_, event, moved)| {
+            moved.to == Some(ROOT) && moved.why == Why::Trap && matches!(event.act, Act::Trap { vector: 64.. })
+        });
         let born = world.parts[id].born;
-        let is_deleted = trap.is_some_and(|(k, _, _)| world.parts[id].ended.is_some_and(|ended| ended > k
-            && world.events[ended].answered(ROOT, DELETE, Status::Ok).is_some_and(|args| args[0] == born)));
+        let is_deleted = trap.is_some_and(|(k, _, _)| {
+            world.parts[id].ended.is_some_and(|ended| {
+                ended > k && world.events[ended].answered(ROOT, DELETE, Status::Ok).is_some_and(|args| args[0] == born)
+            })
+        });
         verdict.story(&[true, true, is_of_block, trap.is_some(), is_deleted]);
     }
     verdict.trouble = if verdict.is_whole() { Vec::new() } else { trouble(&world) };
-    Ok(verdict)
+    Ok(())
 }
 
 // Whether the child had a handler table when it showed its word.
@@ -115,11 +108,13 @@ fn has_had_handlers(image: &Image, world: &World, id: Id, at: usize) -> Result<b
     Ok(id < past.parts.len() && has_handlers(&past, id))
 }
 
-// Whether the child shows what a register of a block has by which it began, where that has the word: another word there is shown in its place.
+// Whether the child shows what a register of a block has by which it began, where that has the word: another word there
+// is shown in its place.
 fn follows_block(image: &Image, world: &World, id: Id, at: usize, word: u32, other: u32) -> Result<bool, Refused> {
     let mut left = None;
     for (entry, _, moved) in moves(world).take_while(|(k, _, _)| *k < at) {
-        let begins = moved.to == Some(id) && moved.from == Some(ROOT) && moved.why == Why::Yield && left != Some(moved.entered);
+        let begins =
+            moved.to == Some(id) && moved.from == Some(ROOT) && moved.why == Why::Yield && left != Some(moved.entered);
         for register in (0..16).filter(|register| begins && moved.entered.regs[*register as usize] == word) {
             let course = Course { edit: Some((entry, register, other)), ..Course::plain(world.events[at].place + 1) };
             if outs(&image.run(course)?).iter().any(|(_, who, shown)| *who == id && *shown == other) {
@@ -141,13 +136,18 @@ fn silence(steps: impl Iterator<Item = u32>, end: u32) -> u32 {
     longest.max(end - last)
 }
 
-/// The steps at which the line took control from another child, and the root then entered this one by what it was left with, if it was.
+/// The steps at which the line took control from another child, and the root then entered this one by what it was left
+/// with, if it was.
 fn turns(world: &World, id: Id, line: u32) -> Vec<u32> {
     let mut left = vec![None; 4];
     let mut found = Vec::new();
     for (_, event, moved) in moves(world) {
         let cpu = event.cpu.unwrap_or(0) as usize;
-        if moved.why == Why::Line && moved.to == Some(ROOT) && moved.vector == 32 + line && moved.from.is_some_and(|from| from != ROOT) {
+        if moved.why == Why::Line
+            && moved.to == Some(ROOT)
+            && moved.vector == 32 + line
+            && moved.from.is_some_and(|from| from != ROOT)
+        {
             left[cpu] = moved.from;
         } else if moved.from == Some(ROOT) && moved.to.is_some_and(|to| to != ROOT) {
             if let Some(from) = left[cpu].take()
@@ -161,7 +161,8 @@ fn turns(world: &World, id: Id, line: u32) -> Vec<u32> {
     found
 }
 
-/// Whether each child goes on as it was left: where a line interrupted it, with its pc and all registers, else with its pc.
+/// Whether each child goes on as it was left: where a line interrupted it, with its pc and all registers, else with its
+/// pc.
 fn go_on(world: &World) -> bool {
     let mut left: Vec<Option<(Why, Ctx)>> = vec![None; world.parts.len()];
     for (_, _, moved) in moves(world) {
@@ -179,7 +180,14 @@ fn go_on(world: &World) -> bool {
 
 fn drawn(line: u32, strikes: bool, random: &mut Random) -> Timer {
     let least = random.within(40, 100);
-    Timer::Drawn { line, first: random.within(400, 700), least, most: least + random.within(0, 60), strikes, seed: random.next() }
+    Timer::Drawn {
+        line,
+        first: random.within(400, 700),
+        least,
+        most: least + random.within(0, 60),
+        strikes,
+        seed: random.next(),
+    }
 }
 
 fn timer_told(timer: &Timer) -> String {
@@ -192,8 +200,8 @@ fn timer_told(timer: &Timer) -> String {
     }
 }
 
-/// The runs of a program by its own timer and by those of the judge, all of which have to be good. `judge` says of a run which claims
-/// hold, and a word on the first that doesn't.
+/// The runs of a program by its own timer and by those of the judge, all of which have to be good. `judge` says of a
+/// run which claims hold, and a word on the first that doesn't.
 fn with_timers(
     image: &Image,
     line: u32,
@@ -237,32 +245,28 @@ fn two(world: &World) -> Option<[Id; 2]> {
 
 // monitor
 
-pub const MONITOR: &[Value] =
-    &[value("line", 0, Steps(1, 1, 15), "line {d}"), value("one", 0, Steps(0x1001, 1, 0xffe), "{x}"), value("other", 0x2000, Steps(0x2001, 1, 0xffe), "{x}")];
-
-pub fn monitor(v: &Values, image: &Image, secret: u64) -> Result<Verdict, Refused> {
+pub fn monitor(v: &Values, image: &Image, secret: u64, verdict: &mut Verdict) -> Result<(), Refused> {
     let line = v.get("line");
-    let mut verdict = Verdict::new(&[
-        ("there are two children", "examples/monitor.s makes them by a subroutine"),
-        (&format!("line {line} gives each its turn after the other, again and again to the end"),
-            &format!("a timer: .line {line} FIRST PERIOD, and a handler for vector {} that yields to the other child", 32 + line)),
-        ("each goes on with what it was interrupted with", "yield(child, 63, 256); a child that begins anew has lost what it did"),
-        (&format!("one shows words with the upper half {:#x}, the other with {:#x}, and neither is silent for {LONGEST_SILENCE} steps", v.get("one"), v.get("other")),
-            "out, in each child's program, again and again; lih sets an upper half"),
-        ("no call is refused", "r0 is the status after each sys: branch where it isn't 0"),
-        ("nothing parks", "a fault that nobody takes parks: which is it? See tools/trace"),
-    ]);
     let halves = [v.get("one"), v.get("other")];
     let judge = |world: &World, count: u32| {
         let calls = [!has_refused(world), !has_parked(world)];
-        let Some(pair) = two(world) else { return (vec![false, false, false, false, calls[0], calls[1]], "there aren't two children".into()) };
+        let Some(pair) = two(world) else {
+            return (vec![false, false, false, false, calls[0], calls[1]], "there aren't two children".into());
+        };
         let quiet = pair.map(|id| silence(turns(world, id, line).into_iter(), count));
-        let good = vec![true, quiet.iter().all(|steps| *steps <= LONGEST_SILENCE), go_on(world), show_halves(world, pair, halves, count), calls[0], calls[1]];
+        let good = vec![
+            true,
+            quiet.iter().all(|steps| *steps <= LONGEST_SILENCE),
+            go_on(world),
+            show_halves(world, pair, halves, count),
+            calls[0],
+            calls[1],
+        ];
         let told = format!("one child waits {} steps for a turn, the other {}", quiet[0], quiet[1]);
         (good, told)
     };
-    with_timers(image, line, (5000, 10_000), secret, |_| None, judge, &mut verdict)?;
-    Ok(verdict)
+    with_timers(image, line, (5000, 10_000), secret, |_| None, judge, verdict)?;
+    Ok(())
 }
 
 // Whether one child shows words with the one upper half alone, and the other with the other, without a long silence.
@@ -270,7 +274,8 @@ fn show_halves(world: &World, pair: [Id; 2], halves: [u32; 2], count: u32) -> bo
     let shown = outs(world);
     let shows = |id: Id, half: u32| {
         let mine = || shown.iter().filter(move |(_, who, _)| *who == id);
-        mine().all(|(_, _, word)| word >> 16 == half) && silence(mine().map(|(step, _, _)| *step), count) <= LONGEST_SILENCE
+        mine().all(|(_, _, word)| word >> 16 == half)
+            && silence(mine().map(|(step, _, _)| *step), count) <= LONGEST_SILENCE
     };
     let [a, b] = pair;
     shows(a, halves[0]) && shows(b, halves[1]) || shows(b, halves[0]) && shows(a, halves[1])
@@ -278,54 +283,51 @@ fn show_halves(world: &World, pair: [Id; 2], halves: [u32; 2], count: u32) -> bo
 
 // tell-apart
 
-pub const TELL: &[Value] = &[
-    value("line", 0, Steps(1, 1, 15), "line {d}"),
-    value("vector", 32, After("line", 32, 1, 1), "yield(0, {d}, 63)"),
-    value("true", 1, Steps(3, 1, 97), "shows {d} for each"),
-    value("forged", 2, Steps(101, 1, 99), "shows {d}. Each"),
-];
-
-pub fn tell_apart(v: &Values, image: &Image, secret: u64) -> Result<Verdict, Refused> {
+pub fn tell_apart(v: &Values, image: &Image, secret: u64, verdict: &mut Verdict) -> Result<(), Refused> {
     let (line, vector, words) = (v.get("line"), v.get("vector"), [v.get("true"), v.get("forged")]);
-    let mut verdict = Verdict::new(&[
-        (&format!("line {line} takes control from a child, again and again to the end"), &format!(".line {line} FIRST PERIOD, and a handler for vector {vector}")),
-        ("a child forges it, again and again to the end", &format!("yield(parent, {vector}, 63), in the child's program: r1 = 0, r2 = {vector}, r3 = 63, sys 8")),
-        (&format!("the root shows {} for each line and {} for each forged one, before a child goes on, and nothing else", words[0], words[1]),
-            "a line puts 0 into r3, a yield leaves what the root's block for the vector has; and a yield doesn't mask the root"),
-        ("the child always goes on, with what it was left with", "yield(child, 63, 256), in the root's handler"),
-        ("nothing parks, and no call is refused", "see tools/trace"),
-    ]);
     let judge = |world: &World, count: u32| {
         let (owed, told) = tells(world, vector, words);
         let come = |why: Why| silence(entries(world, vector, why).into_iter(), count) <= LONGEST_SILENCE;
-        let entered = moves(world).filter(|(_, _, moved)| moved.from == Some(ROOT) && moved.to.is_some_and(|to| to != ROOT)).map(|(_, event, _)| event.place);
+        let entered = moves(world)
+            .filter(|(_, _, moved)| moved.from == Some(ROOT) && moved.to.is_some_and(|to| to != ROOT))
+            .map(|(_, event, _)| event.place);
         let on = go_on(world) && silence(entered, count) <= LONGEST_SILENCE;
         let calm = !has_parked(world) && !has_refused(world);
         (vec![come(Why::Line), come(Why::Yield), owed, on, calm], told)
     };
     let forge = vec![li(1, 0), li(2, vector as u16), li(3, 63), Instr::Sys { value: 8 }];
     let hostile = |random: &mut Random| Some(Hostile::new(vec![restless(random, &[forge.clone()], (0, 40))]));
-    with_timers(image, line, (3000, 6000), secret, hostile, judge, &mut verdict)?;
-    Ok(verdict)
+    with_timers(image, line, (3000, 6000), secret, hostile, judge, verdict)?;
+    Ok(())
 }
 
 fn entries(world: &World, vector: u32, why: Why) -> Vec<u32> {
-    let to_root = moves(world).filter(|(_, _, moved)| moved.to == Some(ROOT) && moved.vector == vector && moved.why == why && moved.from.is_some_and(|from| from != ROOT));
+    let to_root = moves(world).filter(|(_, _, moved)| {
+        moved.to == Some(ROOT)
+            && moved.vector == vector
+            && moved.why == why
+            && moved.from.is_some_and(|from| from != ROOT)
+    });
     to_root.map(|(_, event, _)| event.place).collect()
 }
 
-// Whether the root shows the word of each line and of each forged one before a child goes on; where both are due, in any order.
+// Whether the root shows the word of each line and of each forged one before a child goes on; where both are due, in
+// any order.
 fn tells(world: &World, vector: u32, words: [u32; 2]) -> (bool, String) {
     let mut owed: Vec<u32> = Vec::new();
     for event in &world.events {
         let moved = event.moved.as_deref();
-        if let Some(moved) = moved.filter(|moved| moved.to == Some(ROOT) && moved.vector == vector && matches!(moved.why, Why::Line | Why::Yield)) {
+        if let Some(moved) = moved.filter(|moved| {
+            moved.to == Some(ROOT) && moved.vector == vector && matches!(moved.why, Why::Line | Why::Yield)
+        }) {
             if moved.why == Why::Line || moved.from != Some(ROOT) {
                 owed.push(words[usize::from(moved.why == Why::Yield)]);
             }
         } else if let Act::Out { word } = event.act {
             if event.who == Some(ROOT) {
-                let Some(at) = owed.iter().position(|due| *due == word) else { return (false, format!("step {}: the root shows {word}, which isn't due", event.place)) };
+                let Some(at) = owed.iter().position(|due| *due == word) else {
+                    return (false, format!("step {}: the root shows {word}, which isn't due", event.place));
+                };
                 owed.remove(at);
             }
         } else if moved.is_some_and(|moved| moved.to.is_some_and(|to| to != ROOT)) && !owed.is_empty() {
@@ -337,38 +339,40 @@ fn tells(world: &World, vector: u32, words: [u32; 2]) -> (bool, String) {
 
 // no-loss
 
-pub const NO_LOSS: &[Value] = &[value("request", 70, Steps(71, 1, 179), "int {d}"), value("line", 0, Steps(1, 1, 15), "line {d}")];
-
-pub fn no_loss(v: &Values, image: &Image, secret: u64) -> Result<Verdict, Refused> {
+pub fn no_loss(v: &Values, image: &Image, secret: u64, verdict: &mut Verdict) -> Result<(), Refused> {
     let (request, line) = (v.get("request"), v.get("line"));
-    let mut verdict = Verdict::new(&[
-        (&format!("two children ask by the trap {request}, again and again to the end"),
-            &format!("int {request} in the children's program, in a loop, and a handler of the root for vector {request}")),
-        ("the timer gives each its turn after the other, to the end", &format!("a handler for vector {} that yields to the other child", 32 + line)),
-        ("each request is shown by the root, once, before the child goes on, and the root shows nothing else",
-            "a line can come before your handler has begun. Where is the root saved then, and who lets it go on?"),
-        ("a child goes on with what it was left with, and no request waits to the end", &format!("the handler of vector {request} has one out, and lets the child go on by its block for 63")),
-        ("nothing parks, whatever the timer is", "a child that is never answered, or a root that faults: tools/trace shows the step"),
-    ]);
     let judge = |world: &World, count: u32| {
         let calm = !has_parked(world);
-        let Some(pair) = two(world) else { return (vec![false, false, false, false, calm], "there aren't two children".into()) };
+        let Some(pair) = two(world) else {
+            return (vec![false, false, false, false, calm], "there aren't two children".into());
+        };
         let asked = pair.map(|id| silence(requests(world, id, request).into_iter(), count));
         let quiet = pair.map(|id| silence(turns(world, id, line).into_iter(), count));
         let loss = lost(world, request, count);
-        let good = vec![asked.iter().all(|steps| *steps <= LONGEST_SILENCE), quiet.iter().all(|steps| *steps <= LONGEST_SILENCE), loss.is_none(), go_on(world), calm];
-        let waits = format!("one child asks nothing for {} steps, the other for {}; one waits {} steps for a turn, the other {}", asked[0], asked[1], quiet[0], quiet[1]);
+        let good = vec![
+            asked.iter().all(|steps| *steps <= LONGEST_SILENCE),
+            quiet.iter().all(|steps| *steps <= LONGEST_SILENCE),
+            loss.is_none(),
+            go_on(world),
+            calm,
+        ];
+        let waits = format!(
+            "one child asks nothing for {} steps, the other for {}; one waits {} steps for a turn, the other {}",
+            asked[0], asked[1], quiet[0], quiet[1]
+        );
         (good, loss.unwrap_or(waits))
     };
-    with_timers(image, line, (6000, 9000), secret, |_| None, judge, &mut verdict)?;
+    with_timers(image, line, (6000, 9000), secret, |_| None, judge, verdict)?;
     if verdict.is_whole() {
         verdict.remarks.push(format!("your timer and {TIMERS} others were tried"));
     }
-    Ok(verdict)
+    Ok(())
 }
 
 fn requests(world: &World, id: Id, request: u32) -> Vec<u32> {
-    let asked = moves(world).filter(|(_, _, moved)| moved.from == Some(id) && moved.to == Some(ROOT) && moved.vector == request && moved.why == Why::Trap);
+    let asked = moves(world).filter(|(_, _, moved)| {
+        moved.from == Some(id) && moved.to == Some(ROOT) && moved.vector == request && moved.why == Why::Trap
+    });
     asked.map(|(_, event, _)| event.place).collect()
 }
 
@@ -378,17 +382,25 @@ fn lost(world: &World, request: u32, count: u32) -> Option<String> {
     let mut served = 0;
     for event in &world.events {
         let moved = event.moved.as_deref();
-        if let Some(from) = moved.filter(|moved| moved.to == Some(ROOT) && moved.vector == request && moved.why == Why::Trap).and_then(|moved| moved.from) {
+        if let Some(from) = moved
+            .filter(|moved| moved.to == Some(ROOT) && moved.vector == request && moved.why == Why::Trap)
+            .and_then(|moved| moved.from)
+        {
             asked.push((from, event.place));
         } else if matches!(event.act, Act::Out { .. }) && event.who == Some(ROOT) {
             served += 1;
             if served > asked.len() {
                 return Some(format!("step {}: the root shows a word that nobody asked for", event.place));
             }
-        } else if let Some(at) = moved.and_then(|moved| moved.to).and_then(|to| asked.iter().position(|(id, _)| *id == to)) {
+        } else if let Some(at) =
+            moved.and_then(|moved| moved.to).and_then(|to| asked.iter().position(|(id, _)| *id == to))
+        {
             let (id, step) = asked.remove(at);
             if served == 0 {
-                return Some(format!("step {}: partition {} goes on, and its request of step {step} wasn't served", event.place, world.parts[id].name));
+                return Some(format!(
+                    "step {}: partition {} goes on, and its request of step {step} wasn't served",
+                    event.place, world.parts[id].name
+                ));
             }
             served -= 1;
         }

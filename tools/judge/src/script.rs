@@ -107,7 +107,12 @@ pub fn trouble(world: &World, text: &[u8]) -> Vec<String> {
     let mut found = Vec::new();
     for event in world.events.iter().filter(|event| event.is_trouble() && event.place > 0) {
         if let Some((_, line)) = lines.iter().find(|(number, _)| *number == event.place) {
-            found.push(alloc::format!("{}\t{}\t{}", event.place, String::from_utf8_lossy(line), outcome_text(&event.outcome).as_str()));
+            found.push(alloc::format!(
+                "{}\t{}\t{}",
+                event.place,
+                String::from_utf8_lossy(line),
+                outcome_text(&event.outcome).as_str()
+            ));
         }
     }
     found

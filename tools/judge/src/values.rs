@@ -1,90 +1,118 @@
-//! The values of an exercise: addresses, words and numbers that each student may have of his own, by a seed.
+//! What `claims.txt` says of an exercise: its values, addresses, words and numbers that each student may have of his
+//! own by a seed, and its claims with their hints.
 
 use crate::random::Random;
 use alloc::format;
 use alloc::string::{String, ToString};
 use alloc::vec::Vec;
 
-/// What a seed may give.
-pub enum Choice {
-    /// One of `count` numbers, from a first one on, with this distance.
-    Steps(u32, u32, u32),
-    /// The same after an earlier value.
-    After(&'static str, u32, u32, u32),
+static CLAIMS: &str = include_str!("claims.txt");
+
+/// The lines of an exercise that begin with a mark.
+pub fn lines_of(name: &str, mark: &'static str) -> impl Iterator<Item = &'static str> {
+    let begin = format!("= {name}");
+    let mine = CLAIMS.lines().skip_while(move |line| *line != begin).skip(1).take_while(|line| !line.starts_with('='));
+    mine.filter_map(move |line| line.strip_prefix(mark))
 }
 
-/// A number that is in the exercise's text, by its name; `form` is how the text has it, `{x}` or `{d}` for the number.
-pub struct Value {
-    pub name: &'static str,
-    pub usual: u32,
-    pub choice: Choice,
-    pub form: &'static str,
-}
+/// The values of an exercise: name, number, usual number, and how the text has it.
+pub struct Values(Vec<(&'static str, u32, u32, &'static str)>);
 
-pub const fn value(name: &'static str, usual: u32, choice: Choice, form: &'static str) -> Value {
-    Value { name, usual, choice, form }
+fn number(text: &str) -> u32 {
+    text.strip_prefix("0x").map_or_else(|| text.parse(), |digits| u32::from_str_radix(digits, 16)).unwrap_or(0)
 }
-
-/// The values that are drawn.
-#[derive(Default)]
-pub struct Values(Vec<(&'static str, u32)>);
 
 impl Values {
     pub fn get(&self, name: &str) -> u32 {
-        self.0.iter().find(|(known, _)| *known == name).map_or(0, |(_, number)| *number)
+        self.0.iter().find(|(known, ..)| *known == name).map_or(0, |(_, number, ..)| *number)
     }
 
     /// By a seed; without one the usual ones. By a seed all differ from the usual ones, and from each other.
-    pub fn drawn(exercise: &str, values: &[Value], seed: &str) -> Values {
-        let mut found = Values::default();
-        for value in values {
-            let number = if seed.is_empty() { value.usual } else { found.one(exercise, value, seed) };
-            found.0.push((value.name, number));
+    pub fn drawn(exercise: &str, seed: &str) -> Values {
+        let mut found = Values(Vec::new());
+        for line in lines_of(exercise, "? ") {
+            let mut words = line.splitn(6, ' ');
+            let (name, usual, first) =
+                (words.next().unwrap_or(""), words.next().unwrap_or(""), words.next().unwrap_or(""));
+            let (step, count) = (words.next().map_or(0, number), words.next().map_or(1, number));
+            let mut random = Random::of(&[exercise, seed, name]);
+            let value = if seed.is_empty() {
+                number(usual)
+            } else {
+                found.one(number(usual), found.sum(first), step, count, &mut random)
+            };
+            found.0.push((name, value, number(usual), words.next().unwrap_or("")));
         }
         found
     }
 
-    fn one(&self, exercise: &str, value: &Value, seed: &str) -> u32 {
-        let mut random = Random::of(&[exercise, seed, value.name]);
-        let (first, step, count) = match value.choice {
-            Choice::Steps(first, step, count) => (first, step, count),
-            Choice::After(name, after, step, count) => (self.get(name) + after, step, count),
-        };
+    fn one(&self, usual: u32, first: u32, step: u32, count: u32, random: &mut Random) -> u32 {
         loop {
-            let number = first + step * random.within(0, count - 1);
-            let is_taken = number == value.usual || self.0.iter().any(|(_, other)| *other == number);
-            if !is_taken || count == 1 {
-                return number;
+            let drawn = first + step * random.within(0, count - 1);
+            if count == 1 || drawn != usual && self.0.iter().all(|(_, other, ..)| *other != drawn) {
+                return drawn;
             }
         }
     }
-}
 
-pub fn shown(value: &Value, number: u32) -> String {
-    value.form.replace("{x}", &format!("{number:#x}")).replace("{d}", &number.to_string())
-}
+    // A number, a value, or the sum of a value and a number.
+    fn sum(&self, text: &str) -> u32 {
+        if text.starts_with(|first: char| first.is_ascii_digit()) {
+            return number(text);
+        }
+        let (name, more) = text.split_once('+').unwrap_or((text, "0"));
+        self.get(name) + number(more)
+    }
 
-/// A text with the values in the place of the usual ones. Words may have the end of a line between them, and a remark's mark.
-pub fn retold(text: &str, values: &[Value], found: &Values) -> String {
-    let pairs: Vec<(String, String)> = values.iter().map(|value| (shown(value, value.usual), shown(value, found.get(value.name)))).collect();
-    let mut told = String::new();
-    let mut at = 0;
-    while let Some(letter) = text[at..].chars().next() {
-        let after_word = told.chars().next_back().is_some_and(|last| last.is_alphanumeric() || last == '_' || last == '.');
-        let hits = pairs.iter().filter(|_| !after_word).filter_map(|(usual, new)| length(&text[at..], usual).map(|length| (length, new)));
-        let hit = hits.max_by_key(|(length, _)| *length);
-        match hit {
-            Some((length, new)) => {
+    /// A claim or a hint with the values in it.
+    pub fn filled(&self, text: &str) -> String {
+        let mut parts = text.split(['{', '}']);
+        let mut told: String = parts.next().unwrap_or("").into();
+        while let (Some(inner), Some(after)) = (parts.next(), parts.next()) {
+            let (form, name) = inner.split_once(':').unwrap_or(("", inner));
+            told += &written(self.sum(name), form == "x");
+            told += after;
+        }
+        told
+    }
+
+    /// Each value: name, number, and how the text has it.
+    pub fn told(&self) -> impl Iterator<Item = (&'static str, u32, String)> {
+        self.0.iter().map(|(name, number, _, form)| (*name, *number, shown(form, *number)))
+    }
+
+    /// A text with the values in the place of the usual ones. Words may have the end of a line between them, and a
+    /// remark's mark.
+    pub fn retold(&self, text: &str) -> String {
+        let pairs: Vec<(String, String)> =
+            self.0.iter().map(|(_, new, usual, form)| (shown(form, *usual), shown(form, *new))).collect();
+        let mut told = String::new();
+        let mut at = 0;
+        while let Some(letter) = text[at..].chars().next() {
+            let after_word = told.ends_with(|last: char| last.is_alphanumeric() || last == '_' || last == '.');
+            let hits = pairs
+                .iter()
+                .filter(|_| !after_word)
+                .filter_map(|(usual, new)| Some((length(&text[at..], usual)?, new)));
+            if let Some((length, new)) = hits.max_by_key(|(length, _)| *length) {
                 told.push_str(new);
                 at += length;
-            }
-            None => {
+            } else {
                 told.push(letter);
                 at += letter.len_utf8();
             }
         }
+        told
     }
-    told
+}
+
+fn written(number: u32, is_hexadecimal: bool) -> String {
+    if is_hexadecimal { format!("{number:#x}") } else { number.to_string() }
+}
+
+fn shown(form: &str, number: u32) -> String {
+    let (before, after) = form.split_once('{').unwrap_or((form, "}"));
+    format!("{before}{}{}", written(number, after.starts_with('x')), after.split_once('}').map_or("", |(_, rest)| rest))
 }
 
 // How long these words are at the front of a text, where they end there.
@@ -96,6 +124,6 @@ fn length(text: &str, words: &str) -> Option<usize> {
         }
         rest = rest.strip_prefix(word)?;
     }
-    let ends = !rest.chars().next().is_some_and(|next| next.is_alphanumeric() || next == '_');
-    ends.then_some(text.len() - rest.len())
+    let is_inside = rest.starts_with(|next: char| next.is_alphanumeric() || next == '_');
+    (!is_inside).then_some(text.len() - rest.len())
 }

@@ -3,14 +3,8 @@
 use alloc::string::String;
 use alloc::vec::Vec;
 
-pub struct Claim {
-    pub told: String,
-    pub hint: String,
-}
-
 #[derive(Default)]
 pub struct Verdict {
-    pub claims: Vec<Claim>,
     pub holds: Vec<bool>,
     pub remarks: Vec<String>,
     /// What was refused or parked: see `script::trouble` and `program::trouble`.
@@ -18,20 +12,15 @@ pub struct Verdict {
 }
 
 impl Verdict {
-    pub fn new(claims: &[(&str, &str)]) -> Verdict {
-        let claims: Vec<Claim> = claims.iter().map(|(told, hint)| Claim { told: (*told).into(), hint: (*hint).into() }).collect();
-        Verdict { holds: alloc::vec![false; claims.len()], claims, ..Verdict::default() }
-    }
-
     /// A story: one subject, one processor, one interval. That of which most claims hold is told.
     pub fn story(&mut self, holds: &[bool]) {
         let count = |row: &[bool]| row.iter().filter(|good| **good).count();
-        if count(holds) > count(&self.holds) {
+        if self.holds.is_empty() || count(holds) > count(&self.holds) {
             self.holds = holds.into();
         }
     }
 
     pub fn is_whole(&self) -> bool {
-        self.holds.iter().all(|good| *good)
+        !self.holds.is_empty() && self.holds.iter().all(|good| *good)
     }
 }

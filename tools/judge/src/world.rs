@@ -1,4 +1,5 @@
-//! A machine with what happened on it: who is who by creation, what each event meant when it came, and who wrote each byte last.
+//! A machine with what happened on it: who is who by creation, what each event meant when it came, and who wrote each
+//! byte last.
 
 use crate::random::Random;
 use alloc::boxed::Box;
@@ -95,7 +96,8 @@ pub struct Moved {
     pub saved: Option<At>,
     /// The context that it was left with.
     pub left: Option<Ctx>,
-    /// The event that saved what is entered, where the block still has all of that; None where it begins by a block that was written.
+    /// The event that saved what is entered, where the block still has all of that; None where it begins by a block
+    /// that was written.
     pub resumed: Option<usize>,
 }
 
@@ -193,7 +195,16 @@ impl World {
         let root = Part { name: 1, parent: ROOT, born: 0, made: 0, ended: None };
         let mut writers = Vec::new();
         writers.resize_with(frames as usize, || None);
-        World { machine, parts: vec![root], events: Vec::new(), place: 0, hostile: None, stalls: None, is_program, writers }
+        World {
+            machine,
+            parts: vec![root],
+            events: Vec::new(),
+            place: 0,
+            hostile: None,
+            stalls: None,
+            is_program,
+            writers,
+        }
     }
 
     // Looking
@@ -338,7 +349,8 @@ impl World {
             self.events.get(writer as usize).is_some_and(|event| matches!(event.act, Act::Store { .. }) && who(event))
         };
         let mut bytes = word.to_le_bytes().into_iter().zip(writers);
-        writers.iter().any(|writer| by(*writer)) && bytes.all(|(byte, writer)| by(*writer) || *writer == NOBODY && byte == 0)
+        writers.iter().any(|writer| by(*writer))
+            && bytes.all(|(byte, writer)| by(*writer) || *writer == NOBODY && byte == 0)
     }
 
     /// Whether a partition finds this word there now, which another stored.
@@ -388,7 +400,16 @@ impl World {
         if let Some(at) = moved.as_ref().and_then(|moved| moved.saved) {
             self.wrote(at.frame, 4 * at.index as usize..4 * at.index as usize + 68, number as u32);
         }
-        let event = Event { place: self.place, cpu, who: before.who, act, outcome, before: before.ctx, moved, cleared: Vec::new() };
+        let event = Event {
+            place: self.place,
+            cpu,
+            who: before.who,
+            act,
+            outcome,
+            before: before.ctx,
+            moved,
+            cleared: Vec::new(),
+        };
         self.events.push(event);
     }
 
@@ -422,7 +443,10 @@ impl World {
         if no == CREATE {
             self.parts.push(Part { name: frame, parent: caller, born: args[0], made: number, ended: None });
         } else if no == DELETE {
-            let child = self.parts.iter().position(|part| part.ended.is_none() && part.parent == caller && part.born == args[0]);
+            let child = self
+                .parts
+                .iter()
+                .position(|part| part.ended.is_none() && part.parent == caller && part.born == args[0]);
             if let Some(child) = child.filter(|child| *child != ROOT) {
                 self.end(child, number);
             }
@@ -462,7 +486,9 @@ impl Port for World {
 
     fn load<L: Ledger>(&mut self, cpu: u32, va: u32, size: Size, steps: &mut Steps<L>) -> Outcome {
         if self.is_program {
-            return self.quick(cpu, Act::Load { va, size, at: None, writers: [NOBODY; 4] }, |machine| machine.load(cpu, va, size, steps));
+            return self.quick(cpu, Act::Load { va, size, at: None, writers: [NOBODY; 4] }, |machine| {
+                machine.load(cpu, va, size, steps)
+            });
         }
         let before = self.before(cpu, SAVED);
         let at = before.who.and_then(|id| self.at(id, va));
@@ -478,7 +504,11 @@ impl Port for World {
         let place = before.who.and_then(|id| self.at(id, va));
         let outcome = self.machine.store(cpu, va, size, word, steps);
         let at = place.filter(|_| outcome == Outcome::Done);
-        let bytes = if size == Size::Word { va as usize % 4096..va as usize % 4096 + 4 } else { va as usize % 4096..va as usize % 4096 + 1 };
+        let bytes = if size == Size::Word {
+            va as usize % 4096..va as usize % 4096 + 4
+        } else {
+            va as usize % 4096..va as usize % 4096 + 1
+        };
         let writer = if self.is_program { PROGRAM } else { self.events.len() as u32 };
         if let Some(at) = at {
             self.wrote(at.frame, bytes, writer);
@@ -495,7 +525,9 @@ impl Port for World {
         if who.is_some_and(|id| id != ROOT) && self.stalls.as_mut().is_some_and(|random| random.within(0, 3) == 0) {
             return Outcome::Word(STAY);
         }
-        if let (Some(hostile), Some(id), Some(ctx)) = (self.hostile.as_mut(), who.filter(|id| *id != ROOT), self.machine.ctx(cpu)) {
+        if let (Some(hostile), Some(id), Some(ctx)) =
+            (self.hostile.as_mut(), who.filter(|id| *id != ROOT), self.machine.ctx(cpu))
+        {
             return Outcome::Word(hostile.word(id, ctx.pc));
         }
         if !self.is_program {
@@ -576,12 +608,17 @@ impl Port for World {
 }
 
 impl World {
-    // An event of a program that is logged only where another partition runs after it. A poll that takes nothing saves nothing, so
-    // that its block is looked for only where a line is pending.
+    // An event of a program that is logged only where another partition runs after it. A poll that takes nothing saves
+    // nothing, so that its block is looked for only where a line is pending.
     fn quick(&mut self, cpu: u32, act: Act, make: impl FnOnce(&mut Machine<RawFrames>) -> Outcome) -> Outcome {
         let can_move = match act {
             Act::Poll => self.pending() != 0,
-            Act::Fetch => self.at_pc(cpu).is_none() || self.runs(cpu).is_some_and(|id| self.ctx(cpu).is_some_and(|ctx| ctx.pc % 4 != 0 || self.rights(id, ctx.pc) & 4 == 0)),
+            Act::Fetch => {
+                self.at_pc(cpu).is_none()
+                    || self.runs(cpu).is_some_and(|id| {
+                        self.ctx(cpu).is_some_and(|ctx| ctx.pc % 4 != 0 || self.rights(id, ctx.pc) & 4 == 0)
+                    })
+            }
             _ => true,
         };
         let before = can_move.then(|| self.before(cpu, SAVED));
