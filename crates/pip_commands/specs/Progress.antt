@@ -8,6 +8,7 @@ use Rattle.pip_input.specs.Held.{Held}
 use Rattle.pip_input.specs.Lines.{HasNoNewline, HoldsLine, HoldsPart, still}
 use Rattle.pip_input.specs.declared.input.LineEnd.TheVariants.{Newline}
 use Rattle.pip_io.specs.Causes.{RoseByOne}
+use Rattle.pip_io.specs.Moments.{NoneFailed}
 use Rattle.pip_io.specs.Taken.{Taken, Appends, AppendsPart, Keeps, SendsPart}
 use Rattle.pip_model.specs.Grammar.{lines_of}
 use Rattle.pip_model.specs.Text.{Transcript, finished, bad_at, text_before, line_text, transcript_from}
@@ -35,11 +36,6 @@ status_of Limit = 6
 -- the bytes that come next: those that are held, and those that the source has left
 abbrev pub bytes_coming : Held → Streams → Option (List ℕ)
 bytes_coming i a = prepend_known i.bytes a.left
-
--- no read and no write has failed
-pub record NoneFailed (a b : Streams) : Type 0 where
-  pub reads : b.reads ≡ a.reads
-  pub writes : b.writes ≡ a.writes
 
 -- Whole lines were run: from world v at line n to world v' at line n', with this text. Whatever follows the
 -- lines is told from there. As long as there is no world there is no text
