@@ -4,7 +4,8 @@ ghost use Rattle.std.specs.Io.KnownBytes.{Keeps, prepend_known};
 ghost use Rattle.pip_base.specs.Memory.{zeros};
 ghost use Rattle.pip_input.specs.Lines.{HoldsLine, HoldsPart, IsLineless, still};
 ghost use Rattle.pip_io.specs.Causes.{HasCause};
-ghost use Rattle.pip_io.specs.Pacing.{MayRead};
+ghost use Rattle.pip_io.specs.Moments.{joined};
+ghost use Rattle.pip_io.specs.Pacing.{MayRead, MayReadOn};
 ghost use Rattle.pip_io.specs.Taken.{plain};
 ghost use Rattle.pip_core_text.specs.CoreRead.{BeginsLines, IsText, RefusesText};
 
@@ -45,9 +46,7 @@ fn next_line<S: Source, K: Sink>(
 ) -> Result<LineEnd, Failed>
     requires is_open { S.is_open joint.old.source.now }
     requires settled { (K.written joint.old.sink.now).held ≡ [] }
-    requires paced { MayRead S.allows (IsLineless input.old) (S.left joint.old.source.now)
-        (S.faults joint.old.source.now)
-        (K.written joint.old.sink.now) (K.faults joint.old.sink.now) }
+    requires paced { MayReadOn S.allows (IsLineless input.old) (joined S.left S.faults K.written K.faults joint.old) }
     ensures same_source { joint.new.source.ghost_name ≡ joint.old.source.ghost_name }
     ensures sink { joint.new.sink ≡ joint.old.sink }
     ensures kept { Keeps (prepend_known input.old.bytes (S.left joint.old.source.now))
@@ -90,8 +89,8 @@ pub fn read_core_from_joint<S: Source, K: Sink, M: Frames>(
 ) -> Result<(), CoreError>
     requires is_open { S.is_open joint.old.source.now }
     requires settled { (K.written joint.old.sink.now).held ≡ [] }
-    requires paced { MayRead S.allows (BeginsLines (length (M.memory mem.old))) (S.left joint.old.source.now)
-        (S.faults joint.old.source.now) (K.written joint.old.sink.now) (K.faults joint.old.sink.now) }
+    requires paced { MayReadOn S.allows (BeginsLines (length (M.memory mem.old)))
+        (joined S.left S.faults K.written K.faults joint.old) }
     requires zeros { M.memory mem.old ≡ replicate (length (M.memory mem.old)) (zeros 1024) }
     requires most { length (M.memory mem.old) ≤ 4096 }
     ensures same_source { joint.new.source.ghost_name ≡ joint.old.source.ghost_name }

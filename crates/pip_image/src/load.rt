@@ -4,7 +4,8 @@ ghost use Rattle.pip_model.specs.Boot.{boot_tree, frame_of_root};
 ghost use Rattle.pip_model.specs.Images.{has_row};
 ghost use Rattle.pip_model.specs.Layout.{LaysOut};
 ghost use Rattle.pip_model.specs.Tree.{Tree};
-ghost use Rattle.pip_io.specs.Pacing.{MayRead};
+ghost use Rattle.pip_io.specs.Moments.{joined};
+ghost use Rattle.pip_io.specs.Pacing.{MayReadOn};
 ghost use Rattle.pip_image.specs.Coming.{coming, IsAfter};
 ghost use Rattle.pip_image.specs.Loading.{AreWords, LoadsAll, LoadsUpTo, with_page};
 ghost use Rattle.pip_image.specs.Pacing.{IsFaultless};
@@ -28,8 +29,8 @@ pub fn load_from_joint<S: Source, K: Sink, M: Frames>(
     requires boot { LaysOut (boot_tree head.now.frames) (M.memory mem.old) }
     requires is_open { S.is_open joint.old.source.now }
     requires settled { (K.written joint.old.sink.now).held ≡ [] }
-    requires paced { MayRead S.allows (IsFaultless (coming reader.old.place)) (S.left joint.old.source.now)
-        (S.faults joint.old.source.now) (K.written joint.old.sink.now) (K.faults joint.old.sink.now) }
+    requires paced { MayReadOn S.allows (IsFaultless (coming reader.old.place))
+        (joined S.left S.faults K.written K.faults joint.old) }
     ensures same_source { joint.new.source.ghost_name ≡ joint.old.source.ghost_name }
     ensures sink { joint.new.sink ≡ joint.old.sink }
     ensures loaded { MatchResult result

@@ -1,7 +1,8 @@
 //! A reader of images.
 ghost use Rattle.std.specs.Prelude.{◌≡◌, ◌+◌, ◌≤◌, ◌<◌, ◌∷◌, [], MatchResult, MatchOption, IfOk, IfSome, OnOk, nat_lt};
 ghost use Rattle.pip_model.specs.Images.{Head, Line, Holds, image_parts};
-ghost use Rattle.pip_io.specs.Pacing.{MayRead};
+ghost use Rattle.pip_io.specs.Moments.{joined};
+ghost use Rattle.pip_io.specs.Pacing.{MayReadOn};
 ghost use Rattle.pip_image.specs.Coming.{coming, IsNew, IsAfter, IsHeader, IsNextPage, header_parts};
 ghost use Rattle.pip_image.specs.Pacing.{IsHeaderless, IsPartless};
 ghost use Rattle.pip_image.specs.Reading.{TakesParts, EndsInput, Refuses, RefusesHeader};
@@ -43,8 +44,7 @@ impl JointReader {
         requires new { IsNew self.old.place }
         requires is_open { S.is_open joint.old.source.now }
         requires settled { (K.written joint.old.sink.now).held ≡ [] }
-        requires paced { MayRead S.allows IsHeaderless (S.left joint.old.source.now) (S.faults joint.old.source.now)
-            (K.written joint.old.sink.now) (K.faults joint.old.sink.now) }
+        requires paced { MayReadOn S.allows IsHeaderless (joined S.left S.faults K.written K.faults joint.old) }
         ensures same_source { joint.new.source.ghost_name ≡ joint.old.source.ghost_name }
         ensures sink { joint.new.sink ≡ joint.old.sink }
         ensures reads { MatchResult result
@@ -88,9 +88,8 @@ impl JointReader {
         requires new { IsNew self.old.place }
         requires is_open { S.is_open joint.old.source.now }
         requires settled { (K.written joint.old.sink.now).held ≡ [] }
-        requires paced { MayRead S.allows (IsPartless image_parts) (S.left joint.old.source.now)
-            (S.faults joint.old.source.now)
-            (K.written joint.old.sink.now) (K.faults joint.old.sink.now) }
+        requires paced { MayReadOn S.allows (IsPartless image_parts)
+            (joined S.left S.faults K.written K.faults joint.old) }
         ensures same_source { joint.new.source.ghost_name ≡ joint.old.source.ghost_name }
         ensures sink { joint.new.sink ≡ joint.old.sink }
         ensures reads { MatchResult result
@@ -126,9 +125,8 @@ impl JointReader {
         requires plans { 0 < self.old.place.plans }
         requires is_open { S.is_open joint.old.source.now }
         requires settled { (K.written joint.old.sink.now).held ≡ [] }
-        requires paced { MayRead S.allows (IsPartless (coming self.old.place)) (S.left joint.old.source.now)
-            (S.faults joint.old.source.now)
-            (K.written joint.old.sink.now) (K.faults joint.old.sink.now) }
+        requires paced { MayReadOn S.allows (IsPartless (coming self.old.place))
+            (joined S.left S.faults K.written K.faults joint.old) }
         ensures same_source { joint.new.source.ghost_name ≡ joint.old.source.ghost_name }
         ensures sink { joint.new.sink ≡ joint.old.sink }
         ensures reads { MatchResult result
@@ -169,9 +167,8 @@ impl JointReader {
         requires plans { self.old.place.plans ≡ 0 }
         requires is_open { S.is_open joint.old.source.now }
         requires settled { (K.written joint.old.sink.now).held ≡ [] }
-        requires paced { MayRead S.allows (IsPartless (coming self.old.place)) (S.left joint.old.source.now)
-            (S.faults joint.old.source.now)
-            (K.written joint.old.sink.now) (K.faults joint.old.sink.now) }
+        requires paced { MayReadOn S.allows (IsPartless (coming self.old.place))
+            (joined S.left S.faults K.written K.faults joint.old) }
         ensures same_source { joint.new.source.ghost_name ≡ joint.old.source.ghost_name }
         ensures sink { joint.new.sink ≡ joint.old.sink }
         ensures reads { MatchResult result
@@ -204,9 +201,8 @@ impl JointReader {
         requires pages { self.old.place.pages ≡ 0 }
         requires is_open { S.is_open joint.old.source.now }
         requires settled { (K.written joint.old.sink.now).held ≡ [] }
-        requires paced { MayRead S.allows (IsPartless (coming self.old.place)) (S.left joint.old.source.now)
-            (S.faults joint.old.source.now)
-            (K.written joint.old.sink.now) (K.faults joint.old.sink.now) }
+        requires paced { MayReadOn S.allows (IsPartless (coming self.old.place))
+            (joined S.left S.faults K.written K.faults joint.old) }
         ensures same_source { joint.new.source.ghost_name ≡ joint.old.source.ghost_name }
         ensures sink { joint.new.sink ≡ joint.old.sink }
         ensures place { self.new.place ≡ self.old.place }
@@ -235,9 +231,8 @@ impl JointReader {
         requires pages { 0 < self.old.place.pages }
         requires is_open { S.is_open joint.old.source.now }
         requires settled { (K.written joint.old.sink.now).held ≡ [] }
-        requires paced { MayRead S.allows (IsPartless (coming self.old.place)) (S.left joint.old.source.now)
-            (S.faults joint.old.source.now)
-            (K.written joint.old.sink.now) (K.faults joint.old.sink.now) }
+        requires paced { MayReadOn S.allows (IsPartless (coming self.old.place))
+            (joined S.left S.faults K.written K.faults joint.old) }
         ensures same_source { joint.new.source.ghost_name ≡ joint.old.source.ghost_name }
         ensures sink { joint.new.sink ≡ joint.old.sink }
         ensures reads { MatchResult result

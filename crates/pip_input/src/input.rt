@@ -3,7 +3,8 @@ ghost use Rattle.std.specs.Prelude.{◌≡◌, ◌≤◌, ◌<◌, ℕ, List, []
 ghost use Rattle.std.specs.declared.option.Option.{Option};
 ghost use Rattle.std.specs.Io.KnownBytes.{Keeps, prepend_known};
 ghost use Rattle.pip_io.specs.Causes.{HasCause};
-ghost use Rattle.pip_io.specs.Pacing.{MayRead};
+ghost use Rattle.pip_io.specs.Moments.{joined};
+ghost use Rattle.pip_io.specs.Pacing.{MayReadOn};
 ghost use Rattle.pip_input.specs.Lines.{BeginsLine, HasNoNewline, HoldsLine, HoldsPart, IsLineless, ReadsOn, still};
 
 use pip_base::{MAX_INPUT, MAX_LINE};
@@ -93,9 +94,8 @@ impl Input {
         requires part { HoldsPart (still self.old) self.old }
         requires is_open { S.is_open joint.old.source.now }
         requires settled { (K.written joint.old.sink.now).held ≡ [] }
-        requires paced { MayRead S.allows (IsLineless self.old) (S.left joint.old.source.now)
-            (S.faults joint.old.source.now)
-            (K.written joint.old.sink.now) (K.faults joint.old.sink.now) }
+        requires paced { MayReadOn S.allows (IsLineless self.old)
+            (joined S.left S.faults K.written K.faults joint.old) }
         ensures same_source { joint.new.source.ghost_name ≡ joint.old.source.ghost_name }
         ensures sink { joint.new.sink ≡ joint.old.sink }
         ensures kept { Keeps (prepend_known self.old.bytes (S.left joint.old.source.now))

@@ -2,7 +2,8 @@
 ghost use Rattle.std.specs.Prelude.{◌≡◌, ◌<◌, ◌≤◌, [], IfOk, OnOk, MatchResult};
 ghost use Rattle.std.specs.List.{AllByRecursion};
 ghost use Rattle.pip_base.specs.declared.types.Plan.{Plan};
-ghost use Rattle.pip_io.specs.Pacing.{MayRead};
+ghost use Rattle.pip_io.specs.Moments.{joined};
+ghost use Rattle.pip_io.specs.Pacing.{MayReadOn};
 ghost use Rattle.pip_lines.specs.Due.{AnswersDue};
 ghost use Rattle.pip_commands.specs.NativeLoading.{LoadsNative, StoppedNative};
 ghost use Rattle.pip_commands.specs.Pacing.{IsFaultlessUnshort};
@@ -40,9 +41,7 @@ pub fn load<S: Source, K: Sink, G: Fn(Plan) -> F, F: Callback + Drop, L: Ledger>
     requires most { n ≤ 8 }
     requires is_open { S.is_open joint.old.source.now }
     requires settled { (K.written joint.old.sink.now).held ≡ [] }
-    requires paced { MayRead S.allows (IsFaultlessUnshort n) (S.left joint.old.source.now)
-        (S.faults joint.old.source.now)
-        (K.written joint.old.sink.now) (K.faults joint.old.sink.now) }
+    requires paced { MayReadOn S.allows (IsFaultlessUnshort n) (joined S.left S.faults K.written K.faults joint.old) }
     ensures same_source { joint.new.source.ghost_name ≡ joint.old.source.ghost_name }
     ensures sink { joint.new.sink ≡ joint.old.sink }
     ensures loads { MatchResult result
