@@ -176,6 +176,18 @@ pub record IsFaulty (bytes : List ℕ) : Type 0 where
   pub first : (image_parts bytes).fault ≡ Some fault
   pub fixed : (rest : List ℕ) → image_parts (bytes ++ rest) ≡ image_parts bytes
 
+-- a command on an image stops at the first fault, and writes nothing before
+abbrev pub image_due : (List ℕ → Response → Type 0) → (List ℕ → Option (List ℕ) → Type 0) → Due
+image_due answer asks = record {
+  answer = answer;
+  enough = IsFaulty;
+  so_far = λ bytes text. EndsAtMost (image_parts bytes).fault × (text ≡ []);
+  midway = λ bytes front last. ⊥;
+  asks = asks;
+  limit = None;
+  unread = λ status. false;
+}
+
 -- what a command writes of an image after that many steps by the schedule of a seed
 abbrev pub shown : Report → Image → ℕ → ℕ → List ℕ
 shown R.Trace = run_text
@@ -193,17 +205,10 @@ abbrev pub run_answer : Report → ℕ → ℕ → Result Image ImageError → O
 run_answer r count seed (Ok i) = Some (plainly 0 (shown r i count seed) (Some (last_world r i count seed)))
 run_answer r count seed (Err e) = option_map (λ line. plainly 2 line None) (image_line e)
 
--- `run`, `tree` and `core` stop at the first fault, write nothing before, and ask for memory after the header
+-- `run`, `tree` and `core` ask for memory after the header
 abbrev pub run_due : Report → ℕ → ℕ → Due
-run_due r count seed = record {
-  answer = λ input v. run_answer r count seed (image input) ≡ Some v;
-  enough = IsFaulty;
-  so_far = λ bytes text. EndsAtMost (image_parts bytes).fault × (text ≡ []);
-  midway = λ bytes front last. ⊥;
-  asks = λ bytes left. IsHeaderText bytes;
-  limit = None;
-  unread = λ status. false;
-}
+run_due r count seed =
+    image_due (λ input v. run_answer r count seed (image input) ≡ Some v) (λ bytes left. IsHeaderText bytes)
 
 -- the text of the parts of an image, which is out before the end is read; after that of the parts before a fault, the
 -- line that names it
@@ -222,16 +227,11 @@ pub record IsAtPart (bytes front last : List ℕ) : Type 0 where
   pub before : front ≡ parts_text done
   pub own : last ≡ parts_text (part ∷ [])
 
--- `dis` stops at the first fault, writes the text of each part before it reads on, and takes no memory
+-- `dis` writes the text of each part before it reads on, and takes no memory
 abbrev pub dis_due : Due
-dis_due = record {
-  answer = λ input v. dis_answer (dis_text input) (image input) ≡ Some v;
-  enough = IsFaulty;
+dis_due = record (image_due (λ input v. dis_answer (dis_text input) (image input) ≡ Some v) (λ bytes left. ⊥)) {
   so_far = λ bytes text. EndsAtMost (image_parts bytes).fault × (text ≡ dis_text bytes);
   midway = IsAtPart;
-  asks = λ bytes left. ⊥;
-  limit = None;
-  unread = λ status. false;
 }
 
 -- this many frames have room for n children
@@ -259,18 +259,14 @@ IsChildrenAnswer s n bytes (Err e) v =
 abbrev pub IsShortAnswer : ℕ → List ℕ → Response → Type 0
 IsShortAnswer n bytes v = (s : IsShort n bytes) × (v ≡ plainly 8 (short_line s.header.fields.frames n) None)
 
--- `native` and `slots` stop after a header of too few frames or at the first fault, and write nothing before. They ask
--- for memory after a header with room
+-- `native` and `slots` stop after a header of too few frames, too. They ask for memory after a header with room
 abbrev pub children_due : Scheduling → ℕ → Due
-children_due s n = record {
-  answer = λ input v. IsShortAnswer n input v ⊎ IsChildrenAnswer s n input (image input) v;
-  enough = λ bytes. IsShort n bytes ⊎ IsFaulty bytes;
-  so_far = λ bytes text. EndsAtMost (image_parts bytes).fault × IsUnshort n bytes × (text ≡ []);
-  midway = λ bytes front last. ⊥;
-  asks = λ bytes left. (h : IsHeaderText bytes) × IsRoomy n h.fields.frames;
-  limit = None;
-  unread = λ status. false;
-}
+children_due s n = record (image_due
+    (λ input v. IsShortAnswer n input v ⊎ IsChildrenAnswer s n input (image input) v)
+    (λ bytes left. (h : IsHeaderText bytes) × IsRoomy n h.fields.frames)) {
+      enough = λ bytes. IsShort n bytes ⊎ IsFaulty bytes;
+      so_far = λ bytes text. EndsAtMost (image_parts bytes).fault × IsUnshort n bytes × (text ≡ []);
+    }
 
 -- `native`: a monitor runs n children for this many steps
 abbrev pub native_due : ℕ → ℕ → Due
@@ -308,18 +304,11 @@ IsEveryAnswer states from depth (Err e) v = option_map (λ line. plainly 2 line 
 abbrev pub IsWholeImage : List ℕ → Option (List ℕ) → Type 0
 IsWholeImage bytes left = IsAtEnd left × ((i : Image) × (image bytes ≡ Ok i))
 
--- `every` stops at the first fault, and writes nothing before the search has ended. It asks for memory after the
--- header, and again when the whole image was read
+-- `every` writes nothing before the search has ended. It asks for memory after the header, and again when the whole
+-- image was read
 abbrev pub every_due : ℕ → ℕ → Option ℕ → Due
-every_due states from depth = record {
-  answer = λ input v. IsEveryAnswer states from depth (image input) v;
-  enough = IsFaulty;
-  so_far = λ bytes text. EndsAtMost (image_parts bytes).fault × (text ≡ []);
-  midway = λ bytes front last. ⊥;
-  asks = λ bytes left. IsHeaderText bytes ⊎ IsWholeImage bytes left;
-  limit = None;
-  unread = λ status. false;
-}
+every_due states from depth = image_due (λ input v. IsEveryAnswer states from depth (image input) v)
+    (λ bytes left. IsHeaderText bytes ⊎ IsWholeImage bytes left)
 
 -- the text of a tree, and `yes`
 abbrev pub yes_text : Tree → List ℕ
