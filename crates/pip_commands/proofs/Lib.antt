@@ -9,6 +9,7 @@ pub mod Waiting
 -- the ways to end, and images with faults
 pub mod Endings
 pub mod Usage
+pub mod Asked
 pub mod Answered
 pub mod ImageFaults
 pub mod Refused
