@@ -33,11 +33,10 @@ pub fn load_from_joint<S: Source, K: Sink, M: Frames>(
         (joined S.left S.faults K.written K.faults joint.old) }
     ensures same_source { joint.new.source.ghost_name ≡ joint.old.source.ghost_name }
     ensures sink { joint.new.sink ≡ joint.old.sink }
-    ensures loaded { MatchResult result
-        (λ _. LoadsAll head.now.frames (coming reader.old.place) (S.left joint.old.source.now)
-        (S.left joint.new.source.now) (M.memory mem.new))
-        (LoadsUpTo head.now.frames (coming reader.old.place) (S.left joint.old.source.now) (S.left joint.new.source.now)
-        (S.faults joint.old.source.now) (S.faults joint.new.source.now) (M.memory mem.new)) }
+    ensures loaded { let a = joined S.left S.faults K.written K.faults joint.old in
+        let b = joined S.left S.faults K.written K.faults joint.new in
+        MatchResult result (λ _. LoadsAll head.now.frames (coming reader.old.place) a.left b.left (M.memory mem.new))
+        (LoadsUpTo head.now.frames (coming reader.old.place) a.left b.left a.reads b.reads (M.memory mem.new)) }
     ensures later { S.faults joint.old.source.now ≤ S.faults joint.new.source.now }
     ensures calm { OnOk result (S.faults joint.new.source.now ≡ S.faults joint.old.source.now) }
     ensures count { length (M.memory mem.new) ≡ length (M.memory mem.old) }

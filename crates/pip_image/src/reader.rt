@@ -47,11 +47,10 @@ impl JointReader {
         requires paced { MayReadOn S.allows IsHeaderless (joined S.left S.faults K.written K.faults joint.old) }
         ensures same_source { joint.new.source.ghost_name ≡ joint.old.source.ghost_name }
         ensures sink { joint.new.sink ≡ joint.old.sink }
-        ensures reads { MatchResult result
-            (λ h. TakesParts image_parts (coming self.new.place) (header_parts h)
-            (S.left joint.old.source.now) (S.left joint.new.source.now))
-            (RefusesHeader image_parts (S.left joint.old.source.now) (S.left joint.new.source.now)
-            (S.faults joint.old.source.now) (S.faults joint.new.source.now)) }
+        ensures reads { let a = joined S.left S.faults K.written K.faults joint.old in
+            let b = joined S.left S.faults K.written K.faults joint.new in
+            MatchResult result (λ h. TakesParts image_parts (coming self.new.place) (header_parts h) a.left b.left)
+            (RefusesHeader image_parts a.left b.left a.reads b.reads) }
         ensures plans { IfOk result (λ _. self.new.place.plans ≡ 0) }
         ensures place { IfOk result (λ h. IsAfter h self.new.place) }
         ensures limits { IfOk result IsHeader }
@@ -92,11 +91,11 @@ impl JointReader {
             (joined S.left S.faults K.written K.faults joint.old) }
         ensures same_source { joint.new.source.ghost_name ≡ joint.old.source.ghost_name }
         ensures sink { joint.new.sink ≡ joint.old.sink }
-        ensures reads { MatchResult result
-            (λ f. TakesParts image_parts (coming self.new.place) (Head (fields_seen f) ∷ [])
-            (S.left joint.old.source.now) (S.left joint.new.source.now))
-            (Refuses image_parts [] (S.left joint.old.source.now) (S.left joint.new.source.now)
-            (S.faults joint.old.source.now) (S.faults joint.new.source.now)) }
+        ensures reads { let a = joined S.left S.faults K.written K.faults joint.old in
+            let b = joined S.left S.faults K.written K.faults joint.new in
+            MatchResult result
+            (λ f. TakesParts image_parts (coming self.new.place) (Head (fields_seen f) ∷ []) a.left b.left)
+            (Refuses image_parts [] a.left b.left a.reads b.reads) }
         ensures plans { IfOk result (λ f. self.new.place.plans ≡ f.plans) }
         ensures limits { IfOk result HasFieldsWithin }
         ensures line { OnOk result (self.new.place.line ≡ 0) }
@@ -129,11 +128,11 @@ impl JointReader {
             (joined S.left S.faults K.written K.faults joint.old) }
         ensures same_source { joint.new.source.ghost_name ≡ joint.old.source.ghost_name }
         ensures sink { joint.new.sink ≡ joint.old.sink }
-        ensures reads { MatchResult result
-            (λ p. TakesParts (coming self.old.place) (coming self.new.place) (Line p ∷ [])
-            (S.left joint.old.source.now) (S.left joint.new.source.now))
-            (Refuses (coming self.old.place) [] (S.left joint.old.source.now) (S.left joint.new.source.now)
-            (S.faults joint.old.source.now) (S.faults joint.new.source.now)) }
+        ensures reads { let a = joined S.left S.faults K.written K.faults joint.old in
+            let b = joined S.left S.faults K.written K.faults joint.new in
+            MatchResult result
+            (λ p. TakesParts (coming self.old.place) (coming self.new.place) (Line p ∷ []) a.left b.left)
+            (Refuses (coming self.old.place) [] a.left b.left a.reads b.reads) }
         ensures plans { IfOk result (λ _. self.new.place.plans + 1 ≡ self.old.place.plans) }
         ensures line { IfOk result (λ p. (self.old.place.line ≤ p.line) × (p.line < 16)
             × (self.new.place.line ≡ p.line + 1)) }
@@ -171,14 +170,12 @@ impl JointReader {
             (joined S.left S.faults K.written K.faults joint.old) }
         ensures same_source { joint.new.source.ghost_name ≡ joint.old.source.ghost_name }
         ensures sink { joint.new.sink ≡ joint.old.sink }
-        ensures reads { MatchResult result
-            (λ r. MatchOption r
-            (EndsInput (coming self.old.place) (S.left joint.old.source.now) (S.left joint.new.source.now))
+        ensures reads { let a = joined S.left S.faults K.written K.faults joint.old in
+            let b = joined S.left S.faults K.written K.faults joint.new in
+            MatchResult result (λ r. MatchOption r (EndsInput (coming self.old.place) a.left b.left)
             (λ v. TakesParts (coming self.old.place) (coming self.new.place)
-            (Holds (record { vpage = v; words = words.new }) ∷ [])
-            (S.left joint.old.source.now) (S.left joint.new.source.now)))
-            (Refuses (coming self.old.place) [] (S.left joint.old.source.now) (S.left joint.new.source.now)
-            (S.faults joint.old.source.now) (S.faults joint.new.source.now)) }
+            (Holds (record { vpage = v; words = words.new }) ∷ []) a.left b.left))
+            (Refuses (coming self.old.place) [] a.left b.left a.reads b.reads) }
         ensures plans { self.new.place.plans ≡ 0 }
         ensures frames { self.new.place.frames ≡ self.old.place.frames }
         ensures pages { IfOk result (λ r. IfSome r (λ _. self.new.place.pages + 1 ≡ self.old.place.pages)) }
@@ -206,10 +203,10 @@ impl JointReader {
         ensures same_source { joint.new.source.ghost_name ≡ joint.old.source.ghost_name }
         ensures sink { joint.new.sink ≡ joint.old.sink }
         ensures place { self.new.place ≡ self.old.place }
-        ensures reads { MatchResult result
-            (λ _. EndsInput (coming self.old.place) (S.left joint.old.source.now) (S.left joint.new.source.now))
-            (Refuses (coming self.old.place) [] (S.left joint.old.source.now) (S.left joint.new.source.now)
-            (S.faults joint.old.source.now) (S.faults joint.new.source.now)) }
+        ensures reads { let a = joined S.left S.faults K.written K.faults joint.old in
+            let b = joined S.left S.faults K.written K.faults joint.new in
+            MatchResult result (λ _. EndsInput (coming self.old.place) a.left b.left)
+            (Refuses (coming self.old.place) [] a.left b.left a.reads b.reads) }
         ensures later { S.faults joint.old.source.now ≤ S.faults joint.new.source.now }
         ensures calm { OnOk result (S.faults joint.new.source.now ≡ S.faults joint.old.source.now) }
     {
@@ -235,12 +232,11 @@ impl JointReader {
             (joined S.left S.faults K.written K.faults joint.old) }
         ensures same_source { joint.new.source.ghost_name ≡ joint.old.source.ghost_name }
         ensures sink { joint.new.sink ≡ joint.old.sink }
-        ensures reads { MatchResult result
-            (λ v. TakesParts (coming self.old.place) (coming self.new.place)
-            (Holds (record { vpage = v; words = words.new }) ∷ [])
-            (S.left joint.old.source.now) (S.left joint.new.source.now))
-            (Refuses (coming self.old.place) [] (S.left joint.old.source.now) (S.left joint.new.source.now)
-            (S.faults joint.old.source.now) (S.faults joint.new.source.now)) }
+        ensures reads { let a = joined S.left S.faults K.written K.faults joint.old in
+            let b = joined S.left S.faults K.written K.faults joint.new in
+            MatchResult result (λ v. TakesParts (coming self.old.place) (coming self.new.place)
+            (Holds (record { vpage = v; words = words.new }) ∷ []) a.left b.left)
+            (Refuses (coming self.old.place) [] a.left b.left a.reads b.reads) }
         ensures plans { self.new.place.plans ≡ 0 }
         ensures frames { self.new.place.frames ≡ self.old.place.frames }
         ensures pages { IfOk result (λ _. self.new.place.pages + 1 ≡ self.old.place.pages) }
