@@ -30,23 +30,16 @@ native-requires-clause-most g c =
     (within_as_asked _ _ _ _ c.read_words.ensures c.in-Some-Native.is c.in-Some-Native.field-0-is).1
 
 pub slots-requires-clause-least : goal.slots-requires-clause-least
-slots-requires-clause-least g c = (subst IsWithin c.in-Some-Slots.field-0-is (subst AreWithin
-    (sym c.read_words.ensures ∙ c.in-Some-Slots.is) (command_within (map string_bytes c.args.words.now)))).0
+slots-requires-clause-least g c =
+    (within_as_asked _ _ _ _ c.read_words.ensures c.in-Some-Slots.is c.in-Some-Slots.field-0-is).0
 
 pub slots-requires-clause-most : goal.slots-requires-clause-most
-slots-requires-clause-most g c = (subst IsWithin c.in-Some-Slots.field-0-is (subst AreWithin
-    (sym c.read_words.ensures ∙ c.in-Some-Slots.is) (command_within (map string_bytes c.args.words.now)))).1.0
+slots-requires-clause-most g c =
+    (within_as_asked _ _ _ _ c.read_words.ensures c.in-Some-Slots.is c.in-Some-Slots.field-0-is).1.0
 
 pub slots-requires-clause-steps : goal.slots-requires-clause-steps
-slots-requires-clause-steps g c = (subst IsWithin c.in-Some-Slots.field-0-is (subst AreWithin
-    (sym c.read_words.ensures ∙ c.in-Some-Slots.is) (command_within (map string_bytes c.args.words.now)))).1.1
-
-pub slots-requires-clause-paced : goal.slots-requires-clause-paced
-slots-requires-clause-paced g c =
-    let asked = sym c.read_words.ensures ∙ c.in-Some-Slots.is ∙ ap Some c.in-Some-Slots.field-0-is in
-    subst (λ command. IsPaced (due_of command) (g.S.Source.is_open c.args.source.now) g.S.Source.allows
-    (streams g.S.Source.left g.S.Source.faults g.K.Sink.written g.K.Sink.faults c.args.source.now c.args.sink.now))
-    asked c.requires.paced
+slots-requires-clause-steps g c =
+    (within_as_asked _ _ _ _ c.read_words.ensures c.in-Some-Slots.is c.in-Some-Slots.field-0-is).1.1
 
 pub audit-requires-clause-least : goal.audit-requires-clause-least
 audit-requires-clause-least g c =
@@ -89,6 +82,11 @@ core_dump-requires-clause-paced g c =
 pub native-requires-clause-paced : goal.native-requires-clause-paced
 native-requires-clause-paced g c =
     paced_as_asked _ _ _ _ c.read_words.ensures c.in-Some-Native.is c.in-Some-Native.field-0-is _ _ _
+    c.requires.paced
+
+pub slots-requires-clause-paced : goal.slots-requires-clause-paced
+slots-requires-clause-paced g c =
+    paced_as_asked _ _ _ _ c.read_words.ensures c.in-Some-Slots.is c.in-Some-Slots.field-0-is _ _ _
     c.requires.paced
 
 pub audit-requires-clause-paced : goal.audit-requires-clause-paced
