@@ -18,11 +18,11 @@ pub mod showing;
 use crate::ended::{Ended, end_at_image, end_with};
 use crate::text::short_line;
 use loading::{Stop, load};
-use scheduling::Scheduling;
 use pip_base::{Plan, Steps};
 use pip_io::{Joint, Sink, Source};
 use pip_lines::{Callback, due};
 use pip_native::{Chooser, next_child};
+use scheduling::Scheduling;
 use showing::show;
 use std::alloc::Global;
 use std::sync::ledger::{Blank, Ledger};
@@ -97,14 +97,7 @@ fn children_with<
     ensures none { result.status ≢ 4 → (K.written joint.new.sink.now).held ≡ [] }
 {
     match load(alloc, n, joint, make, steps) {
-        Ok(mut loaded) => match show(
-            &mut loaded,
-            n,
-            scheduling,
-            choose,
-            &mut *joint.sink,
-            steps,
-        ) {
+        Ok(mut loaded) => match show(&mut loaded, n, scheduling, choose, &mut *joint.sink, steps) {
             Ok(()) => Ended {
                 status: 0,
                 machine: Some(loaded.machine),
