@@ -50,6 +50,7 @@ impl Auditor {
         ensures inside { result < length (M.memory mem.now) }
         ensures passes { node_stop (M.memory mem.now) result ≡ None }
     {
+        // Only the contract speaks of `mem`; the count uses it, and no proof needs it.
         let _count = mem.count();
         self.names[x]
     }
