@@ -9,7 +9,7 @@ ghost use Rattle.pip_io.specs.Pacing.{MayRead, MayReadOn};
 ghost use Rattle.pip_io.specs.Taken.{plain};
 ghost use Rattle.pip_core_text.specs.CoreRead.{BeginsLines, IsText, RefusesText};
 
-use crate::place::{Place, Step, take_line};
+use crate::place::{LastNamed, LineEffect, take_line};
 use pip_frames::Frames;
 use pip_input::{Input, LineEnd};
 use pip_io::{Discard, Failed, Joint, Sink, Source};
@@ -104,7 +104,7 @@ pub fn read_core_from_joint<S: Source, K: Sink, M: Frames>(
     ensures count { length (M.memory mem.new) ≡ length (M.memory mem.old) }
 {
     let mut input = Input::with_room(MAX_BYTES);
-    let mut place = Place {
+    let mut place = LastNamed {
         frame: None,
         group: None,
     };
@@ -115,9 +115,9 @@ pub fn read_core_from_joint<S: Source, K: Sink, M: Frames>(
         let step = take_line(mem, place, input.head(count));
         input.take(count + 1);
         match step {
-            Step::Bad => return Err(CoreError::Line(k)),
-            Step::Goes(next) => place = next,
-            Step::Ends => {
+            LineEffect::Bad => return Err(CoreError::Line(k)),
+            LineEffect::Goes(next) => place = next,
+            LineEffect::Ends => {
                 return match next_line(&mut input, joint)? {
                     LineEnd::End => Ok(()),
                     _ => Err(CoreError::Line(k + 1)),
