@@ -20,7 +20,7 @@ use Rattle.pip_guests.proofs.Turns.{turn_name, turn_sound}
 use Rattle.pip_search.specs.Reached.{AreChoices}
 use Rattle.pip_search.specs.Summary.{IsShownOn, IsTold, Witness}
 use Rattle.pip_search.specs.Systems.{Model, after_choices}
-use Rattle.pip_search.specs.declared.searching.Verdict.TheVariants.{Closed}
+use Rattle.pip_search.specs.declared.searching.Extent.TheVariants.{Closed}
 use Rattle.pip_apart.specs.Alone.{AreProcessors, AreSearched, MarkedGuestsLeave, NoneLeaves}
 use Rattle.pip_apart.specs.Alone.{SearchedGuestsStay, SearchesAdd, guest_label, guest_model}
 use Rattle.pip_apart.specs.Alone.{mark}

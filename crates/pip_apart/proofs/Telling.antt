@@ -6,8 +6,8 @@ use Rattle.pip_model.specs.Worlds.{World}
 use Rattle.pip_search.specs.Summary.{HasOneKey, IsTold, Witness}
 use Rattle.pip_search.specs.Ways.{witness_of, witnesses_of}
 use Rattle.pip_search.specs.declared.found.Found.{Found}
-use Rattle.pip_search.specs.declared.searching.Verdict.{Verdict}
-use Rattle.pip_search.specs.declared.searching.Verdict.TheVariants.{Closed}
+use Rattle.pip_search.specs.declared.searching.Extent.{Extent}
+use Rattle.pip_search.specs.declared.searching.Extent.TheVariants.{Closed}
 use Rattle.pip_search.specs.declared.visits.Visit.{Visit}
 use Rattle.pip_switch.specs.Standing.{StandsAs, StandsFor, State}
 use Rattle.pip_every.specs.Keys.{IsKeyOf, key_words}
@@ -35,7 +35,7 @@ guests_have_one_key first n top cpus key other w k l =
 
 -- what is told of the same machine and guest is told
 pub told_on : (first : Memory) (n m top tip : ℕ) (cpus ids : List ℕ) (w : World) (most limit count : ℕ)
-    (ws : List Witness) (v : Verdict) → m ≡ n → tip ≡ top → ids ≡ cpus
+    (ws : List Witness) (v : Extent) → m ≡ n → tip ≡ top → ids ≡ cpus
     → IsTold (guest_model first m tip ids) w most limit ws count v
     → IsTold (guest_model first n top cpus) w most limit ws count v
 told_on first n m top tip cpus ids w most limit count ws v one two three h =

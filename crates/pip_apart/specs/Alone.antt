@@ -14,8 +14,8 @@ use Rattle.pip_guests.specs.Programs.{Slot, all_steps, ready}
 use Rattle.pip_search.specs.Orders.{IsNoLater}
 use Rattle.pip_search.specs.Summary.{IsTold, Witness}
 use Rattle.pip_search.specs.Systems.{Model}
-use Rattle.pip_search.specs.declared.searching.Verdict.{Verdict}
-use Rattle.pip_search.specs.declared.searching.Verdict.TheVariants.{Closed}
+use Rattle.pip_search.specs.declared.searching.Extent.{Extent}
+use Rattle.pip_search.specs.declared.searching.Extent.TheVariants.{Closed}
 use Rattle.pip_every.specs.Keys.{IsKeyOf}
 use Rattle.pip_every.specs.Moments.{Scope}
 use Rattle.pip_apart.specs.Company.{IsOfGuests, StaysAlone, TakesNoLine, runs_below}
@@ -80,7 +80,7 @@ SearchedGuestsStay = (w : World) (p : ℕ) (ws : List Witness) → IsSoundWorld 
 -- and where a search found a turn that leaves, it does not, however the search ended
 abbrev pub MarkedGuestsLeave : Type 0
 MarkedGuestsLeave = (first : Memory) (w : World) (p : ℕ) (cpus : List ℕ) (ws : List Witness)
-    (machine k most limit count : ℕ) (x : Witness) (text : List ℕ) (end : Verdict) → IsSoundWorld w
+    (machine k most limit count : ℕ) (x : Witness) (text : List ℕ) (end : Extent) → IsSoundWorld w
     → In p (names_of (nodes w.tree)) → p ≢ w.tree.root.name → TakesNoLine w (p ∷ []) → AreProcessors w p cpus
     → IsTold (guest_model first machine p cpus) w most limit ws count end → slice_get ws k ≡ Some x
     → x.label ≡ mark ∷ text

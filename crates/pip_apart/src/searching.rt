@@ -4,12 +4,12 @@ ghost use Rattle.pip_model.specs.Worlds.{World};
 ghost use Rattle.pip_search.specs.Summary.{IsTold};
 ghost use Rattle.pip_search.specs.Ways.{AreTraced, witnesses_of};
 ghost use Rattle.pip_switch.specs.Standing.{StandsAs};
-ghost use Rattle.pip_search.specs.declared.searching.Verdict.TheVariants.{Closed};
+ghost use Rattle.pip_search.specs.declared.searching.Extent.TheVariants.{Closed};
 ghost use Rattle.pip_apart.specs.Alone.{NoneLeaves, guest_model, mark};
 
 use crate::guest::{Guest, MARK};
 use pip_journal::First;
-use pip_search::{Search, Verdict, explore};
+use pip_search::{Extent, Search, explore};
 use std::alloc::{AllocError, Global};
 use std::sync::ledger::Ledger;
 
@@ -21,7 +21,7 @@ pub fn search_guest<F: First, L: Ledger>(
     alloc: Global,
     most: u32,
     limit: u32,
-) -> Result<(Search, Verdict), AllocError>
+) -> Result<(Search, Extent), AllocError>
     requires stands { (w : World) × StandsAs guest.old.machine w }
     requires limit { 0 < limit }
     ensures told { IfOk result (λ r. (w : World) → StandsAs guest.old.machine w
@@ -45,12 +45,12 @@ fn is_marked(label: &[u8]) -> bool
 }
 
 /// Whether the guest stays inside: its search closed, and found no turn in which it leaves.
-pub fn stays(search: &Search, verdict: Verdict) -> bool
+pub fn stays(search: &Search, verdict: Extent) -> bool
     ensures { result ≡ true → (depth : ℕ) × ((verdict ≡ Closed depth)
         × NoneLeaves (witnesses_of verdict search.now.visits.items search.now.found.items)) }
 {
     match verdict {
-        Verdict::Closed { .. } => {}
+        Extent::Closed { .. } => {}
         _ => return false,
     }
     for found in &search.found {

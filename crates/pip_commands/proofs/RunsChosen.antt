@@ -31,8 +31,8 @@ use Rattle.pip_model.specs.declared.turn_end.TurnEnd.TheVariants as N
 use Rattle.pip_model.proofs.OnLists.Acts.{after-append, after-events, text-append, text-raises, text-trace}
 use Rattle.pip_search.specs.Reached.{IsCovered}
 use Rattle.pip_search.specs.Systems.{after_choices}
-use Rattle.pip_search.specs.declared.searching.Verdict.{Verdict}
-use Rattle.pip_search.specs.declared.searching.Verdict.TheVariants.{Closed}
+use Rattle.pip_search.specs.declared.searching.Extent.{Extent}
+use Rattle.pip_search.specs.declared.searching.Extent.TheVariants.{Closed}
 use Rattle.pip_commands.specs.Dues.{image_scope}
 use Rattle.pip_commands.specs.RunLaw.{AreChosen, AreLinesOf, ArePlansFrom, CanCome, ClosedNamesRuns}
 use Rattle.pip_commands.specs.RunLaw.{IsNamedBy, RunsAreChoices, acts_chosen, image_moment}
@@ -298,5 +298,5 @@ closed_names_runs states from depth most i v s closed ps seed n are =
           record { place = w.place; witness = w.witness; at = w.at; same = w.same }) r.1;
     }
   where
-    covered : (d : Verdict) (k : ℕ) → d ≡ Closed depth → IsCovered d k
+    covered : (d : Extent) (k : ℕ) → d ≡ Closed depth → IsCovered d k
     covered d k e = subst (λ x. IsCovered x k) (sym e) tt

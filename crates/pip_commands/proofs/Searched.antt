@@ -18,7 +18,7 @@ use Rattle.pip_model.specs.declared.image.ImageError.{ImageError}
 use Rattle.pip_search.specs.Summary.{IsShownOn, IsTold, Witness}
 use Rattle.pip_search.specs.Systems.{Model}
 use Rattle.pip_search.specs.Ways.{witnesses_of}
-use Rattle.pip_search.specs.declared.searching.Verdict.{Verdict}
+use Rattle.pip_search.specs.declared.searching.Extent.{Extent}
 use Rattle.pip_switch.specs.Standing.{State}
 use Rattle.pip_ways.specs.Texts.{search_text}
 use Rattle.pip_ways.specs.Told.{AreWaysOf}
@@ -51,7 +51,7 @@ shown_known m s label [] shown = absurd shown
 shown_known m s label (c ∷ cs) shown = shown.0
 
 -- the ways that a search tells make its choices
-pub ways_known : (m : Model) (s : m.State) (most limit : ℕ) (ws : List Witness) (count : ℕ) (v : Verdict)
+pub ways_known : (m : Model) (s : m.State) (most limit : ℕ) (ws : List Witness) (count : ℕ) (v : Extent)
     → IsTold m s most limit ws count v → (n : ℕ) → m.choices ≡ n → AreWaysOf n ws
 ways_known m s most limit ws count v told n same = subst (λ k. AreWaysOf k ws) same (record {
   each = λ k w at. shown_known m s w.label w.way (told.shown k w at).0;

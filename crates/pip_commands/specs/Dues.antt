@@ -28,7 +28,7 @@ use Rattle.pip_model.specs.Worlds.{World}
 use Rattle.pip_model.specs.declared.image.ImageError.{ImageError}
 use Rattle.pip_model.specs.declared.script.ScriptLine.TheVariants.{Boot}
 use Rattle.pip_search.specs.Summary.{IsTold, Witness}
-use Rattle.pip_search.specs.declared.searching.Verdict.{Verdict}
+use Rattle.pip_search.specs.declared.searching.Extent.{Extent}
 use Rattle.pip_watch.specs.Watching.{pages_taken, short_line}
 use Rattle.pip_commands.specs.AuditTexts.{bad_line, differs_line, unread_line, unsound_line, yes_line}
 use Rattle.pip_commands.specs.Children.{children_text, children_world}
@@ -290,7 +290,7 @@ pub record IsSearched (states from : ℕ) (depth : Option ℕ) (i : Image) (v : 
   pub booted : IsBooted i.frames (image_word i.frames i.pages) first
   pub found : List Witness
   pub count : ℕ
-  pub verdict : Verdict
+  pub verdict : Extent
   pub told : IsTold (model_of first (image_scope i from)) (first_moment (image_word i.frames i.pages) i.frames i.cpus)
       (most_choices depth) states found count verdict
   pub text : v ≡ plainly 0 (every_text i found count verdict) None

@@ -17,7 +17,7 @@ use Rattle.pip_model.specs.Worlds.{World}
 use Rattle.pip_search.specs.Reached.{AreChoices}
 use Rattle.pip_search.specs.Summary.{IsShownOn, Witness}
 use Rattle.pip_search.specs.Systems.{after_choices}
-use Rattle.pip_search.specs.declared.searching.Verdict.TheVariants.{Closed}
+use Rattle.pip_search.specs.declared.searching.Extent.TheVariants.{Closed}
 use Rattle.pip_commands.specs.Dues.{IsSearched, image_scope}
 use Rattle.pip_commands.specs.EndsBy.{Response}
 use Rattle.pip_commands.specs.EveryLaw.{IsLineAt}

@@ -19,9 +19,6 @@ use pip_switch::Machine;
 use std::alloc::{AllocError, Global};
 use std::sync::ledger::Ledger;
 
-// Makes a copy of `turn` for its caller here.
-struct Choosing;
-
 /// A machine that goes from moment to moment of a search. Its lines may be raised once `from` turns were made.
 #[derive(Drop)]
 pub(crate) struct Explorer<F: First, L: Ledger> {
@@ -122,7 +119,7 @@ impl<F: First, L: Ledger> Explorer<F, L> {
             return Ok(turns);
         }
         let machine = &mut self.machine;
-        match turn::<Choosing, Machine<Journal<F>>, Label, L>(
+        match turn::<(), Machine<Journal<F>>, Label, L>(
             machine,
             choice,
             0,

@@ -14,9 +14,6 @@ use pip_switch::Machine;
 use std::alloc::{AllocError, Global};
 use std::sync::ledger::{Blank, Ledger};
 
-// Makes a copy of `turn` for its caller here.
-struct Advancing;
-
 /// How many turns each processor has before words are noted.
 const TURNS: u32 = 1000;
 
@@ -31,7 +28,7 @@ fn advance<L: Ledger>(
 ) -> Result<(), AllocError> {
     for cpu in 0..machine.cpus() {
         label.clear();
-        match turn::<Advancing, Machine<RawFrames>, Label, L>(machine, cpu, 0, label, steps) {
+        match turn::<(), Machine<RawFrames>, Label, L>(machine, cpu, 0, label, steps) {
             Ok(_) => {}
             Err(_) => return Err(AllocError),
         }

@@ -7,10 +7,8 @@ ghost use Rattle.pip_every.specs.Reading.{StartsWithOne, StartsWithAll};
 use arrayvec::ArrayVec;
 use pip_base::{Ctx, Frame};
 use pip_model::Occupant;
+use pip_switch::Processors;
 use std::alloc::AllocError;
-
-/// 1 to 4 processors, each with what it runs.
-pub type Processors = ArrayVec<Option<Occupant>, 4>;
 
 /// How many words a processor has if a partition runs on it: its name, its pc and its registers.
 const RUNNING: usize = 18;

@@ -13,7 +13,7 @@ use crate::later::words_later;
 use pip_base::Steps;
 use pip_frames::{Frames, RawFrames};
 use pip_journal::{First, Journal};
-use pip_search::{Search, Verdict, explore};
+use pip_search::{Extent, Search, explore};
 use pip_switch::Machine;
 use std::alloc::{AllocError, Global};
 use std::marker::Brand;
@@ -31,7 +31,7 @@ fn search_from<F: First, L: Ledger>(
     most: u32,
     limit: u32,
     blank: Blank,
-) -> Result<(Search, Verdict), AllocError>
+) -> Result<(Search, Extent), AllocError>
     requires first { ⟦<RawFrames as Frames>⟧.memory later ≡ F.words }
     requires shape { IsMemory F.words }
     requires count { length (⟦<RawFrames as Frames>⟧.memory mem) ≡ length F.words }
@@ -72,7 +72,7 @@ pub fn search(
     from: u32,
     most: u32,
     limit: u32,
-) -> Result<(Search, Verdict), AllocError>
+) -> Result<(Search, Extent), AllocError>
     requires booted { HasBooted (⟦<RawFrames as Frames>⟧.memory mem) }
     requires least { 1 ≤ cpus }
     requires most { cpus ≤ 4 }

@@ -4,7 +4,7 @@ use Rattle.pip_search.specs.Naming.{AreDistinct}
 use Rattle.pip_search.specs.Reached.{AreChoices}
 use Rattle.pip_search.specs.Summary.{AreCounted, HasOneKey, IsEnd, IsShownOn}
 use Rattle.pip_search.specs.Systems.{LeadsOn, Model, after_choices}
-use Rattle.pip_search.specs.declared.searching.Verdict.TheVariants.{Closed}
+use Rattle.pip_search.specs.declared.searching.Extent.TheVariants.{Closed}
 
 -- a key, and a number of choices that lead to a state of it
 pub record Stop : Type 0 where

@@ -7,7 +7,7 @@ ghost use Rattle.pip_search.specs.Naming.{AreNamed};
 use crate::hashes::hash_bytes;
 use crate::index::Index;
 use crate::names::{Named, find};
-use crate::visits::{Step, kept};
+use crate::visits::{MadeChoice, kept};
 use std::alloc::{AllocError, Global};
 
 /// A label, and where it was found first: the visit from which the choice was made, and how many choices that took,
@@ -34,7 +34,7 @@ pub(crate) fn tell(
     index: &mut Index,
     alloc: Global,
     label: &[u8],
-    step: Step,
+    step: MadeChoice,
 ) -> Result<(), AllocError>
     requires named { AreNamed (labels found.old.items) index.old }
     ensures named { IfOk result (λ x. AreNamed (labels found.new.items) index.new) }

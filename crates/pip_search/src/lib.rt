@@ -34,7 +34,7 @@ pub use found::Found;
 pub use laws::{law_certificates, law_once};
 pub use merging::{are_rising, merged};
 pub use parts::{Part, Reached, check_part};
-pub use searching::{Search, Verdict, explore};
+pub use searching::{Extent, Search, explore};
 pub use system::System;
 pub use visits::Visit;
 pub use ways::{Run, runs};

@@ -15,12 +15,12 @@ use crate::hashes::hash_bytes;
 use crate::index::Index;
 use crate::packing::{pack, unpack};
 use crate::system::System;
-use crate::visits::{Step, Visit, kept, reach, run_from};
+use crate::visits::{MadeChoice, Visit, kept, reach, run_from};
 use std::alloc::{AllocError, Global};
 
 /// How far a search came.
 #[derive(Clone, Copy, Debug, PartialEq, Eq)]
-pub enum Verdict {
+pub enum Extent {
     /// Every choice of every visited state leads to a visited one. `depth` choices lead to the deepest.
     Closed { depth: u32 },
     /// Every state that `depth` or fewer choices lead to was visited: the depth that was asked for.
@@ -29,15 +29,15 @@ pub enum Verdict {
     Stopped { depth: u32 },
 }
 
-impl Verdict {
+impl Extent {
     /// Whether all ways of `count` choices were searched.
     pub fn covers(self, count: u32) -> bool
         ensures { result ≡ is_covered self count }
     {
         match self {
-            Verdict::Closed { .. } => true,
-            Verdict::Within { depth } => count <= depth,
-            Verdict::Stopped { depth } => count <= depth,
+            Extent::Closed { .. } => true,
+            Extent::Within { depth } => count <= depth,
+            Extent::Stopped { depth } => count <= depth,
         }
     }
 }
@@ -141,7 +141,7 @@ fn make<S: System>(
     )?;
     pack(&buffers.to, &mut buffers.bytes)?;
     let from = &search.visits[i as usize];
-    let step = Step {
+    let step = MadeChoice {
         at: i,
         choice,
         depth: from.depth + 1,
@@ -211,7 +211,7 @@ pub fn explore<S: System>(
     start: &[u32],
     most: u32,
     limit: u32,
-) -> Result<(Search, Verdict), AllocError>
+) -> Result<(Search, Extent), AllocError>
     requires key { IsKey (S.model (S.base system.old)) start.now }
     requires limit { 0 < limit }
     ensures told { IfOk result (λ r. HasOneKey (S.model (S.base system.old))
@@ -233,14 +233,14 @@ pub fn explore<S: System>(
     while (i as usize) < search.visits.len() {
         let depth = search.visits[i as usize].depth;
         if depth >= most {
-            return Ok((search, Verdict::Within { depth }));
+            return Ok((search, Extent::Within { depth }));
         }
         let room = expand(&mut search, system, alloc, start, &mut buffers, i, limit)?;
         if !room {
-            return Ok((search, Verdict::Stopped { depth }));
+            return Ok((search, Extent::Stopped { depth }));
         }
         i += 1;
     }
     let depth = search.visits[search.visits.len() - 1].depth;
-    Ok((search, Verdict::Closed { depth }))
+    Ok((search, Extent::Closed { depth }))
 }

@@ -33,7 +33,7 @@ impl Named for Visit {
 /// A choice that is made: from which visit, how many choices lead to its end, and the visit before the run of equal
 /// choices that ends with it.
 #[derive(Clone, Copy)]
-pub(crate) struct Step {
+pub(crate) struct MadeChoice {
     pub(crate) at: u32,
     pub(crate) choice: u32,
     pub(crate) depth: u32,
@@ -66,7 +66,7 @@ pub(crate) fn reach(
     index: &mut Index,
     alloc: Global,
     key: &[u8],
-    step: Step,
+    step: MadeChoice,
     limit: u32,
 ) -> Result<bool, AllocError>
     requires named { AreNamed (key_bytes visits.old.items) index.old }

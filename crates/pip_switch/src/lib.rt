@@ -31,4 +31,5 @@ mod switching;
 
 pub use laws::{law_give_back, law_local, law_runs};
 pub use machine::Machine;
+pub use processors::Processors;
 pub use rewinding::Rewind;

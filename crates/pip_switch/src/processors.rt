@@ -11,7 +11,7 @@ use pip_base::{Ctx, Frame, Outcome};
 use pip_model::Occupant;
 
 /// 1 to 4 processors, each with what it runs.
-pub(crate) type Processors = ArrayVec<Option<Occupant>, 4>;
+pub type Processors = ArrayVec<Option<Occupant>, 4>;
 
 /// What runs on 1 to 4 processors at first: the root on processor 0.
 pub(crate) fn boot_processors(count: u32) -> Processors

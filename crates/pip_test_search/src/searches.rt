@@ -2,7 +2,7 @@ ghost use Rattle.std.specs.Prelude.{◌<◌, length};
 
 use crate::Counters;
 use pip_search::{
-    Part, Reached, Run, Search, Verdict, are_rising, check_part, explore, merged, runs,
+    Extent, Part, Reached, Run, Search, are_rising, check_part, explore, merged, runs,
 };
 use std::alloc::{AllocError, Global};
 use std::test::Fail;
@@ -13,7 +13,7 @@ fn search_counters(
     bound: u32,
     most: u32,
     limit: u32,
-) -> Result<(Search, Verdict, Vec<Run>), AllocError>
+) -> Result<(Search, Extent, Vec<Run>), AllocError>
     requires bound { 0 < bound }
     requires limit { 0 < limit }
 {
@@ -30,7 +30,7 @@ fn search_counters(
 #[test]
 fn two_counters_are_closed(rt: HostRuntime) -> Result<(), Fail> {
     let (search, verdict, way) = search_counters(rt.alloc(), 3, 100, 100)?;
-    assert_eq!(rt; verdict, Verdict::Closed { depth: 4 });
+    assert_eq!(rt; verdict, Extent::Closed { depth: 4 });
     assert_eq!(rt; search.visits.len(), 9usize);
     assert_eq!(rt; search.found.len(), 2usize);
     let first = &search.found[0];
@@ -52,11 +52,11 @@ fn two_counters_are_closed(rt: HostRuntime) -> Result<(), Fail> {
 #[test]
 fn a_search_ends_at_its_depth_and_at_its_limit(rt: HostRuntime) -> Result<(), Fail> {
     let (search, verdict, _) = search_counters(rt.alloc(), 3, 2, 100)?;
-    assert_eq!(rt; verdict, Verdict::Within { depth: 2 });
+    assert_eq!(rt; verdict, Extent::Within { depth: 2 });
     assert_eq!(rt; search.visits.len(), 6usize);
     assert!(rt; verdict.covers(2) && !verdict.covers(3));
     let (search, verdict, _) = search_counters(rt.alloc(), 3, 100, 5)?;
-    assert_eq!(rt; verdict, Verdict::Stopped { depth: 1 });
+    assert_eq!(rt; verdict, Extent::Stopped { depth: 1 });
     assert_eq!(rt; search.visits.len(), 5usize);
     Ok(())
 }
@@ -64,7 +64,7 @@ fn a_search_ends_at_its_depth_and_at_its_limit(rt: HostRuntime) -> Result<(), Fa
 #[test]
 fn words_of_two_bytes_are_kept(rt: HostRuntime) -> Result<(), Fail> {
     let (search, verdict, way) = search_counters(rt.alloc(), 150, 1000, 22_500)?;
-    assert_eq!(rt; verdict, Verdict::Closed { depth: 298 });
+    assert_eq!(rt; verdict, Extent::Closed { depth: 298 });
     assert_eq!(rt; search.visits.len(), 22_500usize);
     let both = [
         Run {

@@ -13,7 +13,7 @@ use itoa::Buffer;
 use pip_cpu::write_line;
 use pip_io::{Failed, Sink, write_all};
 use pip_script::push_decimal;
-use pip_search::{Run, Search, Verdict};
+use pip_search::{Extent, Run, Search};
 
 /// Writes a line for each label that was covered, in the order in which they were found, and the last line
 /// (docs/FORMATS.md, "every"). `ways` are those of `ways_of`. Choices below `cpus` are turns, the others raise these
@@ -24,7 +24,7 @@ pub fn write_search<K: Sink>(
     lines: &[u32],
     search: &Search,
     ways: &[Vec<Run>],
-    verdict: Verdict,
+    verdict: Extent,
 ) -> Result<(), Failed>
     requires ways { map (λ way. way.items) ways.now ≡ runs_to search.now.visits.items search.now.found.items }
     requires traced { AreTraced search.now.visits.items search.now.found.items }
@@ -46,7 +46,7 @@ fn write_labels<K: Sink>(
     lines: &[u32],
     search: &Search,
     ways: &[Vec<Run>],
-    verdict: Verdict,
+    verdict: Extent,
 ) -> Result<(), Failed>
     requires ways { map (λ way. way.items) ways.now ≡ runs_to search.now.visits.items search.now.found.items }
     requires traced { AreTraced search.now.visits.items search.now.found.items }
@@ -117,7 +117,7 @@ fn inner(label: &[u8]) -> &[u8]
 }
 
 // Writes the last line.
-fn write_verdict<K: Sink>(sink: &mut K, count: u64, verdict: Verdict) -> Result<(), Failed>
+fn write_verdict<K: Sink>(sink: &mut K, count: u64, verdict: Extent) -> Result<(), Failed>
     ensures wrote { Wrote result (K.written sink.old) (K.written sink.new) (verdict_line count verdict) }
     ensures cause { HasCause (K.faults sink.old) (K.faults sink.new) result }
 {
@@ -126,17 +126,17 @@ fn write_verdict<K: Sink>(sink: &mut K, count: u64, verdict: Verdict) -> Result<
     line.push_str("states ");
     line.push_str(buffer.format(count));
     match verdict {
-        Verdict::Closed { depth } => {
+        Extent::Closed { depth } => {
             line.push_str(" depth ");
             push_decimal(&mut line, depth);
             line.push_str(" closed\n");
         }
-        Verdict::Within { depth } => {
+        Extent::Within { depth } => {
             line.push_str(" within ");
             push_decimal(&mut line, depth);
             line.push_str("\n");
         }
-        Verdict::Stopped { depth } => {
+        Extent::Stopped { depth } => {
             line.push_str(" depth ");
             push_decimal(&mut line, depth);
             line.push_str(" stopped\n");

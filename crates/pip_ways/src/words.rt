@@ -13,7 +13,7 @@ use pip_script::push_decimal;
 use pip_search::Run;
 
 // Room for a run: the longest has 27 bytes.
-const ROOM: usize = 32;
+const RUN_ROOM: usize = 32;
 
 /// Writes the runs of a way, each after a space. Choices below `cpus` are turns, the others raise these lines.
 pub(crate) fn write_way<K: Sink>(
@@ -39,15 +39,15 @@ fn write_run<K: Sink>(sink: &mut K, cpus: u32, lines: &[u32], run: Run) -> Resul
     ensures wrote { Wrote result (K.written sink.old) (K.written sink.new) (spaced_run cpus lines.now run) }
     ensures cause { HasCause (K.faults sink.old) (K.faults sink.new) result }
 {
-    let mut word: ArrayString<ROOM> = ArrayString::new();
+    let mut word: ArrayString<RUN_ROOM> = ArrayString::new();
     word.push_str(" ");
     push_choice(&mut word, cpus, lines, run.choice);
     push_times(&mut word, run.count);
     write_line(sink, &word)
 }
 
-fn push_choice(word: &mut ArrayString<ROOM>, cpus: u32, lines: &[u32], choice: u32)
-    requires room { array_string_len word.old + 15 ≤ ROOM }
+fn push_choice(word: &mut ArrayString<RUN_ROOM>, cpus: u32, lines: &[u32], choice: u32)
+    requires room { array_string_len word.old + 15 ≤ RUN_ROOM }
     requires known { choice < cpus + length lines.now }
     ensures bytes { word.new.bytes ≡ word.old.bytes ++ choice_text cpus lines.now choice }
     ensures short { array_string_len word.new ≤ array_string_len word.old + 15 }
@@ -60,8 +60,8 @@ fn push_choice(word: &mut ArrayString<ROOM>, cpus: u32, lines: &[u32], choice: u
     }
 }
 
-fn push_times(word: &mut ArrayString<ROOM>, count: u32)
-    requires { array_string_len word.old + 11 ≤ ROOM }
+fn push_times(word: &mut ArrayString<RUN_ROOM>, count: u32)
+    requires { array_string_len word.old + 11 ≤ RUN_ROOM }
     ensures bytes { word.new.bytes ≡ word.old.bytes ++ times_text count }
     ensures short { array_string_len word.new ≤ array_string_len word.old + 11 }
 {

@@ -2,7 +2,7 @@ use Rattle.std.proofs.Common.{◌<◌, ◌≤◌, ℕ, List, arith, length, subs
 use Rattle.std.proofs.lemmas.Option.{slice_get_within}
 use Rattle.pip_search.specs.Ways.{witnesses_of}
 use Rattle.pip_search.specs.declared.found.Found.{Found}
-use Rattle.pip_search.specs.declared.searching.Verdict.TheVariants.{Closed}
+use Rattle.pip_search.specs.declared.searching.Extent.TheVariants.{Closed}
 use Rattle.pip_apart.specs.Alone.{NoneLeaves}
 use Rattle.pip_apart.proofs.Telling.{none_leaves}
 use Rattle.pip_apart.proofs.searching.stays.Goals as goal
