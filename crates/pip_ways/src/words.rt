@@ -2,8 +2,7 @@
 ghost use Rattle.std.specs.Prelude.{◌≡◌, ◌+◌, ◌<◌, ◌≤◌, ◌++◌, length, flat_map};
 ghost use Rattle.std.specs.List.{AllByRecursion};
 ghost use Rattle.arrayvec.specs.ArrayString.{array_string_len};
-ghost use Rattle.pip_io.specs.Taken.{Wrote};
-ghost use Rattle.pip_io.specs.Causes.{HasCause};
+ghost use Rattle.pip_io.specs.Writes.{Writes};
 ghost use Rattle.pip_ways.specs.Texts.{choice_text, spaced_run, times_text};
 
 use arrayvec::ArrayString;
@@ -23,9 +22,7 @@ pub(crate) fn write_way<K: Sink>(
     way: &[Run],
 ) -> Result<(), Failed>
     requires { AllByRecursion (λ r. r.choice < cpus + length lines.now) way.now }
-    ensures wrote { Wrote result (K.written sink.old) (K.written sink.new)
-        (flat_map (spaced_run cpus lines.now) way.now) }
-    ensures cause { HasCause (K.faults sink.old) (K.faults sink.new) result }
+    ensures { Writes K.written K.faults sink.old sink.new result (flat_map (spaced_run cpus lines.now) way.now) }
 {
     for k in 0..way.len() {
         write_run(sink, cpus, lines, way[k])?;
@@ -36,8 +33,7 @@ pub(crate) fn write_way<K: Sink>(
 // Writes a run after a space.
 fn write_run<K: Sink>(sink: &mut K, cpus: u32, lines: &[u32], run: Run) -> Result<(), Failed>
     requires { run.choice < cpus + length lines.now }
-    ensures wrote { Wrote result (K.written sink.old) (K.written sink.new) (spaced_run cpus lines.now run) }
-    ensures cause { HasCause (K.faults sink.old) (K.faults sink.new) result }
+    ensures { Writes K.written K.faults sink.old sink.new result (spaced_run cpus lines.now run) }
 {
     let mut word: ArrayString<RUN_ROOM> = ArrayString::new();
     word.push_str(" ");
