@@ -15,7 +15,7 @@ use crate::names::is_same;
 use crate::packing::{pack, unpack};
 use crate::searching::Buffers;
 use crate::system::System;
-use crate::visits::{Step, kept};
+use crate::visits::{MadeChoice, kept};
 use std::alloc::{AllocError, Global};
 
 /// A key as bytes, and how many choices lead to a state of it.
@@ -117,7 +117,7 @@ fn meet<S: System>(
     let Some(depth) = part.keys[i as usize].depth.checked_add(1) else {
         return Err(AllocError);
     };
-    let step = Step {
+    let made = MadeChoice {
         at: i,
         choice,
         depth,
@@ -128,7 +128,7 @@ fn meet<S: System>(
         &mut part.labels,
         alloc,
         &buffers.shown,
-        step,
+        made,
     )?;
     pack(&buffers.to, &mut buffers.bytes)?;
     settle(part, alloc, &buffers.bytes, i, depth, own)?;
