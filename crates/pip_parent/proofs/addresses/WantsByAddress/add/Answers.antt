@@ -1,6 +1,6 @@
 use Rattle.std.proofs.Common.{arith}
 use Rattle.pip_parent.proofs.Chains.{before_more, latest_more}
-use Rattle.pip_parent.proofs.addresses.Addresses.add.Goals as goal
+use Rattle.pip_parent.proofs.addresses.WantsByAddress.add.Goals as goal
 
 pub returns : goal.returns
 returns c =

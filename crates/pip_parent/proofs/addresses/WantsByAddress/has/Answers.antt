@@ -2,7 +2,7 @@ use Rattle.std.proofs.Common.{◌-◌, ◌==◌, ap, ◌∙◌, arith}
 use Rattle.std.proofs.lemmas.Bool.{ne_eqb}
 use Rattle.pip_parent.specs.Seen.{chain_of_want, last}
 use Rattle.pip_parent.proofs.Chains.{first_left, next_left, next_smaller}
-use Rattle.pip_parent.proofs.addresses.Addresses.has.Goals as goal
+use Rattle.pip_parent.proofs.addresses.WantsByAddress.has.Goals as goal
 
 pub loop-at-init : goal.loop-at-init
 loop-at-init c =

@@ -1,6 +1,6 @@
 use Rattle.std.proofs.Common.{◌∙◌, arith, ap, slice_index_or}
 use Rattle.std.proofs.lemmas.List.{get_or-replicate}
-use Rattle.pip_parent.proofs.addresses.Addresses.new.Goals as goal
+use Rattle.pip_parent.proofs.addresses.WantsByAddress.new.Goals as goal
 
 pub returns : goal.returns
 returns c ws = record {
