@@ -17,8 +17,8 @@ use Rattle.pip_commands.specs.Dues.{IsChildrenAnswer, IsRoomy, IsShort, IsUnshor
 use Rattle.pip_commands.specs.Machines.{StandsIfAny}
 use Rattle.pip_commands.specs.NativeLoading.{LoadsNative, RefusesUnshort, StoppedNative}
 use Rattle.pip_commands.specs.Streams.{EndsLine, IsCalm, Streams}
-use Rattle.pip_commands.specs.declared.commands.children.loading.Stop.{Stop}
-use Rattle.pip_commands.specs.declared.commands.children.loading.Stop.TheVariants as T
+use Rattle.pip_commands.specs.declared.commands.children.loading.ChildrenLoadError.{ChildrenLoadError}
+use Rattle.pip_commands.specs.declared.commands.children.loading.ChildrenLoadError.TheVariants as T
 use Rattle.pip_commands.specs.declared.commands.children.scheduling.Scheduling.{Scheduling}
 use Rattle.pip_commands.proofs.Endings.{apart, by_answer, by_memory, by_plain, by_write_fault, part_plain}
 use Rattle.pip_commands.proofs.ImageFaults.{is_faulty, no_image}
@@ -68,7 +68,8 @@ module _ (s : Scheduling) (n code : ℕ) (p : Option State) (a c : Streams)
 
   module _ (none : p ≡ None) where
     -- there was no memory after the header
-    pub children_lacks : code ≡ 5 → {stop : Stop} → stop ≡ T.Memory → StoppedNative n stop a.left c.left a.reads c.reads
+    pub children_lacks : code ≡ 5 → {stop : ChildrenLoadError} → stop ≡ T.Memory
+        → StoppedNative n stop a.left c.left a.reads c.reads
         → Keeps a.written c.written → c.writes ≡ a.writes → EndsBy due code p a c
     children_lacks is {stop} why stopped kept quiet =
         let h : StoppedNative n T.Memory a.left c.left a.reads c.reads =
@@ -78,7 +79,7 @@ module _ (s : Scheduling) (n code : ℕ) (p : Option State) (a c : Streams)
         head.read none is (head.header, subst (IsRoomy n) (sym head.same) h.0.roomy) kept
 
     -- the header has too few frames
-    pub children_short : a.written.held ≡ [] → {stop : Stop} {frames : ℕ} → stop ≡ T.Short frames
+    pub children_short : a.written.held ≡ [] → {stop : ChildrenLoadError} {frames : ℕ} → stop ≡ T.Short frames
         → StoppedNative n stop a.left c.left a.reads c.reads → (code ≢ 4 → c.writes ≡ a.writes) → {line : List ℕ}
         → line ≡ short_line frames n → EndsLine 8 line code a.written c.written a.writes c.writes
         → EndsBy due code p a c
@@ -108,7 +109,7 @@ module _ (s : Scheduling) (n code : ℕ) (p : Option State) (a c : Streams)
     }
 
     -- the image has a fault, or its reading failed
-    pub children_faulted : a.written.held ≡ [] → {stop : Stop} {e : ImageError} → stop ≡ T.Image e
+    pub children_faulted : a.written.held ≡ [] → {stop : ChildrenLoadError} {e : ImageError} → stop ≡ T.Image e
         → StoppedNative n stop a.left c.left a.reads c.reads → (code ≢ 4 → c.writes ≡ a.writes)
         → MatchOption (image_line e) ((code ≡ 3) × Keeps a.written c.written)
         (λ line. EndsLine 2 line code a.written c.written a.writes c.writes) → EndsBy due code p a c

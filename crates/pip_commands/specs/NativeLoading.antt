@@ -11,8 +11,8 @@ use Rattle.pip_watch.specs.Watching.{pages_taken}
 use Rattle.pip_commands.specs.Children.{children_text, children_world}
 use Rattle.pip_commands.specs.Loading.{LoadsImage}
 use Rattle.pip_commands.specs.Dues.{IsHeaderText, IsRoomy, IsUnshort}
-use Rattle.pip_commands.specs.declared.commands.children.loading.Stop.{Stop}
-use Rattle.pip_commands.specs.declared.commands.children.loading.Stop.TheVariants as T
+use Rattle.pip_commands.specs.declared.commands.children.loading.ChildrenLoadError.{ChildrenLoadError}
+use Rattle.pip_commands.specs.declared.commands.children.loading.ChildrenLoadError.TheVariants as T
 use Rattle.pip_commands.specs.declared.commands.children.scheduling.Scheduling.{Scheduling}
 
 -- the whole input was read, and it is an image with room
@@ -46,7 +46,7 @@ pub record RefusesUnshort (n : ℕ) (left left' : Option (List ℕ)) (reads read
   pub unshort : IsUnshort n refused.bytes
 
 -- the image has a fault, or its reading failed; there was no memory; or too few frames. The numbers count failed reads
-abbrev pub StoppedNative : ℕ → Stop → Option (List ℕ) → Option (List ℕ) → ℕ → ℕ → Type 0
+abbrev pub StoppedNative : ℕ → ChildrenLoadError → Option (List ℕ) → Option (List ℕ) → ℕ → ℕ → Type 0
 StoppedNative n (T.Image e) left left' reads reads' = RefusesUnshort n left left' reads reads' e
 StoppedNative n T.Memory left left' reads reads' = LacksMemoryNative n left left' × (reads' ≡ reads)
 StoppedNative n (T.Short frames) left left' reads reads' = IsFew n left left' frames × (reads' ≡ reads)

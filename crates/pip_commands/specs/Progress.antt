@@ -18,8 +18,8 @@ use Rattle.pip_commands.specs.Machines.{StandsIfAny}
 use Rattle.pip_commands.specs.Runs.{Boots}
 use Rattle.pip_commands.specs.Dues.{IsJudged, max_input}
 use Rattle.pip_commands.specs.Streams.{IsCalm, Streams}
-use Rattle.pip_commands.specs.declared.commands.script.line.Stop.{Stop}
-use Rattle.pip_commands.specs.declared.commands.script.line.Stop.TheVariants.{Bad, Write, Memory}
+use Rattle.pip_commands.specs.declared.commands.script.line.ScriptLineError.{ScriptLineError}
+use Rattle.pip_commands.specs.declared.commands.script.line.ScriptLineError.TheVariants.{Bad, Write, Memory}
 use Rattle.pip_commands.specs.declared.commands.script.turn.End.{End}
 use Rattle.pip_commands.specs.declared.commands.script.turn.End.TheVariants.{Finished, BadLine, ReadFault, WriteFault}
 use Rattle.pip_commands.specs.declared.commands.script.turn.End.TheVariants.{NoMemory, Limit}
@@ -159,7 +159,7 @@ TurnDoes (Some e) machine machine' n i j a b =
 
 -- the line that names a bad line, or a part of it; nothing else is written at the end. The last two are counts of
 -- faults
-abbrev pub Names : Stop → ℕ → End → Taken → Taken → ℕ → ℕ → Type 0
+abbrev pub Names : ScriptLineError → ℕ → End → Taken → Taken → ℕ → ℕ → Type 0
 Names Bad n BadLine before after writes writes' = Appends before after (line_text (codes "bad line " ++ decimal n))
 Names Bad n WriteFault before after writes writes' =
     AppendsPart before after (line_text (codes "bad line " ++ decimal n)) × RoseByOne writes writes'

@@ -17,7 +17,7 @@ pub mod showing;
 
 use crate::ended::{Ended, end_at_image, end_with};
 use crate::text::short_line;
-use loading::{Stop, load};
+use loading::{ChildrenLoadError, load};
 use pip_base::{Plan, Steps};
 use pip_io::{Joint, Sink, Source};
 use pip_lines::{Callback, due};
@@ -104,9 +104,9 @@ fn children_with<
             },
             Err(_) => Ended::with_status(4),
         },
-        Err(Stop::Image(fault)) => end_at_image(&mut *joint.sink, fault),
-        Err(Stop::Memory) => Ended::with_status(5),
-        Err(Stop::Short { frames }) => {
+        Err(ChildrenLoadError::Image(fault)) => end_at_image(&mut *joint.sink, fault),
+        Err(ChildrenLoadError::Memory) => Ended::with_status(5),
+        Err(ChildrenLoadError::Short { frames }) => {
             end_with(
                 &mut *joint.sink,
                 short_line(frames, n).as_str().as_bytes(),

@@ -19,7 +19,7 @@ use std::sync::ledger::Ledger;
 
 /// Why loading failed.
 #[derive(Clone, Copy, Debug, PartialEq, Eq)]
-pub enum Stop {
+pub enum ChildrenLoadError {
     Image(ImageError),
     /// There was no memory for the lines or the frames.
     Memory,
@@ -35,7 +35,7 @@ pub fn load<S: Source, K: Sink, G: Fn(Plan) -> F, F: Callback + Drop, L: Ledger>
     joint: &mut Joint<'_, S, K>,
     make: G,
     steps: &mut Steps<L>,
-) -> Result<Loaded<F>, Stop>
+) -> Result<Loaded<F>, ChildrenLoadError>
     requires makes { G.IsAlwaysCallable make }
     requires answer { (p : Plan) (f : F) → G.post make p f → AnswersDue (F.may_ask f) (F.answers f) p }
     requires most { n ≤ 8 }
@@ -55,16 +55,16 @@ pub fn load<S: Source, K: Sink, G: Fn(Plan) -> F, F: Callback + Drop, L: Ledger>
     let mut reader = JointReader::new();
     let head = match reader.header(joint) {
         Ok(head) => head,
-        Err(fault) => return Err(Stop::Image(fault)),
+        Err(fault) => return Err(ChildrenLoadError::Image(fault)),
     };
     if head.frames < 13 * n + 13 {
-        return Err(Stop::Short {
+        return Err(ChildrenLoadError::Short {
             frames: head.frames,
         });
     }
     match load_after(alloc, &mut reader, joint, &head, make, steps) {
         Ok(loaded) => Ok(loaded),
-        Err(loading::Stop::Image(fault)) => Err(Stop::Image(fault)),
-        Err(loading::Stop::Memory) => Err(Stop::Memory),
+        Err(loading::LoadError::Image(fault)) => Err(ChildrenLoadError::Image(fault)),
+        Err(loading::LoadError::Memory) => Err(ChildrenLoadError::Memory),
     }
 }

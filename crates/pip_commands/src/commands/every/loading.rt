@@ -8,7 +8,7 @@ ghost use Rattle.pip_model.specs.Booted.{HasBooted};
 ghost use Rattle.pip_model.specs.Images.{image_parts};
 ghost use Rattle.pip_commands.specs.Loading.{LoadsFrames, StoppedLoading};
 
-use crate::commands::run::loading::{Stop, load_frames};
+use crate::commands::run::loading::{LoadError, load_frames};
 use pip_base::Steps;
 use pip_frames::{Frames, RawFrames};
 use pip_image::{Header, JointReader};
@@ -28,7 +28,7 @@ pub fn load<S: Source, K: Sink, L: Ledger>(
     alloc: Global,
     joint: &mut Joint<'_, S, K>,
     steps: &mut Steps<L>,
-) -> Result<Begun, Stop>
+) -> Result<Begun, LoadError>
     requires is_open { S.is_open joint.old.source.now }
     requires settled { (K.written joint.old.sink.now).held ≡ [] }
     requires paced { MayReadOn S.allows (IsFaultless image_parts)

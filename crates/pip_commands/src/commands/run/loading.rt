@@ -34,29 +34,29 @@ pub struct Loaded<F: Callback> {
 
 /// Why loading failed.
 #[derive(Clone, Copy, Debug, PartialEq, Eq)]
-pub enum Stop {
+pub enum LoadError {
     Image(ImageError),
     /// There was no memory for the lines or the frames.
     Memory,
 }
 
-impl From<ImageError> for Stop {
-    ghost use Rattle.pip_commands.specs.declared.commands.run.loading.Stop.TheVariants.{Image};
+impl From<ImageError> for LoadError {
+    ghost use Rattle.pip_commands.specs.declared.commands.run.loading.LoadError.TheVariants.{Image};
 
     ghost from_gives = { λ fault e. e ≡ Image fault };
 
-    fn from(fault: ImageError) -> Stop {
-        Stop::Image(fault)
+    fn from(fault: ImageError) -> LoadError {
+        LoadError::Image(fault)
     }
 }
 
-impl From<AllocError> for Stop {
-    ghost use Rattle.pip_commands.specs.declared.commands.run.loading.Stop.TheVariants.{Memory};
+impl From<AllocError> for LoadError {
+    ghost use Rattle.pip_commands.specs.declared.commands.run.loading.LoadError.TheVariants.{Memory};
 
     ghost from_gives = { λ _ e. e ≡ Memory };
 
-    fn from(_: AllocError) -> Stop {
-        Stop::Memory
+    fn from(_: AllocError) -> LoadError {
+        LoadError::Memory
     }
 }
 
@@ -66,7 +66,7 @@ pub fn load<S: Source, K: Sink, G: Fn(Plan) -> F, F: Callback + Drop, L: Ledger>
     joint: &mut Joint<'_, S, K>,
     make: G,
     steps: &mut Steps<L>,
-) -> Result<Loaded<F>, Stop>
+) -> Result<Loaded<F>, LoadError>
     requires makes { G.IsAlwaysCallable make }
     requires answer { (p : Plan) (f : F) → G.post make p f → AnswersDue (F.may_ask f) (F.answers f) p }
     requires is_open { S.is_open joint.old.source.now }
@@ -96,7 +96,7 @@ pub fn load_after<S: Source, K: Sink, G: Fn(Plan) -> F, F: Callback + Drop, L: L
     head: &Header,
     make: G,
     steps: &mut Steps<L>,
-) -> Result<Loaded<F>, Stop>
+) -> Result<Loaded<F>, LoadError>
     requires place { IsAfter head.now reader.old.place }
     requires plans { reader.old.place.plans ≡ 0 }
     requires limits { IsHeader head.now }
@@ -135,7 +135,7 @@ pub fn load_frames<S: Source, K: Sink, L: Ledger>(
     joint: &mut Joint<'_, S, K>,
     head: &Header,
     steps: &mut Steps<L>,
-) -> Result<RawFrames, Stop>
+) -> Result<RawFrames, LoadError>
     requires place { IsAfter head.now reader.old.place }
     requires plans { reader.old.place.plans ≡ 0 }
     requires limits { IsHeader head.now }

@@ -1,5 +1,5 @@
 use Rattle.std.proofs.Common.{refl}
-use Rattle.pip_commands.specs.declared.commands.run.loading.Stop.TheVariants as T
+use Rattle.pip_commands.specs.declared.commands.run.loading.LoadError.TheVariants as T
 use Rattle.pip_commands.proofs.Lines.{are_zeros}
 use Rattle.pip_commands.proofs.Loading.{has_image, lacks_memory, loads_frames, page_fault, stops}
 use Rattle.pip_commands.proofs.commands.run.loading.load_frames.Goals as goal
