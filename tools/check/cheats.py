@@ -1,9 +1,10 @@
-"""tools/exercise: each cheat of tools/exercises/cheats misses the goals that it names, and where nothing is drawn no other.
+"""tools/exercise: each cheat of tools/exercises/cheats misses the goals that it names; where nothing is drawn no more.
 
-A file there is a whole text, or NAME.edit, an edit of the exercise's solution: `old: ` is a line, or a part of one, that
-is in it once, and the lines `new: ` after it take its place; without any it goes. `file: ` names another file than the
-solution, whose edited text is judged. Its first lines are `# misses: ` and a goal; a line `# says: ` has words of the verdict.
-A file good_NAME is another way that reaches all goals, so that no goal asks for more than the exercise: `# misses: nothing`.
+A file there is a whole text, or NAME.edit, an edit of the exercise's solution: `old: ` is a line, or a part of one,
+that is in it once, and the lines `new: ` after it take its place; without any it goes. `file: ` names another file than
+the solution, whose edited text is judged. Its first lines are `# misses: ` and a goal; a line `# says: ` has words of
+the verdict. A file good_NAME is another way that reaches all goals, so that no goal asks for more than the exercise:
+`# misses: nothing`.
 """
 
 from __future__ import annotations
@@ -79,7 +80,8 @@ def replaced(cheat: Cheat, text: str, old: str, new: list[str]) -> str:
     return text.replace(old, "\n".join(new))
 
 
-def judged(name: str, text: str, ending: str, is_program: bool, seed: str | None = None, secret: str | None = None) -> judging.Judged:
+def judged(name: str, text: str, ending: str, is_program: bool, seed: str | None = None,
+           secret: str | None = None) -> judging.Judged:
     """What is said of a text in a file of its own."""
     with tempfile.TemporaryDirectory() as place:
         path = os.path.join(place, name + ending)
@@ -118,7 +120,8 @@ def cheats(program: str) -> None:
         counts = Counter(cheat.name for cheat in found if cheat.is_good == is_good)
         few = [name for name in exercises if counts[name] < least]
         if few or set(counts) != set(exercises):
-            raise Differs(f"tools/exercises/cheats has less than {least} {'good works' if is_good else 'cheats'} of {few}, or a folder of none")
+            what = "good works" if is_good else "cheats"
+            raise Differs(f"tools/exercises/cheats has less than {least} {what} of {few}, or a folder of none")
     judge: Callable[[Cheat], str | None] = lambda cheat: fault(cheat, exercises[cheat.name].is_program)
     with ThreadPoolExecutor(os.cpu_count()) as pool:
         wrong = [told for told in pool.map(judge, found) if told]

@@ -1,4 +1,4 @@
-"""tools/exercise: each exercise has a section and a solution that reaches all its goals, also by seeds, and less doesn't."""
+"""tools/exercise: each exercise has a section and a solution that reaches all goals, also by seeds; less doesn't."""
 
 from __future__ import annotations
 
@@ -17,13 +17,14 @@ from .running import REPOSITORY, SECONDS, Differs, run
 
 TIMES = 3                # that each solution is judged, each time with another secret
 SEEDS = ("ada", "grace hopper", "\u00e9")
+BOOT, HEAD = b"boot 64 1\n", b".frames 16\n.cpus 1\n.page 0x400000\n"
 INCLUDED = {"monitor": "monitor.s", "no-loss": "timer_and_services.s"}     # what the solution includes
 
 
-def tool(name: str, *words: str, **settings: str) -> Told:
+def tool(name: str, *words: str) -> Told:
     """Output, messages and status of a tool that judges."""
     path = os.path.join(REPOSITORY, "tools", name)
-    done = subprocess.run([sys.executable, "-B", path, *words], stdin=subprocess.DEVNULL, timeout=SECONDS, env={**os.environ, **settings},
+    done = subprocess.run([sys.executable, "-B", path, *words], stdin=subprocess.DEVNULL, timeout=SECONDS,
                           stdout=subprocess.PIPE, stderr=subprocess.PIPE)
     messages = done.stderr.decode()
     if "Traceback" in messages:
@@ -35,14 +36,9 @@ def solutions(program: str) -> None:
     names = list(judging.exercises())
     files = {name.rsplit(".", 1)[0]: os.path.join(cheats.SOLUTIONS, name) for name in os.listdir(cheats.SOLUTIONS)}
     if tool("exercise", "--list")[0].split() != names or sorted(files) != sorted(names) or len(names) < 20:
-        raise Differs(f"docs/EXERCISES.md, examples/solutions ({sorted(files)}) and the judge ({sorted(names)}) have other exercises")
-    for name in names:
-        if not examples.contents(files[name]).startswith(b"# "):
-            raise Differs(f"{files[name]}: its first line isn't a remark")
-        for _ in range(TIMES):
-            output, messages, status = tool("exercise", name, files[name])
-            if status or messages:
-                raise Differs(f"tools/exercise {name} of its solution: status {status}, {output}{messages}")
+        raise Differs(f"docs/EXERCISES.md, examples/solutions ({sorted(files)}) and the judge ({names}) differ")
+    with ThreadPoolExecutor(os.cpu_count()) as pool:
+        list(pool.map(lambda name: solution(name, files[name]), names * TIMES))
     whole_script(program, files["break-in"])
     drawn_again()
     lesser(files)
@@ -50,8 +46,17 @@ def solutions(program: str) -> None:
     without_cargo(files["map"])
 
 
+def solution(name: str, path: str) -> None:
+    if not examples.contents(path).startswith(b"# "):
+        raise Differs(f"{path}: its first line isn't a remark")
+    output, messages, status = tool("exercise", name, path)
+    if status or messages:
+        raise Differs(f"tools/exercise {name} of its solution: status {status}, {output}{messages}")
+
+
 def drawn_again() -> None:
-    """A verdict is the same with its secret, and without it draws others: here the timer with which a root that knows its own by heart fails."""
+    """A verdict is the same with its secret, and without it draws another: here the timer with which a root fails that
+    knows its own by heart."""
     cheat = next(cheat for cheat in cheats.all_cheats() if cheat.told.endswith("tell-apart/by_heart.asmx"))
     found = [cheats.judged(cheat.name, *cheats.edited(cheat), True, secret=secret) for secret in ("1", "1", None, None)]
     told = [one.lines(True) for one in found]
@@ -99,10 +104,11 @@ def whole_script(program: str, path: str) -> None:
 def without_cargo(path: str) -> None:
     """Where no judge is built and there is no cargo, that is one sentence."""
     with tempfile.TemporaryDirectory() as place:
-        script = ("import sys; sys.dont_write_bytecode = True; from pathlib import Path; from tools.judge import building; "
-                  f"building.BUILT = Path({place!r}) / 'judge'; from tools.exercises import exercise; exercise.main()")
-        done = subprocess.run([sys.executable, "-B", "-c", script, "map", path], cwd=REPOSITORY, stdout=subprocess.PIPE, stderr=subprocess.PIPE,
-                              env={name: word for name, word in os.environ.items() if name != "PIP_JUDGE"} | {"PATH": place}, timeout=SECONDS)
+        script = ("from pathlib import Path; from tools.exercises import exercise; from tools.judge import building; "
+                  f"building.BUILT = Path({place!r}) / 'judge'; exercise.main()")
+        words = [sys.executable, "-B", "-c", script, "map", path]
+        done = subprocess.run(words, cwd=REPOSITORY, env={"PATH": place}, timeout=SECONDS, stdout=subprocess.PIPE,
+                              stderr=subprocess.PIPE)
     told = done.stderr.decode()
     if done.returncode != 2 or "there is no cargo here" not in told or len(told.splitlines()) != 1:
         raise Differs(f"tools/exercise without cargo: status {done.returncode}, {told}")
@@ -110,41 +116,43 @@ def without_cargo(path: str) -> None:
 
 def names_the_line() -> None:
     """What was refused, parked or faulted is told with its line, or step, in words."""
-    boot = b"boot 64 1\n"
     with tempfile.TemporaryDirectory() as place:
         path = os.path.join(place, "answer")
         for name, text, due in (
-                ("map", boot + b"call 0 5 0x409000 0x401000 0x10000000 3\n",
+                ("map", BOOT + b"call 0 5 0x409000 0x401000 0x10000000 3\n",
                  "line 2: call 0 5 0x409000 0x401000 0x10000000 3 -> reply 5 0x00000000 (addVAddr: NotChild: "),
-                ("fault", boot + b"# a remark\nld 0 0x400002\n", "line 3: ld 0 0x400002 -> park 1 17 (vector 17: an access to a word at"),
-                ("monitor", b".frames 16\n.cpus 1\n.page 0x400000\nsys 1\nint 64\n",
+                ("fault", BOOT + b"# a remark\nld 0 0x400002\n",
+                 "line 3: ld 0 0x400002 -> park 1 17 (vector 17: an access to a word at"),
+                ("monitor", HEAD + b"sys 1\nint 64\n",
                  "answer:4, step 0: processor 0, partition 1: call 1 reply 3 0x00000000 (deletePartition: NullPage: "),
-                ("monitor", b".frames 16\n.cpus 1\n.page 0x400000\n# a remark\n\nla r1 0x400001   # its address\nbegin: ldw r2 r1 0\n",
+                ("monitor", HEAD + b"# a remark\n\nla r1 0x400001   # its address\nbegin: ldw r2 r1 0\n",
                  "answer:7 (begin), step 2: processor 0, partition 1: park 1 17 (vector 17: an access to a word"),
-                ("sum", b".frames 16\n.cpus 1\n.page 0x400000\nint 64\n.page 0x401000\n.word 100\n", "it shows [], where 0x000013ba is due")):
+                ("sum", HEAD + b"int 64\n.page 0x401000\n.word 100\n", "it shows [], where 0x000013ba is due")):
             write(path, text)
             misses(name, path, due)
 
 
 def lesser(files: dict[str, str]) -> None:
-    """A solution without its last line that says something, and texts that are no answer, miss a goal and get a hint."""
+    """A solution without its last line, or a text that is no answer, misses a goal and gets a hint."""
     with tempfile.TemporaryDirectory() as place:
         path = os.path.join(place, "answer")
         for name in ("store", "map", "take-back", "enter", "interrupt", "end"):
             lines = examples.contents(files[name]).splitlines(keepends=True)
             write(path, b"".join(lines[:-1]))
             misses(name, path)
-        for name, text, due in (("map", b"boot 64 1\n", "0 of 4"),
-                                ("sum", b".frames 16\n.cpus 1\n.page 0x400000\nint 64\n", "1 of 6"),
+        for name, text, due in (("map", BOOT, "0 of 4"), ("sum", HEAD + b"int 64\n", "1 of 6"),
                                 ("break-in", b"ld 0 0x10000020\n", "never read it"),
-                                ("map", b"boot 64 1\nld 0 00\n", "'00' is no number"), ("store", b"st 0 0x40800c 0x2a\n", "no machine was begun"),
-                                ("end", b"boot 64 1\nld 0 0x400002\ncall 0 1 0x401000\ncall 0\n", "call has 2 to 7 numbers"),
-                                ("break-in", b"st 0 -5 1\n", "'-5' is no number"), ("break-in", b"ld 0 0x100000000\n", "has more than eight digits"),
+                                ("map", BOOT + b"ld 0 00\n", "'00' is no number"),
+                                ("store", b"st 0 0x40800c 0x2a\n", "no machine was begun"),
+                                ("end", BOOT + b"ld 0 0x400002\ncall 0\n", "call has 2 to 7 numbers"),
+                                ("break-in", b"st 0 -5 1\n", "'-5' is no number"),
+                                ("break-in", b"ld 0 0x100000000\n", "has more than eight digits"),
                                 ("sum", b"li r1\n", "before the first page")):
             write(path, text)
             misses(name, path, due)
-        for words, due in ((("nothing", path), "there is no exercise"), (("map", "/nonexistent"), "can't be read"), ((), "which exercise"),
-                           (("sum", place), "can't be read"), (("map", path, "--script"), "--script is for break-in"),
+        for words, due in ((("nothing", path), "there is no exercise"), (("map", "/nonexistent"), "can't be read"),
+                           ((), "which exercise"), (("sum", place), "can't be read"),
+                           (("map", path, "--script"), "--script is for break-in"),
                            (("map", path, "--again", "xyz"), "--again is at most 16 digits")):
             ends(f"tools/exercise {' '.join(words)}", tool("exercise", *words), 2, due)
         write(path, b"boot 16 1\n" + b"raise 1\n" * 5001)

@@ -1,4 +1,4 @@
-"""tools/grade: a class as a table, works that are alike, and hostile works, none of which reaches beyond its student's folder or its limits."""
+"""tools/grade: a class as a table, works that are alike, and hostile ones, none of which gets beyond its folder."""
 
 from __future__ import annotations
 
@@ -50,32 +50,35 @@ def grades(program: str) -> None:
     text = text.replace(b"li r1 0x1000", b"li r1 0x1000\nmov r3 r10\nmov r4 r10")
     again = b"# mine\n" + script.replace(b"0x1234", b"4660").replace(b"0x401000", b"0x00401000")
     with tempfile.TemporaryDirectory() as place:
-        for path, content in (("ada/map.pip", script), ("ada/sum.s", text), ("bob/map.pip", script.replace(b" 3\nst", b" 7\nst")),
-                              ("bob/sum.asmx", b"lix r1\n"), ("bob/map.s", text), ("eve x/break-in.pip", b"peek 1 1\n"), ("eve x/map.pip", again),
-                              ("eve x/notes", b"")):
+        for path, content in (("ada/map.pip", script), ("ada/sum.s", text), ("bob/map.s", text),
+                              ("bob/map.pip", script.replace(b" 3\nst", b" 7\nst")), ("bob/sum.asmx", b"lix r1\n"),
+                              ("eve x/break-in.pip", b"peek 1 1\n"), ("eve x/map.pip", again), ("eve x/notes", b"")):
             os.makedirs(os.path.dirname(os.path.join(place, path)), exist_ok=True)
             write(os.path.join(place, path), content)
         output, messages, status = tool("grade", place, "--again", "1")
-        due = ("map.s is no work: map ends with .pip", "notes is no work: there is no exercise notes", "break-in.pip: line 1: the child can't say")
-        if (output, status) != (CLASS + "(--again 1 draws the same)\n", 0) or any(part not in messages for part in due) or len(messages.splitlines()) != 3:
+        due = ("map.s is no work: map ends with .pip", "notes is no work: there is no exercise notes",
+               "break-in.pip: line 1: the child can't say")
+        lacks = [part for part in due if part not in messages]
+        if (output, status) != (CLASS + "(--again 1 draws the same)\n", 0) or lacks or len(messages.splitlines()) != 3:
             raise Differs(f"tools/grade: status {status}, {output}{messages}")
         if (got := tool("grade", place, "--csv")[0]) != SPREADSHEET:
             raise Differs(f"tools/grade --csv: {got}")
         seeds = tool("grade", place, "--seeds")[0]
         if "0/3       0/3  0/3" not in seeds:
             raise Differs(f"tools/grade --seeds: {seeds}")
-        for words, told in ((("/nonexistent",), "can't be read"), ((os.path.join(place, "ada"),), "no folder of a student"),
-                            ((place, "--jobs", "0"), "--jobs is")):
+        for words, told in ((("/nonexistent",), "can't be read"), ((place, "--jobs", "0"), "--jobs is"),
+                            ((os.path.join(place, "ada"),), "no folder of a student")):
             ends(f"tools/grade {' '.join(words)}", tool("grade", *words), 2, told)
     hostile_works()
     stopped()
 
 
 def hostile_works() -> None:
-    """Of each work of tools/exercises/hostile, and of files that no checkout can hold, what is said of it; none takes long or is whole."""
-    due = {"eve/monitor.asmx": "a work includes files of its own folder", "eve/no-loss.asmx": "a work includes files of its own folder",
-           "eve/tell-apart.asmx": "a work includes files of its own folder", "fifo/map.pip": "is no regular file", "link/map.pip": "is a link",
-           "link/monitor.asmx": "is a link", "folder/map.pip": "Is a directory"}
+    """What is said of the works of tools/exercises/hostile, and of files that no checkout can hold: none takes long or
+    is whole."""
+    due = {"fifo/map.pip": "is no regular file", "link/map.pip": "is a link", "link/monitor.asmx": "is a link",
+           "folder/map.pip": "Is a directory", "slow/monitor.asmx": "more than 10 seconds",
+           "wide/map.pip": "more than 5000 lines"}
     with tempfile.TemporaryDirectory() as place:
         classroom = os.path.join(place, "class")
         shutil.copytree(HOSTILE, classroom)
@@ -88,12 +91,13 @@ def hostile_works() -> None:
         for student in set(os.listdir(classroom)) - {"ada", "own"}:
             if not rows[student].rstrip().endswith(tuple(f" 0/{k}" for k in range(3, 9))):
                 raise Differs(f"tools/grade: a hostile work of {student} is whole: {output}")
-        lacks = [path for path, told in due.items() if not any(path.split("/")[0] in line and told in line for line in messages.splitlines())
-                 and path.split("/")[0] not in ("eve",)]
+        said = messages.splitlines()
+        lacks = [path for path, told in due.items() if not any(path in line and told in line for line in said)]
         if status or lacks or "root:" in output + messages or "helper" in messages or took > 4 * alone.SECONDS:
-            raise Differs(f"tools/grade of hostile works: status {status}, {took:.0f} seconds, nothing is said of {lacks}: {output}{messages}")
+            raise Differs(f"tools/grade of hostile works: status {status}, {took:.0f} s, nothing is said of {lacks}: "
+                          f"{output}{messages}")
         if " 6/6=" not in rows["own"] or "own has" not in output:
-            raise Differs(f"tools/grade: a work with a file of its own isn't taken, or isn't like that of ada: {output}{messages}")
+            raise Differs(f"tools/grade: a work with a file of its own isn't taken, or isn't like ada's: {output}")
         ends("tools/grade --allow", tool("grade", classroom, "--allow", "monitor.s"), 0, "own has")
 
 
@@ -122,22 +126,25 @@ def stopped() -> None:
     with tempfile.TemporaryDirectory() as place:
         waits = os.path.join(place, "judge")
         with open(waits, "w", encoding="utf-8") as file:
-            file.write(f"#!/bin/sh\nread act\nif [ $act = list ]; then printf 'list\\n' | {building.program()}; exit; fi\n"
+            file.write(f"#!/bin/sh\nread act\nif [ $act = list ]; then echo list | {building.program()}; exit; fi\n"
                        f"echo $$ >> {place}/begun\nexec sleep 60\n")
         os.chmod(waits, 0o755)
         for student in ("ada", "bob"):
             os.makedirs(os.path.join(place, "class", student))
             write(os.path.join(place, "class", student, "map.pip"), MAP)
-        process = subprocess.Popen([sys.executable, "-B", os.path.join(REPOSITORY, "tools", "grade"), os.path.join(place, "class")],
-                                   env={**os.environ, "PIP_JUDGE": waits}, stdout=subprocess.PIPE, stderr=subprocess.PIPE)
+        words = [sys.executable, "-B", os.path.join(REPOSITORY, "tools", "grade"), os.path.join(place, "class")]
+        process = subprocess.Popen(words, env={**os.environ, "PIP_JUDGE": waits}, stdout=subprocess.PIPE,
+                                   stderr=subprocess.PIPE)
         until_begun(os.path.join(place, "begun"))
         begun = time.monotonic()
         process.send_signal(signal.SIGINT)
         _, messages = process.communicate(timeout=60)
         with open(os.path.join(place, "begun"), encoding="utf-8") as file:
             left = [number for number in file.read().split() if goes_on(number)]
-        if process.returncode != 130 or time.monotonic() - begun > PROMPT or left or b"Traceback" in messages:
-            raise Differs(f"tools/grade, stopped: status {process.returncode} after {time.monotonic() - begun:.1f} seconds, {left} go on; {messages.decode()}")
+        took = time.monotonic() - begun
+        if process.returncode != 130 or took > PROMPT or left or b"Traceback" in messages:
+            raise Differs(f"tools/grade, stopped: status {process.returncode} after {took:.1f} seconds, {left} go on; "
+                          f"{messages.decode()}")
 
 
 def goes_on(number: str) -> bool:

@@ -1,4 +1,4 @@
-"""The judge in the page's module says of each solution, each cheat and odd texts what the program that tools/exercise calls says."""
+"""The judge in the page's module says of each solution, cheat and odd text what the program of tools/exercise says."""
 
 from __future__ import annotations
 
@@ -17,10 +17,11 @@ from .running import Differs
 SECONDS = 900
 SEED, SECRET = "ada", "5eed"
 LEAST = 250              # requests: a folder that isn't found would pass
-ODD = (("map", b"boot 64 1\nld 0 00\n"), ("map", b""), ("map", b"# nothing\n"), ("end", b"boot 64 1\ncall 0\n"), ("store", b"ld 0 0\n"),
-       ("break-in", b"peek 1 1\n"), ("break-in", b"ld 0 0x10000020\nst 0 -5 1\n"), ("break-in", b"ld 0 0x100000000\n"), ("break-in", b"\xff 0\n"),
-       ("store", b"boot 64 1\nst 9 0 0\n"), ("sum", b"li r1\n"), ("sum", b".frames 16\n.cpus 1\n.page 0x400000\nint 64\n"),
-       ("store", b"boot 16 1\n" + b"raise 1\n" * 5001), ("child", "boot 64 4\nst 0 0x400000 \u00e9\n".encode()), ("nothing", b""))
+ODD = (("map", b"boot 64 1\nld 0 00\n"), ("map", b""), ("map", b"# nothing\n"), ("end", b"boot 64 1\ncall 0\n"),
+       ("store", b"ld 0 0\n"), ("break-in", b"peek 1 1\n"), ("break-in", b"ld 0 0x10000020\nst 0 -5 1\n"),
+       ("break-in", b"ld 0 0x100000000\n"), ("break-in", b"\xff 0\n"), ("store", b"boot 64 1\nst 9 0 0\n"),
+       ("sum", b"li r1\n"), ("sum", b".frames 16\n.cpus 1\n.page 0x400000\nint 64\n"), ("nothing", b""),
+       ("store", b"boot 16 1\n" + b"raise 1\n" * 5001), ("child", "boot 64 4\nst 0 0x400000 \u00e9\n".encode()))
 
 
 def judge(program: str) -> None:
@@ -29,7 +30,8 @@ def judge(program: str) -> None:
     if len(asked) < LEAST:
         raise Differs(f"there are {len(asked)} requests to the judge")
     words = ["node", os.path.join(playground.PLAYGROUND, "judge.mjs"), playground.made()]
-    done = subprocess.run(words, input="".join(json.dumps(one) + "\n" for one in asked).encode(), stdout=subprocess.PIPE, timeout=SECONDS)
+    lines = "".join(json.dumps(one) + "\n" for one in asked)
+    done = subprocess.run(words, input=lines.encode(), stdout=subprocess.PIPE, timeout=SECONDS)
     found = [json.loads(line) for line in done.stdout.splitlines()]
     if len(found) != len(asked):
         raise Differs(f"the module's judge answers {len(found)} requests of {len(asked)}")

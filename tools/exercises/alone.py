@@ -1,6 +1,5 @@
-"""One work of a class, judged in a process of its own: it reads the student's folder alone, and has limits of time and memory.
-
-The process is asked and answers by JSON on its streams.
+"""One work of a class, judged in a process of its own, which reads the student's folder alone and has limits of time
+and memory. It is asked and answers by JSON on its streams.
 """
 
 from __future__ import annotations
@@ -32,8 +31,7 @@ class Work:
 
     exercise: str
     is_program: bool
-    folder: str                  # of the student
-    path: str
+    path: str                    # in the student's folder, to which no link leads
     seed: str | None
     secret: str
     examples: Sequence[str]      # files of examples/ that a work may include
@@ -41,7 +39,7 @@ class Work:
 
 @dataclass(frozen=True)
 class Found:
-    """What was said of a work: why it can't be judged, or each claim; the files that it includes; and what it is like."""
+    """What was said of a work: why it can't be judged, or each claim; which files it reads; and what it is like."""
 
     why: str = ""
     holds: Sequence[bool] = ()
@@ -55,16 +53,16 @@ class Found:
 class OwnFiles(asmx.Files):
     """The files of a student's folder, and some examples by their names: regular files, by no link and no `..`."""
 
-    def __init__(self, folder: str, examples: Sequence[str]) -> None:
+    def __init__(self, examples: Sequence[str]) -> None:
         super().__init__()
-        self.folder, self.examples = os.path.realpath(folder), examples
+        self.examples = examples
         self.read: list[str] = []
 
     def inner(self, place: asmx.Place, path: str) -> str:
         if path in self.examples:
             return os.path.join(calling.REPOSITORY, "examples", path)
         if os.path.isabs(path) or os.pardir in path.split("/"):
-            raise asmx.Wrong(place, "a work includes files of its own folder, by their names, and examples that the grader allows")
+            raise asmx.Wrong(place, "a work includes files of its own folder, and examples that are allowed")
         return os.path.join(os.path.dirname(place.file), path)
 
     def contents(self, path: str) -> bytes:
@@ -72,12 +70,13 @@ class OwnFiles(asmx.Files):
         if self.count > asmx.MOST_FILES:
             raise Failed(f"more than {asmx.MOST_FILES} files are included")
         self.read.append(path)
-        return regular(path, None if path.startswith(os.path.join(calling.REPOSITORY, "examples") + os.sep) else self.folder)
+        is_example = path.startswith(os.path.join(calling.REPOSITORY, "examples") + os.sep)
+        return regular(path, not is_example)
 
 
-def regular(path: str, folder: str | None) -> bytes:
-    """The bytes of a regular file that is in a folder itself, and no link leads there."""
-    if folder is not None and os.path.realpath(path) != os.path.join(folder, os.path.relpath(os.path.abspath(path), os.path.abspath(folder))):
+def regular(path: str, is_own: bool = True) -> bytes:
+    """The bytes of a regular file. Where it is a student's own, no link leads there."""
+    if is_own and os.path.realpath(path) != os.path.normpath(path):
         raise Failed(f"{path} is a link")
     try:
         with open(os.open(path, os.O_RDONLY | os.O_NOFOLLOW | os.O_NONBLOCK), "rb") as file:
@@ -92,9 +91,9 @@ def regular(path: str, folder: str | None) -> bytes:
 
 
 def found(work: Work) -> Found:
-    files = OwnFiles(work.folder, work.examples)
+    files = OwnFiles(work.examples)
     try:
-        text = regular(work.path, files.folder)
+        text = regular(work.path)
         verdict = judging.judged(work.exercise, work.path, text, work.is_program, work.seed, work.secret, files)
     except (Failed, MemoryError, RecursionError) as failed:
         return Found(str(failed) or "it needs too much memory", files=files.read)

@@ -21,8 +21,8 @@ DRAWS = ("break-in", "child-program", "monitor", "tell-apart", "no-loss")     # 
 def main() -> None:
     parser = argparse.ArgumentParser(
         description="Judges a student's script or program by what it reaches, and gives a hint.",
-        epilog="Without a file the exercise is told. The status is 0 where all goals are reached, else 1. The judge is built by "
-               "cargo when it is asked first; PIP_JUDGE of the environment names one that is built.")
+        epilog="Without a file the exercise is told. The status is 0 where all goals are reached, else 1. The judge is "
+               "built by cargo when it is asked first; PIP_JUDGE of the environment names one that is built.")
     parser.add_argument("name", nargs="?", metavar="NAME", help="the exercise; see --list")
     parser.add_argument("file", nargs="?", metavar="FILE",
                         help="a script, or an assembly text, also for tools/asmx; - is standard input")

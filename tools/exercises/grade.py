@@ -78,16 +78,19 @@ class Table:
 def main() -> None:
     parser = argparse.ArgumentParser(
         description="A row a student, a column an exercise, and in each cell how many goals are reached.",
-        epilog="FOLDER has a folder for each student, and in it files named by the exercises: map.pip, sum.s, monitor.asmx. "
-               "'-': nothing handed in; 'bad': the text is refused; '?': it can't be judged, and why is on standard error; '=': it is like "
-               "another one, which is named below the table.")
+        epilog="FOLDER has a folder for each student, and in it files named by the exercises: map.pip, sum.s, "
+               "monitor.asmx. '-': nothing handed in; 'bad': the text is refused; '?': it can't be judged, and why is "
+               "on standard error; '=': it is like another one, which is named below the table.")
     parser.add_argument("folder", metavar="FOLDER")
-    parser.add_argument("--csv", action="store_true", help="for a spreadsheet: numbers in columns, nothing where nothing was handed in")
-    parser.add_argument("--seeds", action="store_true", help="each student's values are those of the seed that is the folder's name")
+    parser.add_argument("--csv", action="store_true",
+                        help="for a spreadsheet: numbers in columns, nothing where nothing was handed in")
+    parser.add_argument("--seeds", action="store_true",
+                        help="each student's values are those of the seed that is the folder's name")
     parser.add_argument("--allow", nargs="+", default=[], metavar="EXAMPLE",
                         help="files of examples/ that a work may include by this name, as monitor.s; without it none")
     parser.add_argument("--again", metavar="SECRET", help="draw what the grading drew that named this secret")
-    parser.add_argument("--jobs", type=int, default=os.cpu_count(), metavar="N", help="how many at once; without it one a processor")
+    parser.add_argument("--jobs", type=int, default=os.cpu_count(), metavar="N",
+                        help="how many at once; without it one a processor")
     given = parser.parse_args()
     calling.guarded("grade", lambda: work(given))
 
@@ -107,7 +110,9 @@ def work(given: argparse.Namespace) -> int:
     for one in judged:
         if one.found.why:
             print(f"grade: {one.path}: {one.found.why}", file=sys.stderr)
-    table = Table(students, {(one.student, one.exercise): one for one in judged}, {name: one.goals for name, one in exercises.items()}, alike(exercises, judged, given.seeds))
+    goals = {name: one.goals for name, one in exercises.items()}
+    table = Table(students, {(one.student, one.exercise): one for one in judged}, goals,
+                  alike(exercises, judged, given.seeds))
     if given.csv:
         csv.writer(sys.stdout, lineterminator="\n").writerows(csv_rows(table))
     else:
@@ -118,7 +123,8 @@ def work(given: argparse.Namespace) -> int:
 def found(folder: str, exercises: dict[str, judging.Exercise]) -> tuple[list[str], list[Work], list[tuple[str, str]]]:
     """The students of a folder, their works, and the other files with what they are."""
     try:
-        students = sorted(entry.name for entry in os.scandir(folder) if entry.is_dir(follow_symlinks=False) and not entry.name.startswith("."))
+        students = sorted(entry.name for entry in os.scandir(folder)
+                          if entry.is_dir(follow_symlinks=False) and not entry.name.startswith("."))
         files = [(student, file) for student in students for file in sorted(os.listdir(os.path.join(folder, student)))]
     except OSError as error:
         raise Failed(f"{error.filename or folder} can't be read: {error.strerror}") from None
@@ -131,7 +137,8 @@ def found(folder: str, exercises: dict[str, judging.Exercise]) -> tuple[list[str
         path = os.path.join(folder, student, file)
         endings = () if name not in exercises else PROGRAMS if exercises[name].is_program else SCRIPTS
         if ending not in endings:
-            others.append((path, "is no work: " + (f"{name} ends with {' or '.join(endings)}" if endings else f"there is no exercise {name}")))
+            why = f"{name} ends with {' or '.join(endings)}" if endings else f"there is no exercise {name}"
+            others.append((path, f"is no work: {why}"))
         elif (student, name) in works:
             others.append((path, f"is left out: {works[student, name].path} is there"))
         else:
@@ -143,8 +150,9 @@ def all_judged(given: argparse.Namespace, exercises: dict[str, judging.Exercise]
     processes = alone.Processes()
 
     def judged(one: Work) -> Work:
-        asked = alone.Work(one.exercise, exercises[one.exercise].is_program, os.path.abspath(os.path.dirname(one.path)), os.path.abspath(one.path),
-                           one.student if given.seeds else None, given.secret, given.allow)
+        folder, name = os.path.split(one.path)
+        path, seed = os.path.join(os.path.realpath(folder), name), one.student if given.seeds else None
+        asked = alone.Work(one.exercise, exercises[one.exercise].is_program, path, seed, given.secret, given.allow)
         return Work(one.student, one.exercise, one.path, processes.judge(asked))
 
     pool = ThreadPoolExecutor(given.jobs)
@@ -182,14 +190,17 @@ def lines(table: Table) -> list[str]:
               f"{table.whole(student)}/{len(table.columns)}"] for student in table.students]
     rows.append(["solved", *(f"{table.solved(name)}/{len(table.students)}" for name in table.columns), "", ""])
     widths = [max(map(len, column)) for column in zip(*rows)]
-    told = ["  ".join([row[0].ljust(widths[0]), *(cell.rjust(width) for cell, width in zip(row[1:], widths[1:]))]).rstrip() for row in rows]
+    told = ["  ".join([row[0].ljust(widths[0]), *map(str.rjust, row[1:], widths[1:])]).rstrip() for row in rows]
     return told + [f"{name}: {one} has {how} {other}" for name, one, how, other in table.alike]
 
 
 def csv_rows(table: Table) -> list[list[object]]:
-    rows: list[list[object]] = [["student", *(f"{name} of {table.goals[name]}" for name in table.columns), "goals", "solved", "alike"]]
+    names = [f"{name} of {table.goals[name]}" for name in table.columns]
+    rows: list[list[object]] = [["student", *names, "goals", "solved", "alike"]]
     for student in table.students:
-        cells = [table.works.get((student, name)) for name in table.columns]
-        like = [f"{name}: {other if student == one else one}" for name, one, _, other in table.alike if student in (one, other)]
-        rows.append([student, *(cell.count if cell else "" for cell in cells), table.count(student), table.whole(student), "; ".join(like)])
+        works = [table.works.get((student, name)) for name in table.columns]
+        like = [f"{name}: {other if student == one else one}" for name, one, _, other in table.alike
+                if student in (one, other)]
+        cells = (work.count if work else "" for work in works)
+        rows.append([student, *cells, table.count(student), table.whole(student), "; ".join(like)])
     return rows

@@ -1,4 +1,4 @@
-"""The judge, as tools/exercise and tools/grade ask it, and what it says of a work. It is written in Rust: tools/judge."""
+"""The judge of tools/judge, as tools/exercise and tools/grade ask it, and what it says of a work."""
 
 from __future__ import annotations
 
@@ -54,7 +54,7 @@ def drawn() -> str:
 
 @dataclass
 class Judged:
-    """What is said of a student's work: of each claim whether it holds, with its hint where it doesn't; or why the text is refused."""
+    """What is said of a work: of each claim whether it holds, with its hint where it doesn't; or why it is refused."""
 
     name: str
     secret: str
@@ -110,7 +110,8 @@ def judged(name: str, path: str, text: bytes, is_program: bool, seed: str | None
     return found
 
 
-def read(found: Judged, answer: str, path: str, is_program: bool, places: Places | None, lines: list[tuple[asmx.Place, str]]) -> None:
+def read(found: Judged, answer: str, path: str, is_program: bool, places: Places | None,
+         lines: list[tuple[asmx.Place, str]]) -> None:
     """Takes the judge's answer apart."""
     trouble: list[str] = []
     for line in answer.splitlines():
@@ -138,7 +139,8 @@ def refusal(found: Judged, rest: str, path: str, is_program: bool, lines: list[t
         at, text = lines[int(place) - 1]
         return [f"{found.name}: the text is refused", f"{at.file}:{at.line}: {kind}, in {text!r}"
                 + asmx.reason([line.encode() for _, line in lines], int(place), kind)]
-    return [f"{found.name}: line {place} is refused", *why.refused(path, found.plain, int(place), kind if is_program else None)]
+    told = why.refused(path, found.plain, int(place), kind if is_program else None)
+    return [f"{found.name}: line {place} is refused", *told]
 
 
 def of_script(parts: list[str]) -> str:
@@ -162,7 +164,7 @@ class Places:
                             for name, label in text.labels.items())
 
     def told(self, address: int) -> str:
-        """The line that an instruction is from, and the name at or before it; nothing where the source has none there."""
+        """The line that an instruction is from, and the name at or before it; nothing where it isn't in the source."""
         place = self.lines.get(address)
         if place is None:
             return ""

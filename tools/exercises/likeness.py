@@ -17,7 +17,7 @@ REGISTER = re.compile(r"r([0-9]|1[0-5])")
 
 
 def essence(text: bytes, is_program: bool) -> list[str]:
-    """The lines of a text without remarks and blank lines; its names are numbered as they come, and its numbers are decimal."""
+    """The lines of a text without remarks and blank lines, names numbered as they come, and numbers decimal."""
     names: dict[str, str] = {}
     lines = text.decode("utf-8", "replace").split("\n")
     told = (" ".join(plain(words, names, is_program)) for words in map(words_of, lines) if words)

@@ -19,12 +19,15 @@ USES = ["pip_asm", "pip_cpu", "pip_image", "pip_kern", "pip_script", "pip_switch
 FOLDER = REPOSITORY / "out" / "judge"
 SHIPPED = HERE / NAME            # where a release has it
 BUILT = FOLDER / "judge" / "target" / "release" / NAME
-NO_CARGO = ("the judge is a program that cargo builds, and there is no cargo here: install Rust 1.85 or later, or copy the file that "
-            "tools/judge/make_judge --to FILE writes on a machine like this, and name it by the environment's PIP_JUDGE")
+NO_CARGO = ("the judge is a program that cargo builds, and there is no cargo here: install Rust 1.85 or later, or copy "
+            "the file that tools/judge/make_judge --to FILE writes on a machine like this, and name it by the "
+            "environment's PIP_JUDGE")
+ENDINGS = (".rt", ".rs", ".toml", ".py", ".txt")
 
 
 def main() -> None:
-    parser = argparse.ArgumentParser(prog="make_judge", description="The judge of the exercises as a program, which cargo builds.")
+    parser = argparse.ArgumentParser(prog="make_judge",
+                                     description="The judge of the exercises as a program, which cargo builds.")
     parser.add_argument("--to", type=Path, required=True, metavar="FILE", help="a copy of it")
     given = parser.parse_args()
     calling.guarded("make_judge", lambda: make(given.to))
@@ -46,7 +49,8 @@ def program() -> str:
 
 def sources() -> list[Path]:
     folders = [REPOSITORY / "crates", REPOSITORY / "tools" / "exporter", HERE]
-    return [REPOSITORY / "crates.txt", *(path for folder in folders for path in folder.rglob("*") if path.suffix in (".rt", ".rs", ".toml", ".py", ".txt"))]
+    inner = (path for folder in folders for path in folder.rglob("*") if path.suffix in ENDINGS)
+    return [REPOSITORY / "crates.txt", *inner]
 
 
 def is_new() -> bool:
@@ -61,7 +65,8 @@ def own_files() -> dict[str, str]:
     from ..exporter import workspace         # here, since a verdict doesn't need it
     manifest = workspace.PACKAGE.format(name=NAME) + "\n" + (HERE / "manifest.toml").read_text(encoding="utf-8")
     files = {"judge/Cargo.toml": manifest, "judge/LICENSE": (REPOSITORY / "LICENSE").read_text(encoding="utf-8")}
-    return {**files, **{f"judge/src/{path.name}": path.read_text(encoding="utf-8") for path in sorted((HERE / "src").iterdir())}}
+    parts = sorted((HERE / "src").iterdir())
+    return {**files, **{f"judge/src/{path.name}": path.read_text(encoding="utf-8") for path in parts}}
 
 
 def build() -> None:
@@ -77,7 +82,8 @@ def build() -> None:
     except (Trouble, OSError) as trouble:
         raise Failed(str(trouble)) from None
     words = ["cargo", "build", "--release", "--quiet", "--offline", "--features", "host"]
-    done = subprocess.run(words, cwd=FOLDER / "judge", stdin=subprocess.DEVNULL, stdout=subprocess.DEVNULL, stderr=subprocess.PIPE, text=True)
+    done = subprocess.run(words, cwd=FOLDER / "judge", stdin=subprocess.DEVNULL, stdout=subprocess.DEVNULL,
+                          stderr=subprocess.PIPE, text=True)
     if done.returncode:
         raise Failed(f"cargo can't build the judge: {done.stderr.strip()[-4000:]}")
     os.utime(BUILT)
