@@ -14,6 +14,7 @@ from ..exercises import alone
 from ..judge import building
 from . import cheats, examples
 from .authors import ends
+from .checkout import heed_interrupts
 from .exercises import tool, write
 from .running import REPOSITORY, Differs
 
@@ -23,8 +24,8 @@ ada     4/4=         -  6/6=  10/16     2/3
 bob      3/4         -   bad   3/16     0/3
 eve x   4/4=         ?     -   4/16     1/3
 solved   2/3       0/3   1/3
-map: ada has the same text as eve x
-sum: ada has nearly the same text as the solution of examples/solutions
+map: the same text: ada, eve x
+sum: nearly the same text: ada, the solution of examples/solutions
 """
 SPREADSHEET = """student,map of 4,break-in of 6,sum of 6,goals,solved,alike
 ada,4,,6,10,2,map: eve x; sum: the solution of examples/solutions
@@ -96,9 +97,9 @@ def hostile_works() -> None:
         if status or lacks or "root:" in output + messages or "helper" in messages or took > 4 * alone.SECONDS:
             raise Differs(f"tools/grade of hostile works: status {status}, {took:.0f} s, nothing is said of {lacks}: "
                           f"{output}{messages}")
-        if " 6/6=" not in rows["own"] or "own has" not in output:
+        if " 6/6=" not in rows["own"] or "monitor: the same text: ada, own, the solution" not in output:
             raise Differs(f"tools/grade: a work with a file of its own isn't taken, or isn't like ada's: {output}")
-        ends("tools/grade --allow", tool("grade", classroom, "--allow", "monitor.s"), 0, "own has")
+        ends("tools/grade --allow", tool("grade", classroom, "--allow", "monitor.s"), 0, "ada, own")
 
 
 def adapt(classroom: str) -> None:
@@ -134,7 +135,7 @@ def stopped() -> None:
             write(os.path.join(place, "class", student, "map.pip"), MAP)
         words = [sys.executable, "-B", os.path.join(REPOSITORY, "tools", "grade"), os.path.join(place, "class")]
         process = subprocess.Popen(words, env={**os.environ, "PIP_JUDGE": waits}, stdout=subprocess.PIPE,
-                                   stderr=subprocess.PIPE)
+                                   stderr=subprocess.PIPE, preexec_fn=heed_interrupts)
         until_begun(os.path.join(place, "begun"))
         begun = time.monotonic()
         process.send_signal(signal.SIGINT)

@@ -112,15 +112,18 @@ def main() -> None:
 # Outside
 
 class Processes:
-    """The processes that judge now, so that all of them can be ended, with their children."""
+    """The processes that judge now, so that all of them can be ended, with their children. They have a folder of their own
+    for a while."""
 
-    def __init__(self) -> None:
+    def __init__(self, place: str) -> None:
+        self.place = place
         self.lock = threading.Lock()
         self.running: set[subprocess.Popen[bytes]] = set()
         self.is_over = False
 
     def judge(self, work: Work) -> Found:
-        words = [sys.executable, "-B", "-m", MODULE]
+        # With the standard library alone, and with what Python has compiled kept, it begins sooner.
+        words = [sys.executable, "-S", "-E", "-X", f"pycache_prefix={self.place}", "-m", MODULE]
         with self.lock:
             if self.is_over:
                 return Found("it was stopped")

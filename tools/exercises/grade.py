@@ -9,6 +9,7 @@ import argparse
 import csv
 import os
 import sys
+import tempfile
 from collections.abc import Iterable
 from concurrent.futures import ThreadPoolExecutor
 from dataclasses import dataclass, field
@@ -49,7 +50,7 @@ class Table:
     students: list[str]
     works: dict[tuple[str, str], Work]
     goals: dict[str, int]                        # of each exercise, how many
-    alike: list[tuple[str, str, str, str]]       # exercise, student, how, whom
+    alike: list[tuple[str, str, list[str]]]      # exercise, how, and whose works
 
     @property
     def columns(self) -> list[str]:
@@ -71,7 +72,7 @@ class Table:
             return "-"
         if work.found.why:
             return "?"
-        mark = "=" if any(student in (one, other) for of, one, _, other in self.alike if of == name) else ""
+        mark = "=" if any(student in who for of, _, who in self.alike if of == name) else ""
         return ("bad" if work.found.refused else f"{work.count}/{self.goals[name]}") + mark
 
 
@@ -147,8 +148,12 @@ def found(folder: str, exercises: dict[str, judging.Exercise]) -> tuple[list[str
 
 
 def all_judged(given: argparse.Namespace, exercises: dict[str, judging.Exercise], works: Iterable[Work]) -> list[Work]:
-    processes = alone.Processes()
+    with tempfile.TemporaryDirectory() as place:
+        return judged_by(alone.Processes(place), given, exercises, works)
 
+
+def judged_by(processes: alone.Processes, given: argparse.Namespace, exercises: dict[str, judging.Exercise],
+              works: Iterable[Work]) -> list[Work]:
     def judged(one: Work) -> Work:
         folder, name = os.path.split(one.path)
         path, seed = os.path.join(os.path.realpath(folder), name), one.student if given.seeds else None
@@ -163,14 +168,14 @@ def all_judged(given: argparse.Namespace, exercises: dict[str, judging.Exercise]
         pool.shutdown(cancel_futures=True)
 
 
-def alike(exercises: dict[str, judging.Exercise], works: list[Work], by_seeds: bool) -> list[tuple[str, str, str, str]]:
+def alike(exercises: dict[str, judging.Exercise], works: list[Work], by_seeds: bool) -> list[tuple[str, str, list[str]]]:
     """The works that are like another one, or like the public solution."""
     found = []
     for name, exercise in exercises.items():
         texts = {work.student: work.found.essence for work in works if work.exercise == name}
         if texts and not by_seeds:
             texts[SOLUTION] = of_solution(name, exercise.is_program)
-        found += [(name, *pair) for pair in likeness.alike(texts)]
+        found += [(name, how, who) for how, who in likeness.alike(texts)]
     return found
 
 
@@ -191,7 +196,7 @@ def lines(table: Table) -> list[str]:
     rows.append(["solved", *(f"{table.solved(name)}/{len(table.students)}" for name in table.columns), "", ""])
     widths = [max(map(len, column)) for column in zip(*rows)]
     told = ["  ".join([row[0].ljust(widths[0]), *map(str.rjust, row[1:], widths[1:])]).rstrip() for row in rows]
-    return told + [f"{name}: {one} has {how} {other}" for name, one, how, other in table.alike]
+    return told + [f"{name}: {how}: {', '.join(who)}" for name, how, who in table.alike]
 
 
 def csv_rows(table: Table) -> list[list[object]]:
@@ -199,8 +204,7 @@ def csv_rows(table: Table) -> list[list[object]]:
     rows: list[list[object]] = [["student", *names, "goals", "solved", "alike"]]
     for student in table.students:
         works = [table.works.get((student, name)) for name in table.columns]
-        like = [f"{name}: {other if student == one else one}" for name, one, _, other in table.alike
-                if student in (one, other)]
+        like = [f"{name}: {other}" for name, _, who in table.alike if student in who for other in who if other != student]
         cells = (work.count if work else "" for work in works)
         rows.append([student, *cells, table.count(student), table.whole(student), "; ".join(like)])
     return rows

@@ -39,17 +39,19 @@ def plain(words: list[str], names: dict[str, str], is_program: bool) -> Iterator
             yield word
 
 
-def alike(texts: Mapping[str, Sequence[str]]) -> list[tuple[str, str, str]]:
-    """The pairs of works that are the same, or nearly: who, how, whom."""
-    found = []
-    for (one, a), (other, b) in itertools.combinations(texts.items(), 2):
-        if a and a == b:
-            found.append((one, "the same text as", other))
-        elif min(len(a), len(b)) >= LEAST_LINES and is_near(a, b):
-            found.append((one, "nearly the same text as", other))
-    return found
+def alike(texts: Mapping[str, Sequence[str]]) -> list[tuple[str, list[str]]]:
+    """The works that are the same text, and of different texts those that are nearly the same: how, and whose they are."""
+    same: dict[tuple[str, ...], list[str]] = {}
+    for who, text in texts.items():
+        if text:
+            same.setdefault(tuple(text), []).append(who)
+    near = [("nearly the same text", [who[0], others[0]])
+            for (a, who), (b, others) in itertools.combinations(same.items(), 2) if is_near(a, b)]
+    return [("the same text", who) for who in same.values() if len(who) > 1] + near
 
 
 def is_near(a: Sequence[str], b: Sequence[str]) -> bool:
+    if min(len(a), len(b)) < LEAST_LINES:
+        return False
     matcher = difflib.SequenceMatcher(None, a, b, autojunk=False)
     return matcher.real_quick_ratio() >= NEAR and matcher.quick_ratio() >= NEAR and matcher.ratio() >= NEAR

@@ -51,7 +51,7 @@ def write(to: Path, made: Optional[Path], debian: Optional[Path]) -> None:
 def written(binary: bytes) -> str:
     packed = base64.b64encode(gzip.compress(binary, mtime=0)).decode()
     told = {"/* facts */": page.as_data(facts()), "/* module */": packed}
-    return page.filled("page.html", [str(HERE), page.HERE], told)
+    return re.sub(r"(?m)^ *// .*\n", "", page.filled("page.html", [str(HERE), page.HERE], told))     # remarks stay here
 
 
 def facts() -> Dict[str, Any]:
