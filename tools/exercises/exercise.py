@@ -75,10 +75,14 @@ def write_script(given: argparse.Namespace, text: bytes) -> int:
 
 
 def sections() -> dict[str, str]:
-    """The exercises of docs/EXERCISES.md, by name."""
+    """The exercises of docs/EXERCISES.md, by name, each with what is said of all of its group."""
     with open(PAGE_OF, encoding="utf-8") as file:
-        parts = file.read().split("\n### ")[1:]
-    return {part.split("\n", 1)[0]: part.split("\n## ")[0].rstrip() for part in parts}
+        groups = [group.split("\n### ") for group in file.read().split("\n## ")[1:]]
+    found: dict[str, str] = {}
+    for head, *parts in groups:
+        rules = head.partition("\n")[2].strip()
+        found.update((part.split("\n", 1)[0], f"{part.strip()}\n\n{rules}".rstrip()) for part in parts)
+    return found
 
 
 def told(name: str, seed: str | None = None) -> str:

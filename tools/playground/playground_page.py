@@ -12,6 +12,7 @@ from typing import Any, Dict, Iterator, List, Optional, Tuple
 from ..authors import why
 from ..common import calling, meanings
 from ..common.calling import Failed
+from ..exercises import exercise
 from ..reference import assembly, instructions, script
 from ..step import page
 from . import module
@@ -105,14 +106,13 @@ def example(path: Path) -> Dict[str, str]:
 
 def exercises() -> Iterator[Dict[str, str]]:
     """Each exercise as remarks, to begin with; of a program with the lines that each has."""
-    text = (REPOSITORY / "docs" / "EXERCISES.md").read_text(encoding="utf-8")
-    for name, told in re.findall(r"^### ([\w-]+)\n(.*?)(?=^##|\Z)", text, re.M | re.S):
+    for name, told in exercise.sections().items():
         solution = next(EXAMPLES.joinpath("solutions").glob(f"{name}.*"), None)
         if solution is None:
             raise Failed(f"docs/EXERCISES.md has the exercise {name}, and examples/solutions has none of it")
         is_script = solution.suffix == ".pip"
         yield {"name": "exercise " + name, "exercise": name, "group": "Exercises", "kind": "script" if is_script else "assembly",
-               "text": remarks(name, told) + ("" if is_script else BEGINNING)}
+               "text": remarks(name, told.partition("\n")[2]) + ("" if is_script else BEGINNING)}
 
 
 def remarks(name: str, told: str) -> str:

@@ -4,11 +4,11 @@ use crate::random::Random;
 use crate::script::{Refused, Script, lines_of, take};
 use crate::values::Values;
 use crate::verdict::Verdict;
-use crate::world::{Act, CREATE, Event, Id, Moved, PAGE, ROOT, World, YIELD};
+use crate::world::{Act, CREATE, Event, Id, Moved, PAGE, ROOT, YIELD};
 use alloc::format;
 use alloc::string::{String, ToString};
 use alloc::vec::Vec;
-use pip_base::{Outcome, Size, Status};
+use pip_base::{Outcome, Status};
 use pip_script::outcome_text;
 
 const CHILD: u32 = 0x40_1000;
@@ -54,9 +54,10 @@ fn setup(v: &Values, secret: u32) -> String {
 }
 
 /// What was run: all lines with what the root does, the machine after them, and why the student's lines ended early.
+#[derive(Default)]
 struct Attack {
     lines: String,
-    script: Script,
+    script: Option<Script>,
     stopped: Option<String>,
     /// The first event that is the student's.
     own: usize,
@@ -72,12 +73,11 @@ fn attack(v: &Values, text: &[u8], secret: u32) -> Result<Attack, Refused> {
             )));
         }
     }
-    let (mut script, lines) = (None, setup(v, secret));
-    for line in lines.lines() {
-        take(&mut script, 0, line.as_bytes())?;
+    let mut attack = Attack::default();
+    for line in setup(v, secret).lines() {
+        attack.line(0, line.as_bytes())?;
     }
-    let Some(script) = script else { return Err(Refused::Cant("no machine was begun".into())) };
-    let mut attack = Attack { own: script.world.events.len(), lines, script, stopped: None };
+    attack.own = attack.events().len();
     for (number, line) in lines_of(text) {
         if attack.stopped.is_none() {
             attack.take(number, line)?;
@@ -88,42 +88,40 @@ fn attack(v: &Values, text: &[u8], secret: u32) -> Result<Attack, Refused> {
 
 impl Attack {
     fn line(&mut self, number: u32, line: &[u8]) -> Result<(), Refused> {
-        let script = Script { world: core::mem::replace(&mut self.script.world, empty()?), boot: self.script.boot };
-        let mut held = Some(script);
-        let taken = take(&mut held, number, line);
-        if let Some(script) = held {
-            self.script = script;
-        }
         self.lines += &format!("{}\n", String::from_utf8_lossy(line));
-        taken
+        take(&mut self.script, number, line)
+    }
+
+    fn runs(&self) -> Option<Id> {
+        self.script.as_ref().and_then(|script| script.world.runs(0))
+    }
+
+    fn events(&self) -> &[Event] {
+        self.script.as_ref().map_or(&[], |script| &script.world.events)
     }
 
     // A line of the child. Where the root is entered by it, it lets the child go on.
     fn take(&mut self, number: u32, line: &[u8]) -> Result<(), Refused> {
         self.line(number, line)?;
         let mut why = self.told();
-        if self.script.world.runs(0) == Some(ROOT) {
+        if self.runs() == Some(ROOT) {
             let call = format!("call 0 8 {CHILD:#x} 63 256");
             self.line(0, call.as_bytes())?;
             why = format!("the root couldn't let the child go on: {call} -> {}", self.told());
         }
-        if self.script.world.runs(0).is_none_or(|id| id == ROOT) {
+        if self.runs().is_none_or(|id| id == ROOT) {
             self.stopped = Some(format!("line {number}: {why}"));
         }
         Ok(())
     }
 
     fn told(&self) -> String {
-        self.script.world.events.last().map_or(String::new(), |event| outcome_text(&event.outcome).as_str().into())
+        self.events().last().map_or(String::new(), |event| outcome_text(&event.outcome).as_str().into())
     }
 
     fn mine(&self) -> impl Iterator<Item = &Event> {
-        self.script.world.events[self.own..].iter().filter(|event| event.place > 0)
+        self.events()[self.own..].iter().filter(|event| event.place > 0)
     }
-}
-
-fn empty() -> Result<World, Refused> {
-    crate::script::run(b"boot 16 1\n").map(|script| script.world)
 }
 
 /// The whole script that is run for a student's lines.
@@ -227,7 +225,9 @@ pub fn break_in(v: &Values, text: &[u8], secret: u64, verdict: &mut Verdict) -> 
         meant(&|act, aim| (act == 100 || act == 101) && aim == Aim::Given),
     ]);
     remark(&attack, verdict, at, word, attempts.len());
-    verdict.trouble = if verdict.is_whole() { Vec::new() } else { crate::script::trouble(&attack.script.world, text) };
+    if let Some(script) = attack.script.as_ref().filter(|_| !verdict.is_whole()) {
+        verdict.trouble = crate::script::trouble(&script.world, text);
+    }
     Ok(())
 }
 
@@ -236,11 +236,11 @@ fn remark(attack: &Attack, verdict: &mut Verdict, at: u32, word: u32, meanings: 
         verdict.remarks.push(stopped.clone());
         verdict.remarks.push("the child doesn't run any more, and no line after that one was run".into());
     }
-    let shows = |event: &&Event| {
-        is_of_child(attack, event)
+    let is_it = |event: &&Event| {
+        event.who.is_some_and(|id| id != ROOT)
             && matches!(event.outcome, Outcome::Word(shown) | Outcome::Reply { value: shown, .. } if shown == word)
     };
-    if let Some(event) = attack.mine().find(shows) {
+    if let Some(event) = attack.mine().find(is_it) {
         verdict.remarks.push(format!("THE CHILD READ {word:#010x} by line {}.", event.place));
         verdict.remarks.push(
             "The child ran there. That would be an error of the program or of its proof: tell its authors.".into(),
@@ -256,9 +256,4 @@ fn remark(attack: &Attack, verdict: &mut Verdict, at: u32, word: u32, meanings: 
         "{} lines, {faults} faults and traps, {refused} refused calls, {meanings} attempts of different meaning",
         attack.mine().count()
     ));
-}
-
-fn is_of_child(attack: &Attack, event: &Event) -> bool {
-    let is_below = |id: Id| id != ROOT && attack.script.world.parts[id].born != ROOT as u32;
-    event.who.is_some_and(is_below) && !matches!(event.act, Act::Load { size: Size::Byte, .. })
 }

@@ -557,13 +557,16 @@ impl Port for World {
     fn call<L: Ledger>(&mut self, cpu: u32, no: u32, args: &[u32; 5], steps: &mut Steps<L>) -> Outcome {
         let before = self.before(cpu, if no == YIELD { args[2] } else { u32::MAX });
         let frame = before.who.map_or(0, |id| self.leaf(id, args[0]).0 / PAGE);
-        let hidden = if no == DELETE || no == COLLECT { self.words_hidden() } else { Vec::new() };
+        let can_clear = !self.is_program && (no == DELETE || no == COLLECT);
+        let hidden = if can_clear { self.words_hidden() } else { Vec::new() };
         let outcome = self.machine.call(cpu, no, args, steps);
         let caller = before.who;
         self.log(Some(cpu), before, Act::Call { no, args: *args }, outcome);
         if let (Outcome::Reply { status: Status::Ok, .. }, Some(caller)) = (outcome, caller) {
             self.call_made(caller, no, args, frame);
-            self.clear(&hidden);
+            if can_clear {
+                self.clear(&hidden);
+            }
         }
         outcome
     }
