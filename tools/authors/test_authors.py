@@ -8,6 +8,7 @@ import unittest
 from collections.abc import Callable
 
 from ..common import calling, plans
+from ..exercises import alone
 from ..reference import assembly
 from . import asmx, explore, why
 
@@ -56,6 +57,31 @@ class Preprocessor(unittest.TestCase):
     def test_files_in_files(self) -> None:
         self.assertEqual(self.of_page(".include inner\nout r2\n", inner="out r1\n"), ["out r1", "out r2"])
         self.refused(".include main\n", "includes itself")
+
+    def test_limits(self) -> None:
+        self.assertEqual(self.of_page(".equ A 0xffffffff\n.equ B A-A*1\n.word A\n"), [".word 0xffffffff"])
+        for text in (".equ A 4294967295\n.equ B A*A\n", ".equ A 0xffffffff+1\n", ".word 65536*65536\n"):
+            self.refused(text, "has more than 32 bits", 3 + text.count("\n"))
+        with self.assertRaisesRegex(calling.Failed, "more than 64 files are included"):
+            self.of_page(".include one\n" * 64, one="li r1 1\n")
+
+    def test_what_a_work_includes(self) -> None:
+        with tempfile.TemporaryDirectory() as place:
+            real = os.path.realpath(place)
+            for name in ("inner.s", "work.asmx"):
+                with open(os.path.join(real, name), "w") as file:
+                    file.write("li r1 1\n")
+            os.symlink("inner.s", os.path.join(real, "link.s"))
+            os.mkfifo(os.path.join(real, "fifo.s"))
+            files, at = alone.OwnFiles(["monitor.s"]), asmx.Place(os.path.join(real, "work.asmx"), 1)
+            self.assertEqual(files.contents(files.inner(at, "inner.s")), b"li r1 1\n")
+            self.assertIn(b".line 0", files.contents(files.inner(at, "monitor.s")))
+            for path in ("/etc/passwd", "../other/map.pip", "a/../../b"):
+                with self.assertRaisesRegex(asmx.Wrong, "includes files of its own folder"):
+                    files.inner(at, path)
+            for path in ("link.s", "fifo.s", "nothing.s", "."):
+                with self.assertRaises(calling.Failed):
+                    files.contents(files.inner(at, path))
 
     def test_what_is_refused(self) -> None:
         for text, told in ((".equ r1 3", "no register"), (".equ a 3 4", "a name and a number"), ("li r1 zz", "no line defines"),
