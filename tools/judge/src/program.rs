@@ -229,7 +229,7 @@ pub fn restless(random: &mut Random, acts: &[Vec<Instr>], waits: (u32, u32)) -> 
     for _ in 0..40 {
         for _ in 0..random.within(waits.0, waits.1) {
             let a = random.within(0, 15);
-            text.push(set(a, random.word() as u16));
+            text.push(encode(&li(a, random.word() as u16)));
         }
         let act = &acts[random.within(0, acts.len() as u32 - 1) as usize];
         text.extend(act.iter().map(encode));
@@ -237,8 +237,8 @@ pub fn restless(random: &mut Random, acts: &[Vec<Instr>], waits: (u32, u32)) -> 
     text
 }
 
-pub fn set(register: u32, value: u16) -> u32 {
-    encode(&Instr::Li { a: Register::new(register), value })
+pub fn lih(register: u32, value: u16) -> Instr {
+    Instr::LiHigh { a: Register::new(register), value }
 }
 
 pub fn li(register: u32, value: u16) -> Instr {

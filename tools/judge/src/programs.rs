@@ -1,7 +1,7 @@
 //! The exercises that are answered by a program.
 
 use crate::memory::has_handlers;
-use crate::program::{Course, Image, Timer, has_parked, has_refused, li, outs, restless, trouble};
+use crate::program::{Course, Image, Timer, has_parked, has_refused, li, lih, outs, restless, trouble};
 use crate::random::Random;
 use crate::script::Refused;
 use crate::values::Values;
@@ -12,7 +12,7 @@ use alloc::string::String;
 use alloc::vec;
 use alloc::vec::Vec;
 use pip_base::{Ctx, Status};
-use pip_isa::Instr;
+use pip_isa::{Instr, Register};
 
 /// Steps in which a timer has to give each child its turn, and each child has to show or to ask something.
 const LONGEST_SILENCE: u32 = 2000;
@@ -265,8 +265,15 @@ pub fn monitor(v: &Values, image: &Image, secret: u64, verdict: &mut Verdict) ->
         let told = format!("one child waits {} steps for a turn, the other {}", quiet[0], quiet[1]);
         (good, told)
     };
-    with_timers(image, line, (5000, 10_000), secret, |_| None, judge, verdict)?;
-    Ok(())
+    let hostile = |random: &mut Random| Some(Hostile::new(halves.map(|half| showing(half, random)).into()));
+    with_timers(image, line, (5000, 10_000), secret, hostile, judge, verdict)
+}
+
+// A child that shows words with an upper half, whatever its registers have.
+fn showing(half: u32, random: &mut Random) -> Vec<u32> {
+    let out = |low: u16| vec![li(1, low), lih(1, half as u16), Instr::Out { a: Register::new(1) }];
+    let acts: Vec<Vec<Instr>> = (0..4).map(|_| out(random.word() as u16)).collect();
+    restless(random, &acts, (0, 40))
 }
 
 // Whether one child shows words with the one upper half alone, and the other with the other, without a long silence.
@@ -297,8 +304,7 @@ pub fn tell_apart(v: &Values, image: &Image, secret: u64, verdict: &mut Verdict)
     };
     let forge = vec![li(1, 0), li(2, vector as u16), li(3, 63), Instr::Sys { value: 8 }];
     let hostile = |random: &mut Random| Some(Hostile::new(vec![restless(random, &[forge.clone()], (0, 40))]));
-    with_timers(image, line, (3000, 6000), secret, hostile, judge, verdict)?;
-    Ok(())
+    with_timers(image, line, (3000, 6000), secret, hostile, judge, verdict)
 }
 
 fn entries(world: &World, vector: u32, why: Why) -> Vec<u32> {

@@ -521,22 +521,17 @@ impl Port for World {
     }
 
     fn fetch<L: Ledger>(&mut self, cpu: u32, steps: &mut Steps<L>) -> Outcome {
-        let who = if self.is_program { self.runs(cpu) } else { None };
-        if who.is_some_and(|id| id != ROOT) && self.stalls.as_mut().is_some_and(|random| random.within(0, 3) == 0) {
-            return Outcome::Word(STAY);
-        }
-        if let (Some(hostile), Some(id), Some(ctx)) =
-            (self.hostile.as_mut(), who.filter(|id| *id != ROOT), self.machine.ctx(cpu))
-        {
-            return Outcome::Word(hostile.word(id, ctx.pc));
-        }
         if !self.is_program {
             let before = self.before(cpu, SAVED);
             let outcome = self.machine.fetch(cpu, steps);
             self.log(Some(cpu), before, Act::Fetch, outcome);
             return outcome;
         }
-        let outcome = self.quick(cpu, Act::Fetch, |machine| machine.fetch(cpu, steps));
+        let who = self.runs(cpu);
+        let outcome = match self.instead(cpu, who) {
+            Some(word) => Outcome::Word(word),
+            None => self.quick(cpu, Act::Fetch, |machine| machine.fetch(cpu, steps)),
+        };
         if let Outcome::Word(word) = outcome
             && let Some(Instr::Out { a }) = decode(word)
             && let Some(ctx) = self.ctx(cpu)
@@ -611,6 +606,15 @@ impl Port for World {
 }
 
 impl World {
+    // The word that a child fetches in the place of that in its memory.
+    fn instead(&mut self, cpu: u32, who: Option<Id>) -> Option<u32> {
+        let (id, pc) = (who.filter(|id| *id != ROOT)?, self.ctx(cpu)?.pc);
+        if self.stalls.as_mut().is_some_and(|random| random.within(0, 3) == 0) {
+            return Some(STAY);
+        }
+        self.hostile.as_mut().map(|hostile| hostile.word(id, pc))
+    }
+
     // An event of a program that is logged only where another partition runs after it. A poll that takes nothing saves
     // nothing, so that its block is looked for only where a line is pending.
     fn quick(&mut self, cpu: u32, act: Act, make: impl FnOnce(&mut Machine<RawFrames>) -> Outcome) -> Outcome {
