@@ -26,6 +26,7 @@ COMMANDS = {
     "shell": "authors.shell",
     "step": "step.command",
     "trace": "authors.trace",
+    "tried": "edits.tried",
     "why": "authors.why",
     "worst.py": "bench.worst",
 }

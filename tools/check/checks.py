@@ -19,8 +19,8 @@ from collections.abc import Iterator
 from types import FrameType
 
 from ..common import calling
-from . import (answering, audits, authors, cheats, counters, counts, devices, documents, endings, examples, exercises,
-               exporting, grading, guests, hints, house, links, memory, pages, playground, playground_judge,
+from . import (answering, audits, authors, cheats, counters, counts, devices, documents, edits, endings, examples,
+               exercises, exporting, grading, guests, hints, house, links, memory, pages, playground, playground_judge,
                playground_runs, playing, public_calls, releasing, shells, sources, tools,
                tutorial, wrapper)
 from .running import REPOSITORY, Check, Differs, Skipped
@@ -44,6 +44,7 @@ CHECKS: dict[str, Check] = {
     "ghost-imports": sources.ghost_imports,
     "house": house.house,
     "public-calls": public_calls.public_calls,
+    "edits": edits.edits,
     "types": hints.types,
     "examples": examples.examples,
     "programs": examples.programs,

@@ -71,7 +71,7 @@ def copy_sources(place: str) -> None:
     """The sources, with the program that says the counts."""
     shutil.copy(os.path.join(REPOSITORY, "crates.txt"), place)
     crates = os.path.join(place, "crates")
-    shutil.copytree(os.path.join(REPOSITORY, "crates"), crates, ignore=shutil.ignore_patterns("out", "must-fail"))
+    shutil.copytree(os.path.join(REPOSITORY, "crates"), crates, ignore=shutil.ignore_patterns("out", "must-fail", "tried"))
     shutil.copy(os.path.join(HERE, "counts_program.txt"), os.path.join(crates, "pip", "src", "main.rt"))
 
 

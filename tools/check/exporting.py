@@ -75,7 +75,7 @@ def copy_sources(place: str) -> None:
     for name in ("pip", "crates.txt", "LICENSE", "tools/export", "tools/launch.py", "tools/__init__.py"):
         os.makedirs(os.path.dirname(os.path.join(place, name)), exist_ok=True)
         shutil.copy(os.path.join(REPOSITORY, name), os.path.join(place, name))
-    built = shutil.ignore_patterns("out", "proofs", "specs", "must-fail", "__pycache__")
+    built = shutil.ignore_patterns("out", "proofs", "specs", "must-fail", "tried", "__pycache__")
     for name in ("crates", "tools/common", "tools/exporter"):
         shutil.copytree(os.path.join(REPOSITORY, name), os.path.join(place, name), ignore=built)
 

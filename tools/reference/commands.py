@@ -104,11 +104,13 @@ def ended(words: Sequence[str], text: bytes) -> Ended:
     if words and words[0] == "native":
         given = children_and_steps(words[1:])
         if given:
-            return of_children(lambda machine: native.native(machine, *given), given[0], text)
+            n, steps = given
+            return of_children(lambda machine: native.native(machine, n, steps), n, text)
     if words and words[0] == "slots":
         shares = slots_of(words[1:])
         if shares:
-            return of_children(lambda machine: slots.slots(machine, *shares), shares[0], text)
+            n, turns, rounds = shares
+            return of_children(lambda machine: slots.slots(machine, n, turns, rounds), n, text)
     if words and words[0] == "audit":
         frames = frames_of(words[1:])
         if frames:
