@@ -1,6 +1,6 @@
 """The repository's own checks of the built program. The list of them is CHECKS.
 
-    tools/check/run.py [--only NAME ..] [--program PATH] [--list] [--write-calls]
+    tools/check/run.py [--only NAME ..] [--program PATH | --unproved] [--list] [--write-calls]
 
 The status is 0 where none fails, and 1 where one does; each that fails says why. One for which a tool is missing is skipped, and the
 last line counts it.
@@ -22,8 +22,8 @@ from ..common import calling
 from . import (answering, audits, authors, cheats, counters, counts, devices, documents, edits, endings, examples,
                exercises, exporting, grading, guests, hints, house, links, memory, pages, playground, playground_judge,
                playground_runs, playing, public_calls, releasing, shells, sources, tools,
-               tutorial, wrapper)
-from .running import REPOSITORY, Check, Differs, Skipped
+               tutorial, unbuilt, wrapper)
+from .running import Check, Differs, Skipped
 
 # A name, and a function that is given the program's path and raises Differs where something is wrong, or Skipped where a tool is missing.
 CHECKS: dict[str, Check] = {
@@ -55,6 +55,7 @@ CHECKS: dict[str, Check] = {
     "tutorial-blocks": tutorial.blocks,
     "wrapper": wrapper.wrapper,
     "wrapper-in-turn": wrapper.in_turn,
+    "unbuilt": unbuilt.nothing_is_proved,
     "reference-tests": tools.unit_tests("tools/reference"),
     "draw-tests": tools.unit_tests("tools/draw"),
     "author-tests": tools.unit_tests("tools/authors"),
@@ -114,13 +115,6 @@ CHECKS: dict[str, Check] = {
 LONGEST = 2400           # seconds of one check. More means that it waits for what never comes, as for a process that was killed for memory
 
 
-def build(program: str) -> None:
-    """Builds the program by ./pip, which builds where it has to."""
-    done = subprocess.run([os.path.join(REPOSITORY, "pip"), "script"], stdin=subprocess.DEVNULL)
-    if done.returncode or not os.access(program, os.X_OK):
-        sys.exit(f"check: there is no program at {program}, and ./pip didn't build it")
-
-
 def made(name: str, check: Check, program: str) -> str:
     """Makes a check, says how it ended, and answers that: ok, skipped or fails."""
     begun = time.monotonic()
@@ -161,7 +155,7 @@ def main() -> None:
 def checked() -> int:
     parser = argparse.ArgumentParser(description="Checks the built program.")
     parser.add_argument("--only", nargs="+", choices=CHECKS, metavar="NAME", help="these checks alone")
-    parser.add_argument("--program", help="the built program; without it ./pip builds and runs crates/pip/out/pip")
+    calling.take_program(parser)
     parser.add_argument("--list", action="store_true", help="print the names of the checks")
     parser.add_argument("--write-calls", action="store_true", help="write public_calls.txt as the sources have its calls")
     given = parser.parse_args()
@@ -171,9 +165,7 @@ def checked() -> int:
     if given.write_calls:
         public_calls.rewrite()
         return 0
-    program = os.path.abspath(given.program or os.path.join(REPOSITORY, "crates", "pip", "out", "pip"))
-    if not given.program:
-        build(program)
+    program = os.path.abspath(calling.direct(given.program))
     endings = {name: made(name, CHECKS[name], program) for name in given.only or CHECKS}
     failed, skipped = ([name for name in endings if endings[name] == ending] for ending in ("fails", "skipped"))
     without = f", {len(skipped)} skipped: {', '.join(skipped)}" if skipped else ""
