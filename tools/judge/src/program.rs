@@ -11,7 +11,7 @@ use pip_base::{Outcome, Plan};
 use pip_cpu::turn;
 use pip_frames::RawFrames;
 use pip_image::{ImageReader, load_image};
-use pip_io::{Discard, Joint, SureSource};
+use pip_io::{Discard, SureSource};
 use pip_isa::{Instr, Register, encode};
 use pip_kern::boot_zeros;
 use pip_model::{Port, due};
@@ -119,13 +119,12 @@ impl Image {
 
     fn load(&self) -> Result<(World, Vec<Plan>), Refused> {
         let cant = |_| Refused::Cant("the image can't be read".into());
-        let (mut source, mut sink) = (SureSource::new(&self.0), Discard::new());
-        let mut joint = Joint::new(&mut source, &mut sink);
-        let mut reader = ImageReader::new();
-        let head = reader.header(&mut joint).map_err(cant)?;
+        let mut source = SureSource::new(&self.0);
+        let mut reader = ImageReader::new(&mut source);
+        let head = reader.header().map_err(cant)?;
         let mut mem = RawFrames::new(Global, head.frames).map_err(|_| memory())?;
         boot_zeros(&mut mem, &mut steps());
-        load_image(&mut reader, &mut joint, &head, &mut mem).map_err(cant)?;
+        load_image(&mut reader, &head, &mut mem).map_err(cant)?;
         let plans = head.plans.iter().copied().collect();
         Ok((World::new(Machine::new(mem, head.cpus), head.frames, true), plans))
     }
