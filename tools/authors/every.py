@@ -28,8 +28,6 @@ from . import asmx, trace, ways
 from .ways import Way
 
 MOST = 10_000_000
-MOST_IMAGE = 1 << 25
-IMAGE = b"PIPIMG"
 LINE = re.compile(r"(\d+) (\d+) (.+): ([^:]+)")
 END = re.compile(r"states (\d+) (?:depth (\d+) (closed|stopped)|(within) (\d+))")
 REASONS = {3: "its input can't be read", 4: "its output can't be written", 5: "no memory was found: give fewer STATES"}
@@ -226,17 +224,10 @@ def main() -> None:
 
 def image_of(given: argparse.Namespace) -> tuple[bytes, str | None]:
     """The image, and the source of its names."""
-    data = calling.contents(given.file, MOST_IMAGE)
-    if data.startswith(IMAGE):
-        return data, given.source
-    if given.source:
+    data, source = asmx.image_of(given.program, given.file)
+    if source and given.source:
         raise Failed("--source is for an image, and this is a source")
-    if given.file == "-":
-        raise Failed("a source is given by its name, since it may include others")
-    try:
-        return asmx.assembled(given.program, asmx.processed(given.file)[0]), given.file
-    except asmx.Wrong as wrong:
-        raise Failed(wrong) from None
+    return data, source or given.source
 
 
 def words_of(given: argparse.Namespace) -> list[str]:

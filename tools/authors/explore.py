@@ -1,6 +1,6 @@
 """The runs of many seeds and timers side by side, grouped by how they end, with the first run of each group.
 
-    tools/explore IMAGE STEPS FIRST LAST [--line L FIRST PERIOD]
+    tools/explore FILE STEPS FIRST LAST [--line L FIRST PERIOD]
     tools/explore --merge PART ..
 """
 
@@ -21,9 +21,9 @@ from dataclasses import dataclass
 from ..common import calling, plans
 from ..common.calling import Failed
 from ..common.plans import Plan
+from . import asmx
 
 MOST_STEPS = 10_000_000
-MOST_IMAGE = 1 << 25
 SWITCH = re.compile(r"^\d+ (\d+) (call \d+ )?switch (\d+) (\d+) (\d+)$")
 PARK = re.compile(r"^\d+ (\d+) park (\d+) (\d+)$")
 REPLY = re.compile(r"^\d+ \d+ call (\d+) reply (\d+) 0x[0-9a-f]{8}$")
@@ -177,7 +177,7 @@ def main() -> None:
     parser = argparse.ArgumentParser(
         description="The runs of many seeds, grouped by how they end.",
         epilog="FIRST and LAST are seeds, from 1 on. Several machines: see tools/README.md.")
-    parser.add_argument("words", nargs="*", metavar="IMAGE STEPS FIRST LAST",
+    parser.add_argument("words", nargs="*", metavar="FILE STEPS FIRST LAST",
                         help="an image, how many steps, and the seeds")
     parser.add_argument("--jobs", type=int, default=os.cpu_count(), metavar="N",
                         help="how many runs at once; without it one a processor")
@@ -191,7 +191,7 @@ def main() -> None:
     calling.take_program(parser)
     given = parser.parse_args()
     if bool(given.merge) == bool(given.words) or given.words and len(given.words) != 4:
-        parser.error("either IMAGE STEPS FIRST LAST, or --merge PART ..")
+        parser.error("either FILE STEPS FIRST LAST, or --merge PART ..")
     calling.guarded("explore", lambda: work(given))
 
 
@@ -205,7 +205,7 @@ def work(given: argparse.Namespace) -> None:
         last = calling.number(numbers[2], first, 0xFFFFFFFF, "LAST")
         if not 1 <= given.jobs <= 1024:
             raise Failed("--jobs is 1 to 1024")
-        image = calling.contents(path, MOST_IMAGE)
+        image, _ = asmx.image_of(given.program, path)
         varied: Sequence[Plan | None] = [None]
         if given.line:
             varied = plans.of_words(given.line)

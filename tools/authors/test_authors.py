@@ -44,6 +44,21 @@ class Preprocessor(unittest.TestCase):
         self.assertEqual(self.of_page("a: la r1 a\nla r2 a+8\nj a\n"),
                          ["a:", "li r1 <a", "lih r1 >a", "li r2 8", "lih r2 64", "beq r0 r0 a"])
 
+    def test_what_other_assemblers_have(self) -> None:
+        self.assertEqual(self.of_page("a: nop\ncall r15 a\nret r15\nneg r1 r2\nnot r3 r4\n"),
+                         ["a:", "mov r0 r0", "jal r15 a", "jr r15", "li r1 0", "sub r1 r1 r2", "li r3 0", "sub r3 r3 r4", "addi r3 r3 -1"])
+        for text, told in (("jmp loop", "'jmp' is no instruction; did you mean jal or j"), ("mov r1, r2", "separated by spaces, not by commas"),
+                           ("lw r1 0(r2)", "did you mean ldw.: an address is a register and a number"), ("; x", "a remark begins with #"),
+                           ("out r1 ; x", "a remark begins with #"), ("neg r1 r1", "two different registers"), ("call a", "call has 2 operands"),
+                           ("beqz r1 a", "did you mean beq with a register that holds 0"), (".foo 1", "no line begins with '.foo'")):
+            with self.subTest(text=text):
+                self.refused("a:\n" + text, told, line=5)
+
+    def test_all_seven_are_told(self) -> None:
+        with self.assertRaises(asmx.Wrong) as found:
+            self.of_page("jmp loop\nli r1 65536\n.equ A zz\nmov r1, r2\nli r2 A\nsb r1 r2 0\nj gone\nout r99\nbeq r1 r2\n")
+        self.assertEqual([int(line.split(":")[1]) for line in str(found.exception).split("\n")], [4, 5, 6, 7, 9, 10, 11, 12])
+
     def test_pages_elsewhere(self) -> None:
         text = ".page 0x401000 at 0xffc00000\nout r1\nb:\nla r1 b\nbne r1 r0 b\n.word b\n"
         self.assertEqual(self.of_page(text), [".page 0x00401000", "out r1", "# b:", "li r1 4", "lih r1 65472", "bne r1 r0 -3",
@@ -108,7 +123,7 @@ class Preprocessor(unittest.TestCase):
         self.assertEqual(str(found.exception).split("\n")[20:], ["and 3 lines more"])
 
     def test_a_line_that_is_too_long(self) -> None:
-        self.refused("foo" + " r1" * 40, "more than 120 bytes")
+        self.refused("add" + " r1" * 40, "more than 120 bytes")
 
     def test_the_page_is_full(self) -> None:
         self.refused(".zero 1024\nout r1", "no room", line=5)
@@ -135,9 +150,9 @@ class Reasons(unittest.TestCase):
         self.assertEqual(self.cause(why.judge_script, b"ld 0 0"), ("second", 1))
 
     def test_what_is_meant(self) -> None:
-        for line, kind, due in ((b"ld r1 r0 4", "unknown", "is ldw meant"), (b"addi r4 r3 32768", "range", "which are -32768 to 32767"),
+        for line, kind, due in ((b"ld r1 r0 4", "unknown", "'ld' is no instruction; did you mean ldw?"), (b"addi r4 r3 32768", "range", "which are -32768 to 32767"),
                                 (b"int 63", "range", "which are 64 to 255"), (b"shli r1 r1 32", "range", "which are 0 to 31"),
-                                (b".equ A 3", "unknown", "a source of tools/asmx"), (b"zzz", "unknown", "no line begins with 'zzz'")):
+                                (b".equ A 3", "unknown", "a source of tools/asmx"), (b"zzz", "unknown", "'zzz' is no instruction")):
             with self.assertRaises(why.Cause) as found:
                 why.judge_assembly([b".frames 64", b".cpus 1", b".page 0x400000", line], 4, kind)
             self.assertIn(due, found.exception.here)

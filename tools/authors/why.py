@@ -17,8 +17,13 @@ from ..reference import assembly, instructions, script
 
 NUMBER = re.compile(rb"0|[1-9][0-9]*|0x[0-9a-f]{1,8}")
 LONGEST = 120
-OF_ASMX = (".equ", ".handler", ".include", "la", "j")       # lines that tools/asmx adds
-LIKE = {"ld": "ldw", "st": "stw", "load": "ldw", "store": "stw", "move": "mov", "call": "sys", "trap": "int"}
+OF_ASMX = (".equ", ".handler", ".include", "la", "j", "nop", "call", "ret", "neg", "not")       # lines that tools/asmx adds
+LIKE = {"ld": "ldw", "st": "stw", "load": "ldw", "store": "stw", "lw": "ldw", "sw": "stw", "lb": "ldb", "sb": "stb", "move": "mov", "jmp": "jal",
+        "trap": "int", "ecall": "sys", "syscall": "sys", "subi": "addi with a negative number", "bgt": "blt", "bgtu": "bltu",
+        "beqz": "beq with a register that holds 0", "bnez": "bne with a register that holds 0"}
+# What other assemblers write, and this one doesn't: a sign in a word, and what to do
+SIGNS = ((",", "operands are separated by spaces, not by commas"), ("(", "an address is a register and a number: ldw r1 r2 0, without brackets"),
+         ("[", "an address is a register and a number: ldw r1 r2 0, without brackets"), (";", "a remark begins with #"), ("//", "a remark begins with #"))
 DIRECTIVES = (b".frames", b".cpus", b".line", b".page", b".word", b".zero")
 
 # How a cause is found in the tables: by words of the row's first cell
@@ -181,9 +186,20 @@ def unknown(word: bytes) -> str:
         return f"{shown(word)} doesn't stand here, or is no good name"
     if word.decode("latin1") in OF_ASMX:
         return f"no line of an assembly text begins with {shown(word)}: the file is a source of tools/asmx"
-    near = difflib.get_close_matches(word.decode("latin1"), [*instructions.OPCODES, *LIKE], 2, 0.6)
-    meant = " or ".join(dict.fromkeys(LIKE.get(name, name) for name in near))
-    return f"no line begins with {shown(word)}" + (f": is {meant} meant?" if meant else "")
+    return no_instruction(word.decode("utf-8", "replace"), list(instructions.OPCODES), LIKE)
+
+
+def no_instruction(word: str, names: list[str], like: dict[str, str]) -> str:
+    """A sentence about a word that begins no line, with what may be meant by it."""
+    near = difflib.get_close_matches(word, [*names, *like], 2, 0.6)
+    meant = " or ".join(dict.fromkeys(like.get(name, name) for name in near))
+    what = "no line begins with " + repr(word) if word.startswith(".") else f"{word!r} is no instruction"
+    return what + (f"; did you mean {meant}?" if meant else hint(word))
+
+
+def hint(word: str) -> str:
+    """What to do about a sign that other assemblers have."""
+    return next((f": {told}" for sign, told in SIGNS if sign in word), "")
 
 
 def is_number(word: bytes) -> bool:
@@ -225,7 +241,7 @@ def wrong_operand(words: list[tuple[int, bytes]], line: bytes) -> tuple[int, str
     due = operands_of(name)
     for (column, word), what in zip(operands, due):
         if not IS[what](word):
-            return column, f"{shown(word)} isn't {CALLED[what]}"
+            return column, f"{shown(word)} isn't {CALLED[what]}{hint(word.decode('utf-8', 'replace'))}"
     if len(operands) > len(due):
         return operands[len(due)][0], f"{name.decode()} has {len(due)} operands, and here are {len(operands)}"
     return len(line) + 1, f"{name.decode()} has {len(due)} operands, and here are {len(operands)}"
@@ -253,6 +269,16 @@ def wrong_name(words: list[tuple[int, bytes]], line: bytes) -> tuple[int, str]:
 
 # The tool
 
+def no_text(name: str, data: bytes) -> str:
+    """What a file is that is no text; nothing where it is one."""
+    if not data:
+        return f"{name} is empty"
+    if data.startswith(b"PIPIMG"):
+        return f"{name} is an image, and no text: ./pip dis < {name} writes its text"
+    found = re.search(rb"[\x00-\x08\x0e-\x1f\x7f]", data)
+    return f"{name} is no text: it has the byte 0x{data[found.start()]:02x} at offset {found.start()}" if found else ""
+
+
 def is_assembly(lines: list[bytes]) -> bool:
     first = next((line for line in lines if line and not line.startswith(b"#")), b"")
     return first.lstrip(b" \t\xef\xbb\xbf").lower().startswith(b".")
@@ -260,8 +286,8 @@ def is_assembly(lines: list[bytes]) -> bool:
 
 def why(program: str, name: str, text: bytes, as_assembly: bool | None = None) -> tuple[list[str], bool]:
     """The sentences about a text, and whether it is good."""
-    if text.startswith(b"PIPIMG"):
-        return [f"{name} is an image, and no text: ./pip dis < {name} writes its text"], False
+    if (what := no_text(name, text)) and (text or as_assembly is None):
+        return [what], False
     lines = list(script.lines(text))
     assembles = is_assembly(lines) if as_assembly is None else as_assembly
     output, status = calling.output(program, ["asm" if assembles else "script"], text)

@@ -64,12 +64,14 @@ def preprocessor(program: str) -> None:
         with open(source, "a") as file:
             file.write("out r1\nlb r1 r2 0\n")
         told = tool(program, "asmx", source, "--image", built)
-        ends("tools/asmx of two wrong lines", told, 2, f"source.s:{last}: range", f"source.s:{last + 2}: unknown, in 'lb r1 r2 0'")
+        ends("tools/asmx of two wrong lines", told, 2, f"source.s:{last}: range", f"source.s:{last + 2}: 'lb' is no instruction; did you mean ldb?")
         ends("tools/asmx to a full device", tool(program, "asmx", programs()[0], "--image", "/dev/full"), 2, "/dev/full: No space left")
         for words, due in ((("/nonexistent",), "can't be read"), ((place,), "can't be read"),
-                            ((source, "--line", "0"), "lines"), ((source, "--image", "/nonexistent/x"), "range")):
+                            ((programs()[0], "--line", "0"), "lines"), ((source, "--image", "/nonexistent/x"), "range")):
             ends(f"tools/asmx {' '.join(words)}", tool(program, "asmx", *words), 2, due)
-        ends("tools/asmx of bytes", tool(program, "asmx", "-", text=b"\xff\x00\n.page \xfe\n"), 2, "-:1: ")
+        for text, due in ((b"\xff\x00\n.page \xfe\n", "- is no text: it has the byte 0x00 at offset 1"), (b"PIPIMG2\n", "- is an image, and no text"),
+                          (b"\xff\n", "-:1: ")):
+            ends("tools/asmx of bytes", tool(program, "asmx", "-", text=text), 2, due)
 
 
 # The child shows 42, which its block has in r2, and the address at which it sees a name of its own.
@@ -141,7 +143,9 @@ def reasons(program: str) -> None:
     ends("tools/why", tool(program, "why", bad), 1, ":7:6: '00' is no number", "rule: ")
     ends("tools/why", tool(program, "why", good), 0, "is a good script")
     ends("tools/why", tool(program, "why", "/nonexistent"), 2, "can't be read")
-    ends("tools/why", tool(program, "why", "-", text=b"\xff\xfe\x00"), 1, "rule: ")
+    ends("tools/why", tool(program, "why", "-", text=b"\xff\xfe"), 1, "rule: ")
+    ends("tools/why of bytes", tool(program, "why", "-", text=b"a\n\x7f"), 1, "- is no text: it has the byte 0x7f at offset 2")
+    ends("tools/why of nothing", tool(program, "why", "-"), 1, "- is empty")
     ends("tools/why", tool(program, "why", "-", "--as", "asm"), 1, "the text ends before")
     ends("tools/why of an image", tool(program, "why", "-", text=b"PIPIMG2\n"), 1, "is an image, and no text")
     ends("tools/why of a source", tool(program, "why", "-", text=b".frames 16\n.cpus 1\n.equ A 3\n"), 1, "a source of tools/asmx")
@@ -172,7 +176,7 @@ def traces(program: str) -> None:
         os.chmod(liar, 0o755)
         ends("tools/trace", tool(liar, "trace", built, "20", "1"), 1, "the reference differs from the program")
         for words, told in ((("-", "x", "1"), "STEPS is a number"), (("-", "1", "0"), "SEED is a number"),
-                            (("-", "1", "1"), "bad image"), (("/nonexistent", "1", "1"), "can't be read"),
+                            (("-", "1", "1"), "- is empty"), (("/nonexistent", "1", "1"), "can't be read"),
                             ((built, "1", "1", "--source", "/nonexistent"), "can't be read")):
             ends(f"tools/trace {' '.join(words)}", tool(program, "trace", *words), 2, told)
 
@@ -227,8 +231,8 @@ def groups(program: str) -> None:
             raise Differs(f"tools/explore --merge: {merged!r}, where {whole!r} is due")
         timers(program, place)
         for words, due in (((built, "x", "1", "2"), "STEPS is"), ((built, "1", "2", "1"), "LAST is"),
-                            ((built, "1", "0", "1"), "FIRST is"), ((built,), "either IMAGE"),
-                            (("-", "1", "1", "2"), "bad image"), (("--merge", source), "no line of this tool"),
+                            ((built, "1", "0", "1"), "FIRST is"), ((built,), "either FILE"),
+                            (("-", "1", "1", "2"), "- is empty"), (("--merge", source), "no line of this tool"),
                             ((built, "1", "1", "2", "--jobs", "0"), "--jobs is")):
             ends(f"tools/explore {' '.join(words)}", tool(program, "explore", *words), 2, due)
 
@@ -277,7 +281,8 @@ def refuses_searches(program: str, built: str) -> None:
     for words, due in (((built, "0"), "STATES is a number"), ((built, "1", "x"), "FROM is a number"),
                        ((built, "1", "0", "0"), "DEPTH is a number"), ((built, "10000", "--trace", "99"), "N is a number"),
                        ((built, "1", "--script", "1"), "no line can come"), (("/nonexistent", "1"), "can't be read"),
-                       (("-", "1"), "a source is given by its name"),
+                       (("-", "1"), "- is empty"),
                        (("examples/hostile.s", "1", "--source", built), "--source is for an image")):
         ends(f"tools/every {' '.join(words)}", tool(program, "every", *words), 2, due)
     ends("tools/every of no image", tool(program, "every", "-", "1", text=b"PIPIMG1\n"), 2, "bad image oldversion 0")
+    ends("tools/every of a source without a name", tool(program, "every", "-", "1", text=b".frames 16\n"), 2, "a source is given by its name")

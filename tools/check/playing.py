@@ -210,7 +210,7 @@ def assembly(shown: browser.Browser) -> None:
     chosen(shown, f"[...document.querySelectorAll('.row b')].find(row => row.textContent === {json.dumps(line)}).click()", f"step {line.split(' ')[0]}")
     due(shown, "the row that is shown", text_of(".row.here b"), line)
     put(shown, ".frames 16\n.cpus 1\n.page 0x400000\nldx r1 r2\n", 4)
-    due(shown, "a bad line of assembly", text_of("#why p"), "line 4, column 1: no line begins with 'ldx': is ldw meant?")
+    due(shown, "a bad line of assembly", text_of("#why p"), "line 4, column 1: 'ldx' is no instruction; did you mean ldw?")
     due(shown, "the views of a bad text", "document.getElementById('views').hidden", True)
 
 

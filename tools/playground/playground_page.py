@@ -70,7 +70,7 @@ def of_assembly() -> Dict[str, Any]:
     names = [*why.DIRECTIVES, *(name.encode() for name in instructions.OPCODES)]
     limits = {**{name.decode(): told for name, told in why.LIMITS.items()}, **{name: f"{least} to {most}" for name, _, least, most in kinds.values()}}
     return {"operands": {name.decode(): why.operands_of(name) for name in names}, "called": why.CALLED, "limits": limits, "ofAsmx": why.OF_ASMX,
-            "like": why.LIKE, "distances": assembly.DISTANCES, "kinds": kinds}
+            "like": why.LIKE, "signs": why.SIGNS, "distances": assembly.DISTANCES, "kinds": kinds}
 
 
 def ends() -> Dict[str, str]:
