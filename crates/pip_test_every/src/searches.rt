@@ -6,7 +6,7 @@ use pip_base::{Frame, Steps};
 use pip_every::search;
 use pip_frames::{Frames, RawFrames};
 use pip_kern::boot_zeros;
-use pip_search::{Search, Extent};
+use pip_search::{Extent, Search};
 use std::alloc::{AllocError, Global};
 use std::marker::Brand;
 use std::process::Abort;

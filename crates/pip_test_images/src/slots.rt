@@ -25,7 +25,14 @@ fn check(
     let image = image_of(rt, lines)?;
     let mut source = MemSource::new(image.bytes(), &[]);
     let mut sink = MemSink::new(rt.alloc(), 16384, fails)?;
-    let ended = slots(rt.alloc(), words.0, words.1, words.2, &mut source, &mut sink);
+    let ended = slots(
+        rt.alloc(),
+        words.0,
+        words.1,
+        words.2,
+        &mut source,
+        &mut sink,
+    );
     assert_eq!(rt; sink.bytes(), text.as_bytes());
     assert_eq!(rt; ended.status, status, "of {text}");
     assert_eq!(rt; ended.machine.is_some(), status == 0);
@@ -43,8 +50,7 @@ fn a_slot_ends_by_a_line(rt: HostRuntime) -> Result<(), Fail> {
 
 #[test]
 fn a_slot_that_its_child_leaves_is_as_long(rt: HostRuntime) -> Result<(), Fail> {
-    let image =
-        ".frames 39\n.cpus 1\n.page 0x00400000\nint 64\n.page 0x00401000\nldw r1 r0 0\n";
+    let image = ".frames 39\n.cpus 1\n.page 0x00400000\nint 64\n.page 0x00401000\nldw r1 r0 0\n";
     let text =
         "image 39 1 0 2\nbuilt 0 0x00402000\nbuilt 1 0x0040e000\n0 0 call 8 switch 1 14 63\n1 0 switch 14 1 64\n5 0 call 8 switch 1 26 63\n6 0 switch 26 1 14\nend 10\n";
     check(&rt, image, (2, 3, 1), &[], 0, text)
