@@ -10,6 +10,7 @@ cache counted.
 
 from __future__ import annotations
 
+import functools
 import sys
 from collections.abc import Callable, Iterable, Sequence
 from typing import List, Optional, Tuple
@@ -104,13 +105,12 @@ def ended(words: Sequence[str], text: bytes) -> Ended:
     if words and words[0] == "native":
         given = children_and_steps(words[1:])
         if given:
-            n, steps = given
-            return of_children(lambda machine: native.native(machine, n, steps), n, text)
+            return of_children(functools.partial(native.native, n=given[0], count=given[1]), given[0], text)
     if words and words[0] == "slots":
         shares = slots_of(words[1:])
         if shares:
             n, turns, rounds = shares
-            return of_children(lambda machine: slots.slots(machine, n, turns, rounds), n, text)
+            return of_children(functools.partial(slots.slots, n=n, turns=turns, rounds=rounds), n, text)
     if words and words[0] == "audit":
         frames = frames_of(words[1:])
         if frames:
