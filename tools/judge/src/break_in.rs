@@ -4,7 +4,7 @@ use crate::random::Random;
 use crate::script::{Refused, Script, lines_of, take};
 use crate::values::Values;
 use crate::verdict::Verdict;
-use crate::world::{Act, CREATE, Event, Id, Moved, PAGE, ROOT, YIELD};
+use crate::world::{Act, Call, Event, Id, Moved, PAGE, ROOT};
 use alloc::format;
 use alloc::string::{String, ToString};
 use alloc::vec::Vec;
@@ -166,38 +166,49 @@ fn moved_for_hidden(event: &Event) -> bool {
     event.moved.as_ref().is_some_and(|moved| kind(moved) == 2)
 }
 
-/// What an attempt means: access or call, what it aims at, and how it was refused; a trap by what it forges, a fault, a
-/// line or nothing. None of a line that isn't refused for what the child has or hasn't: an address that isn't aligned,
-/// is 0 or comes twice, a number that isn't a call's, a vector.
-fn meaning(v: &Values, event: &Event) -> Option<(u32, Aim, u32)> {
-    let access = match event.act {
-        Act::Load { va, .. } => Some((100, va)),
-        Act::Store { va, .. } => Some((101, va)),
-        Act::Fetch => event.before.map(|ctx| (102, ctx.pc)),
-        _ => None,
+/// What the child did in an attempt.
+#[derive(Clone, Copy, PartialEq, Eq)]
+enum Deed {
+    Load,
+    Store,
+    Fetch,
+    Trap,
+    Call(u32),
+}
+
+/// What an attempt means: a deed, what it aims at, and how it was refused, by the kind of fault or the status; of a
+/// trap what it forges, a fault, a line or nothing. None of a line that isn't refused for what the child has or hasn't:
+/// an address that isn't aligned, is 0 or comes twice, a number that isn't a call's, a vector.
+fn meaning(v: &Values, event: &Event) -> Option<(Deed, Aim, u32)> {
+    let (deed, va) = match event.act {
+        Act::Load { va, .. } => (Deed::Load, va),
+        Act::Store { va, .. } => (Deed::Store, va),
+        Act::Fetch => (Deed::Fetch, event.before?.pc),
+        Act::Trap { vector } => return Some((Deed::Trap, Aim::Own, forges(vector))),
+        Act::Call { no, args } => {
+            let status = event.status()?.number();
+            let is_meant = status > 4 && status != Status::BadVector.number();
+            return is_meant.then(|| (Deed::Call(no), aims(v, event, &args), status));
+        }
+        _ => return None,
     };
-    if let Act::Trap { vector } = event.act {
-        return Some((
-            103,
-            Aim::Own,
-            u32::from(matches!(vector, 0 | 6 | 14 | 17)) + 2 * u32::from((32..48).contains(&vector)),
-        ));
+    let kind = event.moved.as_ref().map(|moved| if moved.to == Some(ROOT) { kind(moved) } else { 1 })?;
+    (kind != 0).then_some((deed, aim(v, event, va), kind))
+}
+
+fn forges(vector: u32) -> u32 {
+    match vector {
+        0 | 6 | 14 | 17 => 1,
+        32..48 => 2,
+        _ => 0,
     }
-    if let Some((access, va)) = access {
-        let kind = event.moved.as_ref().map(|moved| if moved.to == Some(ROOT) { kind(moved) } else { 1 })?;
-        return (kind != 0).then_some((access, aim(v, event, va), kind));
-    }
-    let Act::Call { no, args } = event.act else { return None };
-    let status = event.status()?.number();
-    let is_meant = status > 4 && status != Status::BadVector.number();
-    is_meant.then(|| (no, aims(v, event, no, &args), status))
 }
 
 // The first that isn't the child's own among the addresses that a call names.
-fn aims(v: &Values, event: &Event, no: u32, args: &[u32; 5]) -> Aim {
-    let named: &[u32] = match no {
-        CREATE => args,
-        5 => &args[..2],
+fn aims(v: &Values, event: &Event, args: &[u32; 5]) -> Aim {
+    let named: &[u32] = match event.call() {
+        Some(Call::Create { .. }) => args,
+        Some(Call::Lend { .. }) => &args[..2],
         _ => &args[..1],
     };
     named.iter().map(|address| aim(v, event, *address)).min().unwrap_or(Aim::Own)
@@ -207,22 +218,23 @@ pub fn break_in(v: &Values, text: &[u8], secret: u64, verdict: &mut Verdict) -> 
     let word = word_of(secret);
     let attack = attack(v, text, word)?;
     let at = v.get("at");
-    let mut attempts: Vec<(u32, Aim, u32)> = Vec::new();
+    let mut attempts = Vec::new();
     for attempt in attack.mine().filter_map(|event| meaning(v, event)) {
         if !attempts.contains(&attempt) {
             attempts.push(attempt);
         }
     }
-    let meant = |test: &dyn Fn(u32, Aim) -> bool| attempts.iter().any(|(act, aim, _)| test(*act, *aim));
-    let made = attack.mine().any(|event| event.call(CREATE).is_some() && event.is_ok());
+    let meant = |test: &dyn Fn(Deed, Aim) -> bool| attempts.iter().any(|(deed, aim, _)| test(*deed, *aim));
+    let reads = |of: Aim| meant(&|deed, aim| matches!(deed, Deed::Load | Deed::Store) && aim == of);
+    let calls = |of: Aim| meant(&|deed, aim| matches!(deed, Deed::Call(_)) && aim == of);
+    let made = attack.mine().any(|event| event.is_ok() && matches!(event.call(), Some(Call::Create { .. })));
     verdict.story(&[
         attempts.len() >= LEAST_ATTEMPTS,
-        meant(&|act, aim| (act == 100 || act == 101) && aim == Aim::SiblingsPage),
-        meant(&|act, aim| act == 102 && !matches!(aim, Aim::Own | Aim::Given)),
-        meant(&|act, aim| act <= YIELD && aim == Aim::SiblingsNumber)
-            && meant(&|act, aim| act <= YIELD && aim == Aim::RootsNumber),
+        reads(Aim::SiblingsPage),
+        meant(&|deed, aim| deed == Deed::Fetch && !matches!(aim, Aim::Own | Aim::Given)),
+        calls(Aim::SiblingsNumber) && calls(Aim::RootsNumber),
         made,
-        meant(&|act, aim| (act == 100 || act == 101) && aim == Aim::Given),
+        reads(Aim::Given),
     ]);
     remark(&attack, verdict, at, word, attempts.len());
     if let Some(script) = attack.script.as_ref().filter(|_| !verdict.is_whole()) {
@@ -247,7 +259,7 @@ fn remark(attack: &Attack, verdict: &mut Verdict, at: u32, word: u32, meanings: 
         );
         return;
     }
-    let faults = attack.mine().filter(|event| event.moved.is_some() && event.call(YIELD).is_none()).count();
+    let faults = attack.mine().filter(|event| event.moved.is_some() && event.call().is_none()).count();
     let refused = attack.mine().filter(|event| event.status().is_some_and(|status| status != Status::Ok)).count();
     verdict
         .remarks

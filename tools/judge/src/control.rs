@@ -4,7 +4,7 @@ use crate::memory::{after, child_at, children, has_handlers};
 use crate::script::Script;
 use crate::values::Values;
 use crate::verdict::Verdict;
-use crate::world::{Act, At, DELETE, Event, Id, Moved, ROOT, SAVED, Why, World, YIELD};
+use crate::world::{Act, At, Call, Event, Id, Moved, ROOT, SAVED, Why, World};
 use pip_base::{Outcome, Size, Status};
 
 fn moved(event: &Event) -> Option<&Moved> {
@@ -63,15 +63,16 @@ pub fn enter(v: &Values, script: &Script, verdict: &mut Verdict) {
 pub fn call_home(v: &Values, script: &Script, verdict: &mut Verdict) {
     let (world, pc, word) = (&script.world, v.get("pc"), v.get("word"));
     for (k, event, moved) in moves(world) {
-        let is_it =
-            event.call(YIELD).is_some_and(|args| args[0] == 0) && is_child(world, moved.from) && moved.to == Some(ROOT);
+        let is_it = matches!(event.call(), Some(Call::Yield { target: 0, .. }))
+            && is_child(world, moved.from)
+            && moved.to == Some(ROOT);
         if !is_it || world.last_moved(event.cpu.unwrap_or(0)) != Some(k) {
             continue;
         }
         let is_at = moved.entered.pc == pc && pc_of(world, event) == Some(pc) && runs_since(world, k);
         let had = event.before.is_some_and(|ctx| ctx.regs[5] == word);
         let is_saved =
-            event.call(YIELD).is_some_and(|args| args[2] == SAVED) && world.is_kept(k) && is_there(world, moved);
+            matches!(event.call(), Some(Call::Yield { save: SAVED, .. })) && world.is_kept(k) && is_there(world, moved);
         verdict.story(&[true, is_at, had, had && is_saved]);
     }
 }
@@ -188,7 +189,7 @@ pub fn two_processors(v: &Values, script: &Script, verdict: &mut Verdict) {
         let is_refused = |(k, event): (usize, &Event)| {
             event.cpu == Some(1)
                 && world.parts[id].made < k
-                && event.answered(ROOT, DELETE, Status::Running).is_some_and(|args| args[0] == world.parts[id].born)
+                && event.of_root(Status::Running) == Some(Call::Delete { child: world.parts[id].born })
                 && ran(world, 0, k) == Some(id)
         };
         verdict.story(&[

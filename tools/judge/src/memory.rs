@@ -3,7 +3,7 @@
 use crate::script::Script;
 use crate::values::Values;
 use crate::verdict::Verdict;
-use crate::world::{ASK, Act, At, COLLECT, CREATE, Event, HANDLERS, Id, LEND, ROOT, TAKE, World, Writers};
+use crate::world::{Act, At, Call, Event, HANDLERS, Id, ROOT, World, Writers};
 use alloc::vec::Vec;
 use pip_base::{Outcome, Size, Status};
 
@@ -72,9 +72,9 @@ pub fn make_child(v: &Values, script: &Script, verdict: &mut Verdict) {
     let world = &script.world;
     for id in children(world).filter(|id| world.alive(*id)) {
         let part = &world.parts[id];
-        let pages = world.events[part.made].call(CREATE).unwrap_or([0; 5]);
-        let is_asked =
-            |event: &Event| event.answered(ROOT, ASK, Status::Ok).is_some_and(|args| pages.contains(&args[0]));
+        let created = world.events[part.made].call();
+        let is_its = |page: u32| matches!(created, Some(Call::Create { pages }) if pages.contains(&page));
+        let is_asked = |event: &Event| matches!(event.of_root(Status::Ok), Some(Call::Ask { page }) if is_its(page));
         verdict.story(&[
             part.name == v.get("name"),
             descriptor(world, id, 3) == v.get("directory"),
@@ -98,8 +98,10 @@ pub fn map(v: &Values, script: &Script, verdict: &mut Verdict) {
 
 pub fn rights(v: &Values, script: &Script, verdict: &mut Verdict) {
     let world = &script.world;
-    let is_refused =
-        world.events.iter().any(|event| event.call(LEND).is_some() && event.status() == Some(Status::NoRight));
+    let is_refused = world
+        .events
+        .iter()
+        .any(|event| event.status() == Some(Status::NoRight) && matches!(event.call(), Some(Call::Lend { .. })));
     let id = child_at(world, v.get("child"));
     let has = |name: &str, rights: u32| id.is_some_and(|id| world.rights(id, v.get(name)) == rights);
     verdict.story(&[id.is_some(), has("read", 1), has("write", 3), has("execute", 5), is_refused]);
@@ -113,19 +115,19 @@ pub fn take_back(v: &Values, script: &Script, verdict: &mut Verdict) {
     let end =
         [descriptor(world, id, 12) == 0, world.root_rows().iter().filter(|(_, _, given)| *given != 0).count() == 5];
     verdict.story(&[false, false, false, false, end[0], end[1]]);
-    let of_page = |args: [u32; 5]| args[0] == child && args[1] == page;
-    let of_table = |args: [u32; 5]| args[0] == child && args[1] >> 22 == page >> 22;
-    let calls = |from: usize, no: u32, status: Status| {
-        after(world, from).filter_map(move |(k, event)| Some((k, event.answered(ROOT, no, status)?)))
+    let of_table =
+        |call: Call| matches!(call, Call::Collect { child: other, at } if other == child && at >> 22 == page >> 22);
+    let is_lent = |call: Call| matches!(call, Call::Lend { child: other, at, .. } if other == child && at == page);
+    let taken_back = Call::Take { child, at: page };
+    let calls = |from: usize, status: Status| {
+        after(world, from).filter_map(move |(k, event)| Some((k, event.of_root(status)?)))
     };
-    for (lent, _) in
-        calls(world.parts[id].made, LEND, Status::Ok).filter(|(_, args)| args[1] == child && args[2] == page)
-    {
+    for (lent, _) in calls(world.parts[id].made, Status::Ok).filter(|(_, call)| is_lent(*call)) {
         let taken =
-            calls(lent, TAKE, Status::Ok).find(|(_, args)| of_page(*args)).map_or(world.events.len(), |(k, _)| k);
-        let refused = calls(lent, COLLECT, Status::NotEmpty).any(|(k, args)| k < taken && of_table(args));
+            calls(lent, Status::Ok).find(|(_, call)| *call == taken_back).map_or(world.events.len(), |(k, _)| k);
+        let refused = calls(lent, Status::NotEmpty).any(|(k, call)| k < taken && of_table(call));
         let is_taken = refused && taken < world.events.len();
-        let collected = is_taken && calls(taken, COLLECT, Status::Ok).any(|(_, args)| of_table(args));
+        let collected = is_taken && calls(taken, Status::Ok).any(|(_, call)| of_table(call));
         verdict.story(&[true, refused, is_taken, collected, end[0], end[1]]);
     }
 }

@@ -6,7 +6,7 @@ use crate::random::Random;
 use crate::script::Refused;
 use crate::values::Values;
 use crate::verdict::Verdict;
-use crate::world::{Act, DELETE, Event, Hostile, Id, Moved, ROOT, Why, World};
+use crate::world::{Act, Call, Event, Hostile, Id, Moved, ROOT, Why, World};
 use alloc::format;
 use alloc::string::String;
 use alloc::vec;
@@ -93,7 +93,7 @@ pub fn child_program(v: &Values, image: &Image, secret: u64, verdict: &mut Verdi
         let born = world.parts[id].born;
         let is_deleted = trap.is_some_and(|(k, _, _)| {
             world.parts[id].ended.is_some_and(|ended| {
-                ended > k && world.events[ended].answered(ROOT, DELETE, Status::Ok).is_some_and(|args| args[0] == born)
+                ended > k && world.events[ended].of_root(Status::Ok) == Some(Call::Delete { child: born })
             })
         });
         verdict.story(&[true, true, is_of_block, trap.is_some(), is_deleted]);

@@ -4,7 +4,7 @@ use crate::memory::{after, children};
 use crate::script::Script;
 use crate::values::Values;
 use crate::verdict::Verdict;
-use crate::world::{Act, At, DELETE, Event, Id, ROOT, World};
+use crate::world::{Act, At, Call, Event, Id, ROOT, World};
 use pip_base::{Outcome, Size, Status};
 
 /// Partitions whose parent is a child of the root, with those that are no more.
@@ -38,7 +38,7 @@ pub fn end(v: &Values, script: &Script, verdict: &mut Verdict) {
         false,
     ]);
     for (k, event) in world.events.iter().enumerate() {
-        let is_deletion = event.answered(ROOT, DELETE, Status::Ok).is_some_and(|args| args[0] == child);
+        let is_deletion = event.of_root(Status::Ok) == Some(Call::Delete { child });
         let with_child = |id: Id| {
             world.parts[id].ended == Some(k)
                 && grandchildren(world)

@@ -19,14 +19,6 @@ pub const ROOT: Id = 0;
 
 pub const PAGE: u32 = 4096;
 pub const HANDLERS: u32 = 0xffff_f000;
-/// Calls by number.
-pub const CREATE: u32 = 0;
-pub const DELETE: u32 = 1;
-pub const COLLECT: u32 = 4;
-pub const LEND: u32 = 5;
-pub const TAKE: u32 = 6;
-pub const ASK: u32 = 7;
-pub const YIELD: u32 = 8;
 /// The block in which faults, traps and lines save.
 pub const SAVED: u32 = 63;
 
@@ -116,9 +108,10 @@ pub struct Event {
 }
 
 impl Event {
-    pub fn call(&self, number: u32) -> Option<[u32; 5]> {
+    /// The call that was made, with its arguments by name.
+    pub fn call(&self) -> Option<Call> {
         match self.act {
-            Act::Call { no, args } if no == number => Some(args),
+            Act::Call { no, args } => Some(named(no, args)),
             _ => None,
         }
     }
@@ -134,13 +127,40 @@ impl Event {
         self.status() == Some(Status::Ok)
     }
 
-    /// Whether `who` made this call, and it was answered so.
-    pub fn answered(&self, who: Id, no: u32, status: Status) -> Option<[u32; 5]> {
-        self.call(no).filter(|_| self.who == Some(who) && self.status() == Some(status))
+    /// The call of the root that was answered so.
+    pub fn of_root(&self, status: Status) -> Option<Call> {
+        self.call().filter(|_| self.who == Some(ROOT) && self.status() == Some(status))
     }
 
     pub fn is_trouble(&self) -> bool {
         matches!(self.outcome, Outcome::Parked { .. }) || self.status().is_some_and(|status| status != Status::Ok)
+    }
+}
+
+/// A call: `child` is where the caller has the child's descriptor, `at` an address in the child.
+#[derive(Clone, Copy, PartialEq, Eq)]
+pub enum Call {
+    Create { pages: [u32; 5] },
+    Delete { child: u32 },
+    Collect { child: u32, at: u32 },
+    Lend { page: u32, child: u32, at: u32 },
+    Take { child: u32, at: u32 },
+    Ask { page: u32 },
+    Yield { target: u32, save: u32 },
+    Other,
+}
+
+fn named(no: u32, args: [u32; 5]) -> Call {
+    let [a, b, c, _, _] = args;
+    match no {
+        0 => Call::Create { pages: args },
+        1 => Call::Delete { child: a },
+        4 => Call::Collect { child: a, at: b },
+        5 => Call::Lend { page: a, child: b, at: c },
+        6 => Call::Take { child: a, at: b },
+        7 => Call::Ask { page: a },
+        8 => Call::Yield { target: a, save: c },
+        _ => Call::Other,
     }
 }
 
@@ -438,18 +458,19 @@ impl World {
         self.log(cpu, Before { who, ctx: None, save: None }, act, outcome);
     }
 
-    fn call_made(&mut self, caller: Id, no: u32, args: &[u32; 5], frame: u32) {
+    fn call_made(&mut self, caller: Id, call: Call, frame: u32) {
         let number = self.events.len() - 1;
-        if no == CREATE {
-            self.parts.push(Part { name: frame, parent: caller, born: args[0], made: number, ended: None });
-        } else if no == DELETE {
-            let child = self
-                .parts
-                .iter()
-                .position(|part| part.ended.is_none() && part.parent == caller && part.born == args[0]);
-            if let Some(child) = child.filter(|child| *child != ROOT) {
-                self.end(child, number);
+        match call {
+            Call::Create { pages: [born, ..] } => {
+                self.parts.push(Part { name: frame, parent: caller, born, made: number, ended: None });
             }
+            Call::Delete { child } => {
+                let is_it = |part: &Part| part.ended.is_none() && part.parent == caller && part.born == child;
+                if let Some(id) = self.parts.iter().position(is_it) {
+                    self.end(id, number);
+                }
+            }
+            _ => {}
         }
     }
 
@@ -550,15 +571,16 @@ impl Port for World {
     }
 
     fn call<L: Ledger>(&mut self, cpu: u32, no: u32, args: &[u32; 5], steps: &mut Steps<L>) -> Outcome {
-        let before = self.before(cpu, if no == YIELD { args[2] } else { u32::MAX });
+        let call = named(no, *args);
+        let before = self.before(cpu, if let Call::Yield { save, .. } = call { save } else { u32::MAX });
         let frame = before.who.map_or(0, |id| self.leaf(id, args[0]).0 / PAGE);
-        let can_clear = !self.is_program && (no == DELETE || no == COLLECT);
+        let can_clear = !self.is_program && matches!(call, Call::Delete { .. } | Call::Collect { .. });
         let hidden = if can_clear { self.words_hidden() } else { Vec::new() };
         let outcome = self.machine.call(cpu, no, args, steps);
         let caller = before.who;
         self.log(Some(cpu), before, Act::Call { no, args: *args }, outcome);
         if let (Outcome::Reply { status: Status::Ok, .. }, Some(caller)) = (outcome, caller) {
-            self.call_made(caller, no, args, frame);
+            self.call_made(caller, call, frame);
             if can_clear {
                 self.clear(&hidden);
             }
