@@ -20,6 +20,8 @@ from dataclasses import dataclass
 
 from ..common.calling import Failed
 from ..exercises import exercise, judging
+from ..judge import building
+from .exporting import need_cargo
 from .running import REPOSITORY, Differs
 
 CHEATS = os.path.join(REPOSITORY, "tools", "exercises", "cheats")
@@ -43,6 +45,13 @@ class Cheat:
     def marked(self, mark: str) -> list[str]:
         """What is after such a remark."""
         return re.findall(rf"^# {mark}: (.*)$", read(self.path), re.M)
+
+
+def need_judge() -> None:
+    """Builds the judge, or skips a check where it can't be built."""
+    if not os.environ.get("PIP_JUDGE"):
+        need_cargo()
+    building.program()
 
 
 def read(path: str) -> str:
@@ -115,6 +124,7 @@ def all_cheats() -> list[Cheat]:
 
 
 def cheats(program: str) -> None:
+    need_judge()
     found, exercises = all_cheats(), judging.exercises()
     for is_good, least in ((False, LEAST_CHEATS), (True, LEAST_GOOD)):
         counts = Counter(cheat.name for cheat in found if cheat.is_good == is_good)

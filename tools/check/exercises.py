@@ -33,6 +33,7 @@ def tool(name: str, *words: str) -> Told:
 
 
 def solutions(program: str) -> None:
+    cheats.need_judge()
     names = list(judging.exercises())
     files = {name.rsplit(".", 1)[0]: os.path.join(cheats.SOLUTIONS, name) for name in os.listdir(cheats.SOLUTIONS)}
     if tool("exercise", "--list")[0].split() != names or sorted(files) != sorted(names) or len(names) < 20:
@@ -66,6 +67,7 @@ def drawn_again() -> None:
 
 def by_seeds(program: str) -> None:
     """With a seed the text has other values; a solution for these is good, and that of the repository isn't."""
+    cheats.need_judge()
     work = [(seed, name, one.is_program) for seed, (name, one) in itertools.product(SEEDS, judging.exercises().items())]
     with ThreadPoolExecutor(os.cpu_count()) as pool:
         list(pool.map(lambda one: by_seed(*one), work))

@@ -46,7 +46,7 @@ PROMPT = 5               # seconds in which Ctrl-C ends everything
 
 def grades(program: str) -> None:
     """A class as a table, with what isn't judged on standard error; as a spreadsheet; and by seeds."""
-    building.program()
+    cheats.need_judge()
     script, text = MAP, examples.contents(cheats.solution_of("sum"))
     text = text.replace(b"li r1 0x1000", b"li r1 0x1000\nmov r3 r10\nmov r4 r10")
     again = b"# mine\n" + script.replace(b"0x1234", b"4660").replace(b"0x401000", b"0x00401000")

@@ -26,6 +26,7 @@ ODD = (("map", b"boot 64 1\nld 0 00\n"), ("map", b""), ("map", b"# nothing\n"), 
 
 def judge(program: str) -> None:
     playground.need_node()
+    cheats.need_judge()
     asked = [one.decode("utf-8", "replace") for one in requests()]
     if len(asked) < LEAST:
         raise Differs(f"there are {len(asked)} requests to the judge")
