@@ -1,4 +1,4 @@
-"""Tests of the tools for authors, without the program. The check `author-tests` runs them."""
+"""Tests of the tools for authors, without the program. The check `unit-tests` runs them."""
 
 from __future__ import annotations
 

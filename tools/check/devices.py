@@ -43,7 +43,7 @@ def interrupted(program: str) -> None:
             file.write(f"#!/bin/sh\nexec sleep {SECONDS}\n")
         os.chmod(waits, 0o755)
         stop("why", ("-",), program)
-        stop("check/run.py", ("--only", "script", "--program", waits), program)
+        stop("check/run.py", ("--only", "commands", "--program", waits), program)
 
 
 def stop(name: str, words: tuple[str, ...], program: str) -> None:

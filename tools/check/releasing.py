@@ -1,8 +1,7 @@
-"""A release of these sources works where there is neither kit nor cargo, and two builds of the program have the same bytes."""
+"""A release of these sources works where there is neither kit nor cargo."""
 
 from __future__ import annotations
 
-import filecmp
 import os
 import shutil
 import subprocess
@@ -14,7 +13,6 @@ from typing import Any
 from .running import REPOSITORY, Differs, Skipped, expect
 
 SECONDS = 900            # on a machine whose processors and disk are busy
-AGAIN = "PIP_AGAIN"
 GATE = "#!/bin/sh\ncp {program} crates/pip/out/pip\necho '1 passed, 0 failed'\n"
 # Stands in for the kit, which prints its line, and for the page's module
 RT = "#!/bin/sh\necho a kit\n"
@@ -88,14 +86,3 @@ def finished(words: list[str], **settings: Any) -> None:
     done = subprocess.run(words, stdin=subprocess.DEVNULL, stdout=subprocess.PIPE, stderr=subprocess.STDOUT, timeout=SECONDS, **settings)
     if done.returncode:
         raise Differs(f"{' '.join(words)} ends with {done.returncode}: {done.stdout.decode('utf-8', 'replace')[-2000:]}")
-
-
-def built_again(program: str) -> None:
-    """The program is byte by byte the one that was built in another folder, whose path is the environment's PIP_AGAIN."""
-    other = os.environ.get(AGAIN)
-    if not other:
-        raise Skipped(f"no second build, which {AGAIN} would name")
-    if os.path.realpath(other) == os.path.realpath(program):
-        raise Differs(f"{AGAIN} names the program itself")
-    if not filecmp.cmp(program, other, shallow=False):
-        raise Differs(f"{program} and {other} have other bytes")

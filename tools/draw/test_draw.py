@@ -1,4 +1,4 @@
-"""Tests of the drawings. The check `draw-tests` runs them."""
+"""Tests of the drawings. The check `unit-tests` runs them."""
 
 from __future__ import annotations
 

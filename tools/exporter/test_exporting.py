@@ -1,4 +1,4 @@
-"""Tests of the exporter on small texts. The check `exporter-tests` runs them."""
+"""Tests of the exporter on small texts. The check `unit-tests` runs them."""
 
 from __future__ import annotations
 

@@ -1,4 +1,4 @@
-"""Tests of the search over all interleavings. The check `reference-tests` runs them."""
+"""Tests of the search over all interleavings. The check `unit-tests` runs them."""
 
 from __future__ import annotations
 

@@ -1,4 +1,4 @@
-"""Tests of the tree, its events and its layout. The check `reference-tests` runs them."""
+"""Tests of the tree, its events and its layout. The check `unit-tests` runs them."""
 
 from __future__ import annotations
 

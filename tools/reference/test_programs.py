@@ -1,4 +1,4 @@
-"""Tests of instructions, images, the assembler and runs. The check `reference-tests` runs them."""
+"""Tests of instructions, images, the assembler and runs. The check `unit-tests` runs them."""
 
 from __future__ import annotations
 

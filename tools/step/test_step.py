@@ -1,4 +1,4 @@
-"""Tests of the pages to step through. The check `step-tests` runs them."""
+"""Tests of the pages to step through. The check `unit-tests` runs them."""
 
 from __future__ import annotations
 
