@@ -1,5 +1,7 @@
 """Runs a command of the tools: finds its module by the name that was called."""
 
+from __future__ import annotations
+
 import importlib
 import os
 import sys

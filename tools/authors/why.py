@@ -9,7 +9,7 @@ import argparse
 import difflib
 import re
 from collections.abc import Callable
-from typing import NoReturn, Optional, Tuple
+from typing import NoReturn, Optional
 
 from ..common import calling, meanings
 from ..common.calling import Failed
@@ -44,7 +44,7 @@ ROWS = {
     "count": "`ld 0`",
     "long": "121 bytes or more",
 }
-Form = Tuple[Optional[int], ...]      # what each number of a line is below; None is the number of processors
+Form = tuple[Optional[int], ...]      # what each number of a line is below; None is the number of processors
 KINDS = ("unknown", "operand", "range", "twice", "size", "label")
 
 

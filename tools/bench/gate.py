@@ -17,9 +17,8 @@ import sys
 import threading
 import time
 from collections import defaultdict
-from typing import DefaultDict, Dict, Tuple
 
-Used = DefaultDict[Tuple[str, str], Dict[int, float]]      # by crate and kind: the seconds of each process
+Used = defaultdict[tuple[str, str], dict[int, float]]      # by crate and kind: the seconds of each process
 KINDS = ("proof", "tests", "edits")
 TICKS = os.sysconf("SC_CLK_TCK")
 NAME = re.compile(rb"\0--crate-name\0([^\0]+)\0")

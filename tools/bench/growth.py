@@ -9,7 +9,7 @@ from __future__ import annotations
 
 import math
 import sys
-from typing import List, NamedTuple, Tuple
+from typing import NamedTuple
 
 from ..common import calling
 from ..draw.svg import INK, PALE, Drawing
@@ -26,7 +26,7 @@ class Curve(NamedTuple):
     aside: tuple[int, int]       # where the last figure is from its point
 
 
-Points = List[Tuple[int, int]]      # a size, and the instructions
+Points = list[tuple[int, int]]      # a size, and the instructions
 CURVES = [
     Curve("chain", "partitions in a chain, each with a table", (1, 2, 5, 10, 20, 50, 100), "#7d4fa8", "end", (-10, 4)),
     Curve("children", "children of the child", (0, 1, 2, 5, 10, 20, 50, 100, 200), "#c0392b", "start", (10, 4)),

@@ -9,17 +9,19 @@ into one part in 64 of the assembler's table, were its hash to begin with 0. KIN
 `prepare` gives a child tables and takes them back. BYTES is the size of the script, at most.
 """
 
+from __future__ import annotations
+
 import functools
 import itertools
 import random
 import sys
-from typing import Callable, Dict, Iterator, Tuple
+from collections.abc import Callable, Iterator
 
 from . import deletions
 
 LETTERS = "abcdefghijklmnopqrstuvwxyzABCDEFGHIJKLMNOPQRSTUVWXYZ_"
 FACTOR = 0x9E3779B97F4A7C15
-Memory = Dict[int, Dict[int, int]]
+Memory = dict[int, dict[int, int]]
 
 
 # ---- names
@@ -44,7 +46,7 @@ def chosen(count: int) -> Iterator[str]:
     return itertools.islice(found, count)
 
 
-def five_letters() -> Iterator[Tuple[str, int]]:
+def five_letters() -> Iterator[tuple[str, int]]:
     """All names of five letters with their hashes, which begin with 0."""
     for letters in itertools.product(LETTERS, repeat=4):
         front, hashed = "".join(letters), functools.reduce(mixed, letters, 0)
@@ -57,7 +59,7 @@ def mixed(hashed: int, letter: str) -> int:
 
 
 def labels(kind: str, count: str) -> Iterator[str]:
-    names: Dict[str, Callable[[int], Iterator[str]]] = {
+    names: dict[str, Callable[[int], Iterator[str]]] = {
         "numbers": numbers, "drawn": drawn, "prefixes": prefixes, "chosen": chosen}
     yield from (".frames 16", ".cpus 1", ".page 0x400000")
     for name in names[kind](int(count)):
@@ -131,7 +133,7 @@ def frames_text(memory: Memory) -> Iterator[str]:
 
 def main() -> None:
     words = sys.argv[1:]
-    kinds: Dict[str, Callable[..., Iterator[str]]] = {
+    kinds: dict[str, Callable[..., Iterator[str]]] = {
         "names": labels, "chain": chain, "audit": lambda: frames_text(slow_memory())}
     if not words or words[0] not in kinds:
         sys.exit(__doc__)

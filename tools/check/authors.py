@@ -7,14 +7,13 @@ import os
 import subprocess
 import sys
 import tempfile
-from typing import Tuple
 
 from ..authors import why
 from ..reference import commands as reference, generate
 from . import examples
 from .running import REPOSITORY, SECONDS, Differs, run
 
-Told = Tuple[str, str, int]          # output, messages and status of a tool
+Told = tuple[str, str, int]          # output, messages and status of a tool
 CASES = 300
 
 

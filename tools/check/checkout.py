@@ -7,12 +7,12 @@ import shutil
 import signal
 import subprocess
 from collections.abc import Sequence
-from typing import IO, Any, Tuple
+from typing import IO, Any
 
 from .running import REPOSITORY, SECONDS
 
 Process = subprocess.Popen[bytes]
-Ended = Tuple[str, str, int, int]    # output, messages and status of ./pip, and how often it built
+Ended = tuple[str, str, int, int]    # output, messages and status of ./pip, and how often it built
 
 # The stand-in for `rt`. What it builds says with which words it ran, and ends with 7. As with rt, nothing of it is left once it is ended.
 RT = """#!/bin/sh

@@ -7,10 +7,12 @@ which are known by their `fn main`; and so may crates of tests, on which no othe
 counter of its own, too: its choices are calls of a trait of pip_search, which knows no counter, so it counts for nobody.
 """
 
+from __future__ import annotations
+
 import os
 import re
 import tempfile
-from typing import Dict, Iterator, List, Set
+from collections.abc import Iterator
 
 from .running import REPOSITORY, Differs
 from .sources import sources, write
@@ -70,7 +72,7 @@ def counters_named(top: str) -> Iterator[str]:
     yield from ends_used(top, found)
 
 
-def programs(top: str) -> Set[str]:
+def programs(top: str) -> set[str]:
     """The crates that are programs and nothing else."""
     mains = {crate for crate, path, text in sources(top) if is_main(path, text)}
     return mains - {crate for crate, path, _ in sources(top) if path.endswith(os.path.join("src", "lib.rt"))}
@@ -97,7 +99,7 @@ def without_texts(text: str) -> str:
     return NO_CODE.sub(" ", text)
 
 
-def ends_used(top: str, found: Set[str]) -> Iterator[str]:
+def ends_used(top: str, found: set[str]) -> Iterator[str]:
     """The crates that stand on a program, and those of no tests that stand on one of tests, by crates.txt."""
     try:
         with open(os.path.join(top, "crates.txt"), encoding="utf-8") as file:
@@ -111,7 +113,7 @@ def ends_used(top: str, found: Set[str]) -> Iterator[str]:
                 yield f"{crate} stands on {other}"
 
 
-def found_in(files: Dict[str, str]) -> List[str]:
+def found_in(files: dict[str, str]) -> list[str]:
     """What is found in a tree of these files alone."""
     with tempfile.TemporaryDirectory() as planted:
         for path, text in files.items():
@@ -119,7 +121,7 @@ def found_in(files: Dict[str, str]) -> List[str]:
         return list(counters_named(planted))
 
 
-def in_kernel(text: str) -> Dict[str, str]:
+def in_kernel(text: str) -> dict[str, str]:
     return {"crates/pip_mmu/src/lib.rt": f"fn leaf() {{\n{text}}}\n"}
 
 

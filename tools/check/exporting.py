@@ -1,6 +1,8 @@
 """The export as ordinary Rust: its text is that of the sources, and, where cargo is installed, what cargo builds of it does what the
 program does."""
 
+from __future__ import annotations
+
 import functools
 import multiprocessing
 import os
@@ -9,7 +11,8 @@ import shutil
 import subprocess
 import sys
 import tempfile
-from typing import Any, Callable, Dict, List, Tuple
+from collections.abc import Callable
+from typing import Any
 
 from ..reference import comparison, generate
 from .running import REPOSITORY, Differs, Skipped, expect, part
@@ -107,14 +110,14 @@ def need_cargo(tool: str = "") -> None:
 
 
 @functools.lru_cache(maxsize=None)
-def exported() -> "tempfile.TemporaryDirectory[str]":
+def exported() -> tempfile.TemporaryDirectory[str]:
     """A folder with an export, which goes when the checks end."""
     place = tempfile.TemporaryDirectory()
     written(place.name, "shims")
     return place
 
 
-def written(place: str, deps: "str | None") -> str:
+def written(place: str, deps: str | None) -> str:
     """Writes an export, and answers what tools/export says of it."""
     words = [sys.executable, "-B", EXPORT, "--to", place] + (["--deps", deps] if deps else [])
     return finished("tools/export", words, {})
@@ -126,7 +129,7 @@ def cargo(place: str, *words: str, **settings: str) -> str:
     return finished("cargo " + words[0], ["cargo", *words], {"cwd": place, "env": environment})
 
 
-def finished(what: str, words: List[str], settings: Dict[str, Any]) -> str:
+def finished(what: str, words: list[str], settings: dict[str, Any]) -> str:
     done = subprocess.run(words, stdin=subprocess.DEVNULL, stdout=subprocess.PIPE, stderr=subprocess.STDOUT, timeout=SECONDS, **settings)
     told: str = done.stdout.decode("utf-8", "replace")
     if done.returncode:
@@ -185,7 +188,7 @@ def check_cases(built: Callable[[str], str], program: str, cases: int) -> None:
             expect(f"the exported program, {command} with the case of seed {seed}", got, due)
 
 
-def both(given: Tuple[str, str, str, int]) -> Tuple[Tuple[bytes, int], Tuple[bytes, int]]:
+def both(given: tuple[str, str, str, int]) -> tuple[tuple[bytes, int], tuple[bytes, int]]:
     """What the export and the program answer to a case."""
     export, program, command, seed = given
     words, text_of = generate.case(command, seed)

@@ -5,8 +5,7 @@ from __future__ import annotations
 import os
 import subprocess
 import tempfile
-from collections.abc import Iterator
-from typing import Callable, List, Tuple
+from collections.abc import Callable, Iterator
 
 from ..reference import commands as reference
 from .running import Differs, Output, expect, run
@@ -14,7 +13,7 @@ from .running import Differs, Output, expect, run
 HERE = os.path.dirname(os.path.abspath(__file__))
 SCRIPT = b"# before the boot line\nboot 32 1\nld 0 0x400000\n"
 ASSEMBLY = b".frames 16\n.cpus 1\n.line 0 2 0\n.page 0x00400000\nhere:\nli r1 7\nout r1\nbne r1 r0 there\nthere:\nint 64\n"
-Refused = Callable[[List[str], bytes, int], Tuple[Output, int]]
+Refused = Callable[[list[str], bytes, int], tuple[Output, int]]
 NO_MEMORY = 5            # the status
 NO_WORDS = 10            # where memory for the words of the command line is refused to the runtime
 

@@ -1,5 +1,7 @@
 """The program as a module of WebAssembly answers as the program does, and the page over it shows what the other tools show."""
 
+from __future__ import annotations
+
 import atexit
 import functools
 import glob
@@ -10,7 +12,7 @@ import shutil
 import subprocess
 import sys
 import tempfile
-from typing import Any, Dict, List, Tuple
+from typing import Any
 
 from ..authors import why
 from ..reference import generate
@@ -72,7 +74,7 @@ def make(path: str) -> None:
         raise Differs(f"the module isn't made: {told[-3000:]}")
 
 
-def examples() -> List[Tuple[List[str], bytes]]:
+def examples() -> list[tuple[list[str], bytes]]:
     found = []
     for path in sorted(glob.glob(os.path.join(REPOSITORY, "examples", "**", "*.pip"), recursive=True)):
         with open(path, "rb") as file:
@@ -80,17 +82,17 @@ def examples() -> List[Tuple[List[str], bytes]]:
     return found
 
 
-def cases() -> List[Tuple[List[str], bytes]]:
+def cases() -> list[tuple[list[str], bytes]]:
     return [generate.case(command, FIRST_SEED + k) for command in generate.COMMANDS for k in range(CASES)]
 
 
-def both(given: Tuple[str, str, List[str], bytes]) -> Tuple[Tuple[bytes, int], Tuple[bytes, int]]:
+def both(given: tuple[str, str, list[str], bytes]) -> tuple[tuple[bytes, int], tuple[bytes, int]]:
     """What the module and the program answer."""
     path, program, words, text = given
     return run(["node", os.path.join(PLAYGROUND, "run.mjs"), path, *words], text), run([program, *words], text)
 
 
-def run(command: List[str], text: bytes) -> Tuple[bytes, int]:
+def run(command: list[str], text: bytes) -> tuple[bytes, int]:
     done = subprocess.run(command, input=text, stdout=subprocess.PIPE, stderr=subprocess.DEVNULL, timeout=SECONDS)
     return done.stdout, done.returncode
 
@@ -107,7 +109,7 @@ def states(program: str) -> None:
                 raise Differs(found)
 
 
-def scripts() -> List[str]:
+def scripts() -> list[str]:
     return sorted(glob.glob(os.path.join(REPOSITORY, "examples", "**", "*.pip"), recursive=True))
 
 
@@ -116,7 +118,7 @@ def answers_of(script: str) -> bool:
     return os.path.exists(script[:-len(".pip")] + ".out")
 
 
-def same_states(given: Tuple[str, str, str]) -> str:
+def same_states(given: tuple[str, str, str]) -> str:
     """What differs, in a sentence; nothing where all is the same."""
     program, path, script = given
     name = os.path.relpath(script, REPOSITORY)
@@ -134,13 +136,13 @@ def same_states(given: Tuple[str, str, str]) -> str:
     return next((f"the page of {name}, answer {k + 1}: {what}"[:2000] for k, what in enumerate(found) if what), "")
 
 
-def differs(told: Dict[str, Any], due: Dict[str, Any], k: int) -> str:
+def differs(told: dict[str, Any], due: dict[str, Any], k: int) -> str:
     chosen = 7 * k % told["frames"]
     got, wanted = state_of(told, len(told["steps"]) - 1, chosen), state_of(due, k, chosen)
     return next((f"{part} is {got[part]}, where {wanted[part]} is due" for part in wanted if got[part] != wanted[part]), "")
 
 
-def state_of(data: Dict[str, Any], k: int, chosen: int) -> Dict[str, Any]:
+def state_of(data: dict[str, Any], k: int, chosen: int) -> dict[str, Any]:
     """A state of a page, with the words of a frame."""
     step = data["steps"][k]
     words = [place for at, place in data["words"].get(str(chosen), []) if at <= k]
@@ -159,7 +161,7 @@ def reasons(program: str) -> None:
     refused_as(program, "asm", bad_assembly(), len(BAD_ASSEMBLY))
 
 
-def refused_as(program: str, kind: str, texts: List[bytes], least: int) -> None:
+def refused_as(program: str, kind: str, texts: list[bytes], least: int) -> None:
     with tempfile.TemporaryDirectory() as place:
         files = [os.path.join(place, str(k)) for k in range(len(texts))]
         for name, text in zip(files, texts):
@@ -189,7 +191,7 @@ BAD_LINES = (b"ld 0 0\r", b" ld 0 0", b"ld 0  0", b"ld 0 0 ", b"ld\t0 0", b"ld 0
 FIRST_LINES = (b"ld 0 0", b"boot 15 1", b"boot 32 5", b"boot 32", b"\xef\xbb\xbfboot 32 1")
 
 
-def bad_texts() -> List[bytes]:
+def bad_texts() -> list[bytes]:
     found = [b"boot 64 1\n# here\n\n" + line + b"\n" for line in BAD_LINES] + [line + b"\n" for line in FIRST_LINES]
     return found + [text for text in (generate.case("script", FIRST_SEED + k)[1] for k in range(CASES_OF_REASONS)) if is_utf8(text)]
 
@@ -206,7 +208,7 @@ BAD_HEADS = (b"", b".frames 16\n", b".frames 15\n", b".frames 4097\n", b".frames
              b".frames 16\n.cpus 1\n.line 16 1 1\n", b".frames 16\n.cpus 1\n.line 3 1 1\n.line 3 1 1\n", b"\xef\xbb\xbf.frames 16\n")
 
 
-def bad_assembly() -> List[bytes]:
+def bad_assembly() -> list[bytes]:
     found = [BEGUN + line + b"\n" for line in BAD_ASSEMBLY] + list(BAD_HEADS)
     return found + [text for text in (generate.case("asm", FIRST_SEED + k)[1] for k in range(CASES_OF_REASONS)) if is_utf8(text)]
 

@@ -1,11 +1,13 @@
 """What the page shows of the run of an assembly text is what a page of tools/step shows, whose registers are the reference's."""
 
+from __future__ import annotations
+
 import glob
 import json
 import multiprocessing
 import os
 import tempfile
-from typing import Any, Dict, List, Tuple
+from typing import Any
 
 from . import pages, playground
 from .running import REPOSITORY, Differs
@@ -25,11 +27,11 @@ def runs(program: str) -> None:
                 raise Differs(found)
 
 
-def sources() -> List[str]:
+def sources() -> list[str]:
     return sorted(glob.glob(os.path.join(REPOSITORY, "examples", "*.s")))
 
 
-def same_states(given: Tuple[str, str, str, str, int]) -> str:
+def same_states(given: tuple[str, str, str, str, int]) -> str:
     """What differs, in a sentence; nothing where all is the same."""
     program, path, facts, source, seed = given
     with open(source, "rb") as file:
@@ -48,7 +50,7 @@ def same_states(given: Tuple[str, str, str, str, int]) -> str:
     return ""
 
 
-def windows(program: str, image: str, seed: int) -> List[int]:
+def windows(program: str, image: str, seed: int) -> list[int]:
     """Where windows begin: at the beginning, and before some of the lines of the run."""
     with open(image, "rb") as file:
         lines = playground.run([program, "run", str(MOST_WITH_LINES), str(seed)], file.read())[0].decode().splitlines()[1:-1]
@@ -57,7 +59,7 @@ def windows(program: str, image: str, seed: int) -> List[int]:
     return sorted({0, *(max(0, step - STEPS // 2) for step in chosen)})
 
 
-def differs(path: str, facts: str, text: bytes, seed: int, first: int, due: Dict[str, Any]) -> str:
+def differs(path: str, facts: str, text: bytes, seed: int, first: int, due: dict[str, Any]) -> str:
     counts = range(first, first + STEPS + 1)
     told = playground.run(["node", os.path.join(playground.PLAYGROUND, "runs.mjs"), path, facts, str(seed), *map(str, counts)], text)[0].splitlines()
     if len(told) != len(counts):
@@ -73,7 +75,7 @@ def differs(path: str, facts: str, text: bytes, seed: int, first: int, due: Dict
     return ""
 
 
-def shown(data: Dict[str, Any], k: int, chosen: int) -> Dict[str, Any]:
+def shown(data: dict[str, Any], k: int, chosen: int) -> dict[str, Any]:
     """A state without its remark, which is the page's own."""
     state = playground.state_of(data, k, chosen)
     return {**{name: told for name, told in state.items() if name != "remarks"}, "did": data["steps"][k]["did"]}

@@ -1,11 +1,14 @@
 """The page that runs, in a headless Chromium: its own check, typing, bad lines, keys and focus, links, assembly, a long file, sizes and colours."""
 
+from __future__ import annotations
+
 import glob
 import json
 import os
 import re
 import time
-from typing import Any, Iterator, Tuple
+from collections.abc import Iterator
+from typing import Any
 
 from ..common import meanings
 from . import browser, cheats, examples, pages, playground
@@ -145,7 +148,7 @@ def meanings_of_answers(shown: browser.Browser) -> None:
             raise Differs(f"the page in a browser: {line!r} with {answer!r} means {said!r}, where {meanings.of_answer(answer, line)!r} is due")
 
 
-def answered(script: str) -> Iterator[Tuple[str, str]]:
+def answered(script: str) -> Iterator[tuple[str, str]]:
     with open(script, encoding="utf-8") as file, open(script[:-len("pip")] + "out", encoding="utf-8") as answers:
         return zip([line for line in file.read().split("\n") if line and not line.startswith("#")], answers.read().splitlines())
 

@@ -1,10 +1,11 @@
 """The public crates: the registry's where cargo can get them without a network, else the small ones of shims/."""
 
+from __future__ import annotations
+
 import os
 import subprocess
 import tempfile
 from pathlib import Path
-from typing import List, Optional
 
 HERE = Path(__file__).resolve().parent
 SHIMS = HERE / "shims"
@@ -26,7 +27,7 @@ DEBIAN = Path("/usr/share/cargo/registry")
 SECONDS = 60
 
 
-def shim_names() -> List[str]:
+def shim_names() -> list[str]:
     return sorted(folder.name for folder in SHIMS.iterdir() if (folder / "src" / "lib.rs").exists())
 
 
@@ -35,7 +36,7 @@ def config_of(folder: Path) -> str:
     return f'[source.crates-io]\nreplace-with = "folder"\n\n[source.folder]\ndirectory = "{folder}"\n'
 
 
-def registry() -> Optional[str]:
+def registry() -> str | None:
     """The text of a configuration by which cargo gets all public crates without a network, "" where it needs none, or None
     where it can't get them."""
     configs = [""] + ([config_of(DEBIAN)] if DEBIAN.is_dir() else [])

@@ -1,7 +1,9 @@
 """Tests of what a function requires, as far as Rust can make them: comparisons of numbers, of lengths and of fields."""
 
+from __future__ import annotations
+
 import re
-from typing import Dict, List, NamedTuple, Optional, Set
+from typing import NamedTuple
 
 from .source import Source
 from .tokens import Token, Trouble
@@ -16,10 +18,10 @@ class Term(NamedTuple):
     """What is added up in a side of a comparison, and its type, which a literal has not."""
 
     text: str
-    type: Optional[str]
+    type: str | None
 
 
-def tests_of(source: Source, function: int, clauses: List[Token], brace: int) -> str:
+def tests_of(source: Source, function: int, clauses: list[Token], brace: int) -> str:
     """The tests, as lines to be put after the brace with which the body begins. Before unsafe code each is always made, else
     in debug builds alone."""
     body = source.tokens[brace:source.closing(brace)]
@@ -27,7 +29,7 @@ def tests_of(source: Source, function: int, clauses: List[Token], brace: int) ->
     types = source.parameters(function)
     macro = "assert" if unsafe else "debug_assert"
     inset = source.inset(source.at(function).start)
-    lines: List[str] = []
+    lines: list[str] = []
     for clause in clauses:
         if not clause.text.startswith("requires"):
             continue
@@ -38,14 +40,14 @@ def tests_of(source: Source, function: int, clauses: List[Token], brace: int) ->
     return "".join(lines)
 
 
-def conditions_of(clause: str, types: Dict[str, str], fields: bool) -> List[str]:
+def conditions_of(clause: str, types: dict[str, str], fields: bool) -> list[str]:
     """Those conditions of a clause that Rust can test as they are; of fields of `self` only where it is said."""
     body = clause[clause.index("{") + 1:clause.rindex("}")]
     found = (comparison(part, types, fields) for part in factors(body.strip()))
     return [condition for condition in found if condition]
 
 
-def factors(body: str) -> List[str]:
+def factors(body: str) -> list[str]:
     """What `×` joins, without the brackets around it."""
     found, last, depth = [], 0, 0
     for at, character in enumerate(body):
@@ -59,7 +61,7 @@ def factors(body: str) -> List[str]:
     return [part[1:-1] if part.startswith("(") and part.endswith(")") else part for part in found]
 
 
-def comparison(part: str, types: Dict[str, str], fields: bool) -> Optional[str]:
+def comparison(part: str, types: dict[str, str], fields: bool) -> str | None:
     """A comparison of two sums, or None where this is none that Rust can make."""
     pieces = re.split(r" ([≤<≡≢]) ", part)
     if len(pieces) != 3:
@@ -67,30 +69,30 @@ def comparison(part: str, types: Dict[str, str], fields: bool) -> Optional[str]:
     left, right = (terms(side, types, fields) for side in (pieces[0], pieces[2]))
     if left is None or right is None:
         return None
-    kinds: Set[str] = {term.type for term in left + right if term.type}
+    kinds: set[str] = {term.type for term in left + right if term.type}
     if not kinds:
         return None
     wide = len(kinds) > 1 or len(left + right) > 2 or not fit(left + right, min(INTEGERS[kind] for kind in kinds))
     return f"{joined(left, wide)} {SIGNS[pieces[1]]} {joined(right, wide)}"
 
 
-def fit(found: List[Term], limit: int) -> bool:
+def fit(found: list[Term], limit: int) -> bool:
     """Whether each literal among these is below a limit."""
     return all(int(term.text) < limit for term in found if not term.type)
 
 
-def joined(side: List[Term], wide: bool) -> str:
+def joined(side: list[Term], wide: bool) -> str:
     """A sum. A wide one is made in a type in which nothing wraps."""
     return " + ".join(f"({term.text} as u128)" if wide and term.type else term.text for term in side)
 
 
-def terms(side: str, types: Dict[str, str], fields: bool) -> Optional[List[Term]]:
+def terms(side: str, types: dict[str, str], fields: bool) -> list[Term] | None:
     found = [term(text.strip(), types, fields) for text in side.split(" + ")]
     known = [each for each in found if each is not None]
     return known if len(known) == len(found) else None
 
 
-def term(text: str, types: Dict[str, str], fields: bool) -> Optional[Term]:
+def term(text: str, types: dict[str, str], fields: bool) -> Term | None:
     power = re.fullmatch(r"(\d+) \^ (\d+)", text)
     if power:
         return Term(str(int(power.group(1)) ** int(power.group(2))), None)

@@ -1,11 +1,12 @@
 """Makes the module: exports the crates, puts the module's own beside them, and lets cargo build it."""
 
+from __future__ import annotations
+
 import argparse
 import os
 import shutil
 import tempfile
 from pathlib import Path
-from typing import Optional
 
 from ..common import calling
 from ..common.calling import Failed
@@ -31,7 +32,7 @@ def main() -> None:
     calling.guarded("make_module", lambda: make(given.to, given.debian))
 
 
-def make(to: Path, debian: Optional[Path]) -> None:
+def make(to: Path, debian: Path | None) -> None:
     compiler = compilers.found(debian)
     if compiler is None:
         raise Failed(f"cargo can't make a module: say 'rustup target add {compilers.TARGET}', or give --debian")

@@ -1,5 +1,7 @@
 """The page that runs: what it has to know of docs/ and examples/, the module, and the views of tools/step, in one file."""
 
+from __future__ import annotations
+
 import argparse
 import base64
 import gzip
@@ -7,7 +9,8 @@ import re
 import tempfile
 import textwrap
 from pathlib import Path
-from typing import Any, Dict, Iterator, List, Optional, Tuple
+from collections.abc import Iterator
+from typing import Any
 
 from ..authors import why
 from ..common import calling, meanings
@@ -36,7 +39,7 @@ def main() -> None:
     calling.guarded("make_page", lambda: write(given.to, given.module, given.debian))
 
 
-def write(to: Path, made: Optional[Path], debian: Optional[Path]) -> None:
+def write(to: Path, made: Path | None, debian: Path | None) -> None:
     with tempfile.TemporaryDirectory() as place:
         if made is None:
             made = Path(place) / "pip.wasm"
@@ -55,16 +58,16 @@ def written(binary: bytes) -> str:
     return re.sub(r"(?m)^ *// .*\n", "", page.filled("page.html", [str(HERE), page.HERE], told))     # remarks stay here
 
 
-def facts() -> Dict[str, Any]:
+def facts() -> dict[str, Any]:
     """What the page has of the documents."""
-    further: Dict[bytes, Tuple[Optional[int], ...]] = {b"boot": (script.WORD, script.WORD), b"call": ()}
+    further: dict[bytes, tuple[int | None, ...]] = {b"boot": (script.WORD, script.WORD), b"call": ()}
     forms = {name.decode(): list(form) for name, form in {**script.FORMS, **further}.items()}
     return {"statuses": list(meanings.statuses().values()), "calls": page.told_calls(), "vectors": meanings.vectors(), "forms": forms,
             "causes": why.tables(), "assembly": of_assembly(), "ends": ends(), "examples": [*examples(), *exercises()], "most": MOST_EDITED,
             "exercises": [{"name": told["exercise"], "kind": told["kind"]} for told in exercises()]}
 
 
-def of_assembly() -> Dict[str, Any]:
+def of_assembly() -> dict[str, Any]:
     """What each word takes that begins a line of an assembly text, and the instructions by their opcodes."""
     kinds = {opcode: (kind.name, instructions.FORMS[kind.form], kind.least, kind.most) for opcode, kind in instructions.KINDS.items()}
     names = [*why.DIRECTIVES, *(name.encode() for name in instructions.OPCODES)]
@@ -73,7 +76,7 @@ def of_assembly() -> Dict[str, Any]:
             "like": why.LIKE, "signs": why.SIGNS, "distances": assembly.DISTANCES, "kinds": kinds}
 
 
-def ends() -> Dict[str, str]:
+def ends() -> dict[str, str]:
     """Of each status of the program what it means, in short."""
     found = {row[0]: re.sub(r" \([^)]*\)", "", re.split("[:;]", row[1])[0]) for row in meanings.rows(meanings.formats(), "## Statuses of the program") if row[0].isdigit()}
     if not {"0", "2", "5", "6"} <= set(found):
@@ -83,7 +86,7 @@ def ends() -> Dict[str, str]:
 
 # What there is to choose from
 
-def examples() -> List[Dict[str, str]]:
+def examples() -> list[dict[str, str]]:
     found = [path for path in sorted(EXAMPLES.rglob("*")) if path.suffix in (".pip", ".s") and "solutions" not in path.parts]
     return [example(path) for path in sorted(found, key=lambda path: (group(path) != "Examples", group(path), path.name != FIRST))]
 
@@ -92,7 +95,7 @@ def group(path: Path) -> str:
     return path.parent.name.capitalize() if path.parent != EXAMPLES else "Examples" if path.suffix == ".pip" else "Programs"
 
 
-def example(path: Path) -> Dict[str, str]:
+def example(path: Path) -> dict[str, str]:
     """A text, with the answers or the trace that are beside it; of a trace the words of its command, too."""
     is_script = path.suffix == ".pip"
     made = {"name": path.name, "group": group(path), "kind": "script" if is_script else "assembly", "text": path.read_text(encoding="utf-8")}
@@ -104,7 +107,7 @@ def example(path: Path) -> Dict[str, str]:
     return {**made, "words": words, "out": out}
 
 
-def exercises() -> Iterator[Dict[str, str]]:
+def exercises() -> Iterator[dict[str, str]]:
     """Each exercise as remarks, to begin with; of a program with the lines that each has."""
     for name, told in exercise.sections().items():
         solution = next(EXAMPLES.joinpath("solutions").glob(f"{name}.*"), None)

@@ -13,15 +13,15 @@ from __future__ import annotations
 import functools
 import sys
 from collections.abc import Callable, Iterable, Sequence
-from typing import List, Optional, Tuple
+from typing import Optional
 
 from . import assembly, audit, every, image, native, runs, script, slots
 from .model import World
 
 USAGE = b"usage: pip script | run STEPS SEED | asm | dis | tree STEPS SEED | core STEPS SEED | soak COUNT SEED" \
     b" | native N STEPS | slots N TURNS ROUNDS | audit FRAMES | every STATES [FROM [DEPTH]]\n"
-Ended = Tuple[bytes, int, Optional[World]]       # output and status, and the world that the command leaves
-OnImage = Callable[[image.Image, int, int], Tuple[List[str], World]]
+Ended = tuple[bytes, int, Optional[World]]       # output and status, and the world that the command leaves
+OnImage = Callable[[image.Image, int, int], tuple[list[str], World]]
 MOST_STEPS, MOST_COUNT = 10000000, 1000000
 ON_IMAGES = {"run": runs.run, "tree": runs.tree, "core": runs.core}
 
@@ -184,7 +184,7 @@ def shown(text: bytes) -> None:
     sys.stdout.buffer.flush()
 
 
-def of_children(command: Callable[[image.Image], Tuple[List[str], World]], n: int, data: bytes) -> Ended:
+def of_children(command: Callable[[image.Image], tuple[list[str], World]], n: int, data: bytes) -> Ended:
     try:
         machine = image.read(data, native.frames_needed(n))
     except image.BadImage as bad:

@@ -14,14 +14,13 @@ import signal
 import subprocess
 import sys
 import tempfile
-from typing import List, Tuple
 
 from . import commands, generate
 
 REPOSITORY = os.path.dirname(os.path.dirname(os.path.dirname(os.path.abspath(__file__))))
 BUILT = os.path.join(REPOSITORY, "crates", "pip", "out", "pip")
-Answer = Tuple[bytes, int]                                   # output and status
-Difference = Tuple[List[str], bytes, Answer, Answer]         # words and input; what the reference answers, and the program
+Answer = tuple[bytes, int]                                   # output and status
+Difference = tuple[list[str], bytes, Answer, Answer]         # words and input; what the reference answers, and the program
 SECONDS = 120            # a run of the built program that takes longer counts as a difference
 
 

@@ -10,7 +10,7 @@ from __future__ import annotations
 import itertools
 from collections.abc import Iterable, Iterator
 from dataclasses import replace
-from typing import Dict, NamedTuple, Optional, Tuple
+from typing import NamedTuple
 
 from .caches import Cache
 from .image import Image, world as image_world
@@ -19,8 +19,8 @@ from .runs import Turn
 
 MOST_STATES, MOST = 100000000, 10000000          # at most so many states; turns before a line, and choices in a row
 SHAPING = (0, 1, 3, 4, 5, 6)                     # the calls that change more of partitions than whether they are masked
-Words = Dict[int, int]                           # of a page: the words that aren't 0, by index
-Label = Tuple[int, str]                          # a processor, and a line of the trace without it and the step
+Words = dict[int, int]                           # of a page: the words that aren't 0, by index
+Label = tuple[int, str]                          # a processor, and a line of the trace without it and the step
 
 
 # Worlds that share what they don't change
@@ -79,7 +79,7 @@ class Moment(NamedTuple):
     """Two moments are one state where all of this is equal. Shapes and pages have numbers."""
 
     turns: int
-    processors: tuple[Optional[Running], ...]
+    processors: tuple[Running | None, ...]
     shape: int
     masked: tuple[int, ...]
     pending: tuple[int, ...]

@@ -7,7 +7,8 @@ condition of each call has a chance to be met.
 from __future__ import annotations
 
 import random
-from typing import Callable, List, Tuple, TypeVar
+from collections.abc import Callable
+from typing import TypeVar
 
 from . import generate_audit, generate_every, generate_native, generate_programs
 from .model import HANDLERS, LAST_BLOCK, LINES, NOWHERE, PAGE, READ, ROOT, SAVED, SLOTS, WRITE, Node, Tree, World, pages_needed
@@ -23,7 +24,7 @@ MANY_FRAMES = (1037, 1038, 2065, 4096)
 
 
 T = TypeVar("T")
-Acts = List[Tuple[Callable[["Story"], object], int]]     # what a story does, and how often
+Acts = list[tuple[Callable[["Story"], object], int]]     # what a story does, and how often
 
 
 class Story:

@@ -6,7 +6,7 @@ import copy
 import itertools
 import unittest
 from collections.abc import Iterator, Sequence
-from typing import List, NamedTuple, Optional, Tuple
+from typing import NamedTuple
 
 from . import assembly, commands, every, generate_every, image, runs
 from .image import Image
@@ -23,10 +23,10 @@ COUNTS = b".frames 16\n.cpus 3\n.page 0x00400000\nat:\naddi r1 r1 1\nout r1\nbeq
 class Reached(NamedTuple):
     """What choices lead to, copied as a whole: nothing is shared, and nothing is left out."""
 
-    choices: Tuple[int, ...]
+    choices: tuple[int, ...]
     world: World
     turns: int
-    shown: Optional[str]
+    shown: str | None
 
     def value(self) -> object:
         return tuple(runs.core_lines(self.world.tree)), tuple(self.world.processors), self.turns
@@ -55,9 +55,9 @@ def all_of(machine: Image, first: int, deepest: int) -> Iterator[Reached]:
             row = [made(machine, first, before, choice) for before in row for choice in choices]
 
 
-def told_of_all(machine: Image, first: int, deepest: int) -> List[str]:
+def told_of_all(machine: Image, first: int, deepest: int) -> list[str]:
     """The lines in the middle and the number of states, by going through all rows of choices."""
-    ways: dict[str, Tuple[int, ...]] = {}
+    ways: dict[str, tuple[int, ...]] = {}
     values = set()
     for reached in all_of(machine, first, deepest):
         values.add(reached.value())

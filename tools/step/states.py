@@ -7,7 +7,7 @@ import tempfile
 from collections.abc import Sequence
 from concurrent.futures import ThreadPoolExecutor
 from dataclasses import dataclass, field
-from typing import List, NamedTuple, Optional, Tuple
+from typing import NamedTuple, Optional
 
 from ..common.calling import Failed, text_of
 from ..draw import texts
@@ -17,7 +17,7 @@ from .asking import Asked, BadLine
 # place: a line's number, or a step. told: the line, or the step. cpus: of each processor what runs, and its registers.
 # words: of each frame those that aren't 0; a frame without any isn't there. did: of a step, who made which instruction where
 Registers = Optional[Sequence[int]]      # r0 to r15 and the pc, or None where nothing runs
-Cpus = List[Tuple[int, Registers]]       # what runs on each processor, a partition's name or 0, and its registers
+Cpus = list[tuple[int, Registers]]       # what runs on each processor, a partition's name or 0, and its registers
 
 
 class State(NamedTuple):
