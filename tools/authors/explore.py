@@ -11,8 +11,6 @@ import hashlib
 import itertools
 import os
 import re
-import sys
-import time
 from collections import Counter
 from collections.abc import Callable, Iterable, Sequence
 from concurrent.futures import ThreadPoolExecutor
@@ -21,6 +19,7 @@ from dataclasses import dataclass
 from ..common import calling, plans
 from ..common.calling import Failed
 from ..common.plans import Plan
+from ..common.progress import Progress
 from . import asmx
 
 MOST_STEPS = 10_000_000
@@ -113,16 +112,19 @@ def ending(program: str, image: bytes, steps: str, run: Run, with_outs: bool) ->
     return Group(1, Run(run.seed, run.plan, end.trouble), end.told(tree, with_outs))
 
 
-def explored(one: Callable[[Run], Group], runs: Iterable[Run], jobs: int, progress: Progress) -> dict[str, Group]:
-    """The groups of these runs, by how they end."""
+def explored(one: Callable[[Run], Group], runs: Iterable[Run], count: int, jobs: int) -> dict[str, Group]:
+    """The groups of that many runs, by how they end."""
     groups: dict[str, Group] = {}
-    waiting, done = iter(runs), 0
+    waiting, done, progress = iter(runs), 0, Progress()
     with ThreadPoolExecutor(jobs) as pool:
         while part := list(itertools.islice(waiting, 16 * jobs)):
             for group in pool.map(one, part):
                 add(groups, group)
                 done += 1
-                progress(done, len(groups))
+                left = progress.seconds() * (count - done) / done
+                several = "" if len(groups) == 1 else "s"
+                progress.tell(f"{done} of {count} runs, {len(groups)} group{several}, about {left:.0f} s left")
+    progress.end()
     return groups
 
 
@@ -152,25 +154,6 @@ def parts(paths: list[str]) -> dict[str, Group]:
             elif line and not line.startswith("#"):
                 raise Failed(f"{path}:{number}: no line of this tool")
     return groups
-
-
-class Progress:
-    """A line on standard error: on a terminal each half second, else each ten."""
-
-    def __init__(self, of: int) -> None:
-        self.of = of
-        self.begun = self.last = time.monotonic()
-        self.terminal = sys.stderr.isatty()
-
-    def __call__(self, done: int, groups: int) -> None:
-        now = time.monotonic()
-        if now - self.last < (0.5 if self.terminal else 10) and not (self.terminal and done == self.of):
-            return
-        self.last = now
-        left = (now - self.begun) * (self.of - done) / done
-        told = f"{done} of {self.of} runs, {groups} group{'' if groups == 1 else 's'}, about {left:.0f} s left"
-        end = "" if self.terminal and done < self.of else "\n"
-        print(f"\r{told:60}" if self.terminal else told, end=end, file=sys.stderr, flush=True)
 
 
 def main() -> None:
@@ -212,8 +195,8 @@ def work(given: argparse.Namespace) -> None:
         if given.write:
             write(given, image, varied, last - first + 1)
         runs = (Run(seed, plan) for seed in range(first, last + 1) for plan in varied)
-        groups = explored(lambda run: ending(given.program, image, str(steps), run, given.outs), runs, given.jobs,
-                          Progress((last - first + 1) * len(varied)))
+        groups = explored(lambda run: ending(given.program, image, str(steps), run, given.outs), runs,
+                          (last - first + 1) * len(varied), given.jobs)
     for group in in_order(groups):
         print(f"{group.count:>6} run{'' if group.count == 1 else 's'}, {group.first.told()}: {group.told}")
 

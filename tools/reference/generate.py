@@ -24,7 +24,6 @@ MANY_FRAMES = (1037, 1038, 2065, 4096)
 
 
 T = TypeVar("T")
-Acts = list[tuple[Callable[["Story"], object], int]]     # what a story does, and how often
 
 
 class Story:

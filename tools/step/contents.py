@@ -13,7 +13,6 @@ if TYPE_CHECKING:
 
 HANDLERS = 0xFFFFF000
 SAVED_IN = 63                    # the vector in whose block faults, traps and interrupt lines save
-YIELD = 8
 NOWHERE = 256                    # the vector of a yield that saves nothing
 
 Words = dict[int, int]           # of a frame, those that aren't 0, by index

@@ -3,7 +3,6 @@
 from __future__ import annotations
 
 import os
-import tempfile
 from collections.abc import Sequence
 from concurrent.futures import ThreadPoolExecutor
 from dataclasses import dataclass, field
@@ -155,7 +154,7 @@ def of_image(program: str, image: bytes, first: int, steps: int, seed: int, jobs
         runs_after_step(running, told.get(str(step)))
     states: list[State] = []
     kept = Kept()
-    with tempfile.TemporaryDirectory() as folder, ThreadPoolExecutor(jobs or os.cpu_count()) as pool:
+    with ThreadPoolExecutor(jobs or os.cpu_count()) as pool:
         for step, texts_of in zip(range(first, steps + 1), pool.map(lambda k: both(program, image, k, seed),
                                                                     range(first, steps + 1))):
             line = told.get(str(step - 1)) if step > first else None
