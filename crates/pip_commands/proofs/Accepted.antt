@@ -1,5 +1,5 @@
 -- The numbers of an image that was accepted are within their ranges.
-use Rattle.std.proofs.Common.{◌≡◌, ℕ, zero, suc, ◌&&◌, ◌<◌, ◌≤◌, ◌^◌, Bool, true, false, cond, List, [], ◌∷◌, refl, sym}
+use Rattle.std.proofs.Common.{◌≡◌, ℕ, zero, suc, ◌&&◌, ◌+◌, ◌<◌, ◌≤◌, ◌^◌, Bool, true, false, cond, List, [], ◌∷◌, refl, sym}
 use Rattle.std.proofs.Common.{ap, ◌∙◌, subst, arith}
 use Rattle.std.specs.Prelude.{Option, Some, None, Result, Ok, Err, nat_le, slice_index_or}
 use Rattle.std.proofs.lemmas.Bool.Decides.{nat_tests}
@@ -33,11 +33,11 @@ word_small (w ∷ ws) (suc i) h = word_small ws i h.1
 
 words_small : (n : ℕ) (ps : List Page) → AreSmall ps → ArePageWords (image_word n ps)
 words_small n [] h g i low = omega arith
-words_small n (p ∷ ps) h g i low = go (is_frame g (frame_of_root n p.vpage))
+words_small n (p ∷ ps) h g i low = go (words_small n ps h.1 g i low) (is_frame g (frame_of_root n p.vpage))
   where
-    go : (b : Bool) → IsWord (cond b (slice_index_or p.words i 0) (image_word n ps g i))
-    go true = word_small p.words i h.0
-    go false = words_small n ps h.1 g i low
+    go : IsWord (image_word n ps g i) → (b : Bool) → IsWord (cond b (slice_index_or p.words i 0) (image_word n ps g i))
+    go rest true = word_small p.words i h.0
+    go rest false = rest
 
 pages_small : (n : ℕ) (seen : List ℕ) (k : ℕ) (ps : List Part) → ArePages n seen k ps → AreSmall (image_from ps).pages
 pages_small n seen zero [] h = tt

@@ -189,28 +189,29 @@ back_get (x ∷ xs) ys (suc j) high =
 rounds_get : (ss : List TimeSlot) (c j : ℕ) → 0 < length ss → j < c * length ss
     → slice_get (rounds ss c) j ≡ slice_get ss (j % length ss)
 rounds_get ss zero j some low = absurd (omega (arith, low))
-rounds_get ss (suc c) j some low = go (cases_lt j (length ss))
+rounds_get ss (suc c) j some low = go (λ l. rounds_get ss c (j - length ss) some l) (cases_lt j (length ss))
   where
     n : ℕ
     n = length ss
 
-    go : (j < n) ⊎ (n ≤ j) → slice_get (ss ++ rounds ss c) j ≡ slice_get ss (j % n)
-    go (inl l) = front_get ss (rounds ss c) j l ∙ ap (slice_get ss) (sym (mod-eq_of_lt l))
-    go (inr h) =
+    go : (j - n < c * n → slice_get (rounds ss c) (j - n) ≡ slice_get ss ((j - n) % n)) → (j < n) ⊎ (n ≤ j)
+        → slice_get (ss ++ rounds ss c) j ≡ slice_get ss (j % n)
+    go rest (inl l) = front_get ss (rounds ss c) j l ∙ ap (slice_get ss) (sym (mod-eq_of_lt l))
+    go rest (inr h) =
         let m : suc c * n ≡ n + c * n = omega arith in
-        back_get ss (rounds ss c) j h ∙ rounds_get ss c (j - n) some (omega (arith, low, m, h))
-        ∙ ap (slice_get ss) (sym (mod-eq-sub-mod h))
+        back_get ss (rounds ss c) j h ∙ rest (omega (arith, low, m, h)) ∙ ap (slice_get ss) (sym (mod-eq-sub-mod h))
 
 address_get : (n i k : ℕ) → k < i → slice_get (addresses n i) k ≡ Some (fresh n k 0)
 address_get n zero k low = absurd (omega (arith, low))
-address_get n (suc i) k low = go (cases_lt k i)
+address_get n (suc i) k low = go (λ l. address_get n i k l) (cases_lt k i)
   where
     count : length (addresses n i) ≡ i
     count = address_count n i
 
-    go : (k < i) ⊎ (i ≤ k) → slice_get (addresses n i ++ fresh n i 0 ∷ []) k ≡ Some (fresh n k 0)
-    go (inl l) = front_get (addresses n i) (fresh n i 0 ∷ []) k (omega (arith, count, l)) ∙ address_get n i k l
-    go (inr h) =
+    go : (k < i → slice_get (addresses n i) k ≡ Some (fresh n k 0)) → (k < i) ⊎ (i ≤ k)
+        → slice_get (addresses n i ++ fresh n i 0 ∷ []) k ≡ Some (fresh n k 0)
+    go rest (inl l) = front_get (addresses n i) (fresh n i 0 ∷ []) k (omega (arith, count, l)) ∙ rest l
+    go rest (inr h) =
         let e : k ≡ i = omega (arith, low, h) in
         let z : k - length (addresses n i) ≡ 0 = omega (arith, count, e) in
         back_get (addresses n i) (fresh n i 0 ∷ []) k (omega (arith, count, h))
@@ -256,7 +257,9 @@ texts_are a n turns c =
       whole = ap (λ l. trace_image_line a.frames a.cpus (length a.plans) (length a.pages)
           ++ (built_from 0 (addresses n n) ++ (l ++ end_line (steps_in_turn n turns c)))) (sym (texts_joined w ss 0));
       lines = λ j slot at.
-          each_slot turns w ss 0 j slot (rounds_turns turns r c (round_turns turns (addresses n n))) at;
+          let first : 0 + j * (turns + 2) ≡ j * (turns + 2) = omega arith in
+          subst (λ l. AreLinesOf (λ label. Unit {0}) l (turns + 2) slot) first
+              (each_slot turns w ss 0 j slot (rounds_turns turns r c (round_turns turns (addresses n n))) at);
     }
 
 rooms : (n : ℕ) (a : Image) → IsAccepted a → n ≤ 8 → IsRoomy n a.frames → HasRooms n a
