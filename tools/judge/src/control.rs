@@ -1,6 +1,6 @@
 //! The exercises about control: who runs, who is entered, and what is saved.
 
-use crate::memory::{after, child_at, children, has_handlers};
+use crate::memory::{after, child_at, has_handlers};
 use crate::script::Script;
 use crate::values::Values;
 use crate::verdict::Verdict;
@@ -9,11 +9,6 @@ use pip_base::{Outcome, Size, Status};
 
 fn moved(event: &Event) -> Option<&Moved> {
     event.moved.as_deref()
-}
-
-/// The events by which a processor came from one partition to another.
-fn moves(world: &World) -> impl Iterator<Item = (usize, &Event, &Moved)> {
-    world.events.iter().enumerate().filter_map(|(k, event)| Some((k, event, moved(event)?)))
 }
 
 /// Whether what an event entered still runs there, at that pc.
@@ -44,7 +39,7 @@ pub fn enter(v: &Values, script: &Script, verdict: &mut Verdict) {
     let (world, pc, word) = (&script.world, v.get("pc"), v.get("word"));
     let Some(id) = child_at(world, v.get("child")) else { return };
     verdict.story(&[true, has_handlers(world, id), false, false, false]);
-    for (k, event, moved) in moves(world) {
+    for (k, event, moved) in world.moves() {
         let is_entry = event.cpu == Some(0)
             && moved.to == Some(id)
             && moved.from == Some(ROOT)
@@ -62,7 +57,7 @@ pub fn enter(v: &Values, script: &Script, verdict: &mut Verdict) {
 
 pub fn call_home(v: &Values, script: &Script, verdict: &mut Verdict) {
     let (world, pc, word) = (&script.world, v.get("pc"), v.get("word"));
-    for (k, event, moved) in moves(world) {
+    for (k, event, moved) in world.moves() {
         let is_it = matches!(event.call(), Some(Call::Yield { target: 0, .. }))
             && is_child(world, moved.from)
             && moved.to == Some(ROOT);
@@ -89,7 +84,7 @@ fn is_there(world: &World, moved: &Moved) -> bool {
 pub fn fault(v: &Values, script: &Script, verdict: &mut Verdict) {
     let (world, child) = (&script.world, v.get("child"));
     let Some(id) = child_at(world, child) else { return };
-    for (k, event, moved) in moves(world) {
+    for (k, event, moved) in world.moves() {
         let is_load = matches!(event.act, Act::Load { size: Size::Word, .. })
             && moved.from == Some(id)
             && moved.to == Some(ROOT)
@@ -106,7 +101,7 @@ pub fn fault(v: &Values, script: &Script, verdict: &mut Verdict) {
 pub fn interrupt(v: &Values, script: &Script, verdict: &mut Verdict) {
     let (world, line, pc) = (&script.world, v.get("line"), v.get("pc"));
     let is_calm = !world.is_masked() && world.pending() == 0;
-    for (k, event, moved) in moves(world) {
+    for (k, event, moved) in world.moves() {
         if moved.why != Why::Line
             || moved.to != Some(ROOT)
             || moved.vector != 32 + line
@@ -116,7 +111,8 @@ pub fn interrupt(v: &Values, script: &Script, verdict: &mut Verdict) {
             continue;
         }
         let was_at = event.before.is_some_and(|ctx| ctx.pc == pc);
-        let back = moves(world)
+        let back = world
+            .moves()
             .find(|(_, _, later)| later.to == moved.from && later.from == Some(ROOT) && later.resumed == Some(k));
         let back = back.filter(|(number, later, _)| world.last_moved(later.cpu.unwrap_or(0)) == Some(*number));
         let is_same = back.is_some_and(|(_, later, _)| later.cpu.and_then(|cpu| world.ctx(cpu)) == event.before);
@@ -136,9 +132,9 @@ fn is_raised(world: &World, taken: usize, line: u32) -> bool {
 
 pub fn forged(v: &Values, script: &Script, verdict: &mut Verdict) {
     let (world, line, vector) = (&script.world, v.get("line"), v.get("vector"));
-    let entries = || moves(world).filter(|(_, _, moved)| moved.to == Some(ROOT) && moved.vector == vector);
+    let entries = || world.moves().filter(|(_, _, moved)| moved.to == Some(ROOT) && moved.vector == vector);
     let once = entries().filter(|(_, _, moved)| moved.why == Why::Line).count() == 1;
-    for id in children(world) {
+    for id in world.children() {
         let of = |why: Why| entries().filter(move |(_, _, moved)| moved.from == Some(id) && moved.why == why);
         let shows = |k: usize, numbers: &[u32]| {
             numbers.iter().all(|number| looks(world, k).any(|event| event.act == Act::Reg { number: *number }))
@@ -177,7 +173,7 @@ pub fn two_processors(v: &Values, script: &Script, verdict: &mut Verdict) {
     let (world, word) = (&script.world, v.get("word"));
     let two = script.boot.1 == 2;
     verdict.story(&[two, false, false, false]);
-    for id in children(world).filter(|id| world.alive(*id)) {
+    for id in world.children().filter(|id| world.alive(*id)) {
         let both = two && world.runs(0) == Some(id) && world.runs(1) == Some(ROOT);
         let stored = |event: &Event| event.who == Some(id) && event.cpu == Some(0);
         let is_loaded = |event: &Event| match event.act {

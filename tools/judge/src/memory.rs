@@ -11,14 +11,9 @@ pub fn by_root(event: &Event) -> bool {
     event.who == Some(ROOT)
 }
 
-/// The children of the root, with those that are no more.
-pub fn children(world: &World) -> impl Iterator<Item = Id> {
-    (1..world.parts.len()).filter(|id| world.parts[*id].parent == ROOT)
-}
-
 /// The child that the root has at an address now.
 pub fn child_at(world: &World, born: u32) -> Option<Id> {
-    children(world).find(|id| world.alive(*id) && world.parts[*id].born == born)
+    world.children().find(|id| world.alive(*id) && world.parts[*id].born == born)
 }
 
 /// The child's word in its descriptor.
@@ -70,7 +65,7 @@ pub fn store(v: &Values, script: &Script, verdict: &mut Verdict) {
 
 pub fn make_child(v: &Values, script: &Script, verdict: &mut Verdict) {
     let world = &script.world;
-    for id in children(world).filter(|id| world.alive(*id)) {
+    for id in world.children().filter(|id| world.alive(*id)) {
         let part = &world.parts[id];
         let created = world.events[part.made].call();
         let is_its = |page: u32| matches!(created, Some(Call::Create { pages }) if pages.contains(&page));
@@ -136,7 +131,7 @@ pub fn take_back(v: &Values, script: &Script, verdict: &mut Verdict) {
 
 pub fn two_children(v: &Values, script: &Script, verdict: &mut Verdict) {
     let (world, page) = (&script.world, v.get("page"));
-    let alive: Vec<Id> = children(world).filter(|id| world.alive(*id)).collect();
+    let alive: Vec<Id> = world.children().filter(|id| world.alive(*id)).collect();
     for (a, b) in alive.iter().flat_map(|a| alive.iter().map(move |b| (*a, *b))).filter(|(a, b)| a != b) {
         let (one, other) = (world.at(a, page), world.at(b, page));
         let both = one.is_some() && other.is_some();

@@ -6,7 +6,7 @@ use crate::random::Random;
 use crate::script::Refused;
 use crate::values::Values;
 use crate::verdict::Verdict;
-use crate::world::{Act, Call, Event, Hostile, Id, Moved, ROOT, Why, World};
+use crate::world::{Act, Call, Hostile, Id, ROOT, Why, World};
 use alloc::format;
 use alloc::string::String;
 use alloc::vec;
@@ -17,14 +17,6 @@ use pip_isa::{Instr, Register};
 /// Steps in which a timer has to give each child its turn, and each child has to show or to ask something.
 const LONGEST_SILENCE: u32 = 2000;
 const TIMERS: usize = 24;
-
-fn moves(world: &World) -> impl Iterator<Item = (usize, &Event, &Moved)> {
-    world.events.iter().enumerate().filter_map(|(k, event)| Some((k, event, event.moved.as_deref()?)))
-}
-
-fn children(world: &World) -> impl Iterator<Item = Id> {
-    (1..world.parts.len()).filter(|id| world.parts[*id].parent == ROOT)
-}
 
 // sum
 
@@ -75,7 +67,7 @@ pub fn child_program(v: &Values, image: &Image, secret: u64, verdict: &mut Verdi
     let word = v.get("word");
     let world = image.run(Course::plain(STEPS_OF_CHILD))?;
     let mut random = Random::new(secret);
-    for id in children(&world) {
+    for id in world.children() {
         let shown: Vec<usize> = (0..world.events.len())
             .filter(|k| world.events[*k].who == Some(id) && matches!(world.events[*k].act, Act::Out { .. }))
             .collect();
@@ -86,7 +78,7 @@ pub fn child_program(v: &Values, image: &Image, secret: u64, verdict: &mut Verdi
             continue;
         };
         let is_of_block = follows_block(image, &world, id, at, word, random.word())?;
-        let trap = moves(&world).find(|(k, _, moved)| *k > at && moved.from == Some(id));
+        let trap = world.moves().find(|(k, _, moved)| *k > at && moved.from == Some(id));
         let trap = trap.filter(|(_, event, moved)| {
             moved.to == Some(ROOT) && moved.why == Why::Trap && matches!(event.act, Act::Trap { vector: 64.. })
         });
@@ -112,7 +104,7 @@ fn has_had_handlers(image: &Image, world: &World, id: Id, at: usize) -> Result<b
 // is shown in its place.
 fn follows_block(image: &Image, world: &World, id: Id, at: usize, word: u32, other: u32) -> Result<bool, Refused> {
     let mut left = None;
-    for (entry, _, moved) in moves(world).take_while(|(k, _, _)| *k < at) {
+    for (entry, _, moved) in world.moves().take_while(|(k, _, _)| *k < at) {
         let begins =
             moved.to == Some(id) && moved.from == Some(ROOT) && moved.why == Why::Yield && left != Some(moved.entered);
         for register in (0..16).filter(|register| begins && moved.entered.regs[*register as usize] == word) {
@@ -141,7 +133,7 @@ fn silence(steps: impl Iterator<Item = u32>, end: u32) -> u32 {
 fn turns(world: &World, id: Id, line: u32) -> Vec<u32> {
     let mut left = vec![None; 4];
     let mut found = Vec::new();
-    for (_, event, moved) in moves(world) {
+    for (_, event, moved) in world.moves() {
         let cpu = event.cpu.unwrap_or(0) as usize;
         if moved.why == Why::Line
             && moved.to == Some(ROOT)
@@ -165,7 +157,7 @@ fn turns(world: &World, id: Id, line: u32) -> Vec<u32> {
 /// pc.
 fn go_on(world: &World) -> bool {
     let mut left: Vec<Option<(Why, Ctx)>> = vec![None; world.parts.len()];
-    for (_, _, moved) in moves(world) {
+    for (_, _, moved) in world.moves() {
         if let Some((why, ctx)) = moved.to.filter(|to| *to != ROOT).and_then(|to| left[to])
             && (moved.entered.pc != ctx.pc || why == Why::Line && moved.entered != ctx)
         {
@@ -238,7 +230,7 @@ fn with_timers(
 
 /// The two children that a program has at the end; none where it has another number.
 fn two(world: &World) -> Option<[Id; 2]> {
-    let mut alive = children(world).filter(|id| world.alive(*id));
+    let mut alive = world.children().filter(|id| world.alive(*id));
     let pair = [alive.next()?, alive.next()?];
     alive.next().is_none().then_some(pair)
 }
@@ -295,7 +287,8 @@ pub fn tell_apart(v: &Values, image: &Image, secret: u64, verdict: &mut Verdict)
     let judge = |world: &World, count: u32| {
         let (owed, told) = tells(world, vector, words);
         let come = |why: Why| silence(entries(world, vector, why).into_iter(), count) <= LONGEST_SILENCE;
-        let entered = moves(world)
+        let entered = world
+            .moves()
             .filter(|(_, _, moved)| moved.from == Some(ROOT) && moved.to.is_some_and(|to| to != ROOT))
             .map(|(_, event, _)| event.place);
         let on = go_on(world) && silence(entered, count) <= LONGEST_SILENCE;
@@ -308,7 +301,7 @@ pub fn tell_apart(v: &Values, image: &Image, secret: u64, verdict: &mut Verdict)
 }
 
 fn entries(world: &World, vector: u32, why: Why) -> Vec<u32> {
-    let to_root = moves(world).filter(|(_, _, moved)| {
+    let to_root = world.moves().filter(|(_, _, moved)| {
         moved.to == Some(ROOT)
             && moved.vector == vector
             && moved.why == why
@@ -376,7 +369,7 @@ pub fn no_loss(v: &Values, image: &Image, secret: u64, verdict: &mut Verdict) ->
 }
 
 fn requests(world: &World, id: Id, request: u32) -> Vec<u32> {
-    let asked = moves(world).filter(|(_, _, moved)| {
+    let asked = world.moves().filter(|(_, _, moved)| {
         moved.from == Some(id) && moved.to == Some(ROOT) && moved.vector == request && moved.why == Why::Trap
     });
     asked.map(|(_, event, _)| event.place).collect()

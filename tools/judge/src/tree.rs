@@ -1,6 +1,6 @@
 //! The exercises about the tree: what is below a child, and what its end leaves.
 
-use crate::memory::{after, children};
+use crate::memory::after;
 use crate::script::Script;
 use crate::values::Values;
 use crate::verdict::Verdict;
@@ -44,7 +44,7 @@ pub fn end(v: &Values, script: &Script, verdict: &mut Verdict) {
                 && grandchildren(world)
                     .any(|below| world.parts[below].parent == id && world.parts[below].ended == Some(k))
         };
-        if is_deletion && children(world).any(with_child) {
+        if is_deletion && world.children().any(with_child) {
             let loaded = after(world, k).any(|(_, later)| is_cleared(later, event, k));
             verdict.story(&[true, true, alone, free, loaded]);
         }

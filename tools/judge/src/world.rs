@@ -245,6 +245,11 @@ impl World {
         self.parts[id].ended.is_none()
     }
 
+    /// The children of the root, with those that are no more.
+    pub fn children(&self) -> impl Iterator<Item = Id> {
+        (1..self.parts.len()).filter(|id| self.parts[*id].parent == ROOT)
+    }
+
     /// The partition that runs on a processor.
     pub fn runs(&self, cpu: u32) -> Option<Id> {
         let name = self.machine.runs(cpu)?.number();
@@ -395,7 +400,12 @@ impl World {
 
     // Events
 
-    /// The last event by which a processor came to run something else.
+    /// The events by which a processor came to run something else, with their numbers.
+    pub fn moves(&self) -> impl Iterator<Item = (usize, &Event, &Moved)> {
+        self.events.iter().enumerate().filter_map(|(k, event)| Some((k, event, event.moved.as_deref()?)))
+    }
+
+    /// The last of them on a processor.
     pub fn last_moved(&self, cpu: u32) -> Option<usize> {
         self.events.iter().rposition(|event| event.cpu == Some(cpu) && event.moved.is_some())
     }
