@@ -2,14 +2,14 @@
 
 from __future__ import annotations
 
-import difflib
 import itertools
 import re
+from collections import Counter
 from collections.abc import Iterator, Mapping, Sequence
 
 MOST_LINES = 3000            # of a work that are looked at
 LEAST_LINES = 16             # a shorter work is like another one only where it is the same
-NEAR = 0.92                  # of the lines are the same
+NEAR = 0.92                  # of the lines are in both
 WORD = re.compile(r"[<>]?[A-Za-z_.][A-Za-z0-9_.]*|0x[0-9a-f]+|-?[0-9]+|\S")
 NUMBER = re.compile(r"0x[0-9a-f]{1,16}|[0-9]{1,16}")
 NAME = re.compile(r"[A-Za-z_][A-Za-z0-9_]*")
@@ -51,7 +51,7 @@ def alike(texts: Mapping[str, Sequence[str]]) -> list[tuple[str, list[str]]]:
 
 
 def is_near(a: Sequence[str], b: Sequence[str]) -> bool:
+    """Whether most lines are in both, in any order: no text makes this slow."""
     if min(len(a), len(b)) < LEAST_LINES:
         return False
-    matcher = difflib.SequenceMatcher(None, a, b, autojunk=False)
-    return matcher.real_quick_ratio() >= NEAR and matcher.quick_ratio() >= NEAR and matcher.ratio() >= NEAR
+    return 2 * sum((Counter(a) & Counter(b)).values()) >= NEAR * (len(a) + len(b))
