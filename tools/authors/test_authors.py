@@ -135,9 +135,6 @@ class Reasons(unittest.TestCase):
             judge(text.split(b"\n"), text.count(b"\n") + 1, *more)
         return found.exception.name, found.exception.column
 
-    def test_each_row_of_the_tables_is_found(self) -> None:
-        self.assertEqual(set(why.tables()), set(why.ROWS) | {"asm " + kind for kind in why.KINDS} | {"asm distance"})
-
     def test_scripts(self) -> None:
         for line, due in ((b"ld 0 0\r", ("return", 7)), (b" ld 0 0", ("spaces", 1)), (b"ld 0  0", ("spaces", 5)), (b"ld 0 0 # x", ("remark", 8)),
                           (b"LD 0 0", ("case", 1)), (b"ld 0 0X1", ("case", 6)), (b"ld 0 00", ("number", 6)), (b"ld 0 4294967296", ("large", 6)),

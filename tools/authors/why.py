@@ -26,43 +26,7 @@ SIGNS = ((",", "operands are separated by spaces, not by commas"), ("(", "an add
          ("[", "an address is a register and a number: ldw r1 r2 0, without brackets"), (";", "a remark begins with #"), ("//", "a remark begins with #"))
 DIRECTIVES = (b".frames", b".cpus", b".line", b".page", b".word", b".zero")
 
-# How a cause is found in the tables: by words of the row's first cell
-TEXT = "why-is-my-line-bad"
-ROWS = {
-    "return": "a carriage return",
-    "mark": "a byte order mark",
-    "spaces": "an indentation",
-    "remark": "a remark after a line",
-    "case": "upper case",
-    "number": "`00`",
-    "large": "more than eight digits",
-    "processor": "`ld 1 0` after",
-    "boot": "`boot 15 1`",
-    "second": "a second `boot`",
-    "range": "`sb 0 0x400000 256`",
-    "form": "`load 0 0`",
-    "count": "`ld 0`",
-    "long": "121 bytes or more",
-}
 Form = tuple[Optional[int], ...]      # what each number of a line is below; None is the number of processors
-KINDS = ("unknown", "operand", "range", "twice", "size", "label")
-
-
-def tables() -> dict[str, list[str]]:
-    """The rows of the two tables, by cause: what stands in their cells."""
-    text = meanings.formats()
-    bad = meanings.rows(text, "### Why is my line bad?")
-    kinds = meanings.rows(text, "### Faults of a text")
-    far = [row for row in kinds if row[1].startswith("the distance")]
-    found: dict[str, list[str] | None] = {"asm distance": far[0] if far else None}
-    for cause, begins in ROWS.items():
-        found[cause] = next((row for row in bad if row[0].startswith(begins)), None)
-    for kind in KINDS:
-        found["asm " + kind] = next((row for row in kinds if row[0] == f"`{kind}`" and row not in far), None)
-    missing = [cause for cause, row in found.items() if row is None]
-    if missing:
-        raise Failed(f"docs/FORMATS.md has no row for {', '.join(missing)}")
-    return {cause: row for cause, row in found.items() if row is not None}
 
 
 class Cause(Exception):
@@ -312,7 +276,7 @@ def refused(name: str, text: bytes, place: int, kind: str | None) -> list[str]:
 
 
 def told(name: str, place: int, lines: list[bytes], cause: Cause) -> list[str]:
-    row = tables()[cause.name]
+    row = meanings.causes()[cause.name]
     rule = row[1] if cause.name.startswith("asm") else row[0]
     reason = "" if cause.name.startswith("asm") else row[1]
     line = lines[place - 1].decode("utf-8", "replace") if place <= len(lines) else ""

@@ -1,6 +1,7 @@
 """The repository's own checks of the built program. The list of them is CHECKS.
 
     tools/check/run.py [--only NAME ..] [--all] [--program PATH | --unproved] [--list] [--write-calls]
+                       [--write-meanings]
 
 The status is 0 if none fails, and 1 if one does; each that fails says why. One for which a tool is missing is skipped: the last line
 names it, and with --all it fails.
@@ -20,7 +21,7 @@ from types import FrameType
 
 from ..common import calling
 from . import (answering, audits, authors, cheats, counters, counts, devices, documents, edits, endings, examples,
-               exercises, exporting, grading, guests, hints, house, links, memory, pages, playground, playground_judge,
+               exercises, exporting, grading, guests, hints, house, links, meanings, memory, pages, playground, playground_judge,
                playground_runs, playing, public_calls, releasing, shells, sources, tools,
                tutorial, unbuilt, wrapper)
 from .running import Check, Differs, Skipped
@@ -31,7 +32,7 @@ CHECKS: dict[str, Check | tuple[Check, ...]] = {
                 endings.full_device, endings.too_much_input),
     "refused-memory": memory.refused_memory,
     "answering": (answering.typed_script, answering.gathered_answers),
-    "documents": (documents.readme_sessions, documents.examples_with_arrows, tutorial.blocks, links.links),
+    "documents": (documents.readme_sessions, documents.examples_with_arrows, tutorial.blocks, links.links, meanings.same),
     "step-counters": counters.step_counters,
     "house": (house.house, sources.ghost_imports),
     "public-calls": public_calls.public_calls,
@@ -116,12 +117,16 @@ def checked() -> int:
     parser.add_argument("--all", action="store_true", help="one that is skipped fails")
     parser.add_argument("--list", action="store_true", help="print the names of the checks")
     parser.add_argument("--write-calls", action="store_true", help="write public_calls.txt as the sources have its calls")
+    parser.add_argument("--write-meanings", action="store_true", help="write meanings.json as docs/FORMATS.md has its rows")
     given = parser.parse_args()
     if given.list:
         print("\n".join(CHECKS))
         return 0
     if given.write_calls:
         public_calls.rewrite()
+        return 0
+    if given.write_meanings:
+        meanings.rewrite()
         return 0
     program = os.path.abspath(calling.direct(given.program))
     return summed_up({name: made(name, CHECKS[name], program) for name in given.only or CHECKS}, given.all)

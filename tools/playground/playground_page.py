@@ -63,7 +63,7 @@ def facts() -> dict[str, Any]:
     further: dict[bytes, tuple[int | None, ...]] = {b"boot": (script.WORD, script.WORD), b"call": ()}
     forms = {name.decode(): list(form) for name, form in {**script.FORMS, **further}.items()}
     return {"statuses": list(meanings.statuses().values()), "calls": page.told_calls(), "vectors": meanings.vectors(), "forms": forms,
-            "causes": why.tables(), "assembly": of_assembly(), "ends": ends(), "examples": [*examples(), *exercises()], "most": MOST_EDITED,
+            "causes": meanings.causes(), "assembly": of_assembly(), "ends": ends(), "examples": [*examples(), *exercises()], "most": MOST_EDITED,
             "exercises": [{"name": told["exercise"], "kind": told["kind"]} for told in exercises()]}
 
 
@@ -78,9 +78,7 @@ def of_assembly() -> dict[str, Any]:
 
 def ends() -> dict[str, str]:
     """Of each status of the program what it means, in short."""
-    found = {row[0]: re.sub(r" \([^)]*\)", "", re.split("[:;]", row[1])[0]) for row in meanings.rows(meanings.formats(), "## Statuses of the program") if row[0].isdigit()}
-    if not {"0", "2", "5", "6"} <= set(found):
-        raise Failed("docs/FORMATS.md: 'Statuses of the program' hasn't each status")
+    found = {status: re.sub(r" \([^)]*\)", "", re.split("[:;]", when)[0]) for status, when in meanings.ends().items()}
     return {**found, "99": "the module stopped"}
 
 
