@@ -23,6 +23,7 @@ LEFT_OUT = shutil.ignore_patterns("out", ".git", "__pycache__", "*.log")
 def works(program: str) -> None:
     """Makes a release of a copy of the checkout, whose gate is a stand-in, unpacks it elsewhere, and uses it as a reader would."""
     found_in_path("git")
+    found_in_path("cmark-gfm")
     with tempfile.TemporaryDirectory() as place:
         checkout, tools = os.path.join(place, "checkout"), os.path.join(place, "bin")
         copied(checkout, program, tools)

@@ -4,12 +4,13 @@ from __future__ import annotations
 
 import filecmp
 import os
+import re
 import subprocess
 import sys
 import tempfile
 
 from ..reference import comparison
-from .running import REPOSITORY, Check, Differs
+from .running import REPOSITORY, Check, Differs, Skipped
 
 
 CASES = {"script": 400, "asm": 200, "dis": 200, "run": 200, "tree": 100, "core": 100, "soak": 200, "native": 200, "slots": 200, "audit": 200,
@@ -18,11 +19,16 @@ CASES = {"script": 400, "asm": 200, "dis": 200, "run": 200, "tree": 100, "core":
 
 def unit_tests(program: str) -> None:
     """The unit tests of the tools, and the test of the grammars for editors."""
+    missing: dict[str, None] = {}
     for words in (["-s", "tools", "-t", "."], ["-s", "editors"]):
-        done = subprocess.run([sys.executable, "-B", "-m", "unittest", "discover", "-q", *words], cwd=REPOSITORY,
+        done = subprocess.run([sys.executable, "-B", "-m", "unittest", "discover", "-v", *words], cwd=REPOSITORY,
                               stdout=subprocess.PIPE, stderr=subprocess.STDOUT)
+        told = done.stdout.decode("utf-8", "replace")
         if done.returncode:
-            raise Differs(f"tests of {words[1]} fail:\n{done.stdout.decode()}")
+            raise Differs(f"tests of {words[1]} fail:\n{told[-3000:]}")
+        missing.update(dict.fromkeys(re.findall(r"skipped '(.*)'$", told, re.M)))
+    if missing:
+        raise Skipped(", ".join(missing))
 
 
 def compared(command: str, cases: int, seed: int = 1) -> Check:

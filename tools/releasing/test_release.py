@@ -7,6 +7,7 @@ import contextlib
 import io
 import json
 import os
+import shutil
 import subprocess
 import tempfile
 import unittest
@@ -31,6 +32,7 @@ FILES = {
 }
 
 
+@unittest.skipUnless(shutil.which("cmark-gfm"), "no cmark-gfm")
 class Releases(unittest.TestCase):
     def setUp(self) -> None:
         self.place = tempfile.TemporaryDirectory()
