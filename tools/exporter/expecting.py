@@ -225,11 +225,13 @@ def at_line(text: str, line: int) -> list[Word]:
 
 
 def change_expect(words: list[Word], found: Due) -> list[Word]:
-    """`.expect(rt, ..)` loses the runtime."""
+    """`.expect(rt, ..)` and `.expect(&rt, ..)` lose the runtime."""
     rest: list[Word] = []
     for place, word in enumerate(words):
-        if word.text == "," and place >= 4 and texts(words, place - 4, 4) == [".", "expect", "(", "rt"]:
-            rest.pop()
+        taken = next((given for given in (["rt"], ["&", "rt"]) if word.text == "," and place >= 3 + len(given)
+                      and texts(words, place - 3 - len(given), 3 + len(given)) == [".", "expect", "(", *given]), [])
+        if taken:
+            del rest[-len(taken):]
             found.went["runtime of expect"] += 1
         else:
             rest.append(word)
