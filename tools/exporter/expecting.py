@@ -228,10 +228,10 @@ def change_expect(words: list[Word], found: Due) -> list[Word]:
     """`.expect(rt, ..)` and `.expect(&rt, ..)` lose the runtime."""
     rest: list[Word] = []
     for place, word in enumerate(words):
-        taken = next((given for given in (["rt"], ["&", "rt"]) if word.text == "," and place >= 3 + len(given)
-                      and texts(words, place - 3 - len(given), 3 + len(given)) == [".", "expect", "(", *given]), [])
-        if taken:
-            del rest[-len(taken):]
+        count = next((k for k in (1, 2) if word.text == "," and place >= 3 + k and texts(words, place - 3 - k, 3) == [".", "expect", "("]
+                      and texts(words, place - k, k) == ["&", "rt"][-k:]), 0)
+        if count:
+            del rest[-count:]
             found.went["runtime of expect"] += 1
         else:
             rest.append(word)
