@@ -63,7 +63,7 @@ class Wrong(Exception):
 
     def __init__(self, place: Place, why: str) -> None:
         super().__init__(f"{place.file}:{place.line}: {why}")
-        self.place = place
+        self.place, self.why = place, why
 
 
 class AllWrong(Wrong):
@@ -73,7 +73,7 @@ class AllWrong(Wrong):
         told = [str(wrong) for wrong in wrongs[:MOST_TOLD]]
         more = [f"and {len(wrongs) - MOST_TOLD} lines more"] if len(wrongs) > MOST_TOLD else []
         Exception.__init__(self, "\n".join(told + more))
-        self.place = wrongs[0].place
+        self.place, self.why, self.wrongs = wrongs[0].place, wrongs[0].why, wrongs
 
 
 class Collected:

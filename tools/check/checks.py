@@ -20,7 +20,7 @@ from collections.abc import Iterator
 from types import FrameType
 
 from ..common import calling
-from . import (answering, audits, authors, cheats, counters, counts, devices, documents, edits, endings, examples,
+from . import (answering, audits, authors, cheats, counters, counts, debugging, devices, documents, edits, endings, examples,
                exercises, exporting, grading, guests, hints, house, links, meanings, memory, pages, playground, playground_judge,
                playground_runs, playing, public_calls, releasing, shells, sources, tools,
                tutorial, unbuilt, wrapper)
@@ -45,6 +45,7 @@ CHECKS: dict[str, Check | tuple[Check, ...]] = {
     "unit-tests": tools.unit_tests,
     "pictures": tools.pictures,
     "authors": (authors.preprocessor, authors.reasons, authors.traces, authors.groups, authors.interleavings),
+    "debugger": (debugging.debugger, debugging.language_server),
     "shell": (shells.through_a_pipe, shells.on_a_terminal),
     "exercises": exercises.solutions,
     "exercise-seeds": exercises.by_seeds,
