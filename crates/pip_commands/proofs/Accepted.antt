@@ -1,15 +1,14 @@
 -- The numbers of an image that was accepted are within their ranges.
-use Rattle.std.proofs.Common.{◌≡◌, ℕ, zero, suc, ◌&&◌, ◌+◌, ◌<◌, ◌≤◌, ◌^◌, Bool, true, false, cond, List, [], ◌∷◌, refl, sym}
-use Rattle.std.proofs.Common.{ap, ◌∙◌, subst, arith}
-use Rattle.std.specs.Prelude.{Option, Some, None, Result, Ok, Err, nat_le, slice_index_or}
+use Rattle.std.proofs.Common.{◌≡◌, ℕ, zero, suc, ◌&&◌, ◌+◌, ◌≤◌, Bool, true, false, cond, List, [], ◌∷◌, refl}
+use Rattle.std.proofs.Common.{subst, arith}
+use Rattle.std.specs.Prelude.{Option, Some, None, Ok, nat_le, slice_index_or}
 use Rattle.std.proofs.lemmas.Bool.Decides.{nat_tests}
 use Rattle.pip_asm.proofs.Bytes.{AllBytes}
-use Rattle.pip_asm.proofs.Parts.{PageOk}
 use Rattle.pip_asm.proofs.Trim.{AllWords}
 use Rattle.pip_asm.proofs.Whole.{AreAll, ArePages, AreParts, image_whole}
 use Rattle.pip_asm.specs.Laws.{AreBytes}
 use Rattle.pip_model.specs.Boot.{frame_of_root}
-use Rattle.pip_model.specs.Images.{Fields, Head, Holds, Image, Line, Page, Part, image, image_from, image_or_fault}
+use Rattle.pip_model.specs.Images.{Head, Holds, Image, Line, Page, Part, image, image_from, image_or_fault}
 use Rattle.pip_model.specs.Images.{image_parts, image_word, is_frame}
 use Rattle.pip_model.specs.Sound.{ArePageWords, IsWord}
 use Rattle.pip_model.specs.declared.image.ImageError.{ImageError}

@@ -28,14 +28,16 @@ pub mod RunsChosen
 pub mod InTime
 -- `soak`
 pub mod Soaked
--- `native`
+-- `native` and `slots`
 pub mod Shortness
 pub mod Bounds
 pub mod Monitored
 pub mod Monitoring
+pub mod Rounds
 -- `audit`
 pub mod Audited
 pub mod LayoutWords
 pub mod CoreAudited
+-- the law on `slots`
 pub mod Accepted
 pub mod SlotsApart

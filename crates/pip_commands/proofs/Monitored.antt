@@ -109,13 +109,13 @@ module _ (s : Scheduling) (n code : ℕ) (p : Option State) (a c : Streams)
     }
 
     -- the image has a fault, or its reading failed
-    pub children_faulted : a.written.held ≡ [] → {stop : ChildrenLoadError} {e : ImageError} → stop ≡ T.Image e
-        → StoppedNative n stop a.left c.left a.reads c.reads → (code ≢ 4 → c.writes ≡ a.writes)
-        → MatchOption (image_line e) ((code ≡ 3) × Keeps a.written c.written)
+    pub children_faulted : a.written.held ≡ [] → {stop : ChildrenLoadError} {e f : ImageError} → stop ≡ T.Image e
+        → StoppedNative n stop a.left c.left a.reads c.reads → (code ≢ 4 → c.writes ≡ a.writes) → f ≡ e
+        → MatchOption (image_line f) ((code ≡ 3) × Keeps a.written c.written)
         (λ line. EndsLine 2 line code a.written c.written a.writes c.writes) → EndsBy due code p a c
-    children_faulted start {stop} {e} why stopped quiet ends =
+    children_faulted start {stop} {e} {f} why stopped quiet same ends =
         let h : RefusesUnshort n a.left c.left a.reads c.reads e =
         subst (λ x. StoppedNative n x a.left c.left a.reads c.reads) why stopped in
         by_refusal due code p a c start settled apart none quiet e h.parts h.refused tt
         (λ good. (good, h.unshort, refl))
-        (is_refused h.parts h.refused.bytes e h.unshort) refl ends
+        (is_refused h.parts h.refused.bytes e h.unshort) same ends

@@ -1,5 +1,6 @@
 use Rattle.std.proofs.Common.{◌∙◌, ap, refl}
 use Rattle.pip_io.proofs.Taken.{Keeps-refl}
+use Rattle.pip_watch.specs.Watching.{short_line}
 use Rattle.pip_commands.proofs.Endings.{ends_same}
 use Rattle.pip_commands.proofs.Monitored.{children_cut, children_faulted, children_lacks, children_short}
 use Rattle.pip_commands.proofs.Monitored.{children_shown}
@@ -29,8 +30,8 @@ pub returns-in-Err-Image-clause-ends : goal.returns-in-Err-Image-clause-ends
 returns-in-Err-Image-clause-ends g c =
     let end = c.end_at_image.ensures in
     ends_same g.K.Sink.written g.K.Sink.faults (ap (λ s. s.now) c.in-Err-Image.ensures.sink) c.requires.none (λ none.
-    children_faulted c.args.scheduling c.args.n _ _ _ _ end.settled end.none none {e = c.in-Err-Image.fault}
-    c.in-Err-Image.field-0-is c.in-Err-Image.ensures.loads end.calm end.wrote)
+    children_faulted c.args.scheduling c.args.n _ _ _ _ end.settled end.none none c.in-Err-Image.field-0-is
+    c.in-Err-Image.ensures.loads end.calm c.in-Err-Image.fault-is end.wrote)
 
 pub returns-in-Err-Memory-clause-ends : goal.returns-in-Err-Memory-clause-ends
 returns-in-Err-Memory-clause-ends g c =
@@ -43,9 +44,9 @@ pub returns-clause-ends : goal.returns-clause-ends
 returns-clause-ends g c =
     let end = c.end_with.ensures in
     ends_same g.K.Sink.written g.K.Sink.faults (ap (λ s. s.now) c.in-Err-Short.ensures.sink) c.requires.none (λ none.
-    children_short c.args.scheduling c.args.n _ _ _ _ end.settled end.none none {frames = c.in-Err-Short.frames}
-    c.in-Err-Short.field-0-is c.in-Err-Short.ensures.loads end.calm (c.as_bytes.ensures.value ∙ c.as_str.ensures.value ∙ c.short_line.ensures)
-    end.wrote)
+    children_short c.args.scheduling c.args.n _ _ _ _ end.settled end.none none c.in-Err-Short.field-0-is
+    c.in-Err-Short.ensures.loads end.calm (c.as_bytes.ensures.value ∙ c.as_str.ensures.value ∙ c.short_line.ensures
+    ∙ ap (λ f. short_line f c.args.n) c.in-Err-Short.frames-is) end.wrote)
 
 pub load-requires-clause-paced : goal.load-requires-clause-paced
 load-requires-clause-paced g c = λ bytes left taken is.

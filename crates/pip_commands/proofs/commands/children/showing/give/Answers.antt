@@ -1,4 +1,4 @@
-use Rattle.std.proofs.Common.{arith, ◌≡◌, ◌∙◌, length, subst, sym, ap}
+use Rattle.std.proofs.Common.{arith, ◌∙◌, length, subst, sym, ap}
 use Rattle.std.proofs.lemmas.Result.{MatchResult-from_err}
 use Rattle.pip_cpu.specs.Made.{Cut, Made}
 use Rattle.pip_io.specs.Taken.{Appends, AppendsPart}
