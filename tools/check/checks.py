@@ -22,7 +22,7 @@ from types import FrameType
 from ..common import calling
 from . import (answering, audits, authors, cheats, counters, counts, debugging, devices, documents, edits, endings, examples,
                exercises, exporting, grading, guests, hints, house, links, meanings, memory, pages, playground, playground_judge,
-               playground_runs, playing, public_calls, releasing, shells, sources, tools,
+               playground_runs, playing, public_calls, releasing, separate, shells, sources, tools,
                tutorial, unbuilt, wrapper)
 from .running import Check, Differs, Skipped
 
@@ -40,7 +40,7 @@ CHECKS: dict[str, Check | tuple[Check, ...]] = {
     "types": hints.types,
     "examples": (examples.examples, examples.programs, examples.retries, examples.monitor, tutorial.sessions),
     "searches": examples.searches,
-    "hostile-guests": guests.hostile_guests,
+    "hostile-guests": (guests.hostile_guests, separate.children_are_separate),
     "wrapper": (wrapper.wrapper, wrapper.in_turn, unbuilt.nothing_is_proved),
     "unit-tests": tools.unit_tests,
     "pictures": tools.pictures,
