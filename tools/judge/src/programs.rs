@@ -131,7 +131,7 @@ fn silence(steps: impl Iterator<Item = u32>, end: u32) -> u32 {
 /// The steps at which the line took control from another child, and the root then entered this one by what it was left
 /// with, if it was.
 fn turns(world: &World, id: Id, line: u32) -> Vec<u32> {
-    let mut left = vec![None; 4];
+    let mut left = [None; 4];
     let mut found = Vec::new();
     for (_, event, moved) in world.moves() {
         let cpu = event.cpu.unwrap_or(0) as usize;
@@ -141,13 +141,12 @@ fn turns(world: &World, id: Id, line: u32) -> Vec<u32> {
             && moved.from.is_some_and(|from| from != ROOT)
         {
             left[cpu] = moved.from;
-        } else if moved.from == Some(ROOT) && moved.to.is_some_and(|to| to != ROOT) {
-            if let Some(from) = left[cpu].take()
-                && from != id
-                && moved.to == Some(id)
-            {
-                found.push(event.place);
-            }
+        } else if moved.from == Some(ROOT)
+            && moved.to.is_some_and(|to| to != ROOT)
+            && left[cpu].take().is_some_and(|from| from != id)
+            && moved.to == Some(id)
+        {
+            found.push(event.place);
         }
     }
     found
@@ -296,7 +295,8 @@ pub fn tell_apart(v: &Values, image: &Image, secret: u64, verdict: &mut Verdict)
         (vec![come(Why::Line), come(Why::Yield), owed, on, calm], told)
     };
     let forge = vec![li(1, 0), li(2, vector as u16), li(3, 63), Instr::Sys { value: 8 }];
-    let hostile = |random: &mut Random| Some(Hostile::new(vec![restless(random, &[forge.clone()], (0, 40))]));
+    let hostile =
+        |random: &mut Random| Some(Hostile::new(vec![restless(random, core::slice::from_ref(&forge), (0, 40))]));
     with_timers(image, line, (3000, 6000), secret, hostile, judge, verdict)
 }
 
