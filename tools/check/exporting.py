@@ -12,8 +12,10 @@ import subprocess
 import sys
 import tempfile
 from collections.abc import Callable
+from pathlib import Path
 from typing import Any
 
+from ..exporter import export
 from ..reference import comparison, generate
 from .running import REPOSITORY, Differs, Skipped, expect, part
 
@@ -31,6 +33,18 @@ def text(program: str) -> None:
     """tools/export compares each word that it writes with the sources."""
     with tempfile.TemporaryDirectory() as place:
         written(place, "shims")
+    listed()
+
+
+def listed() -> None:
+    """Each definition of a requirement that no test makes is in the table of docs/EXPORT.md, and no other is."""
+    with open(os.path.join(REPOSITORY, "docs", "EXPORT.md"), encoding="utf-8") as file:
+        table = file.read().split("## Requirements\n", 1)[1].split("\n## ", 1)[0]
+    named = set(re.findall(r"`([A-Z][A-Za-z0-9]*[a-z][A-Za-z0-9]*)`", table))
+    found = {re.search(r"\b[A-Z][A-Za-z0-9]*[a-z][A-Za-z0-9]*", part) for _, part in export.untested(Path(REPOSITORY), [])}
+    due = {name.group() for name in found if name}
+    if due != named:
+        raise Differs(f"docs/EXPORT.md, Requirements: {sorted(due - named)} isn't named, {sorted(named - due)} isn't untested")
 
 
 def by_cargo(program: str) -> None:

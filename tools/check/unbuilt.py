@@ -15,7 +15,7 @@ FILES = ("pip", "crates.txt", "README.md", "crates/pip_commands/src/top.rt")
 IMAGE = b"PIPIMG2\n"
 # Each tool that needs a program, with words and an input with which it comes to need it.
 TOOLS = (("asmx", "examples/monitor.s", "--image", "/dev/null"), ("why", "examples/first.pip"), ("trace", "-", "10", "1"), ("explore", "-", "10", "1", "2"),
-         ("every", "-", "10"), ("shell", "examples/first.pip"), ("step/step", "examples/first.pip"), ("check/run.py", "--only", "readme"))
+         ("every", "-", "10"), ("shell", "examples/first.pip"), ("debug", "examples/monitor.s"), ("step/step", "examples/first.pip"), ("check/run.py", "--only", "readme"))
 RT = "#!/bin/sh\necho begun >> \"$PROOFS\"\nexit 1\n"
 
 

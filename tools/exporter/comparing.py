@@ -115,7 +115,12 @@ def condition(test: list[str]) -> str:
     """A test, written as a clause writes it."""
     text = " ".join(test)
     text = re.sub(r"\( (\w+(?: \. \w+)*(?: \( \))?) as u128 \)", r"\1", text)
-    text = re.sub(r"(\w+) \. len \( \)", r"length \1", text)
+    text = re.sub(r"((?:\w+ \. )*\w+) \. len \( \)", r"length \1", text)
+    text = re.sub(r"(\w+) \. number \( \)", r"\1", text)
+    text = re.sub(r"(\w+) \. cpus \( \)", r"P . count \1", text)
+    text = re.sub(r"(\w+) \. count \( \)", r"length ( M . memory \1 )", text)
+    text = re.sub(r"matches ! \( (\w+) , Size : : Word \) \| \| (\w+) < 256", r"\2 < below_of \1", text)
+    text = re.sub(r"(\w+) \. iter \( \) \. all \( \| (\w+) \| \* (\2 < \d+) \)", r"All ( λ \2 . \3 ) \1", text)
     for ours, theirs in (("< =", "≤"), ("= =", "≡"), ("! =", "≢")):
         text = text.replace(ours, theirs)
     return text
@@ -125,9 +130,9 @@ def conditions_of(clause: str) -> list[str]:
     """What a clause says, in parts, without the marks that a test hasn't."""
     words = [word.text for word in words_of(clause[clause.index("{") + 1:clause.rindex("}")], False)]
     text = " ".join(words)
-    text = re.sub(r" \. (?:now|old)\b(?: \. items\b)?", "", text)
+    text = re.sub(r" \. (?:now|old)\b(?: \. items\b)?| \. items\b", "", text)
     text = re.sub(r"(\d+) \^ (\d+)", lambda match: str(int(match.group(1)) ** int(match.group(2))), text)
-    text = text.replace("vec_len", "length")
+    text = text.replace("vec_len", "length").replace("array_string_len", "length")
     return [without_brackets(part) for part in parts_of(text)]
 
 
