@@ -59,7 +59,7 @@ def expect_built(what: str, got: Ended, builds: int = 1) -> None:
 
 def wrapper(program: str) -> None:
     with tempfile.TemporaryDirectory() as place:
-        checkouts = (Checkout(os.path.join(place, str(number))) for number in range(14))
+        checkouts = (Checkout(os.path.join(place, str(number))) for number in range(15))
         builds_when_needed(next(checkouts))
         tells_its_progress(next(checkouts))
         sees_an_edit_during_the_build(next(checkouts))
@@ -71,6 +71,7 @@ def wrapper(program: str) -> None:
         says_what_a_status_means(next(checkouts))
         hands_on(next(checkouts))
         says_what_is_built(next(checkouts))
+        of_an_unproved_release(next(checkouts))
         explains_wrong_words(next(checkouts))
         answers_wrong_words(next(checkouts), program)
         follows_a_link(next(checkouts), os.path.join(place, "link"))
@@ -285,6 +286,15 @@ def says_what_is_built(checkout: Checkout) -> None:
     expect("--built, with a newer source", checkout.run("--built"), ("", "", 0, 0))
     output, messages, status, builds = checkout.run("--help")
     expect("--help", (output.startswith("./pip script < FILE "), messages, status, builds), (True, "", 0, 0))
+
+
+def of_an_unproved_release(checkout: Checkout) -> None:
+    """Where a release says that it is unproved, its program runs without a word, with neither kit nor cargo, and says so."""
+    checkout.run("--unproved", "script")
+    checkout.write("UNPROVED", "")
+    os.remove(checkout.path("bin/rt"))
+    os.remove(checkout.path("bin/cargo"))
+    expect("of an unproved release", checkout.run("script"), ("cargo ran script\n", OF_CARGO, 8, 0))
 
 
 def explains_wrong_words(checkout: Checkout) -> None:

@@ -10,6 +10,7 @@ from pathlib import Path
 
 from ..common.calling import Failed
 
+UNPROVED = "out/rust/target/release/pip"
 MOST_NAMED = 5           # files that aren't committed
 
 
@@ -25,6 +26,11 @@ class Checkout:
     @property
     def program(self) -> Path:
         return self.place / "crates" / "pip" / "out" / "pip"
+
+    @property
+    def unproved(self) -> Path:
+        """What `./pip --unproved` builds by cargo."""
+        return self.place / UNPROVED
 
     @property
     def record(self) -> Path:
@@ -62,6 +68,14 @@ class Checkout:
         if not self.program.is_file():
             raise Failed(f"there is no program at {self.program}")
         return self.program
+
+    def need_unproved(self) -> Path:
+        """The program that cargo built of what is checked out, as ./pip says."""
+        told = subprocess.run([str(self.place / "pip"), "--built"], stdout=subprocess.PIPE, text=True).stdout
+        if f"unproved {self.unproved}" not in told.splitlines():
+            raise Failed(f"there is no program at {self.unproved} that is as new as the sources: "
+                         "say ./pip --unproved script < examples/first.pip first")
+        return self.unproved
 
 
 def kit() -> str | None:
