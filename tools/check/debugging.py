@@ -22,9 +22,9 @@ def debugger(program: str) -> None:
     """Its states are the program's, it goes back as it went forward, and a terminal and an editor's adapter show what is there."""
     if not shutil.which("cargo"):
         raise Skipped("no cargo")
-    tested(program, "test_debugger", "test_adapter")
+    tested(program, "debugger_tests", "adapter_tests")
 
 
 def language_server(program: str) -> None:
     """What is wrong, as tools/why and tools/asmx say it, and what words mean, at the places that an editor asks for."""
-    tested(program, "test_language")
+    tested(program, "language_tests")

@@ -106,10 +106,11 @@ def whole_script(program: str, path: str) -> None:
 def without_cargo(path: str) -> None:
     """Where no judge is built and there is no cargo, that is one sentence."""
     with tempfile.TemporaryDirectory() as place:
-        script = ("import sys; sys.dont_write_bytecode = True; from dataclasses import replace; from tools.judge import building; "
-                  "building.JUDGE = replace(building.JUDGE, name='none'); from tools.exercises import exercise; exercise.main()")
-        done = subprocess.run([sys.executable, "-B", "-c", script, "map", path], cwd=REPOSITORY, stdout=subprocess.PIPE, stderr=subprocess.PIPE,
-                              env={name: word for name, word in os.environ.items() if name != "PIP_JUDGE"} | {"PATH": place}, timeout=SECONDS)
+        script = ("from dataclasses import replace; from tools.exercises import exercise; from tools.judge import building; "
+                  "building.JUDGE = replace(building.JUDGE, name='none'); exercise.main()")
+        words = [sys.executable, "-B", "-c", script, "map", path]
+        done = subprocess.run(words, cwd=REPOSITORY, env={"PATH": place}, timeout=SECONDS, stdout=subprocess.PIPE,
+                              stderr=subprocess.PIPE)
     told = done.stderr.decode()
     if done.returncode != 2 or "there is no cargo here" not in told or len(told.splitlines()) != 1:
         raise Differs(f"tools/exercise without cargo: status {done.returncode}, {told}")

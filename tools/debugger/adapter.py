@@ -20,7 +20,7 @@ import re
 import sys
 import threading
 from collections.abc import Callable
-from typing import IO, Any, Dict
+from typing import IO, Any
 
 from ..common import calling
 from ..common.calling import Failed
@@ -44,8 +44,8 @@ CHANGING = ("seed", "plan", "raise", "set", "store")
 MOST_LINES = 50                  # trace lines that are told after a run
 MOST_LOOKED = 20_000             # steps before the end of a run of which they are told
 
-Variable = Dict[str, Any]
-Arguments = Dict[str, Any]
+Variable = dict[str, Any]
+Arguments = dict[str, Any]
 
 
 class Adapter:

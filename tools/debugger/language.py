@@ -15,7 +15,7 @@ import re
 import sys
 from collections.abc import Iterator
 from dataclasses import dataclass
-from typing import IO, Any, Dict
+from typing import IO, Any
 from urllib.parse import unquote, urlparse
 
 from ..authors import asmx, why
@@ -28,7 +28,9 @@ from .wire import Message
 MOST = 20                        # wrong lines that are told of a text
 WORD = re.compile(r"[<>]?[.A-Za-z0-9_]+:?")
 NAME_IN = re.compile(r"[A-Za-z_][A-Za-z0-9_]*")
+FORMATS = os.path.join(calling.REPOSITORY, "docs", "FORMATS.md")
 TOOLS = os.path.join(calling.REPOSITORY, "tools", "README.md")
+LINK = re.compile(r"\[([^\]]*)\]\([^)]*\)")
 KEYWORD, NAME, CONSTANT, REGISTER = 14, 6, 21, 10        # kinds of completions, by the protocol's numbers
 
 
@@ -53,7 +55,7 @@ class Defined:
 class Texts(asmx.Files):
     """The files of a source, of which an editor may have some with another text."""
 
-    def __init__(self, open_texts: Dict[str, str]) -> None:
+    def __init__(self, open_texts: dict[str, str]) -> None:
         super().__init__()
         self.open = open_texts                   # by real path
 
@@ -117,7 +119,7 @@ def first_wrong(program: str, lines: list[bytes], is_assembly: bool) -> tuple[in
 
 def told(cause: why.Cause) -> str:
     """What is there, and the rule."""
-    row = why.tables()[cause.name]
+    row = meanings.causes()[cause.name]
     if cause.name.startswith("asm"):
         return f"{cause.here}\nrule: {row[1]}"
     return "\n".join([cause.here, f"rule: {row[0]}"] + [f"why: {row[1]}"] * bool(row[1:]))
@@ -125,30 +127,35 @@ def told(cause: why.Cause) -> str:
 
 # What words mean
 
+def rows(page: str, heading: str) -> list[list[str]]:
+    """The cells of the table rows of a page below a heading, up to the next one, without links."""
+    with open(page, encoding="utf-8") as file:
+        part = file.read().split(heading + "\n", 1)[-1].split("\n#", 1)[0]
+    lines = [line for line in part.split("\n") if line.startswith("| ")]
+    return [[LINK.sub(r"\1", cell.strip("| ")) for cell in line.split(" | ")] for line in lines]
+
+
 @functools.lru_cache(maxsize=None)
 def forms() -> dict[str, str]:
     """Of each first word of a script's line: its form and what it does."""
-    return first_words(meanings.rows(meanings.formats(), "### Forms"))
+    return first_words(rows(FORMATS, "### Forms"))
 
 
 @functools.lru_cache(maxsize=None)
 def assembly_words() -> dict[str, str]:
     """The same of assembly texts, with the lines of tools/asmx."""
-    text = meanings.formats()
-    with open(TOOLS, encoding="utf-8") as file:
-        tools = file.read()
-    found = first_words(meanings.rows(tools, "## asmx"))
-    found.update(first_words(meanings.rows(text, "## Assembly")))
-    for row in meanings.rows(text, "## Instructions"):
+    found = first_words(rows(TOOLS, "## asmx"))
+    found.update(first_words(rows(FORMATS, "## Assembly")))
+    for row in rows(FORMATS, "## Instructions"):
         if row[0].startswith("0x"):
             name = row[1].strip("`").split()[0]
             found[name] = f"{row[1]}, {row[0]}: {row[3] if len(row) > 3 else ''}"
     return found
 
 
-def first_words(rows: list[list[str]]) -> dict[str, str]:
+def first_words(table: list[list[str]]) -> dict[str, str]:
     found: dict[str, str] = {}
-    for row in rows:
+    for row in table:
         words = row[0].strip("`").split()
         if row[0].startswith("`") and words:
             found[words[0]] = "\n\n".join(filter(None, [found.get(words[0]), f"{row[0]}: {'; '.join(cell for cell in row[1:] if cell)}"]))

@@ -5,7 +5,7 @@ from __future__ import annotations
 from bisect import bisect_right
 from collections.abc import Sequence
 from dataclasses import dataclass, field
-from typing import NamedTuple, Tuple
+from typing import NamedTuple
 
 from ..authors import asmx
 from ..authors.asmx import Place
@@ -13,7 +13,7 @@ from ..common.calling import Failed
 from ..reference import image as images
 
 PAGE = 4096
-Word = Tuple[int, int]              # a frame and an index in it
+Word = tuple[int, int]              # a frame and an index in it
 
 
 class Named(NamedTuple):

@@ -3,9 +3,9 @@
 from __future__ import annotations
 
 import json
-from typing import IO, Any, Dict
+from typing import IO, Any
 
-Message = Dict[str, Any]
+Message = dict[str, Any]
 
 
 def read(source: IO[bytes]) -> Message | None:

@@ -7,7 +7,7 @@ import os
 import subprocess
 import sys
 import unittest
-from typing import Any, Dict, List
+from typing import Any
 
 from ..common import calling
 from . import wire
@@ -77,7 +77,7 @@ class Client:
     def top(self, thread: int = 1) -> Any:
         return self.ask("stackTrace", threadId=thread)["stackFrames"][0]
 
-    def scope(self, name: str, thread: int = 1) -> Dict[str, Any]:
+    def scope(self, name: str, thread: int = 1) -> dict[str, Any]:
         scopes = self.ask("scopes", frameId=self.top(thread)["id"])["scopes"]
         found = next(one for one in scopes if one["name"].startswith(name))
         return {one["name"]: one for one in self.ask("variables", variablesReference=found["variablesReference"])["variables"]}
@@ -207,7 +207,7 @@ class Session(unittest.TestCase):
 
     def test_launches_that_fail(self) -> None:
         self.client.ask("initialize")
-        wrong: List[Dict[str, Any]] = [{}, {"program": "/nowhere/a.s"}, {"program": __file__}, {"program": MONITOR, "seed": 0},
+        wrong: list[dict[str, Any]] = [{}, {"program": "/nowhere/a.s"}, {"program": __file__}, {"program": MONITOR, "seed": 0},
                                        {"program": MONITOR, "native": 9}, {"program": MONITOR, "slots": [1, -1]}]
         for arguments in wrong:
             self.assertFalse(self.client.response("launch", **arguments)["success"], arguments)

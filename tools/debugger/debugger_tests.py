@@ -8,7 +8,7 @@ import subprocess
 import sys
 import tempfile
 import unittest
-from typing import Any, List, Tuple
+from typing import Any
 
 from ..authors import trace
 from ..common import calling, plans
@@ -23,7 +23,7 @@ EXAMPLES = os.path.join(calling.REPOSITORY, "examples")
 MONITOR, RETRY, GUESTS = (os.path.join(EXAMPLES, name) for name in ("monitor.s", "retry.s", "two_guests.s"))
 RACE = os.path.join(calling.REPOSITORY, "tools", "authors", "race.asmx")
 LONGEST = 2000                   # steps of a comparison
-Edit = Tuple[object, ...]
+Edit = tuple[object, ...]
 SESSION = """break child
 continue
 delete 1
@@ -75,7 +75,7 @@ class Compared(WithStates):
                 self.of_reference(debugger, seed, step)
 
     def of_reference(self, debugger: Debugger, seed: int, step: int) -> None:
-        made: List[trace.Watched] = []
+        made: list[trace.Watched] = []
         world = trace.steps(images.read(debugger.data), step, seed, lambda turn, raised, lines: made.append(turn))
         due = [(at.name, at.context.pc, list(at.context.registers)) if at else None for at in world.processors]
         self.assertEqual([(at.part, at.pc, list(at.registers)) if at else None for at in self.states.registers()], due)
