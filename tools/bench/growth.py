@@ -14,7 +14,7 @@ from typing import NamedTuple
 from ..common import calling
 from ..draw.svg import INK, PALE, Drawing
 from . import deletions
-from .count import instructions
+from .count import Counted
 
 
 class Curve(NamedTuple):
@@ -37,16 +37,16 @@ CURVES = [
 
 # The counts
 
-def deletion(case: str) -> int:
+def deletion(program: Counted, case: str) -> int:
     """The instructions of the line that deletes."""
     before, with_it = deletions.scripts(case)
-    return instructions(with_it.encode()) - instructions(before.encode())
+    return program.instructions(with_it.encode()) - program.instructions(before.encode())
 
 
-def counted(curve: Curve) -> Points:
+def counted(program: Counted, curve: Curve) -> Points:
     points = []
     for size in curve.sizes:
-        points.append((size, deletion(f"{curve.kind}{size}")))
+        points.append((size, deletion(program, f"{curve.kind}{size}")))
         print(f"{curve.kind} {size}: {points[-1][1]}", flush=True)
     return points
 
@@ -129,6 +129,7 @@ def main() -> None:
 
 
 def show() -> None:
-    curves = [(curve, counted(curve)) for curve in CURVES]
+    program = Counted()
+    curves = [(curve, counted(program, curve)) for curve in CURVES]
     with open(sys.argv[1], "w", encoding="utf-8") as file:
         file.write(draw(curves))

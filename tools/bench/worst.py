@@ -3,10 +3,14 @@
     bench/worst.py names KIND COUNT         an assembly text of that many labels
     bench/worst.py chain DEPTH BYTES KIND   a script that works at the end of a chain of partitions
     bench/worst.py audit                    a text of 4096 frames
+    bench/worst.py build WANTS COUNT        a script of a child that is built with that many wants, and ended, again and again
+    bench/worst.py calls                    an assembly text, for `run`: its root makes and ends a child in a loop
+    bench/worst.py faults                   an assembly text, for `native` and `slots`: each child faults at each instruction
+    bench/worst.py fill                     an assembly text, for `every`: it stores a word in one place after the other
 
 KIND of names: `numbers` are ordinary names and `drawn` are 32 random letters; `prefixes` begin with the same 26 letters; `chosen` would fall
 into one part in 64 of the assembler's table, were its hash to begin with 0. KIND of a chain: `create` makes and ends a child again and again,
-`prepare` gives a child tables and takes them back. BYTES is the size of the script, at most.
+`prepare` gives a child tables and takes them back. BYTES is the size of the script, at most. WANTS, at most 990, are in a directory each.
 """
 
 from __future__ import annotations
@@ -89,6 +93,65 @@ def chain(depth: str, most: str, kind: str) -> Iterator[str]:
         yield from again
 
 
+# ---- children that are built
+
+def built(wants: str, count: str) -> Iterator[str]:
+    """The events of `build` of pip_parent: of each want stores that chain the pages of its table, a prepare and an addVAddr."""
+    pages = iter(0x400000 + 4096 * k for k in range(4075))
+    base = [next(pages) for _ in range(5)]
+    lines = [deletions.call(0, *base)]
+    for k in range(int(wants)):
+        chain = [next(pages) for _ in range(4 if k and k % 170 == 0 else 3)]
+        lines += [f"st 0 {page:#x} {following:#x}" for page, following in zip(chain, chain[1:])]
+        lines += [deletions.call(3, base[0], 0x400000 * (k + 1), chain[0]), deletions.call(5, next(pages), base[0], 0x400000 * (k + 1), 3)]
+    yield "boot 4096 1"
+    for _ in range(int(count)):
+        yield from lines
+        yield deletions.call(1, base[0])
+
+
+# ---- programs
+
+CALLS = """.frames 32
+.cpus 1
+.page 0x400000
+li r6 0x1000
+lih r6 0x40
+li r2 0x2000
+lih r2 0x40
+li r3 0x3000
+lih r3 0x40
+li r4 0x4000
+lih r4 0x40
+li r5 0x5000
+lih r5 0x40
+again:
+mov r1 r6
+sys 0
+mov r1 r6
+sys 1
+beq r0 r0 again"""
+
+# The word of an access to an address where there is nothing: it is made again and again
+FAULTS = ".frames 117\n.cpus 1\n" + "\n".join(f".page {0x400000 + 4096 * child:#x}\nldw r1 r0 0" for child in range(8))
+
+# At first it computes, so that the words with which those of the states are compared are those of the beginning.
+FILL = """.frames 4096
+.cpus 1
+.page 0x400000
+li r1 0x1000
+lih r1 0x40
+li r3 300
+wait:
+addi r3 r3 -1
+bne r3 r0 wait
+li r5 4
+fill:
+stw r1 r1 0
+add r1 r1 r5
+beq r0 r0 fill"""
+
+
 # ---- memories
 
 def slow_memory() -> Memory:
@@ -131,11 +194,19 @@ def frames_text(memory: Memory) -> Iterator[str]:
     yield "end 0"
 
 
+KINDS: dict[str, Callable[..., Iterator[str]]] = {
+    "names": labels, "chain": chain, "build": built, "audit": lambda: frames_text(slow_memory()),
+    "calls": lambda: iter(CALLS.split("\n")), "faults": lambda: iter(FAULTS.split("\n")), "fill": lambda: iter(FILL.split("\n"))}
+
+
+def lines(kind: str, *words: str) -> Iterator[str]:
+    """The lines of an input."""
+    return KINDS[kind](*words)
+
+
 def main() -> None:
     words = sys.argv[1:]
-    kinds: dict[str, Callable[..., Iterator[str]]] = {
-        "names": labels, "chain": chain, "audit": lambda: frames_text(slow_memory())}
-    if not words or words[0] not in kinds:
+    if not words or words[0] not in KINDS:
         sys.exit(__doc__)
-    for line in kinds[words[0]](*words[1:]):
+    for line in lines(*words):
         sys.stdout.write(line + "\n")

@@ -20,7 +20,7 @@ pub fn audit(input: &mut Input, output: &mut Output, count: u32) -> Result<(), S
     if let Some(part) = sound::broken_part(&tree) {
         return Err(no("unsound", &[part], &[]));
     }
-    if let Some((frame, index, found, want)) = sound::difference(&tree)? {
+    if let Some((frame, index, found, want)) = sound::difference(&tree) {
         return Err(no("differs", &[frame, index], &[found, want]));
     }
     dump::tree(&memory, output)?;

@@ -2,7 +2,7 @@
 
 use crate::calls::YIELD;
 use crate::isa::UNUSED;
-use crate::machine::{Machine, Outcome, Status, Switch};
+use crate::machine::{Access, Machine, Outcome, Status, Switch, PROCESSORS};
 use crate::output::Output;
 use crate::texts::put_switch;
 
@@ -44,20 +44,23 @@ impl Word {
 }
 
 impl<const LOGGED: bool> Machine<LOGGED> {
-    #[inline]
+    #[inline(always)]
     pub fn turn(&mut self, cpu: usize) -> Option<Line> {
-        match self.poll(cpu) {
-            Outcome::Done => {}
-            outcome => return moved(outcome),
+        let cpu = cpu % PROCESSORS;
+        if let Some(switch) = self.polled(cpu) {
+            return Some(Line::Switched(switch));
         }
-        let word = match self.fetch(cpu) {
-            Outcome::Word(word) => word,
-            outcome => return moved(outcome),
-        };
-        self.run(cpu, Word(word))
+        if self.processors[cpu].part == 0 {
+            return None;
+        }
+        let pc = self.processors[cpu].context.pc;
+        match self.loaded(cpu, pc, Access::Fetch, true) {
+            Ok(word) => self.run(cpu, Word(word)),
+            Err(fault) => moved(self.fault(cpu, pc, Access::Fetch, fault)),
+        }
     }
 
-    #[inline]
+    #[inline(always)]
     fn run(&mut self, cpu: usize, word: Word) -> Option<Line> {
         let opcode = word.0 >> 24;
         if word.0 & UNUSED[opcode as usize] != 0 {
@@ -92,7 +95,10 @@ impl<const LOGGED: bool> Machine<LOGGED> {
             0x14 | 0x15 if word.unsigned() > 31 => return self.invalid(cpu, word),
             0x14 => *a = b << word.unsigned(),
             0x15 => *a = b >> word.unsigned(),
-            0x16..=0x19 => return self.access(cpu, opcode, word),
+            0x16 => return self.load_into(cpu, word, b, true),
+            0x17 => return self.store_from(cpu, word, b, true),
+            0x18 => return self.load_into(cpu, word, b, false),
+            0x19 => return self.store_from(cpu, word, b, false),
             0x1a..=0x1e => return self.branch(cpu, opcode, word),
             0x1f => {
                 context.pc = *a;
@@ -117,24 +123,32 @@ impl<const LOGGED: bool> Machine<LOGGED> {
         moved(self.trap(cpu, 6, pc, word.0))
     }
 
-    #[inline]
-    fn access(&mut self, cpu: usize, opcode: u32, word: Word) -> Option<Line> {
-        let registers = &self.processors[cpu].context.registers;
-        let (value, address) = (registers[word.a()], registers[word.b()].wrapping_add(word.signed()));
-        let outcome = match opcode {
-            0x16 => self.load(cpu, address, true),
-            0x17 => self.store(cpu, address, true, value),
-            0x18 => self.load(cpu, address, false),
-            _ => self.store(cpu, address, false, value & 0xff),
-        };
-        let context = &mut self.processors[cpu].context;
-        match outcome {
-            Outcome::Word(loaded) => context.registers[word.a()] = loaded,
-            Outcome::Done => {}
-            _ => return moved(outcome),
+    #[inline(always)]
+    fn load_into(&mut self, cpu: usize, word: Word, base: u32, is_word: bool) -> Option<Line> {
+        let address = base.wrapping_add(word.signed());
+        match self.loaded(cpu, address, Access::Load, is_word) {
+            Ok(loaded) => {
+                let context = &mut self.processors[cpu].context;
+                context.registers[word.a()] = loaded;
+                context.pc = context.pc.wrapping_add(4);
+                None
+            }
+            Err(fault) => moved(self.fault(cpu, address, Access::Load, fault)),
         }
-        context.pc = context.pc.wrapping_add(4);
-        None
+    }
+
+    #[inline(always)]
+    fn store_from(&mut self, cpu: usize, word: Word, base: u32, is_word: bool) -> Option<Line> {
+        let address = base.wrapping_add(word.signed());
+        let value = self.processors[cpu].context.registers[word.a()];
+        match self.stored(cpu, address, is_word, if is_word { value } else { value & 0xff }) {
+            Ok(()) => {
+                let context = &mut self.processors[cpu].context;
+                context.pc = context.pc.wrapping_add(4);
+                None
+            }
+            Err(fault) => moved(self.fault(cpu, address, Access::Store, fault)),
+        }
     }
 
     #[inline]
@@ -156,6 +170,7 @@ impl<const LOGGED: bool> Machine<LOGGED> {
         None
     }
 
+    #[inline(never)]
     fn system_call(&mut self, cpu: usize, number: u32) -> Option<Line> {
         let context = &mut self.processors[cpu].context;
         context.pc = context.pc.wrapping_add(4);
@@ -168,6 +183,7 @@ impl<const LOGGED: bool> Machine<LOGGED> {
         }
     }
 
+    #[inline(never)]
     fn interrupt(&mut self, cpu: usize, word: Word) -> Option<Line> {
         if !(64..256).contains(&word.unsigned()) {
             return self.invalid(cpu, word);

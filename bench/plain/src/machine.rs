@@ -60,6 +60,18 @@ pub enum Access {
     Fetch = 2,
 }
 
+impl Access {
+    /// The bits that a row needs for it.
+    #[inline]
+    fn need(self) -> u32 {
+        match self {
+            Access::Load => READ | USER,
+            Access::Store => WRITE | USER,
+            Access::Fetch => EXECUTE | USER,
+        }
+    }
+}
+
 #[derive(Clone, Copy, PartialEq)]
 #[repr(u32)]
 pub enum Fault {
@@ -82,10 +94,10 @@ pub struct Processor {
     pub context: Context,
 }
 
-/// A row as an access found it. The tag is of the partition, the vpage and how often the caches had been emptied.
+/// A row as an access found it. The tag is of the partition and the vpage, 0 if there is none.
 #[derive(Clone, Copy, Default)]
 struct Entry {
-    tag: u64,
+    tag: u32,
     row: u32,
 }
 
@@ -94,7 +106,6 @@ pub struct Machine<const LOGGED: bool> {
     pub processors: [Processor; PROCESSORS],
     pub count: usize,
     caches: [[Entry; 64]; PROCESSORS],
-    emptied: u32,
 }
 
 impl<const LOGGED: bool> Machine<LOGGED> {
@@ -102,7 +113,7 @@ impl<const LOGGED: bool> Machine<LOGGED> {
         let mut processors = [Processor::default(); PROCESSORS];
         processors[0] = Processor { part: ROOT, context: Context { pc: 0x00400000, registers: [0; 16] } };
         let caches = [[Entry::default(); 64]; PROCESSORS];
-        Ok(Machine { frames: Frames::boot(frames)?, processors, count, caches, emptied: 0 })
+        Ok(Machine { frames: Frames::boot(frames)?, processors, count, caches })
     }
 
     pub fn runs(&self, part: u32) -> bool {
@@ -111,10 +122,7 @@ impl<const LOGGED: bool> Machine<LOGGED> {
 
     /// Forgets all rows that the caches hold.
     pub fn empty_caches(&mut self) {
-        self.emptied = self.emptied.wrapping_add(1);
-        if self.emptied == 0 {
-            self.caches = [[Entry::default(); 64]; PROCESSORS];
-        }
+        self.caches[..self.count].fill([Entry::default(); 64]);
     }
 
     // Accesses
@@ -126,25 +134,47 @@ impl<const LOGGED: bool> Machine<LOGGED> {
             return Err(Fault::Alignment);
         }
         let (part, vpage) = (self.processors[cpu].part, address / PAGE);
-        let tag = u64::from(self.emptied) << 32 | u64::from(part) << 20 | u64::from(vpage);
-        let held = self.caches[cpu][vpage as usize % 64];
-        let row = if held.tag == tag { held.row } else { self.frames.entry(part, MMU, vpage) };
-        let need = [READ | USER, WRITE | USER, EXECUTE | USER][access as usize];
-        if row & need != need {
+        let tag = part << 20 | vpage;
+        let held = &self.caches[cpu][vpage as usize % 64];
+        let row = if held.tag == tag { held.row } else { self.missed(cpu, part, vpage, access) };
+        if row & access.need() != access.need() {
             return Err(fault_of(row));
-        }
-        if held.tag != tag {
-            self.caches[cpu][vpage as usize % 64] = Entry { tag, row };
         }
         Ok(row / PAGE * WORDS + address % PAGE / 4)
     }
 
+    /// The row at a vpage, which the cache holds then if the access reaches a word by it.
+    #[inline(never)]
+    fn missed(&mut self, cpu: usize, part: u32, vpage: u32, access: Access) -> u32 {
+        let row = self.frames.entry(part, MMU, vpage);
+        if row & access.need() == access.need() {
+            self.caches[cpu][vpage as usize % 64] = Entry { tag: part << 20 | vpage, row };
+        }
+        row
+    }
+
+    /// The word or byte that a load or fetch of what runs there reaches.
     #[inline]
+    pub fn loaded(&mut self, cpu: usize, address: u32, access: Access, is_word: bool) -> Result<u32, Fault> {
+        let place = self.reach(cpu, address, access, is_word)?;
+        let word = self.frames.word(place);
+        Ok(if is_word { word } else { word >> (8 * (address % 4)) & 0xff })
+    }
+
+    /// Stores a word or byte for what runs there.
+    #[inline]
+    pub fn stored(&mut self, cpu: usize, address: u32, is_word: bool, value: u32) -> Result<(), Fault> {
+        let place = self.reach(cpu, address, Access::Store, is_word)?;
+        let shift = 8 * (address % 4);
+        let word = if is_word { value } else { self.frames.word(place) & !(0xff << shift) | value << shift };
+        self.frames.set_word(place, word);
+        Ok(())
+    }
+
     pub fn load(&mut self, cpu: usize, address: u32, is_word: bool) -> Outcome {
         self.read(cpu, address, Access::Load, is_word)
     }
 
-    #[inline]
     pub fn fetch(&mut self, cpu: usize) -> Outcome {
         self.read(cpu, self.processors[cpu].context.pc, Access::Fetch, true)
     }
@@ -154,31 +184,24 @@ impl<const LOGGED: bool> Machine<LOGGED> {
         if self.processors[cpu].part == 0 {
             return Outcome::Idle;
         }
-        match self.reach(cpu, address, access, is_word) {
-            Ok(place) if is_word => Outcome::Word(self.frames.word(place)),
-            Ok(place) => Outcome::Word(self.frames.word(place) >> (8 * (address % 4)) & 0xff),
+        match self.loaded(cpu, address, access, is_word) {
+            Ok(word) => Outcome::Word(word),
             Err(fault) => self.fault(cpu, address, access, fault),
         }
     }
 
-    #[inline]
     pub fn store(&mut self, cpu: usize, address: u32, is_word: bool, value: u32) -> Outcome {
         if self.processors[cpu].part == 0 {
             return Outcome::Idle;
         }
-        match self.reach(cpu, address, Access::Store, is_word) {
-            Ok(place) if is_word => self.frames.set_word(place, value),
-            Ok(place) => {
-                let shift = 8 * (address % 4);
-                self.frames.set_word(place, self.frames.word(place) & !(0xff << shift) | value << shift);
-            }
-            Err(fault) => return self.fault(cpu, address, Access::Store, fault),
+        match self.stored(cpu, address, is_word, value) {
+            Ok(()) => Outcome::Done,
+            Err(fault) => self.fault(cpu, address, Access::Store, fault),
         }
-        Outcome::Done
     }
 
     #[cold]
-    fn fault(&mut self, cpu: usize, address: u32, access: Access, fault: Fault) -> Outcome {
+    pub fn fault(&mut self, cpu: usize, address: u32, access: Access, fault: Fault) -> Outcome {
         let vector = if fault == Fault::Alignment { 17 } else { 14 };
         self.deliver(cpu, vector, address, 16 * access as u32 + fault as u32)
     }
@@ -260,15 +283,23 @@ impl<const LOGGED: bool> Machine<LOGGED> {
 
     #[inline]
     pub fn poll(&mut self, cpu: usize) -> Outcome {
-        if self.frames.get(ROOT, LINES) != 0 {
-            if let Some(switch) = self.take_line(cpu) {
-                return Outcome::Switched(switch);
-            }
+        if let Some(switch) = self.polled(cpu) {
+            return Outcome::Switched(switch);
         }
         if self.processors[cpu].part == 0 {
             Outcome::Idle
         } else {
             Outcome::Done
+        }
+    }
+
+    /// The switch of a line that is taken.
+    #[inline]
+    pub fn polled(&mut self, cpu: usize) -> Option<Switch> {
+        if self.frames.get(ROOT, LINES) == 0 {
+            None
+        } else {
+            self.take_line(cpu)
         }
     }
 

@@ -69,23 +69,28 @@ impl Output {
     /// Eight hexadecimal digits.
     #[inline]
     pub fn digits(&mut self, word: u32) -> &mut Self {
-        self.held.extend_from_slice(&hexadecimal(word));
+        let mut digits = [0; 8];
+        put_digits(&mut digits, word);
+        self.held.extend_from_slice(&digits);
         self
     }
 
     /// A word: `0x` and eight hexadecimal digits.
     #[inline]
     pub fn word(&mut self, word: u32) -> &mut Self {
-        self.text("0x").digits(word)
+        let mut text = *b"0x00000000";
+        put_digits(&mut text[2..], word);
+        self.held.extend_from_slice(&text);
+        self
     }
 }
 
-fn hexadecimal(word: u32) -> [u8; 8] {
-    let mut shift = 32;
-    [(); 8].map(|()| {
-        shift -= 4;
-        b"0123456789abcdef"[(word >> shift & 15) as usize]
-    })
+#[inline]
+fn put_digits(digits: &mut [u8], mut word: u32) {
+    for digit in digits.iter_mut().rev() {
+        *digit = b"0123456789abcdef"[(word % 16) as usize];
+        word /= 16;
+    }
 }
 
 /// Standard input, read in pieces. `start..end` is what was read and not yet taken.

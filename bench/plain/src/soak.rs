@@ -153,6 +153,9 @@ fn counts(frames: &Frames<false>, part: u32) -> (u32, u32, u32) {
     let mut all = (1, 0, 4 + list_pages(tables) + 3 * tables);
     for index in 0..1024 {
         let mmu = frames.get(frames.get(part, MMU), index) / PAGE;
+        if mmu == 0 {
+            continue;
+        }
         let first = frames.get(frames.get(part, FIRST), index) / PAGE;
         for (&row, &shadow) in frames.frame(mmu).iter().zip(frames.frame(first)).filter(|(&row, _)| row != 0) {
             all.1 += 1;

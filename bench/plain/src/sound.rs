@@ -1,8 +1,7 @@
 //! The parts of soundness of a tree that was read off a memory (docs/MODEL.md, "Soundness"), and its layout.
 
-use crate::audit::{Memory, Node, Pair, Table, Tree};
+use crate::audit::{Node, Pair, Table, Tree};
 use crate::frames::*;
-use crate::Stop;
 
 /// The least part that is broken. Each is asked only if those before it hold.
 pub fn broken_part(tree: &Tree) -> Option<u32> {
@@ -43,9 +42,6 @@ fn is_tree(tree: &Tree) -> bool {
 
 fn is_boot_root(tree: &Tree) -> bool {
     let (root, count) = (&tree.nodes[0], tree.memory.count());
-    let Ok(first) = Memory::boot(count) else {
-        return false;
-    };
     let tables = root_tables(count);
     let is_base = (1..).zip(root.base).all(|(page, pair)| pair.address == 0 && pair.page == page);
     let is_slot = |(slot, table): (u32, &Table)| {
@@ -53,13 +49,13 @@ fn is_boot_root(tree: &Tree) -> bool {
         let is_pair = |(kind, pair): (u32, Pair)| pair.address == 0 && pair.page == 6 + 3 * slot + kind;
         table.index == index && (0..).zip(table.pairs).all(is_pair)
     };
+    let rights = PRESENT | READ | WRITE | EXECUTE;
+    let is_row = |(vpage, row): (u32, u32)| root_page(count, vpage) == Some(row / PAGE) && row % PAGE & !USER == rights;
     is_base
         && root.tables.len() as u32 == tables + 1
         && (0..).zip(&root.tables).all(is_slot)
-        && root.tables.iter().all(|table| {
-            let (found, want) = (tree.memory.frame(table.pairs[0].page), first.frame(table.pairs[0].page));
-            found.iter().zip(want).all(|(found, want)| found | USER == want | USER)
-        })
+        && tree.all_rows(root).all(is_row)
+        && tree.all_rows(root).count() as u32 == count - 3 * tables - 9
 }
 
 /// Marks pages, and answers whether each is marked for the first time under this mark.
@@ -149,86 +145,139 @@ fn lines_are_the_roots(tree: &Tree) -> bool {
 
 // The layout
 
+/// What a page of configuration is for its node: of a table, its slot; of a list page, its place among these.
+#[derive(Clone, Copy)]
+enum Role {
+    Descriptor,
+    Directory(usize),
+    List(usize),
+    Mmu(usize),
+    First(usize),
+    Second(usize),
+}
+
+/// The layout of a tree, frame by frame. What pages are used for and where they come from is kept of one node.
+struct Layout<'a> {
+    tree: &'a Tree<'a>,
+    owners: Vec<Option<(u32, Role)>>,
+    node: Option<u32>,
+    children: Vec<Vec<u32>>,
+    /// By page: the node's first shadow word, and its second.
+    uses: Vec<u32>,
+    addresses: Vec<u32>,
+}
+
 /// The first word that isn't the layout's: where it is, what is there and what should be.
-pub fn difference(tree: &Tree) -> Result<Option<(u32, u32, u32, u32)>, Stop> {
-    let mut want = Memory::new(tree.memory.count())?;
-    let mut hidden = vec![false; tree.memory.count() as usize];
-    for node in &tree.nodes {
-        node.pairs().for_each(|pair| hidden[pair.page as usize] = true);
-    }
-    for node in &tree.nodes {
-        put_descriptor(&mut want, node);
-        put_lists(&mut want, node);
-        put_rows(&mut want, tree, node, &hidden);
-    }
-    for node in others(tree) {
-        put_uses(&mut want, tree, node);
-    }
-    let mut is_open = vec![false; hidden.len()];
-    tree.all_rows(&tree.nodes[0]).for_each(|(_, row)| is_open[(row / PAGE) as usize] = true);
-    for frame in (0..tree.memory.count()).filter(|&frame| hidden[frame as usize] || !is_open[frame as usize]) {
-        let words = tree.memory.frame(frame).iter().zip(want.frame(frame));
+pub fn difference(tree: &Tree) -> Option<(u32, u32, u32, u32)> {
+    let mut layout = Layout::new(tree);
+    for frame in 0..tree.memory.count() {
+        let want = match layout.owners[frame as usize] {
+            Some((node, role)) => layout.words(node, role),
+            None if frame == 0 => [0; WORDS as usize],
+            None => continue,
+        };
+        let words = tree.memory.frame(frame).iter().zip(&want);
         if let Some((index, (&found, &want))) = (0..).zip(words).find(|(_, (found, want))| found != want) {
-            return Ok(Some((frame, index, found, want)));
+            return Some((frame, index, found, want));
         }
     }
-    Ok(None)
+    None
 }
 
-fn put_descriptor(want: &mut Memory, node: &Node) {
+impl<'a> Layout<'a> {
+    fn new(tree: &'a Tree) -> Self {
+        let count = tree.memory.count() as usize;
+        let mut owners = vec![None; count];
+        for (place, node) in (0..).zip(&tree.nodes) {
+            let kinds = [Role::Descriptor, Role::Directory(0), Role::Directory(1), Role::Directory(2), Role::List(0)];
+            let lists = (1..).zip(&node.more).map(|(list, pair)| (Role::List(list), *pair));
+            let tables = node.tables.iter().enumerate().flat_map(|(slot, table)| {
+                [Role::Mmu(slot), Role::First(slot), Role::Second(slot)].into_iter().zip(table.pairs)
+            });
+            for (role, pair) in kinds.into_iter().zip(node.base).chain(lists).chain(tables) {
+                owners[pair.page as usize] = Some((place, role));
+            }
+        }
+        let mut children = vec![Vec::new(); tree.nodes.len()];
+        for (place, node) in (0..).zip(&tree.nodes).skip(1) {
+            if let Some(above) = tree.places[node.up as usize] {
+                children[above as usize].push(place);
+            }
+        }
+        Layout { tree, owners, node: None, children, uses: vec![0; count], addresses: vec![0; count] }
+    }
+
+    /// The words of a page of configuration.
+    fn words(&mut self, place: u32, role: Role) -> [u32; WORDS as usize] {
+        let node = &self.tree.nodes[place as usize];
+        let mut words = [0; WORDS as usize];
+        match role {
+            Role::Descriptor => put_descriptor(&mut words, node),
+            Role::Directory(kind) => {
+                for table in &node.tables {
+                    words[table.index as usize] = PAGE * table.pairs[kind].page + 1;
+                }
+            }
+            Role::List(list) => put_list(&mut words, node, list),
+            Role::Mmu(slot) => {
+                for (index, row) in self.tree.rows(&node.tables[slot]) {
+                    let is_hidden = self.owners[(row / PAGE) as usize].is_some();
+                    words[index as usize] = if is_hidden { row & !USER } else { row | USER };
+                }
+            }
+            Role::First(slot) | Role::Second(slot) => {
+                self.look_at(place);
+                let of_page = if matches!(role, Role::First(_)) { &self.uses } else { &self.addresses };
+                for (index, row) in self.tree.rows(&node.tables[slot]) {
+                    words[index as usize] = of_page[(row / PAGE) as usize];
+                }
+            }
+        }
+        words
+    }
+
+    /// Finds what the pages of a node are used for, and where its parent has them.
+    fn look_at(&mut self, place: u32) {
+        if self.node.replace(place) == Some(place) {
+            return;
+        }
+        let node = &self.tree.nodes[place as usize];
+        self.uses.fill(0);
+        self.addresses.fill(0);
+        for &child in &self.children[place as usize] {
+            let child = &self.tree.nodes[child as usize];
+            child.pairs().for_each(|pair| self.uses[pair.page as usize] = child.born + CONFIGURATION);
+            self.uses[child.name as usize] = child.born + DESCRIPTOR;
+            self.tree.all_rows(child).for_each(|(_, row)| self.uses[(row / PAGE) as usize] = child.born + LENT);
+        }
+        if let Some(above) = parent(self.tree, node).filter(|_| node.name != ROOT) {
+            let rows = self.tree.all_rows(above);
+            rows.for_each(|(vpage, row)| self.addresses[(row / PAGE) as usize] = PAGE * vpage + 1);
+        }
+    }
+}
+
+fn put_descriptor(words: &mut [u32; WORDS as usize], node: &Node) {
     for (index, pair) in (0..).step_by(2).zip(node.base) {
-        want.set(node.name, index, pair.address);
-        want.set(node.name, index + 1, pair.page);
+        words[index] = pair.address;
+        words[index + 1] = pair.page;
     }
-    want.set(node.name, PARENT, node.up);
-    want.set(node.name, TABLES, node.tables.len() as u32);
-    want.set(node.name, FLAGS, u32::from(node.masked));
-    want.set(node.name, LINES, node.lines);
+    words[PARENT as usize] = node.up;
+    words[TABLES as usize] = node.tables.len() as u32;
+    words[FLAGS as usize] = u32::from(node.masked);
+    words[LINES as usize] = node.lines;
 }
 
-fn put_lists(want: &mut Memory, node: &Node) {
-    let mut page = node.base[4].page;
-    for pair in &node.more {
-        want.set(page, 0, pair.page);
-        want.set(page, 1, pair.address);
-        page = pair.page;
+fn put_list(words: &mut [u32; WORDS as usize], node: &Node, list: usize) {
+    if let Some(next) = node.more.get(list) {
+        words[0] = next.page;
+        words[1] = next.address;
     }
-    for (slot, table) in (0..).zip(&node.tables) {
-        let (page, at) = want.slot(node.name, slot);
-        for (kind, pair) in (0..).zip(table.pairs) {
-            want.set(want.get(node.name, MMU + 2 * kind), table.index, PAGE * pair.page + 1);
-            want.set(page, at + 2 * kind, pair.address);
-            want.set(page, at + 2 * kind + 1, pair.page);
+    let slots = words[2..].chunks_exact_mut(6);
+    for (slot, table) in slots.zip(node.tables.iter().skip(list * SLOTS as usize)) {
+        for (two, pair) in slot.chunks_exact_mut(2).zip(table.pairs) {
+            two[0] = pair.address;
+            two[1] = pair.page;
         }
-    }
-}
-
-/// The rows, and where the parent has their pages.
-fn put_rows(want: &mut Memory, tree: &Tree, node: &Node, hidden: &[bool]) {
-    let mut addresses = vec![0; hidden.len()];
-    if let Some(above) = parent(tree, node).filter(|_| node.name != ROOT) {
-        tree.all_rows(above).for_each(|(vpage, row)| addresses[(row / PAGE) as usize] = PAGE * vpage + 1);
-    }
-    for table in &node.tables {
-        for (index, row) in tree.rows(table) {
-            let page = (row / PAGE) as usize;
-            want.set(table.pairs[0].page, index, if hidden[page] { row & !USER } else { row | USER });
-            want.set(table.pairs[2].page, index, addresses[page]);
-        }
-    }
-}
-
-/// What the parent's pages are used for by a node.
-fn put_uses(want: &mut Memory, tree: &Tree, node: &Node) {
-    let Some(above) = parent(tree, node) else {
-        return;
-    };
-    for (place, pair) in node.pairs().enumerate() {
-        let role = if place == 0 { DESCRIPTOR } else { CONFIGURATION };
-        want.set_entry(above.name, FIRST, pair.address / PAGE, node.born + role);
-    }
-    for (vpage, _) in tree.all_rows(node) {
-        let address = want.entry(node.name, SECOND, vpage) - 1;
-        want.set_entry(above.name, FIRST, address / PAGE, node.born + LENT);
     }
 }
