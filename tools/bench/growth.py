@@ -70,8 +70,10 @@ def down(count: float) -> float:
 
 def draw(curves: list[tuple[Curve, Points]]) -> str:
     drawing = Drawing()
-    drawing.text(16, 30, "The line call 0 1, which deletes a child: instructions by what the child has", size=16, bold=True)
-    drawing.text(16, 52, "Both axes are logarithmic. Along the grey diagonal ten times as many take ten times the instructions.",
+    drawing.text(16, 30, "The line call 0 1, which deletes a child: instructions by what the child has", size=16,
+                 bold=True)
+    drawing.text(16, 52, "Both axes are logarithmic. Along the grey diagonal ten times as many take ten times the "
+                         "instructions.",
                  colour=PALE)
     draw_axes(drawing)
     for curve, points in curves:
@@ -113,7 +115,8 @@ def draw_legend(drawing: Drawing, curve: Curve, points: Points, top: float) -> N
     drawing.rectangle(left + 9, top - 3, 6, 6, curve.colour, corner=3)
     drawing.text(left + 34, top + 4, curve.what, size=12, bold=True)
     drawing.text(left + 34, top + 21, f"with {least}: {first:,}; with {most:,}: {last:,}")
-    drawing.text(left + 34, top + 38, f"each more takes {rise(points[:2]):,.0f} at first, {rise(points[-2:]):,.0f} in the end")
+    drawing.text(left + 34, top + 38,
+                 f"each more takes {rise(points[:2]):,.0f} at first, {rise(points[-2:]):,.0f} in the end")
 
 
 def rise(two: Points) -> float:

@@ -1,5 +1,5 @@
-"""The export as ordinary Rust: its text is that of the sources, and, where cargo is installed, what cargo builds of it does what the
-program does."""
+"""The export as ordinary Rust: its text is that of the sources, and, where cargo is installed, what cargo builds of it
+does what the program does."""
 
 from __future__ import annotations
 
@@ -73,13 +73,16 @@ def of_registry(program: str) -> None:
 
 
 def unproved(program: str) -> None:
-    """./pip --unproved answers an example in a checkout in which nothing is built, and says that nothing is proved of it."""
+    """./pip --unproved answers an example in a checkout in which nothing is built, and says that nothing is proved of
+    it.
+    """
     need_cargo()
     with tempfile.TemporaryDirectory() as place:
         copy_sources(place)
         script = os.path.join(REPOSITORY, "examples", "first.pip")
         with open(script, "rb") as file, open(script.replace(".pip", ".out"), "rb") as due:
-            done = subprocess.run([os.path.join(place, "pip"), "--unproved", "script"], stdin=file, stdout=subprocess.PIPE,
+            done = subprocess.run([os.path.join(place, "pip"), "--unproved", "script"], stdin=file,
+                                  stdout=subprocess.PIPE,
                                   stderr=subprocess.PIPE, timeout=SECONDS)
             expect("./pip --unproved", (done.stdout, done.returncode), (due.read(), 0))
         told = done.stderr.decode()
@@ -104,7 +107,9 @@ def clippy(program: str) -> None:
 
 
 def miri(program: str) -> None:
-    """The tests of frames, whose crate alone has unsafe code of its own, in an interpreter that sees undefined behaviour."""
+    """The tests of frames, whose crate alone has unsafe code of its own, in an interpreter that sees undefined
+    behaviour.
+    """
     need_cargo("miri")
     told = cargo(exported().name, "miri", "test", "-p", "pip_test_tables", "frames")
     if not passed(told):
@@ -119,7 +124,8 @@ def need_cargo(tool: str = "") -> None:
     version = re.match(r"cargo (\d+)\.(\d+)", told)
     if not version or tuple(map(int, version.groups())) < EDITION_KNOWN:
         raise Skipped("no cargo of 1.85 or later")
-    if tool and subprocess.run(["cargo", tool, "--version"], stdout=subprocess.DEVNULL, stderr=subprocess.DEVNULL).returncode:
+    if tool and subprocess.run(["cargo", tool, "--version"], stdout=subprocess.DEVNULL,
+                               stderr=subprocess.DEVNULL).returncode:
         raise Skipped(f"no cargo {tool}")
 
 
@@ -144,7 +150,8 @@ def cargo(place: str, *words: str, **settings: str) -> str:
 
 
 def finished(what: str, words: list[str], settings: dict[str, Any]) -> str:
-    done = subprocess.run(words, stdin=subprocess.DEVNULL, stdout=subprocess.PIPE, stderr=subprocess.STDOUT, timeout=SECONDS, **settings)
+    done = subprocess.run(words, stdin=subprocess.DEVNULL, stdout=subprocess.PIPE, stderr=subprocess.STDOUT,
+                          timeout=SECONDS, **settings)
     told: str = done.stdout.decode("utf-8", "replace")
     if done.returncode:
         raise Differs(f"{what} ends with {done.returncode}:\n{told[-3000:]}")
@@ -168,7 +175,8 @@ def tests_in(place: str) -> int:
 
 
 def programs(place: str) -> Callable[[str], str]:
-    """Builds the programs, with the tests of what is required and of overflows, and answers their paths by their names."""
+    """Builds the programs, with the tests of what is required and of overflows, and answers their paths by their names.
+    """
     cargo(place, "build", "--quiet", "-p", "pip", "-p", "pip_example", **WARNINGS)
     return lambda name: os.path.join(place, "target", "debug", name)
 
@@ -187,11 +195,13 @@ def check_own_crate(export: str) -> None:
     due = part(r"It prints `(.*?)`", shown) + "\n"
     with tempfile.TemporaryDirectory() as place:
         os.mkdir(os.path.join(place, "src"))
-        for name, text_of in (("Cargo.toml", OWN + needs.replace("../pip-rust", export)), ("src/main.rs", "use " + main)):
+        for name, text_of in (("Cargo.toml", OWN + needs.replace("../pip-rust", export)),
+                              ("src/main.rs", "use " + main)):
             with open(os.path.join(place, name), "w", encoding="utf-8") as file:
                 file.write(text_of)
         cargo(place, "build", "--quiet")
-        expect("the crate of docs/EXPORT.md", comparison.run_built(os.path.join(place, "target", "debug", "own"), [], b""), (due.encode(), 0))
+        expect("the crate of docs/EXPORT.md",
+               comparison.run_built(os.path.join(place, "target", "debug", "own"), [], b""), (due.encode(), 0))
 
 
 def check_cases(built: Callable[[str], str], program: str, cases: int) -> None:

@@ -11,22 +11,28 @@ from ..common import meanings
 from .running import REPOSITORY, Differs
 
 LINK = re.compile(r"\[([^\]]*)\]\([^)]*\)")
-STATUSES, CALLS, ENDS = range(19), range(12), ("0", "1", "2", "3", "4", "5", "6", "8", "9", "10", "11")     # numbers that need a row
+# numbers that need a row
+STATUSES, CALLS, ENDS = range(19), range(12), ("0", "1", "2", "3", "4", "5", "6", "8", "9", "10", "11")
 # Causes for which a line of a script is bad, by how the first cell of its row begins
-OF_LINES = {"return": "a carriage return", "mark": "a byte order mark", "spaces": "an indentation", "remark": "a remark after a line",
-            "case": "upper case", "number": "`00`", "large": "more than eight digits", "processor": "`ld 1 0` after", "boot": "`boot 15 1`",
-            "second": "a second `boot`", "range": "`sb 0 0x400000 256`", "form": "`load 0 0`", "count": "`ld 0`", "long": "121 bytes or more"}
+OF_LINES = {"return": "a carriage return", "mark": "a byte order mark", "spaces": "an indentation",
+            "remark": "a remark after a line",
+            "case": "upper case", "number": "`00`", "large": "more than eight digits", "processor": "`ld 1 0` after",
+            "boot": "`boot 15 1`",
+            "second": "a second `boot`", "range": "`sb 0 0x400000 256`", "form": "`load 0 0`", "count": "`ld 0`",
+            "long": "121 bytes or more"}
 OF_TEXTS = ("unknown", "operand", "range", "twice", "size", "label")
 
 
 def same(program: str) -> None:
     """meanings.json is what the page says. That a changed row and a lost heading are found is tried first."""
     text = page()
-    for planted, due in ((text.replace("| an address is 0 |", "| an address is 1 |"), "statuses"), (text.replace("## Calls by number", "## Calls"), "")):
+    for planted, due in ((text.replace("| an address is 0 |", "| an address is 1 |"), "statuses"),
+                         (text.replace("## Calls by number", "## Calls"), "")):
         if due != found(planted):
             raise Differs(f"a planted change of docs/FORMATS.md isn't found: {due or 'a heading'}")
     if part := found(text):
-        raise Differs(f"docs/FORMATS.md has other {part} than tools/common/meanings.json: run.py --write-meanings takes those of the page")
+        raise Differs(f"docs/FORMATS.md has other {part} than tools/common/meanings.json: run.py --write-meanings "
+                      "takes those of the page")
 
 
 def found(text: str) -> str:
@@ -54,11 +60,14 @@ def of_page(text: str) -> dict[str, Any]:
     statuses = {row[0]: row[1:3] for row in rows(text, "## Statuses by number")}
     calls = {row[0]: row[1:3] for row in rows(text, "## Calls by number") if row[0].isdigit()}
     ends = {row[0]: row[1] for row in rows(text, "## Statuses of the program") if row[0].isdigit()}
-    lacks = [*({str(k) for k in STATUSES} - set(statuses)), *({str(k) for k in CALLS} - set(calls)), *(set(ENDS) - set(ends))]
+    lacks = [*({str(k) for k in STATUSES} - set(statuses)), *({str(k) for k in CALLS} - set(calls)),
+             *(set(ENDS) - set(ends))]
     if lacks:
         raise Differs(f"docs/FORMATS.md has no row of the number {lacks[0]}")
-    return {"statuses": {k: told for k, told in statuses.items() if k.isdigit()}, "calls": {k: told for k, told in calls.items() if told[0] != "none"},
-            "vectors": {row[0]: row[1] for row in rows(text, "## Vectors, and what a handler gets") if row[0].isdigit()},
+    return {"statuses": {k: told for k, told in statuses.items() if k.isdigit()},
+            "calls": {k: told for k, told in calls.items() if told[0] != "none"},
+            "vectors": {row[0]: row[1] for row in rows(text, "## Vectors, and what a handler gets")
+                        if row[0].isdigit()},
             "ends": ends, "causes": causes(text)}
 
 
@@ -66,7 +75,8 @@ def causes(text: str) -> dict[str, list[str]]:
     bad, kinds = rows(text, "### Why is my line bad?"), rows(text, "### Faults of a text")
     far = [row for row in kinds if row[1].startswith("the distance")]
     told = {name: [row for row in bad if row[0].startswith(begins)] for name, begins in OF_LINES.items()}
-    told.update({"asm " + kind: [row for row in kinds if row[0] == f"`{kind}`" and row not in far] for kind in OF_TEXTS}, **{"asm distance": far})
+    told.update({"asm " + kind: [row for row in kinds if row[0] == f"`{kind}`" and row not in far]
+                 for kind in OF_TEXTS}, **{"asm distance": far})
     lacks = [name for name, row in told.items() if len(row) != 1]
     if lacks:
         raise Differs(f"docs/FORMATS.md hasn't one row for {', '.join(lacks)}")

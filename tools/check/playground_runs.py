@@ -1,4 +1,6 @@
-"""What the page shows of the run of an assembly text is what a page of tools/step shows, whose registers are the reference's."""
+"""What the page shows of the run of an assembly text is what a page of tools/step shows, whose registers are the
+reference's.
+"""
 
 from __future__ import annotations
 
@@ -41,7 +43,8 @@ def same_states(given: tuple[str, str, str, str, int]) -> str:
         with open(image, "wb") as file:
             file.write(playground.run([program, "asm"], text)[0])
         for first in windows(program, image, seed):
-            page, messages, status = pages.stepped(program, image, str(first + STEPS), str(seed), "--source", source, "--from", str(first), "--jobs", "1")
+            page, messages, status = pages.stepped(program, image, str(first + STEPS), str(seed), "--source", source,
+                                                   "--from", str(first), "--jobs", "1")
             if status:
                 return f"tools/step {source}: {messages}"
             found = differs(path, facts, text, seed, first, pages.data_of(page))
@@ -53,7 +56,8 @@ def same_states(given: tuple[str, str, str, str, int]) -> str:
 def windows(program: str, image: str, seed: int) -> list[int]:
     """Where windows begin: at the beginning, and before some of the lines of the run."""
     with open(image, "rb") as file:
-        lines = playground.run([program, "run", str(MOST_WITH_LINES), str(seed)], file.read())[0].decode().splitlines()[1:-1]
+        lines = playground.run([program, "run", str(MOST_WITH_LINES), str(seed)],
+                               file.read())[0].decode().splitlines()[1:-1]
     steps = [int(line.split(" ")[0]) for line in lines]
     chosen = [steps[k * len(steps) // WINDOWS] for k in range(1, WINDOWS)] if steps else []
     return sorted({0, *(max(0, step - STEPS // 2) for step in chosen)})
@@ -61,15 +65,18 @@ def windows(program: str, image: str, seed: int) -> list[int]:
 
 def differs(path: str, facts: str, text: bytes, seed: int, first: int, due: dict[str, Any]) -> str:
     counts = range(first, first + STEPS + 1)
-    told = playground.run(["node", os.path.join(playground.PLAYGROUND, "runs.mjs"), path, facts, str(seed), *map(str, counts)], text)[0].splitlines()
+    told = playground.run(["node", os.path.join(playground.PLAYGROUND, "runs.mjs"), path, facts, str(seed),
+                           *map(str, counts)], text)[0].splitlines()
     if len(told) != len(counts):
         return f"{len(told)} states, where {len(counts)} are due"
     for k, (count, line) in enumerate(zip(counts, told)):
         data, chosen = json.loads(line), 7 * count % 16
         got, wanted = shown(data, len(data["steps"]) - 1, chosen), shown(due, k, chosen)
         if k == 0 and count:
-            wanted = {**wanted, **{name: got[name] for name in ("told", "answer", "did", "changed", "place")}}    # of the step before the window
-        found = next((f"{name} after {count} steps is {got[name]}, where {wanted[name]} is due" for name in wanted if got[name] != wanted[name]), "")
+            # of the step before the window
+            wanted = {**wanted, **{name: got[name] for name in ("told", "answer", "did", "changed", "place")}}
+        found = next((f"{name} after {count} steps is {got[name]}, where {wanted[name]} is due" for name in wanted
+                      if got[name] != wanted[name]), "")
         if found:
             return found
     return ""

@@ -13,7 +13,8 @@ from ..reference import comparison
 from .running import REPOSITORY, Check, Differs, Skipped
 
 
-CASES = {"script": 400, "asm": 200, "dis": 200, "run": 200, "tree": 100, "core": 100, "soak": 200, "native": 200, "slots": 200, "audit": 200,
+CASES = {"script": 400, "asm": 200, "dis": 200, "run": 200, "tree": 100, "core": 100, "soak": 200, "native": 200,
+         "slots": 200, "audit": 200,
          "every": 500}
 
 

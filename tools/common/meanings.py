@@ -1,4 +1,6 @@
-"""What answers and faults mean, in the words of docs/FORMATS.md: meanings.json, which the check `documents` compares with that page."""
+"""What answers and faults mean, in the words of docs/FORMATS.md: meanings.json, which the check `documents` compares
+with that page.
+"""
 
 from __future__ import annotations
 

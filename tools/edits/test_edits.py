@@ -33,7 +33,8 @@ pub(crate) fn count<L: Ledger>(steps: &mut Steps<L>) {
 class Reading(unittest.TestCase):
     def test_only_lines_of_an_edit_are_read(self) -> None:
         text = "does: it is two\nfile: src/lib.rt \nold:   1\nnew:   2\nold: 3\nnew:\n"
-        wanted = Edit("pip_one", "tried", "it_is_two", (Change("src/lib.rt", "  1", "  2"), Change("src/lib.rt", "3", "")))
+        wanted = Edit("pip_one", "tried", "it_is_two",
+                      (Change("src/lib.rt", "  1", "  2"), Change("src/lib.rt", "3", "")))
         self.assertEqual(read_edit("pip_one", "tried", "it_is_two", text), wanted)
 
     def test_an_edit_of_no_file_is_refused(self) -> None:
@@ -62,12 +63,15 @@ class Verdicts(unittest.TestCase):
         self.assertEqual(tried.verdict(text), "refused: loop-g-preserved, returns")
 
     def test_lost_names_show_nothing(self) -> None:
-        text = ("./proofs/cache/Invariants.antt:9:28: error: `invariant-loop-g`: record `Live-loop-g` has no field `used`\n"
+        text = ("./proofs/cache/Invariants.antt:9:28: error: `invariant-loop-g`: record `Live-loop-g` has no field "
+                "`used`\n"
                 "./proofs/cache/Answers.antt:5:5: error: 1 declaration was not admitted, was not checked: returns\n")
-        self.assertTrue(tried.verdict(text).startswith("refused, but names were lost: ./proofs/cache/Invariants.antt:9:28"))
+        self.assertTrue(tried.verdict(text).startswith("refused, but names were lost: "
+                                                       "./proofs/cache/Invariants.antt:9:28"))
 
     def test_a_source_that_no_compiler_takes_does_not_apply(self) -> None:
-        self.assertTrue(tried.verdict("src/cache.rt:9:28: error[E0425]: cannot find it\n").startswith("does not apply: "))
+        told = tried.verdict("src/cache.rt:9:28: error[E0425]: cannot find it\n")
+        self.assertTrue(told.startswith("does not apply: "))
 
     def test_no_verdict_is_a_failure(self) -> None:
         with self.assertRaises(Failed):

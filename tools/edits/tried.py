@@ -32,7 +32,8 @@ def main() -> None:
 
 
 def tried() -> int:
-    parser = argparse.ArgumentParser(prog="tried", description="Lists the wrong bodies of a crate, and tries some again.")
+    parser = argparse.ArgumentParser(prog="tried",
+                                     description="Lists the wrong bodies of a crate, and tries some again.")
     parser.add_argument("crate", nargs="?", metavar="NAME", help="a crate")
     parser.add_argument("edits", nargs="*", metavar="EDIT", help="names of its edits, without `.edit`")
     given = parser.parse_args()
@@ -53,7 +54,9 @@ def tried() -> int:
 
 
 def is_due(folder: str, outcome: str) -> bool:
-    """Whether an edit of this folder may have this outcome. One that is admitted may need a proof of its own, and then names are lost."""
+    """Whether an edit of this folder may have this outcome. One that is admitted may need a proof of its own, and then
+    names are lost.
+    """
     if folder == FOLDERS[-1]:
         return outcome == "passes" or outcome.startswith("refused, but names were lost")
     return outcome.startswith("refused: ")
@@ -102,8 +105,8 @@ def copy_crates(place: str, chain: list[str]) -> None:
 
 
 def place_of(edit: Edit) -> str | None:
-    """What of the crate has to be checked: the function that an edit changes, the module of several or of a trait's function, or None
-    for the whole crate.
+    """What of the crate has to be checked: the function that an edit changes, the module of several or of a trait's
+    function, or None for the whole crate.
     """
     sources = [change for change in edit.changes if change.path.startswith("src/")]
     paths = {change.path for change in sources}
@@ -137,7 +140,8 @@ def defining(crate: str, name: str) -> str:
 
 
 def function_at(lines: list[str], old: str) -> str | None:
-    """The function in which a text is, with its type; empty where it is a trait's, and None where it is in no function."""
+    """The function in which a text is, with its type; empty where it is a trait's, and None where it is in no function.
+    """
     at = next((k for k, line in enumerate(lines) if old in line), 0)
     begun = next(((k, found) for k in range(at, -1, -1) if (found := FUNCTION.match(lines[k]))), None)
     if begun is None or any(line.startswith("}") for line in lines[begun[0]:at]):
@@ -153,7 +157,8 @@ def function_at(lines: list[str], old: str) -> str | None:
 def judged(crate: str, function: str | None) -> str:
     """What `rt check` says of a crate, or of a function in it."""
     only = ["--only", function] if function else []
-    done = subprocess.run(["rt", "check", *only, "--jobs", "1"], cwd=crate, stdin=subprocess.DEVNULL, stdout=subprocess.PIPE,
+    done = subprocess.run(["rt", "check", *only, "--jobs", "1"], cwd=crate, stdin=subprocess.DEVNULL,
+                          stdout=subprocess.PIPE,
                           stderr=subprocess.STDOUT, encoding="utf-8", errors="replace")
     if done.returncode == 0:
         return "passes"

@@ -1,4 +1,6 @@
-"""Says how an export differs from its sources: each word that came or went otherwise than by the known rules is a difference."""
+"""Says how an export differs from its sources: each word that came or went otherwise than by the known rules is a
+difference.
+"""
 
 from __future__ import annotations
 
@@ -91,8 +93,8 @@ def difference_at(found: list[Word], at: int, wanted: str) -> str:
 
 
 def pass_tests(found: list[Word], at: int, slot: Slot, report: Report) -> tuple[int, str | None]:
-    """Goes over the tests of what a function requires. Each is a condition of one of its clauses; an unsafe body has one for each
-    clause at least, which is made in each build."""
+    """Goes over the tests of what a function requires. Each is a condition of one of its clauses; an unsafe body has
+    one for each clause at least, which is made in each build."""
     macro = "assert" if slot.unsafe else "debug_assert"
     begin, tested = at, []
     while [word.text for word in found[at:at + 3]] == [macro, "!", "("]:

@@ -1,4 +1,5 @@
-"""What an export of a source has to be, word by word: worked out by rules of its own, and not by those of the exporter."""
+"""What an export of a source has to be, word by word: worked out by rules of its own, and not by those of the exporter.
+"""
 
 from __future__ import annotations
 
@@ -13,7 +14,8 @@ KIT_NAMES = ("Vec", "String", "Box", "HostRuntime", "AllocGlobal", "Print")
 KIT_LINE = "use std : : prelude : : kit : : * ;"
 ROOT = "# ! [ no_std ] # [ macro_use ] extern crate rattle_std as std ;"
 NO_MAIN = "# ! [ cfg_attr ( unix , no_main ) ]"
-START = ("# [ cfg ( unix ) ] mod start { # [ unsafe ( no_mangle ) ] extern \"C\" fn main ( count : i32 , first : * mut * const "
+START = ("# [ cfg ( unix ) ] mod start { # [ unsafe ( no_mangle ) ] extern \"C\" fn main ( count : i32 , first : * mut "
+         "* const "
          "core : : ffi : : c_char ) - > i32 { std : : process : : started ( super : : main , count , first ) } }")
 
 
@@ -27,7 +29,8 @@ class Slot:
 
 @dataclass
 class Due:
-    """The words that are due, the slots by the number of words before them, and what went and came, counted by kinds."""
+    """The words that are due, the slots by the number of words before them, and what went and came, counted by kinds.
+    """
 
     words: list[Word]
     slots: dict[int, Slot] = field(default_factory=dict)
@@ -228,7 +231,8 @@ def change_expect(words: list[Word], found: Due) -> list[Word]:
     """`.expect(rt, ..)` and `.expect(&rt, ..)` lose the runtime."""
     rest: list[Word] = []
     for place, word in enumerate(words):
-        count = next((k for k in (1, 2) if word.text == "," and place >= 3 + k and texts(words, place - 3 - k, 3) == [".", "expect", "("]
+        count = next((k for k in (1, 2) if word.text == "," and place >= 3 + k
+                      and texts(words, place - 3 - k, 3) == [".", "expect", "("]
                       and texts(words, place - k, k) == ["&", "rt"][-k:]), 0)
         if count:
             del rest[-count:]

@@ -12,8 +12,8 @@ QUALIFIERS = ("const", "unsafe", "final")
 
 
 def keep_clauses(source: Source, function: int, clauses: list[Token], edits: Edits) -> None:
-    """Writes a function's clauses, and the comments among them, after its comment: as documentation where the function has some or is
-    public."""
+    """Writes a function's clauses, and the comments among them, after its comment: as documentation where the function
+    has some or is public."""
     first = function
     while source.at(first - 1).kind == "word" and source.at(first - 1).text in QUALIFIERS:
         first -= 1

@@ -24,8 +24,8 @@ class Term(NamedTuple):
 
 
 def tests_of(source: Source, function: int, clauses: list[Token], brace: int) -> str:
-    """The tests, as lines to be put after the brace with which the body begins. Before unsafe code each is always made, else
-    in debug builds alone."""
+    """The tests, as lines to be put after the brace with which the body begins. Before unsafe code each is always made,
+    else in debug builds alone."""
     body = source.tokens[brace:source.closing(brace)]
     unsafe = any(token.is_word("unsafe") for token in body)
     types = source.parameters(function)

@@ -1,4 +1,6 @@
-"""A whole source as Rust: without what is there for proofs, with the head of a crate and the runtime of a `main` or a test."""
+"""A whole source as Rust: without what is there for proofs, with the head of a crate and the runtime of a `main` or a
+test.
+"""
 
 from __future__ import annotations
 
@@ -63,7 +65,8 @@ def give_runtime(source: Source, edits: Edits) -> None:
 
 
 def runtime_taken(source: Source, place: int) -> str | None:
-    """What `main` or a test whose `fn` is there calls its runtime, or None where it takes none or is another function."""
+    """What `main` or a test whose `fn` is there calls its runtime, or None where it takes none or is another function.
+    """
     if not source.at(place).is_word("fn") or not source.at(place + 2).is_punct("("):
         return None
     if source.at(place + 1).text != "main" and not source.reads(place - 4, "# [ test ]"):

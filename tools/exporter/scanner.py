@@ -1,5 +1,5 @@
-"""The words of a source and of an export, for their comparison. It reads character by character and shares nothing with tokens.py,
-which the exporter uses, so that no fault of one of them hides in the comparison."""
+"""The words of a source and of an export, for their comparison. It reads character by character and shares nothing with
+tokens.py, which the exporter uses, so that no fault of one of them hides in the comparison."""
 
 from __future__ import annotations
 
@@ -144,8 +144,8 @@ class Scanner:
         self.pass_group()
 
     def pass_ghost(self) -> None:
-        """What follows the word `ghost`: an import to its `;`, or a name, `:` or `=`, a group in braces, and `,` or `;`.
-        What a trait says of a name may have a second group, after `=`, for those that say nothing else."""
+        """What follows the word `ghost`: an import to its `;`, or a name, `:` or `=`, a group in braces, and `,` or
+        `;`. What a trait says of a name may have a second group, after `=`, for those that say nothing else."""
         if self.text[self.at:self.at + 40].lstrip().startswith("use "):
             self.pass_after(";")
             return

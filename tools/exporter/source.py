@@ -1,4 +1,6 @@
-"""A source with its tokens, and ways to find one's way in it. Places are those of tokens in the list, not of characters."""
+"""A source with its tokens, and ways to find one's way in it. Places are those of tokens in the list, not of
+characters.
+"""
 
 from __future__ import annotations
 

@@ -1,5 +1,5 @@
-"""Takes out of a source what is there for proofs alone. A rule looks at one place, and answers the place after what it has
-dealt with, or None where it has nothing to say there."""
+"""Takes out of a source what is there for proofs alone. A rule looks at one place, and answers the place after what it
+has dealt with, or None where it has nothing to say there."""
 
 from __future__ import annotations
 
@@ -40,8 +40,8 @@ def ghost_item(source: Source, place: int, edits: Edits) -> int | None:
 
 
 def clauses(source: Source, place: int, edits: Edits) -> int | None:
-    """The clauses of a function become comments, with the comments among them, and tests of what it requires; those of a closure or
-    a loop go."""
+    """The clauses of a function become comments, with the comments among them, and tests of what it requires; those of
+    a closure or a loop go."""
     first, last = place, place
     while source.at(first - 1).kind == "comment":
         first -= 1
@@ -91,7 +91,8 @@ def attribute_bracket(source: Source, place: int) -> int | None:
 
 
 def implementation(source: Source, place: int, edits: Edits) -> int | None:
-    """An `impl Model`, which says what a value means in a proof, stays as a comment; an `impl Drop` gets Rust's form."""
+    """An `impl Model`, which says what a value means in a proof, stays as a comment; an `impl Drop` gets Rust's form.
+    """
     brace = source.next_punct(place, "{;),")
     names = source.words(place, brace)
     if not source.at(brace).is_punct("{") or "for" not in names:
@@ -110,7 +111,8 @@ def implementation(source: Source, place: int, edits: Edits) -> int | None:
 
 
 def drop_by_parts(source: Source, brace: int, edits: Edits) -> None:
-    """`fn drop(self) { let T { a, b } = self; ..` takes the parts. Rust's `drop` is lent the value, so it copies them."""
+    """`fn drop(self) { let T { a, b } = self; ..` takes the parts. Rust's `drop` is lent the value, so it copies them.
+    """
     place = next((at for at in range(brace, source.closing(brace)) if source.at(at).is_word("fn")), brace)
     if not source.reads(place, "fn drop ( self ) { let") or not source.at(place + 8).is_punct("{"):
         raise Trouble("a drop of another form")
@@ -145,5 +147,6 @@ def expect_with_runtime(source: Source, place: int, edits: Edits) -> int | None:
 
 
 # By the kind or, of other tokens, the text of the token at which they may have something to say.
-RULES: dict[str, list[Rule]] = {"ghost": [ghost_item], "clause": [clauses], "#": [proof_attribute, derive], "impl": [implementation],
+RULES: dict[str, list[Rule]] = {"ghost": [ghost_item], "clause": [clauses], "#": [proof_attribute, derive],
+                                "impl": [implementation],
                                 "Drop": [bound], "expect": [expect_with_runtime]}

@@ -27,7 +27,9 @@ class Trouble(Exception):
 
 @dataclass
 class Token:
-    """A piece of the text from `start` to `end`. Its kind is comment, text, char, life, word, number, punct, clause or ghost."""
+    """A piece of the text from `start` to `end`. Its kind is comment, text, char, life, word, number, punct, clause or
+    ghost.
+    """
 
     kind: str
     start: int

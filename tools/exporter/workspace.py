@@ -33,7 +33,8 @@ panic = "abort"
 
 
 def files_of(crates: list[Crate], repository: Path, config: str | None) -> dict[str, str]:
-    """All files by their paths: with a configuration of cargo public crates are the registry's, else those of shims/."""
+    """All files by their paths: with a configuration of cargo public crates are the registry's, else those of shims/.
+    """
     license_text = (repository / "LICENSE").read_text(encoding="utf-8")
     shims = [name for name in dependencies.shim_names() if config is None or name not in dependencies.PUBLIC]
     members = [f"crates/{crate.name}" for crate in crates] + [f"shims/{name}" for name in shims]
@@ -105,8 +106,8 @@ def dependency_line(crate: str, name: str, exported_names: Iterable[str], shims:
 
 
 def write(folder: Path, files: dict[str, str]) -> None:
-    """Makes the folder hold these files, and no other in what an export makes. A file that is so already isn't touched, so that
-    cargo builds what changed alone."""
+    """Makes the folder hold these files, and no other in what an export makes. A file that is so already isn't touched,
+    so that cargo builds what changed alone."""
     refuse_foreign(folder)
     for name, text in files.items():
         path = folder / name

@@ -1,4 +1,6 @@
-"""The compilers that can make a module: one that has the target wasm32, or Debian's with the library built of its sources."""
+"""The compilers that can make a module: one that has the target wasm32, or Debian's with the library built of its
+sources.
+"""
 
 from __future__ import annotations
 
@@ -80,7 +82,8 @@ def build_library(place: Path, settings: dict[str, str]) -> None:
     out.mkdir(parents=True, exist_ok=True)
     environment = dict(os.environ, RUSTC_BOOTSTRAP="1", **settings)
     for name, source, features, needs in LIBRARY:
-        words = [settings["RUSTC"], "--target", TARGET, "--crate-type", "rlib", "--edition", "2024", "--crate-name", name,
+        words = [settings["RUSTC"], "--target", TARGET, "--crate-type", "rlib", "--edition", "2024", "--crate-name",
+                 name,
                  "-C", "opt-level=3", "-C", "panic=abort", "-C", "metadata=wasm", "-Z", "force-unstable-if-unmarked",
                  "--cap-lints", "allow", "--out-dir", str(out), "-L", str(out)]
         words += [word for feature in features for word in ("--cfg", f'feature="{feature}"')]
@@ -90,6 +93,7 @@ def build_library(place: Path, settings: dict[str, str]) -> None:
 
 def run(what: str, words: list[str], environment: dict[str, str], place: Path | None = None) -> None:
     """Runs a command that builds, and shows what it said where it fails."""
-    done = subprocess.run(words, env=environment, cwd=place, stdin=subprocess.DEVNULL, stdout=subprocess.PIPE, stderr=subprocess.STDOUT)
+    done = subprocess.run(words, env=environment, cwd=place, stdin=subprocess.DEVNULL, stdout=subprocess.PIPE,
+                          stderr=subprocess.STDOUT)
     if done.returncode:
         raise Failed(f"{what} can't be built:\n{done.stdout.decode('utf-8', 'replace')[-3000:]}")

@@ -23,10 +23,12 @@ STANDS_ON = ["pip_commands", *building.USES]
 
 def main() -> None:
     parser = argparse.ArgumentParser(prog="make_module",
-                                     description="The program as a module of WebAssembly: the same text, not the same proof.")
+                                     description="The program as a module of WebAssembly: the same text, not the same "
+                                                 "proof.")
     parser.add_argument("--to", type=Path, required=True, metavar="FILE", help="the module")
     parser.add_argument("--debian", type=Path, metavar="FOLDER",
-                        help="where Debian's rustc-web and what it needs were unpacked; without it the compiler in the PATH has to "
+                        help="where Debian's rustc-web and what it needs were unpacked; without it the compiler in the "
+                             "PATH has to "
                              f"have the target {compilers.TARGET}")
     given = parser.parse_args()
     calling.guarded("make_module", lambda: make(given.to, given.debian))
@@ -58,6 +60,8 @@ def build(place: Path, compiler: compilers.Compiler) -> Path:
 
 def own_files() -> "dict[str, str]":
     """The files of the module's crate."""
-    manifest = workspace.PACKAGE.format(name=NAME) + "\n" + (HERE / "module" / "manifest.toml").read_text(encoding="utf-8")
-    return {"module/Cargo.toml": manifest, "module/src/lib.rs": (HERE / "module" / "src" / "lib.rs").read_text(encoding="utf-8"),
+    manifest = workspace.PACKAGE.format(name=NAME) + "\n" + (HERE / "module"
+                                                             / "manifest.toml").read_text(encoding="utf-8")
+    return {"module/Cargo.toml": manifest,
+            "module/src/lib.rs": (HERE / "module" / "src" / "lib.rs").read_text(encoding="utf-8"),
             "module/LICENSE": (REPOSITORY / "LICENSE").read_text(encoding="utf-8")}

@@ -20,7 +20,8 @@ from . import commands, generate
 REPOSITORY = os.path.dirname(os.path.dirname(os.path.dirname(os.path.abspath(__file__))))
 BUILT = os.path.join(REPOSITORY, "crates", "pip", "out", "pip")
 Answer = tuple[bytes, int]                                   # output and status
-Difference = tuple[list[str], bytes, Answer, Answer]         # words and input; what the reference answers, and the program
+# words and input; what the reference answers, and the program
+Difference = tuple[list[str], bytes, Answer, Answer]
 SECONDS = 120            # a run of the built program that takes longer counts as a difference
 
 
@@ -46,7 +47,9 @@ def job(given: tuple[str, str, int]) -> tuple[int, Difference | None]:
 
 
 def do_no_more(*_: object) -> None:
-    """A worker at Ctrl-C: the program that it runs is stopped by that, too, and the one that waits for the worker ends it."""
+    """A worker at Ctrl-C: the program that it runs is stopped by that, too, and the one that waits for the worker ends
+    it.
+    """
     signal.pause()
 
 

@@ -12,7 +12,8 @@ from ..common.calling import Failed
 HERE = Path(__file__).resolve().parent
 HEADING = re.compile(r"<h(\d)>(.*?)</h\1>", re.DOTALL)
 TO_DOCUMENT = re.compile(r'(<a href="(?![a-z]+:)[^"#]*)\.md(?=["#])')
-MARKS = (("<pre>", '<pre tabindex="0">'), ("<table>", '<div class="wide" tabindex="0"><table>'), ("</table>", "</table></div>"),
+MARKS = (("<pre>", '<pre tabindex="0">'), ("<table>", '<div class="wide" tabindex="0"><table>'),
+         ("</table>", "</table></div>"),
          ("<th></th>", "<td></td>"), ("<th>", '<th scope="col">'))
 PAGE = """<!doctype html>
 <html lang="en">
@@ -46,7 +47,8 @@ def page(text: str, depth: int) -> str:
 
 def body(text: str) -> str:
     try:
-        done = subprocess.run(["cmark-gfm", "--extension", "table"], input=text.encode(), stdout=subprocess.PIPE, check=True)
+        done = subprocess.run(["cmark-gfm", "--extension", "table"], input=text.encode(), stdout=subprocess.PIPE,
+                              check=True)
     except (OSError, subprocess.CalledProcessError) as error:
         raise Failed(f"documents become HTML by cmark-gfm, a package of Debian: {error}") from None
     return done.stdout.decode()

@@ -82,5 +82,6 @@ def kit() -> str | None:
     """The line of `rt version`, or None where there is no kit."""
     if not shutil.which("rt"):
         return None
-    done = subprocess.run(["rt", "version"], stdin=subprocess.DEVNULL, stdout=subprocess.PIPE, stderr=subprocess.DEVNULL)
+    done = subprocess.run(["rt", "version"], stdin=subprocess.DEVNULL, stdout=subprocess.PIPE,
+                          stderr=subprocess.DEVNULL)
     return done.stdout.decode("utf-8", "replace").strip() if done.returncode == 0 else None

@@ -14,7 +14,8 @@ from . import markdown
 REPOSITORY = Path(__file__).resolve().parent.parent.parent
 LEFT_OUT = {"out", ".git"}
 SINGLE = {"meta", "img"}
-NOT_SHOWN = re.compile(r"!\[[^\]]*\]\([^)]*\)|\]\([^)\s]*\)|^\s*\d+\. |^```.*$", re.MULTILINE)     # of a document's text
+# of a document's text
+NOT_SHOWN = re.compile(r"!\[[^\]]*\]\([^)]*\)|\]\([^)\s]*\)|^\s*\d+\. |^```.*$", re.MULTILINE)
 
 
 class Reader(html.parser.HTMLParser):
@@ -66,7 +67,8 @@ class Documents(unittest.TestCase):
             self.assertEqual(letters(" ".join(read.words)), letters(NOT_SHOWN.sub("", text)), path)
 
     def test_links_lead_somewhere(self) -> None:
-        pages = {path.with_suffix(".html"): Reader(markdown.page(path.read_text(encoding="utf-8"), 0)) for path in documents()}
+        pages = {path.with_suffix(".html"): Reader(markdown.page(path.read_text(encoding="utf-8"), 0))
+                 for path in documents()}
         for path, read in pages.items():
             self.assertEqual(len(read.anchors), len(set(read.anchors)), path)
             for link in read.links:
