@@ -31,6 +31,21 @@ def links(program: str) -> None:
             if anchor and anchor not in anchors.setdefault(place, headings(place)):
                 raise Differs(f"{os.path.relpath(path, REPOSITORY)}: {target} names no heading")
     contracts()
+    from . import checks        # which has this one in its list
+    unknown = set(checks_named()) - set(checks.CHECKS)
+    if unknown:
+        raise Differs(f"documents name checks that aren't there: {', '.join(sorted(unknown))}")
+
+
+def checks_named() -> Iterator[str]:
+    """What documents name as checks: in a sentence, and in the last column of CONTRIBUTING's tables about checks."""
+    for path in documents(REPOSITORY):
+        with open(path, encoding="utf-8") as file:
+            text = file.read()
+        yield from re.findall(r"\bcheck `([a-z-]+)`", text)
+        table = r"^\|.*(?:\| check \(.*|by the check) \|\n\|[-|]+\|\n((?:\|.*\n)+)"
+        for rows in re.findall(table, text, re.MULTILINE) if os.path.basename(path) == "CONTRIBUTING.md" else ():
+            yield from " ".join(re.findall("`([^`]*)`", "".join(row.rsplit(" | ", 1)[1] for row in rows.splitlines()))).split()
 
 
 def contracts() -> None:
