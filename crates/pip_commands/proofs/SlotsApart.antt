@@ -259,7 +259,7 @@ texts_are a n turns c =
       lines = λ j slot at.
           let first : 0 + j * (turns + 2) ≡ j * (turns + 2) = omega arith in
           subst (λ l. AreLinesOf (λ label. Unit {0}) l (turns + 2) slot) first
-              (each_slot turns w ss 0 j slot (rounds_turns turns r c (round_turns turns (addresses n n))) at);
+          (each_slot turns w ss 0 j slot (rounds_turns turns r c (round_turns turns (addresses n n))) at);
     }
 
 rooms : (n : ℕ) (a : Image) → IsAccepted a → n ≤ 8 → IsRoomy n a.frames → HasRooms n a
