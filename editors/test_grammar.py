@@ -6,6 +6,8 @@ import glob
 import json
 import os
 import re
+import shutil
+import subprocess
 import unittest
 from typing import Any
 
@@ -115,6 +117,19 @@ class TestPackage(unittest.TestCase):
         self.assertEqual(languages, {})
         for language in told["languages"]:
             self.assertEqual(grammar(language["configuration"]), {"comments": {"lineComment": "#"}})
+
+
+@unittest.skipUnless(shutil.which("node"), "no node")
+class TestExtension(unittest.TestCase):
+    def test_an_editor_is_told_what_the_tools_say(self) -> None:
+        """Beside a stand-in for the editor's own module."""
+        done = subprocess.run(["node", os.path.join(HERE, "stand_in.js")], stdout=subprocess.PIPE, check=True, timeout=300)
+        told = json.loads(done.stdout)
+        self.assertEqual(told["wrong"], [[3, "'jmp' is no instruction; did you mean jal or j?"]])
+        self.assertIn("createPartition", told["hover"])
+        self.assertEqual(told["definition"], 3)
+        self.assertLess({"li", "la", "call", "not", ".handler"}, set(told["completion"]))
+        self.assertEqual((told["debug"][0], told["debug"][1][1].split("/")[-1]), ("python3", "debug_adapter"))
 
 
 class TestGrammar(unittest.TestCase):

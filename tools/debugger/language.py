@@ -156,9 +156,10 @@ def assembly_words() -> dict[str, str]:
 def first_words(table: list[list[str]]) -> dict[str, str]:
     found: dict[str, str] = {}
     for row in table:
-        words = row[0].strip("`").split()
-        if row[0].startswith("`") and words:
-            found[words[0]] = "\n\n".join(filter(None, [found.get(words[0]), f"{row[0]}: {'; '.join(cell for cell in row[1:] if cell)}"]))
+        meaning = f"{row[0]}: {'; '.join(cell for cell in row[1:] if cell)}"
+        for code in re.findall(r"`([^`]+)`", row[0]) if row[0].startswith("`") else []:
+            name = code.split()[0]
+            found[name] = found[name] + "\n\n" + meaning if name in found else meaning
     return found
 
 
