@@ -8,7 +8,7 @@ from __future__ import annotations
 import argparse
 import difflib
 import re
-from collections.abc import Callable
+from collections.abc import Callable, Iterator
 from typing import NoReturn, Optional
 
 from ..common import calling, meanings
@@ -17,6 +17,7 @@ from ..reference import assembly, instructions, script
 
 NUMBER = re.compile(rb"0|[1-9][0-9]*|0x[0-9a-f]{1,8}")
 LONGEST = 120
+MOST_TOLD = 20           # bad lines of one text
 OF_ASMX = (".equ", ".handler", ".include", "la", "j", "nop", "call", "ret", "neg", "not")       # lines that tools/asmx adds
 LIKE = {"ld": "ldw", "st": "stw", "load": "ldw", "store": "stw", "lw": "ldw", "sw": "stw", "lb": "ldb", "sb": "stb", "move": "mov", "jmp": "jal",
         "trap": "int", "ecall": "sys", "syscall": "sys", "subi": "addi with a negative number", "bgt": "blt", "bgtu": "bltu",
@@ -264,15 +265,41 @@ def why(program: str, name: str, text: bytes, as_assembly: bool | None = None) -
     return refused(name, text, int(found[1]), found[2].decode() if assembles else None), False
 
 
-def refused(name: str, text: bytes, place: int, kind: str | None) -> list[str]:
-    """The sentences about a text whose first bad line is known; that of an assembly text has a kind."""
-    lines = list(script.lines(text))
+def wrong_lines(program: str, lines: list[bytes], assembles: bool) -> Iterator[tuple[int, Cause]]:
+    """Each bad line and its cause: the program names one, and the text is tried again with a harmless line in its place."""
+    lines = list(lines)
+    for _ in range(MOST_TOLD):
+        output, status = calling.output(program, ["asm" if assembles else "script"], b"".join(line + b"\n" for line in lines))
+        found = re.search(rb"bad line (\d+)(?: (\w+))?\n$", output)
+        if status != 2 or found is None:
+            return
+        place = int(found[1])
+        cause = cause_of(lines, place, found[2].decode() if assembles else None)
+        yield place, cause
+        if place > len(lines) or cause.name == "second" or is_head(lines[place - 1]):
+            return
+        lines[place - 1] = b".word 0" if assembles else b"#"
+
+
+def is_head(line: bytes) -> bool:
+    """A line without which all after it would be wrong."""
+    return line.startswith((b"boot", b".")) and not line.startswith(b".word")
+
+
+def cause_of(lines: list[bytes], place: int, kind: str | None) -> Cause:
+    """Why a line is bad; that of an assembly text has a kind."""
     try:
         if kind is not None:
             judge_assembly(lines, place, kind)
         judge_script(lines, place)
     except Cause as cause:
-        return told(name, place, lines, cause)
+        return cause
+
+
+def refused(name: str, text: bytes, place: int, kind: str | None) -> list[str]:
+    """The sentences about a text whose first bad line is known; that of an assembly text has a kind."""
+    lines = list(script.lines(text))
+    return told(name, place, lines, cause_of(lines, place, kind))
 
 
 def told(name: str, place: int, lines: list[bytes], cause: Cause) -> list[str]:
@@ -305,4 +332,9 @@ def work(given: argparse.Namespace) -> int | None:
     text = calling.contents(given.file)
     sentences, good = why(given.program, given.file, text, None if given.kind is None else given.kind == "asm")
     print("\n".join(sentences))
+    if len(sentences) > 1:
+        lines = list(script.lines(text))
+        assembles = is_assembly(lines) if given.kind is None else given.kind == "asm"
+        for place, cause in list(wrong_lines(given.program, lines, assembles))[1:]:
+            print("\n" + "\n".join(told(given.file, place, lines, cause)))
     return 0 if good else 1

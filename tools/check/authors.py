@@ -144,6 +144,7 @@ def reasons(program: str) -> None:
     ends("tools/why", tool(program, "why", "/nonexistent"), 2, "can't be read")
     ends("tools/why", tool(program, "why", "-", text=b"\xff\xfe"), 1, "rule: ")
     ends("tools/why of bytes", tool(program, "why", "-", text=b"a\n\x7f"), 1, "- is no text: it has the byte 0x7f at offset 2")
+    ends("tools/why of several", tool(program, "why", "-", text=b"boot 32 1\nld 0 00\nprint\nld 0 0\ncall 0\n"), 1, "-:2:6: ", "-:3:1: ", "-:5:7: ")
     ends("tools/why of nothing", tool(program, "why", "-"), 1, "- is empty")
     ends("tools/why", tool(program, "why", "-", "--as", "asm"), 1, "the text ends before")
     ends("tools/why of an image", tool(program, "why", "-", text=b"PIPIMG2\n"), 1, "is an image, and no text")

@@ -84,37 +84,10 @@ def of_asmx(path: str, wrong: asmx.Wrong) -> Wrong:
 
 
 def wrong_lines(program: str, text: bytes, is_assembly: bool) -> Iterator[Wrong]:
-    """The program names one line; the text is tried again with a harmless one in its place."""
     lines = list(script.lines(text))
-    for _ in range(MOST):
-        found = first_wrong(program, lines, is_assembly)
-        if found is None:
-            return
-        place, cause = found
+    for place, cause in why.wrong_lines(program, lines, is_assembly):
         line = lines[place - 1] if place <= len(lines) else b""
         yield Wrong(place - 1, len(line[:max(cause.column - 1, 0)].decode("utf-8", "replace")), told(cause))
-        if place > len(lines) or is_head(line) or cause.name == "second":
-            return
-        lines[place - 1] = b".word 0" if is_assembly else b"#"
-
-
-def is_head(line: bytes) -> bool:
-    """A line without which all after it would be wrong."""
-    return line.startswith((b"boot", b".")) and not line.startswith(b".word")
-
-
-def first_wrong(program: str, lines: list[bytes], is_assembly: bool) -> tuple[int, why.Cause] | None:
-    output, status = calling.output(program, ["asm" if is_assembly else "script"], b"".join(line + b"\n" for line in lines))
-    found = re.search(rb"bad line (\d+)(?: (\w+))?\n$", output)
-    if status != 2 or not found:
-        return None
-    place = int(found[1])
-    try:
-        if is_assembly:
-            why.judge_assembly(lines, place, found[2].decode())
-        why.judge_script(lines, place)
-    except why.Cause as cause:
-        return place, cause
 
 
 def told(cause: why.Cause) -> str:
