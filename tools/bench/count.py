@@ -20,9 +20,10 @@ from ..common.calling import REPOSITORY, Failed
 PROGRAM = os.path.join(REPOSITORY, "crates", "pip", "out", "pip")
 COLLECTED = re.compile(rb"Collected : (\d+)")
 
-# Where the stack begins depends on the environment and the program's path, and with it how many instructions some copies take.
-# So the environment is empty, and the path the same everywhere. Only the C library has a setting: where it zeroes or copies a page
-# at a stroke, callgrind would count an instruction for each byte, so it is to do that by plain loads and stores.
+# Where the stack begins depends on the environment and the program's path, and with it how many instructions some
+# copies take. So the environment is empty, and the path the same everywhere. Only the C library has a setting: where it
+# zeroes or copies a page at a stroke, callgrind would count an instruction for each byte, so it is to do that by plain
+# loads and stores.
 NEVER = 1_000_000_000
 ENVIRONMENT = {"GLIBC_TUNABLES": f"glibc.cpu.x86_rep_stosb_threshold={NEVER}:glibc.cpu.x86_rep_movsb_threshold={NEVER}"}
 

@@ -158,7 +158,8 @@ def slow_memory() -> Memory:
     """A root that tells of 3000 children. They share their 1024 tables, but have two sets of first shadows by turns."""
     tables = range(1000, 2024)
     children = [*range(60, 1000), *range(2024, 4084)]
-    memory: Memory = {2: {i: table * 4096 + 1 for i, table in enumerate(tables)}, 51: {i: 0x400001 for i in range(1024)}}
+    memory: Memory = {2: {i: table * 4096 + 1 for i, table in enumerate(tables)},
+                      51: {i: 0x400001 for i in range(1024)}}
     for k, child in enumerate(children):
         memory.setdefault(tables[k // 1024], {})[k % 1024] = child * 4096 + 0x1F
     put_list(memory, 10, tables, lambda k: 51 if k < 3 else 52)

@@ -21,7 +21,8 @@ def main() -> None:
                      help="write nothing: list, by public function, the parts of what it requires that a debug build doesn't test")
     parser.add_argument("--only", nargs="+", default=[], metavar="CRATE", help="these crates and those that they use")
     parser.add_argument("--deps", choices=("registry", "shims"),
-                        help="public crates from cargo's registry, or the small ones that come with this tool; without it the "
+                        help="public crates from cargo's registry, or the small ones that come with this tool; without "
+                             "it the "
                              "registry's where cargo can get them without a network")
     parser.add_argument("--from", dest="repository", type=Path, default=REPOSITORY, metavar="FOLDER",
                         help="the checkout with the sources; without it this one")

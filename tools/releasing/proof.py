@@ -13,7 +13,8 @@ MARK = "UNPROVED"            # a file by which ./pip sees that a release is unpr
 TEXT = """pip {version}
 
 The program {program} is what the gate of this commit built of the sources that are beside it.
-It passed all of the gate: everything is proved, every edit that breaks a promise is refused, all tests and programs ran.
+It passed all of the gate: everything is proved, every edit that breaks a promise is refused, all tests and programs
+ran.
 What is proved is in docs/PROVED.md. {page} and rust/ are the same text, and not the same proof.
 
 commit    {commit}

@@ -1,4 +1,6 @@
-"""Makes a release: what is committed, with the program that the gate built, the page, the documents as HTML, the export, and PROOF."""
+"""Makes a release: what is committed, with the program that the gate built, the page, the documents as HTML, the
+export, and PROOF.
+"""
 
 from __future__ import annotations
 
@@ -37,7 +39,8 @@ def main() -> None:
     parser.add_argument("--again", type=Path, metavar="CHECKOUT", help="another checkout of the commit, in which ./pip has built, too: the programs have to be the same")
     page = parser.add_mutually_exclusive_group()
     page.add_argument("--module", type=Path, metavar="FILE", help="the page's module, where make_module has made it")
-    page.add_argument("--debian", type=Path, metavar="FOLDER", help="where Debian's rustc-web and what it needs were unpacked")
+    page.add_argument("--debian", type=Path, metavar="FOLDER",
+                      help="where Debian's rustc-web and what it needs were unpacked")
     given = parser.parse_args()
     calling.guarded("release", lambda: work(given, Checkout(Path(calling.REPOSITORY))))
 
@@ -50,16 +53,20 @@ def work(given: argparse.Namespace, found: Checkout) -> int:
     if given.unproved and given.again:
         raise Failed("--again compares programs that were proved")
     if not given.version or not VERSION.fullmatch(given.version):
-        raise Failed(f"a version is numbers with points between them, as 1.2, and not {given.version!r}" if given.version else "which version?")
+        raise Failed(f"a version is numbers with points between them, as 1.2, and not {given.version!r}"
+                     if given.version else "which version?")
     print(made(given, found, place_of(given, found)))
     return 0
 
 
 def place_of(given: argparse.Namespace, found: Checkout) -> Path:
-    """Where a release goes: never into the checkout, since the gate refuses sources in other places than those of its crates."""
+    """Where a release goes: never into the checkout, since the gate refuses sources in other places than those of its
+    crates.
+    """
     to: Path = given.to or found.place.parent / BESIDE
     if found.place.resolve() in (to.resolve(), *to.resolve().parents):
-        raise Failed(f"{to} is inside the checkout, where the next gate would refuse the sources of a release: choose a folder outside it")
+        raise Failed(f"{to} is inside the checkout, where the next gate would refuse the sources of a release: choose "
+                     "a folder outside it")
     return to
 
 
@@ -124,7 +131,8 @@ def copied(found: Checkout, top: Path, program: Path) -> None:
 
 
 def make_page(given: argparse.Namespace, found: Checkout, path: Path) -> None:
-    words = ["--module", str(given.module.resolve())] if given.module else ["--debian", str(given.debian.resolve())] if given.debian else []
+    parts = {"--module": given.module, "--debian": None if given.module else given.debian}
+    words = [word for option, path in parts.items() if path for word in (option, str(path.resolve()))]
     run("the page", found, "tools/playground/make_page", "--to", str(path), *words)
     if not path.is_file():
         raise Failed(f"the page isn't there: tools/playground/make_page made no {path.name}")
@@ -142,13 +150,16 @@ def documents(top: Path) -> None:
 
 
 def run(what: str, found: Checkout, tool: str, *words: str) -> None:
-    done = subprocess.run([sys.executable, "-B", str(found.place / tool), *words], stdin=subprocess.DEVNULL, stdout=subprocess.PIPE, stderr=subprocess.STDOUT)
+    done = subprocess.run([sys.executable, "-B", str(found.place / tool), *words], stdin=subprocess.DEVNULL,
+                          stdout=subprocess.PIPE, stderr=subprocess.STDOUT)
     if done.returncode:
         raise Failed(f"{what} can't be made: {done.stdout.decode('utf-8', 'replace').strip()[-2000:]}")
 
 
 def packed(top: Path, to: Path, seconds: int) -> None:
-    """The tarball: each time the same bytes. All is as old as the commit, so that to ./pip no source is newer than the program."""
+    """The tarball: each time the same bytes. All is as old as the commit, so that to ./pip no source is newer than the
+    program.
+    """
     def plain(member: tarfile.TarInfo) -> tarfile.TarInfo:
         member.mtime, member.uid, member.gid, member.uname, member.gname = seconds, 0, 0, "", ""
         member.mode = 0o755 if member.isdir() or member.mode & 0o100 else 0o644

@@ -19,7 +19,15 @@ from . import gate, release, repository
 from .repository import Checkout
 
 KIT = "kit-1"
-GATE = "#!/bin/sh\ncd \"$(dirname \"$0\")/..\"\nmkdir -p crates/pip/out\necho built > crates/pip/out/pip\n{more}\necho '3 passed, 0 failed'\necho 'check: 2 of 2 checks pass'\nexit {status}\n"
+GATE = """#!/bin/sh
+cd "$(dirname "$0")/.."
+mkdir -p crates/pip/out
+echo built > crates/pip/out/pip
+{more}
+echo '3 passed, 0 failed'
+echo 'check: 2 of 2 checks pass'
+exit {status}
+"""
 TOOL = "import os, sys\nto = sys.argv[sys.argv.index('--to') + 1]\n"
 FILES = {
     ".gitignore": "out/\n",
@@ -61,7 +69,8 @@ class Releases(unittest.TestCase):
     def commit(self, found: Checkout) -> None:
         found.git("add", "-A")
         when = {"GIT_AUTHOR_DATE": "2026-01-01T00:00:00Z", "GIT_COMMITTER_DATE": "2026-01-01T00:00:00Z"}
-        subprocess.run(["git", "-C", str(found.place), "-c", "user.name=a", "-c", "user.email=a@b", "commit", "-qm", "all"], check=True, env={**os.environ, **when})
+        subprocess.run(["git", "-C", str(found.place), "-c", "user.name=a", "-c", "user.email=a@b", "commit", "-qm",
+                        "all"], check=True, env={**os.environ, **when})
 
     def pass_gate(self, found: Checkout | None = None) -> int:
         with contextlib.redirect_stdout(io.TextIOWrapper(io.BytesIO())):
@@ -90,11 +99,14 @@ class Releases(unittest.TestCase):
         self.assertEqual(self.pass_gate(), 0)
         made = self.made()
         parts = {str(path.relative_to(made)) for path in made.rglob("*") if path.is_file()}
-        self.assertEqual(parts, {*FILES, "README.html", "docs/PROVED.html", "pip.html", "PROOF", "rust/Cargo.toml", release.MARK, "crates/pip/out/pip", "tools/judge/pip_judge"})
+        self.assertEqual(parts, {*FILES, "README.html", "docs/PROVED.html", "pip.html", "PROOF", "rust/Cargo.toml",
+                                 release.MARK, "crates/pip/out/pip", "tools/judge/pip_judge"})
         told = (made / "PROOF").read_text()
-        for part in ("pip 1.2\n", self.found.commit(), KIT, "3 passed, 0 failed", "check: 2 of 2 checks pass", "- The kit.", "built once"):
+        for part in ("pip 1.2\n", self.found.commit(), KIT, "3 passed, 0 failed", "check: 2 of 2 checks pass",
+                     "- The kit.", "built once"):
             self.assertIn(part, told)
-        sums = subprocess.run("grep -E '^[0-9a-f]{64}  ' PROOF | sha256sum --check --quiet", shell=True, cwd=made, stdout=subprocess.PIPE)
+        sums = subprocess.run("grep -E '^[0-9a-f]{64}  ' PROOF | sha256sum --check --quiet", shell=True, cwd=made,
+                              stdout=subprocess.PIPE)
         self.assertEqual((sums.returncode, sums.stdout), (0, b""))
         self.assertIn('<a href="docs/PROVED.html#trusted">', (made / "README.html").read_text())
 
@@ -183,7 +195,8 @@ class Releases(unittest.TestCase):
         self.refused("there is no program")
 
     def test_refuses_a_missing_page(self) -> None:
-        for tool, why in (("import sys\nsys.exit('no compiler')\n", "the page can't be made: no compiler"), ("pass\n", "the page isn't there")):
+        for tool, why in (("import sys\nsys.exit('no compiler')\n", "the page can't be made: no compiler"),
+                          ("pass\n", "the page isn't there")):
             self.write(self.found, "tools/playground/make_page", tool)
             self.commit(self.found)
             self.pass_gate()
