@@ -18,13 +18,17 @@ from ..reference import assembly, instructions, script
 NUMBER = re.compile(rb"0|[1-9][0-9]*|0x[0-9a-f]{1,8}")
 LONGEST = 120
 MOST_TOLD = 20           # bad lines of one text
-OF_ASMX = (".equ", ".handler", ".include", "la", "j", "nop", "call", "ret", "neg", "not")       # lines that tools/asmx adds
-LIKE = {"ld": "ldw", "st": "stw", "load": "ldw", "store": "stw", "lw": "ldw", "sw": "stw", "lb": "ldb", "sb": "stb", "move": "mov", "jmp": "jal",
-        "trap": "int", "ecall": "sys", "syscall": "sys", "subi": "addi with a negative number", "bgt": "blt", "bgtu": "bltu",
+# What tools/asmx adds
+OF_ASMX = (".equ", ".handler", ".include", "la", "j", "nop", "call", "ret", "neg", "not")
+LIKE = {"ld": "ldw", "st": "stw", "load": "ldw", "store": "stw", "lw": "ldw", "sw": "stw", "lb": "ldb", "sb": "stb",
+        "move": "mov", "jmp": "jal", "trap": "int", "ecall": "sys", "syscall": "sys",
+        "subi": "addi with a negative number", "bgt": "blt", "bgtu": "bltu",
         "beqz": "beq with a register that holds 0", "bnez": "bne with a register that holds 0"}
 # What other assemblers write, and this one doesn't: a sign in a word, and what to do
-SIGNS = ((",", "operands are separated by spaces, not by commas"), ("(", "an address is a register and a number: ldw r1 r2 0, without brackets"),
-         ("[", "an address is a register and a number: ldw r1 r2 0, without brackets"), (";", "a remark begins with #"), ("//", "a remark begins with #"))
+SIGNS = ((",", "operands are separated by spaces, not by commas"),
+         ("(", "an address is a register and a number: ldw r1 r2 0, without brackets"),
+         ("[", "an address is a register and a number: ldw r1 r2 0, without brackets"),
+         (";", "a remark begins with #"), ("//", "a remark begins with #"))
 DIRECTIVES = (b".frames", b".cpus", b".line", b".page", b".word", b".zero")
 
 Form = tuple[Optional[int], ...]      # what each number of a line is below; None is the number of processors
@@ -266,10 +270,12 @@ def why(program: str, name: str, text: bytes, as_assembly: bool | None = None) -
 
 
 def wrong_lines(program: str, lines: list[bytes], assembles: bool) -> Iterator[tuple[int, Cause]]:
-    """Each bad line and its cause: the program names one, and the text is tried again with a harmless line in its place."""
+    """Each bad line and its cause: the program names one, and the text is tried again with a harmless line in its
+    place."""
     lines = list(lines)
     for _ in range(MOST_TOLD):
-        output, status = calling.output(program, ["asm" if assembles else "script"], b"".join(line + b"\n" for line in lines))
+        output, status = calling.output(program, ["asm" if assembles else "script"],
+                                        b"".join(line + b"\n" for line in lines))
         found = re.search(rb"bad line (\d+)(?: (\w+))?\n$", output)
         if status != 2 or found is None:
             return

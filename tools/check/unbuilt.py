@@ -14,8 +14,10 @@ FOLDERS = ("tools", "examples", "docs")
 FILES = ("pip", "crates.txt", "README.md", "crates/pip_commands/src/top.rt")
 IMAGE = b"PIPIMG2\n"
 # Each tool that needs a program, with words and an input with which it comes to need it.
-TOOLS = (("asmx", "examples/monitor.s", "--image", "/dev/null"), ("why", "examples/first.pip"), ("trace", "-", "10", "1"), ("explore", "-", "10", "1", "2"),
-         ("every", "-", "10"), ("shell", "examples/first.pip"), ("debug", "examples/monitor.s"), ("step/step", "examples/first.pip"), ("check/run.py", "--only", "endings"))
+TOOLS = (("asmx", "examples/monitor.s", "--image", "/dev/null"), ("why", "examples/first.pip"),
+         ("trace", "-", "10", "1"), ("explore", "-", "10", "1", "2"),
+         ("every", "-", "10"), ("shell", "examples/first.pip"), ("debug", "examples/monitor.s"),
+         ("step/step", "examples/first.pip"), ("check/run.py", "--only", "endings"))
 README = "from tools.check import documents; documents.readme_sessions({program!r})"
 RT = "#!/bin/sh\necho begun >> \"$PROOFS\"\nexit 1\n"
 
@@ -23,7 +25,8 @@ RT = "#!/bin/sh\necho begun >> \"$PROOFS\"\nexit 1\n"
 def nothing_is_proved(program: str) -> None:
     with tempfile.TemporaryDirectory() as place:
         for name in FOLDERS:
-            shutil.copytree(os.path.join(REPOSITORY, name), os.path.join(place, name), ignore=shutil.ignore_patterns("__pycache__"))
+            shutil.copytree(os.path.join(REPOSITORY, name), os.path.join(place, name),
+                            ignore=shutil.ignore_patterns("__pycache__"))
         for name in FILES:
             os.makedirs(os.path.dirname(os.path.join(place, name)), exist_ok=True)
             shutil.copy(os.path.join(REPOSITORY, name), os.path.join(place, name))
@@ -33,7 +36,8 @@ def nothing_is_proved(program: str) -> None:
             file.write(RT)
         os.chmod(prover, 0o755)
         for name, *words in TOOLS:
-            for option, due in (((), "no program is here, as new as the sources: "), (("--unproved",), "no program that cargo built is here")):
+            for option, due in (((), "no program is here, as new as the sources: "),
+                                (("--unproved",), "no program that cargo built is here")):
                 says(place, name, [*words, *option], due)
         told = answered(place, ["-c", README.format(program=os.path.abspath(program))])
         if told.returncode:
@@ -43,7 +47,8 @@ def nothing_is_proved(program: str) -> None:
 
 def answered(place: str, words: list[str]) -> subprocess.CompletedProcess[bytes]:
     environment = {key: value for key, value in os.environ.items() if key != "PIP"}
-    environment.update(PATH=os.path.join(place, "bin") + os.pathsep + environment["PATH"], PROOFS=os.path.join(place, "bin", "begun"))
+    environment.update(PATH=os.path.join(place, "bin") + os.pathsep + environment["PATH"],
+                       PROOFS=os.path.join(place, "bin", "begun"))
     return subprocess.run([sys.executable, "-B", *words], cwd=place, env=environment, input=IMAGE,
                           stdout=subprocess.PIPE, stderr=subprocess.PIPE, timeout=SECONDS)
 

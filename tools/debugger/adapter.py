@@ -1,10 +1,10 @@
-"""The Debug Adapter Protocol over standard streams: processors are threads, and a partition with those above it is a stack.
+"""The Debug Adapter Protocol over standard streams: processors are threads, a partition and those above it a stack.
 
     tools/debug_adapter
 
-Arguments of `launch`: `program`, an image or a source; `source`, that of an image; `seed`, or `native`, a number of children, or `slots`,
-that and the turns of a slot, or `way`, choices of `every`; `stopOnEntry`; `check`, whether each stop is compared with the program, as is
-done without it where the program is proved.
+Arguments of `launch`: `program`, an image or a source; `source`, that of an image; `seed`, or `native`, a number of
+children, or `slots`, that and the turns of a slot, or `way`, choices of `every`; `stopOnEntry`; `check`, whether each
+stop is compared with the program, as is done without it where the program is proved.
 """
 
 from __future__ import annotations
@@ -33,12 +33,15 @@ from .wire import Message
 
 CAPABILITIES = {name: True for name in (
     "supportsConfigurationDoneRequest", "supportsStepBack", "supportsDataBreakpoints", "supportsInstructionBreakpoints",
-    "supportsFunctionBreakpoints", "supportsConditionalBreakpoints", "supportsHitConditionalBreakpoints", "supportsReadMemoryRequest", "supportsDisassembleRequest",
-    "supportsEvaluateForHovers", "supportsSetVariable", "supportsRestartRequest", "supportsTerminateRequest", "supportsCompletionsRequest",
+    "supportsFunctionBreakpoints", "supportsConditionalBreakpoints", "supportsHitConditionalBreakpoints",
+    "supportsReadMemoryRequest", "supportsDisassembleRequest", "supportsEvaluateForHovers", "supportsSetVariable",
+    "supportsRestartRequest", "supportsTerminateRequest", "supportsCompletionsRequest",
 )}
-FILTERS = [("fault", "a fault"), ("park", "a processor is parked"), ("refused", "a call is refused"), ("interrupt", "a line is taken")]
+FILTERS = [("fault", "a fault"), ("park", "a processor is parked"), ("refused", "a call is refused"),
+           ("interrupt", "a line is taken")]
 PAUSING = ("pause", "disconnect", "terminate")
-SHOWING = ("registers", "processors", "words", "print", "translate", "tree", "ancestors", "list", "changed", "trace", "check", "stops",
+SHOWING = ("registers", "processors", "words", "print", "translate", "tree", "ancestors", "list", "changed", "trace",
+           "check", "stops",
            "every", "kept", "where", "help")
 CHANGING = ("seed", "plan", "raise", "set", "store")
 MOST_LINES = 50                  # trace lines that are told after a run
@@ -105,7 +108,8 @@ class Adapter:
         except (Failed, ValueError, LookupError) as failed:
             self.send("response", success=False, message=str(failed), **told)
             return
-        self.send("response", success=True, **told, **({"body": body} if body is not None and not callable(body) else {}))
+        self.send("response", success=True, **told,
+                  **({"body": body} if body is not None and not callable(body) else {}))
         if callable(body):
             self.afterwards(body)
 
@@ -135,7 +139,8 @@ class Adapter:
             raise Failed("launch has a program: an image or a source")
         calling.direct(self.program)
         native, slots = given.get("native"), given.get("slots")
-        schedule = schedule_of(str(given.get("seed", 1)), None if native is None else str(native), None if slots is None else [*map(str, slots)])
+        schedule = schedule_of(str(given.get("seed", 1)), None if native is None else str(native),
+                               None if slots is None else [*map(str, slots)])
         self.debugger = Debugger(self.program, States(building.program()), os.path.abspath(given["program"]), schedule)
         self.debugger.checks = bool(given.get("check", self.debugger.checks))
         self.debugger.shall_pause = lambda: self.pausing > 0
@@ -175,7 +180,8 @@ class Adapter:
                 stop, line = make(one)
                 numbers.append(stop.number)
                 self.reasons[stop.number] = reason
-                told.append({"verified": True, "id": stop.number, "message": stop.text, **({"line": line} if line else {})})
+                told.append({"verified": True, "id": stop.number, "message": stop.text,
+                             **({"line": line} if line else {})})
             except Failed as failed:
                 told.append({"verified": False, "message": str(failed)})
         self.of_group[group] = numbers
@@ -225,7 +231,8 @@ class Adapter:
         return {"dataId": text, "description": f"{name}, word {place[1]} of frame {place[0]}", "accessTypes": ["write"]}
 
     def on_set_data_breakpoints(self, given: Arguments) -> Any:
-        return self.replaced("words", "data breakpoint", given["breakpoints"], lambda one: (self.on.add_watch(one["dataId"], 1, limits(one)[1]), None))
+        return self.replaced("words", "data breakpoint", given["breakpoints"],
+                             lambda one: (self.on.add_watch(one["dataId"], 1, limits(one)[1]), None))
 
     # Moves
 
@@ -245,7 +252,8 @@ class Adapter:
             more = len(lines) - MOST_LINES
             text = f".. {more} lines before\n" if more > 0 else ""
             if lines:
-                self.event("output", category="stdout", output=text + "".join(line + "\n" for line in lines[-MOST_LINES:]))
+                self.event("output", category="stdout",
+                           output=text + "".join(line + "\n" for line in lines[-MOST_LINES:]))
 
     def stopped(self, now: Stopped, reason: str) -> None:
         self.frames.clear()
@@ -259,7 +267,8 @@ class Adapter:
         if now.step == now.end:
             told.append(f"step {now.end} is the last one")
         text = {"text": "; ".join(told), "description": f"step {now.step}: {told[0]}" if told else f"step {now.step}"}
-        self.event("stopped", reason=reason, threadId=self.thread_of(now), allThreadsStopped=True, hitBreakpointIds=numbers, **text)
+        self.event("stopped", reason=reason, threadId=self.thread_of(now), allThreadsStopped=True,
+                   hitBreakpointIds=numbers, **text)
 
     def thread_of(self, now: Stopped) -> int:
         """The processor whose turn comes at a break, else the one whose turn was."""
@@ -340,10 +349,13 @@ class Adapter:
     def on_scopes(self, given: Arguments) -> Any:
         cpu, part, runs = self.frames[given["frameId"] - 1]
         scopes: list[tuple[str, Callable[[], list[Variable]]]] = [
-            (f"Pages of partition {part}", lambda: self.pages(part)), ("Descriptor", lambda: self.descriptor(part)), ("Tree", self.tree)]
+            (f"Pages of partition {part}", lambda: self.pages(part)),
+            ("Descriptor", lambda: self.descriptor(part)), ("Tree", self.tree)]
         if runs:
-            scopes = [("Registers", lambda: self.registers(cpu)), ("Names", self.names), *scopes, ("Last turn", self.turn)]
-        return {"scopes": [{"name": name, "variablesReference": self.handle(make), "expensive": name == "Tree"} for name, make in scopes]}
+            scopes = [("Registers", lambda: self.registers(cpu)), ("Names", self.names), *scopes,
+                      ("Last turn", self.turn)]
+        return {"scopes": [{"name": name, "variablesReference": self.handle(make), "expensive": name == "Tree"}
+                           for name, make in scopes]}
 
     def variables(self, reference: int) -> list[Variable]:
         if not 1 <= reference <= len(self.handles):
@@ -361,7 +373,8 @@ class Adapter:
         if at is None:
             return []
         words = [("pc", at.pc)] + [(f"r{number}", word) for number, word in enumerate(at.registers)]
-        return [variable(name, f"0x{word:08x}", evaluateName=name, **self.memory(at.part, word)) for name, word in words]
+        return [variable(name, f"0x{word:08x}", evaluateName=name, **self.memory(at.part, word))
+                for name, word in words]
 
     def memory(self, part: int, address: int) -> Variable:
         return {"memoryReference": f"{part}:0x{address:08x}"} if self.on.word_at(part, address) else {}
@@ -386,20 +399,25 @@ class Adapter:
     def frame_words(self, frame: int) -> list[Variable]:
         """The words of a frame that aren't 0."""
         return [variable(f"[{index}] {self.on.source.nearest((frame, index))}".rstrip(), f"0x{word:08x}",
-                         type=self.on.instruction(word), memoryReference=f"f{frame}:{index}", watched=f"f{frame}:{index}")
+                         type=self.on.instruction(word), memoryReference=f"f{frame}:{index}",
+                         watched=f"f{frame}:{index}")
                 for index, word in enumerate(self.on.states.words(frame)) if word]
 
     def descriptor(self, part: int) -> list[Variable]:
         words = self.on.states.words(part, 0, 16)
-        names = ("descriptor in the parent", "descriptor", "MMU directory in the parent", "MMU directory", "first shadow in the parent",
-                 "first shadow", "second shadow in the parent", "second shadow", "list page in the parent", "list page", "", "parent",
+        names = ("descriptor in the parent", "descriptor", "MMU directory in the parent", "MMU directory",
+                 "first shadow in the parent",
+                 "first shadow", "second shadow in the parent", "second shadow", "list page in the parent",
+                 "list page", "", "parent",
                  "tables", "", "masked", "pending lines")
         return [variable(name, f"0x{word:08x}", memoryReference=f"f{part}:{index}", watched=f"f{part}:{index}")
                 for index, (name, word) in enumerate(zip(names, words)) if name]
 
     def tree(self) -> list[Variable]:
-        return [variable(f"partition {part.name}", f"depth {part.depth}, child of {part.up} at 0x{part.born:08x}, {len(part.rows)} pages",
-                         reference=self.handle(functools.partial(self.pages, part.name))) for part in self.on.partitions()]
+        return [variable(f"partition {part.name}",
+                         f"depth {part.depth}, child of {part.up} at 0x{part.born:08x}, {len(part.rows)} pages",
+                         reference=self.handle(functools.partial(self.pages, part.name)))
+                for part in self.on.partitions()]
 
     def turn(self) -> list[Variable]:
         turn = self.on.states.turn()
@@ -407,7 +425,8 @@ class Adapter:
             return [variable("made", "nothing yet")]
         told = [variable("made", self.on.told_turn(turn)), variable("line", turn.line)]
         return told + [variable(f"f{one.frame}:{one.place} {self.on.source.nearest((one.frame, one.place))}".rstrip(),
-                                f"0x{one.before:08x} -> 0x{one.after:08x}", watched=f"f{one.frame}:{one.place}") for one in turn.changed]
+                                f"0x{one.before:08x} -> 0x{one.after:08x}", watched=f"f{one.frame}:{one.place}")
+                       for one in turn.changed]
 
     def on_set_variable(self, given: Arguments) -> Any:
         """A register gets another word."""
@@ -465,7 +484,9 @@ class Adapter:
         data = b""
         while len(data) < count:
             address = begin + len(data)
-            frame = int(found[1]) if found and 0 <= address < PAGE else self.frame_at(text, address) if not found else None
+            frame = self.frame_at(text, address)
+            if found:
+                frame = int(found[1]) if 0 <= address < PAGE else None
             if frame is None:
                 break
             page = b"".join(word.to_bytes(4, "little") for word in self.on.states.words(frame))
@@ -474,7 +495,7 @@ class Adapter:
         return {"address": hex(begin), "data": base64.b64encode(data).decode(), "unreadableBytes": count - len(data)}
 
     def frame_at(self, text: str, address: int) -> int | None:
-        if not 0 <= address < 1 << 32:
+        if text.startswith("f") or not 0 <= address < 1 << 32:
             return None
         word = self.on.word_at(self.reference(text)[0], address)
         return word[0] if word else None
@@ -482,14 +503,16 @@ class Adapter:
     def on_disassemble(self, given: Arguments) -> Any:
         part, address = self.reference(given["memoryReference"], given.get("offset", 0))
         first = address + 4 * given.get("instructionOffset", 0)
-        return {"instructions": [self.disassembled(part, (first + 4 * k) % (1 << 32)) for k in range(given["instructionCount"])]}
+        return {"instructions": [self.disassembled(part, (first + 4 * k) % (1 << 32))
+                                 for k in range(given["instructionCount"])]}
 
     def disassembled(self, part: int, address: int) -> Variable:
         place = self.on.word_at(part, address)
         if place is None:
             return {"address": f"0x{address:08x}", "instruction": "no page", "presentationHint": "invalid"}
         word = self.on.states.words(place[0], place[1], 1)[0]
-        told = {"address": f"0x{address:08x}", "instruction": self.on.instruction(word), "instructionBytes": f"{word:08x}",
+        told = {"address": f"0x{address:08x}", "instruction": self.on.instruction(word),
+                "instructionBytes": f"{word:08x}",
                 "symbol": self.on.source.nearest(place)}
         where = self.location(part, address)
         return {**told, **({"location": where["source"], "line": where["line"]} if where else {})}

@@ -35,7 +35,8 @@ class Client:
     def send(self, command: str, **arguments: Any) -> int:
         assert self.process.stdin
         self.sent += 1
-        wire.write(self.process.stdin, {"seq": self.sent, "type": "request", "command": command, "arguments": arguments})
+        wire.write(self.process.stdin,
+                   {"seq": self.sent, "type": "request", "command": command, "arguments": arguments})
         return self.sent
 
     def receive(self) -> wire.Message:
@@ -80,7 +81,8 @@ class Client:
     def scope(self, name: str, thread: int = 1) -> dict[str, Any]:
         scopes = self.ask("scopes", frameId=self.top(thread)["id"])["scopes"]
         found = next(one for one in scopes if one["name"].startswith(name))
-        return {one["name"]: one for one in self.ask("variables", variablesReference=found["variablesReference"])["variables"]}
+        return {one["name"]: one
+                for one in self.ask("variables", variablesReference=found["variablesReference"])["variables"]}
 
 
 class Session(unittest.TestCase):
@@ -98,15 +100,18 @@ class Session(unittest.TestCase):
         """A breakpoint in monitor.s, on, back, and variables."""
         client = self.client
         self.assertTrue(self.launch(MONITOR)["supportsStepBack"])
-        told = client.ask("setBreakpoints", source={"path": MONITOR}, breakpoints=[{"line": 43}, {"line": 100000}])["breakpoints"]
+        told = client.ask("setBreakpoints", source={"path": MONITOR},
+                          breakpoints=[{"line": 43}, {"line": 100000}])["breakpoints"]
         self.assertEqual([(one["verified"], one.get("line")) for one in told], [(True, 44), (False, None)])
         entry = client.stopped("configurationDone")
         self.assertEqual(entry["reason"], "entry")
         self.assertEqual(client.ask("threads")["threads"], [{"id": 1, "name": "processor 0: partition 1"}])
         stop = client.stopped("continue", threadId=1)
-        self.assertEqual((stop["reason"], stop["hitBreakpointIds"], stop["description"].split(":")[0]), ("breakpoint", [1], "step 113"))
+        self.assertEqual((stop["reason"], stop["hitBreakpointIds"], stop["description"].split(":")[0]),
+                         ("breakpoint", [1], "step 113"))
         top = client.top()
-        self.assertEqual((top["name"], top["line"], top["source"]["path"]), ("next_turn, partition 1, the root", 44, MONITOR))
+        self.assertEqual((top["name"], top["line"], top["source"]["path"]),
+                         ("next_turn, partition 1, the root", 44, MONITOR))
         self.assertEqual(client.scope("Registers")["r15"]["value"], "0x00401000")
         client.stopped("continue", threadId=1)
         self.assertEqual(client.ask("evaluate", expression="r3", frameId=client.top()["id"])["result"], "0x00000000")
@@ -121,7 +126,8 @@ class Session(unittest.TestCase):
         """A child's frame has its line, its parent none; its pages, memory and instructions are there."""
         client = self.client
         self.launch(MONITOR)
-        client.ask("setFunctionBreakpoints", breakpoints=[{"name": "second_round", "condition": "r1 == 0x20000001"}, {"name": "nowhere"}])
+        client.ask("setFunctionBreakpoints",
+                   breakpoints=[{"name": "second_round", "condition": "r1 == 0x20000001"}, {"name": "nowhere"}])
         client.stopped("configurationDone")
         stop = client.stopped("continue", threadId=1)
         self.assertEqual(stop["reason"], "function breakpoint")
@@ -136,7 +142,8 @@ class Session(unittest.TestCase):
         told = client.ask("readMemory", memoryReference="44:0x10000000", offset=4, count=8)
         self.assertEqual(base64.b64decode(told["data"]).hex(), "0f002112fdff2a1b")
         self.assertEqual(client.ask("readMemory", memoryReference="44:0x10000ffc", count=8)["unreadableBytes"], 4)
-        code = client.ask("disassemble", memoryReference="44:0x10000000", instructionOffset=-1, instructionCount=3)["instructions"]
+        code = client.ask("disassemble", memoryReference="44:0x10000000", instructionOffset=-1,
+                          instructionCount=3)["instructions"]
         self.assertEqual([one["instruction"] for one in code], ["no page", "addi r1 r1 1", "andi r2 r1 15"])
         self.assertEqual(code[1]["symbol"], "second_round")
         out = client.stopped("stepOut", threadId=1)
@@ -207,7 +214,8 @@ class Session(unittest.TestCase):
 
     def test_launches_that_fail(self) -> None:
         self.client.ask("initialize")
-        wrong: list[dict[str, Any]] = [{}, {"program": "/nowhere/a.s"}, {"program": __file__}, {"program": MONITOR, "seed": 0},
+        wrong: list[dict[str, Any]] = [{}, {"program": "/nowhere/a.s"}, {"program": __file__},
+                                       {"program": MONITOR, "seed": 0},
                                        {"program": MONITOR, "native": 9}, {"program": MONITOR, "slots": [1, -1]}]
         for arguments in wrong:
             self.assertFalse(self.client.response("launch", **arguments)["success"], arguments)
@@ -236,12 +244,15 @@ class Session(unittest.TestCase):
         client.stopped("next", threadId=1)
         lines = "".join(one["body"]["output"] for one in client.events if one["event"] == "output")
         self.assertIn(" run 0", lines)
-        self.assertTrue(client.ask("evaluate", expression="check", context="repl")["result"].startswith("the program has the same trace"))
+        self.assertTrue(client.ask("evaluate", expression="check",
+                                   context="repl")["result"].startswith("the program has the same trace"))
 
     def test_a_hit_count(self) -> None:
         client = self.client
         self.launch(MONITOR)
-        told = client.ask("setFunctionBreakpoints", breakpoints=[{"name": "next_turn", "hitCondition": "2"}, {"name": "next_turn", "hitCondition": ">2"}])
+        told = client.ask("setFunctionBreakpoints",
+                          breakpoints=[{"name": "next_turn", "hitCondition": "2"},
+                                       {"name": "next_turn", "hitCondition": ">2"}])
         self.assertEqual([one["verified"] for one in told["breakpoints"]], [True, False])
         client.stopped("configurationDone")
         second = client.stopped("continue", threadId=1)

@@ -116,7 +116,8 @@ class States:
 
     def moved(self, answer: Any) -> Stopped:
         self.plans = answer["plans"]
-        self.now = Stopped(answer["step"], [(kind, number) for kind, number in answer["stops"]], answer["end"], answer["edited"])
+        self.now = Stopped(answer["step"], [(kind, number) for kind, number in answer["stops"]], answer["end"],
+                           answer["edited"])
         return self.now
 
     def set_stops(self, stops: Stops) -> None:

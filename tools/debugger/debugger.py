@@ -43,7 +43,8 @@ class Stop:
     hits: int = 0                                # how often it stopped a run
 
     def told(self) -> str:
-        return f"{self.text}{f' if {self.condition}' if self.condition else ''}{f' after {self.after}' if self.after > 1 else ''}"
+        when = f" if {self.condition}" if self.condition else ""
+        return f"{self.text}{when}{f' after {self.after}' if self.after > 1 else ''}"
 
 
 class Target(NamedTuple):
@@ -78,7 +79,8 @@ class Part:
 class Debugger:
     """One image with its source, and a run of it: by `seed SEED`, `native CHILDREN` or `slots CHILDREN TURNS`."""
 
-    def __init__(self, program: str, process: States, path: str, schedule: str = "seed 1", every_step: int = EVERY) -> None:
+    def __init__(self, program: str, process: States, path: str, schedule: str = "seed 1",
+                 every_step: int = EVERY) -> None:
         self.program, self.states, self.path = program, process, path
         self.data, origin = asmx.image_of(program, path)
         self.source = sources.read(self.data, origin)
@@ -161,7 +163,8 @@ class Debugger:
         raise Failed(f"{text!r} is no number and no name of the source")
 
     def target(self, text: str) -> Target:
-        """`NAME`, `NAME+4`, an address of what runs, `P:ADDRESS` of a partition, `fF:I` of a frame, or a register's address."""
+        """`NAME`, `NAME+4`, an address of what runs, `P:ADDRESS` of a partition, `fF:I` of a frame, or a register's
+        address."""
         found = re.fullmatch(r"f(\d+):(\d+)", text)
         if found:
             return Target(None, None, (int(found[1]), int(found[2])))
@@ -214,7 +217,8 @@ class Debugger:
             if not words:
                 raise Failed(f"no line from {line[2]} on has words")
             text = f"{line[1] or self.source.path}:{number}"
-            return self.add(text, "break", [f"place {frame}:{index}{limits}" for frame, index in words], condition, after)
+            return self.add(text, "break", [f"place {frame}:{index}{limits}" for frame, index in words], condition,
+                            after)
         target = self.target(text)
         if target.word is not None and target.part is None:
             return self.add(text, "break", [f"place {target.word[0]}:{target.word[1]}{limits}"], condition, after)
@@ -242,7 +246,8 @@ class Debugger:
         return self.add(text, "line", list(PATTERNS.get(text, (text,))), None, after)
 
     def add_watch(self, text: str, count: int = 1, after: int = 1) -> Stop:
-        """A stop after a turn that changed a word: of a frame, or at an address of a partition, whichever page is there."""
+        """A stop after a turn that changed a word: of a frame, or at an address of a partition, whichever page is
+        there."""
         target = self.target(text)
         if target.part is not None:
             part = f"address {target.part} {target.address} {count}"
@@ -317,7 +322,8 @@ class Debugger:
         return self.backward(1)
 
     def over(self, cpu: int | None = None) -> Stopped:
-        """To where the same partition has its next turn: after `jal` at the next instruction, after a yield where it is entered."""
+        """To where the same partition has its next turn: after `jal` at the next instruction, after a yield where it is
+        entered."""
         at = self.states.registers()[self.processor() if cpu is None else cpu]
         if at is None:
             return self.forward(1)
@@ -334,7 +340,8 @@ class Debugger:
             return self.run(self.told_stops(), int(text)) if int(text) > self.step else self.states.go(int(text))
         stops, target = self.told_stops(), self.target(text)
         of_frame = target.word and target.part is None
-        stops.add("break", TEMPORARY, f"place {target.word[0]}:{target.word[1]}" if target.word and of_frame else f"pc {target.address}")
+        stops.add("break", TEMPORARY,
+                  f"place {target.word[0]}:{target.word[1]}" if target.word and of_frame else f"pc {target.address}")
         return self.run(stops)
 
     # Changes by hand, and ways
@@ -369,7 +376,8 @@ class Debugger:
         return self.differing() or f"the program has the same {what} after step {self.step}, by {self.schedule}"
 
     def differing(self) -> str:
-        """What the program has otherwise, if anything: tree or core of a run, or the trace of a monitor outside the machine."""
+        """What the program has otherwise, if anything: tree or core of a run, or the trace of a monitor outside the
+        machine."""
         kind, *numbers = self.schedule.split()
         told, last = [("tree", self.states.tree()[0]), ("core", self.states.core())], self.step
         words = [str(last), *numbers]
@@ -408,7 +416,8 @@ class Debugger:
         if coming.part is None or coming.pc is None:
             return f"{self.step:>6} {coming.cpu}    - runs nothing{raised}"
         name = self.name_at(coming.part, coming.pc)
-        return f"{self.step:>6} {coming.cpu} {coming.part:>4} 0x{coming.pc:08x} {name:24} {self.instruction(coming.word)}{raised}"
+        place = f"{self.step:>6} {coming.cpu} {coming.part:>4} 0x{coming.pc:08x} {name:24}"
+        return f"{place} {self.instruction(coming.word)}{raised}"
 
     def reasons(self, now: Stopped) -> list[str]:
         """Why a run stopped, in sentences."""
@@ -422,7 +431,8 @@ class Debugger:
 
 
 def words_of(kind: str, numbers: list[str], step: int) -> tuple[list[str], int]:
-    """By which numbers the program goes to a step, and where that ends: `slots` makes whole rounds, and no more than it can."""
+    """By which numbers the program goes to a step, and where that ends: `slots` makes whole rounds, and no more than it
+    can."""
     if kind == "native":
         return [*numbers, str(step)], step
     length = int(numbers[0]) * (int(numbers[1]) + 2)

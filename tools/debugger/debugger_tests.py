@@ -1,4 +1,5 @@
-"""The process and the debugger beside the program and the reference; back as forward; changes, ways, and a session of the terminal."""
+"""The process and the debugger beside the program and the reference; back as forward; changes, ways, and a session of
+the terminal."""
 
 from __future__ import annotations
 
@@ -90,7 +91,8 @@ class Compared(WithStates):
             for step in (1500, 3, 0, 777, 776, 1):
                 self.states.go(step)
                 self.assertEqual(debugger.differing(), "", (schedule, step))
-        self.assertRaises(Failed, Debugger, PROGRAM, self.states, RETRY.replace("retry.s", "tutorial/11_sum.s"), "native 8")
+        self.assertRaises(Failed, Debugger, PROGRAM, self.states, RETRY.replace("retry.s", "tutorial/11_sum.s"),
+                          "native 8")
 
 
 # A child with a page at 0x10000000, which is taken away and given again.
@@ -150,7 +152,8 @@ class BackAsForward(unittest.TestCase):
         for _ in range(6):
             name, other = drawn.choice(names), drawn.choice(names)
             at, watched = f"break 1 place {name.word[0]}:{name.word[1]}", f"watch 2 word {other.word[0]}:{other.word[1]} 1"
-            found += [stops_of(at), stops_of(watched), stops_of(f"watch 4 address 1 {other.address} 2"), stops_of(at, watched, "line 3 out")]
+            found += [stops_of(at), stops_of(watched), stops_of(f"watch 4 address 1 {other.address} 2"),
+                      stops_of(at, watched, "line 3 out")]
         return found
 
     def compare(self, states: States, stops: Stops, drawn: random.Random) -> None:
@@ -170,7 +173,8 @@ class BackAsForward(unittest.TestCase):
 
 
 class Walks(unittest.TestCase):
-    """However a state was reached, it is the one that a new process reaches straight on, with the same changes by hand."""
+    """However a state was reached, it is the one that a new process reaches straight on, with the same changes by
+    hand."""
 
     def test_random_walks(self) -> None:
         drawn = random.Random(7)
@@ -209,7 +213,8 @@ class Walks(unittest.TestCase):
 
     def some_edit(self, walker: States, drawn: random.Random) -> Edit:
         cpu, word = drawn.randrange(walker.cpus), drawn.choice([0, 1, 0x400000, 0xFFFFFFFF])
-        edits: list[Edit] = [("seed", drawn.randrange(1, 1000)), ("plan", 0, drawn.randrange(2000), 50), ("no_plan", 0), ("raise", drawn.randrange(16)),
+        edits: list[Edit] = [("seed", drawn.randrange(1, 1000)), ("plan", 0, drawn.randrange(2000), 50),
+                             ("no_plan", 0), ("raise", drawn.randrange(16)),
                              ("register", cpu, drawn.randrange(17), word),
                              ("store", cpu, drawn.choice([0, 0x400002, 0x403000, 0xFFFFF000]), word)]
         return drawn.choice(edits)
@@ -230,10 +235,14 @@ class Requests(WithStates):
     """What makes no sense is refused, and the process stays."""
 
     def test_refusals(self) -> None:
-        wrong = ("", "nothing", "go", "go -1", "go 10000001", "load seed 1 100 /nowhere", "load seed 1 100 /", "load seed 0 100 x", "load seed 1 0 x",
-                 "load native 9 100 x", "load slots 1 10000001 100 x", f"load seed 1 100 {RACE}", "words 64 0 1", "words 0 1000 25",
-                 "words 2147483648 4294967295 4294967295", "translate 2 0", "changed 5", "way 4", "way raise16", "way x", "edit seed 0", "edit raise 16",
-                 "edit plan 16 0 0", "edit register 2 0 0", "edit register 0 17 0", "edit store 9 0 0", "break x", "break 1 place 3", "break 1 if r1 ~ 2",
+        wrong = ("", "nothing", "go", "go -1", "go 10000001", "load seed 1 100 /nowhere", "load seed 1 100 /",
+                 "load seed 0 100 x", "load seed 1 0 x",
+                 "load native 9 100 x", "load slots 1 10000001 100 x", f"load seed 1 100 {RACE}", "words 64 0 1",
+                 "words 0 1000 25",
+                 "words 2147483648 4294967295 4294967295", "translate 2 0", "changed 5", "way 4", "way raise16",
+                 "way x", "edit seed 0", "edit raise 16",
+                 "edit plan 16 0 0", "edit register 2 0 0", "edit register 0 17 0", "edit store 9 0 0", "break x",
+                 "break 1 place 3", "break 1 if r1 ~ 2",
                  "watch 1 word 1:1 1025", "watch 1 frame 1 1")
         self.assertRaises(Failed, self.states.ask, "go", 1)
         Debugger(PROGRAM, self.states, RACE)
@@ -241,7 +250,8 @@ class Requests(WithStates):
             with self.subTest(words=words):
                 self.assertRaises(Failed, self.states.ask, words)
         self.assertEqual(self.states.go(100).step, 100)
-        odd = stops_of("watch 1 word 5000:0 3", "watch 2 address 999 0 3", "watch 4 word 0:4294967295 2", "line 3 ^ " + "* " * 40)
+        odd = stops_of("watch 1 word 5000:0 3", "watch 2 address 999 0 3", "watch 4 word 0:4294967295 2",
+                       "line 3 ^ " + "* " * 40)
         self.assertEqual(self.states.run(110, odd).step, 110)
 
 
@@ -300,7 +310,8 @@ class Changes(WithStates):
         self.assertEqual(debugger.back(debugger.told_stops()).step, found[0])
 
     def test_a_watch_follows_a_mapping(self) -> None:
-        """A page that is taken away and given again at an address changes what is there; the word of the frame stays."""
+        """A page that is taken away and given again at an address changes what is there; the word of the frame
+        stays."""
         with tempfile.NamedTemporaryFile("w", suffix=".asmx") as file:
             file.write(REMAPPED)
             file.flush()
@@ -332,11 +343,15 @@ class Changes(WithStates):
 
 class Typed(unittest.TestCase):
     def test_session(self) -> None:
-        words = [sys.executable, "-B", os.path.join(calling.REPOSITORY, "tools", "debug"), RACE, "3", "--program", calling.direct(PROGRAM)]
-        done = subprocess.run(words, input=SESSION, stdout=subprocess.PIPE, stderr=subprocess.STDOUT, text=True, timeout=60)
+        words = [sys.executable, "-B", os.path.join(calling.REPOSITORY, "tools", "debug"), RACE, "3", "--program",
+                 calling.direct(PROGRAM)]
+        done = subprocess.run(words, input=SESSION, stdout=subprocess.PIPE, stderr=subprocess.STDOUT, text=True,
+                              timeout=60)
         self.assertEqual(done.returncode, 0, done.stdout)
-        for text in ("1: break at child", "break 1: child", "watch 2: SEEN+4096", "stw r1 r4 0", "0xffc01000", "'nonsense' is no word",
-                     "is no number and no name", "states ", "this is the end of the way", "no command of the program has this state",
+        for text in ("1: break at child", "break 1: child", "watch 2: SEEN+4096", "stw r1 r4 0", "0xffc01000",
+                     "'nonsense' is no word",
+                     "is no number and no name", "states ", "this is the end of the way",
+                     "no command of the program has this state",
                      "the program has the same tree and core after step 0, by seed 5"):
             self.assertIn(text, done.stdout)
 

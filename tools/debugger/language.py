@@ -1,9 +1,9 @@
-"""The Language Server Protocol over standard streams, for scripts (.pip), assembly texts (.s) and sources of tools/asmx (.asmx).
+"""The Language Server Protocol over standard streams, for scripts (.pip), assembly texts (.s) and sources (.asmx).
 
     tools/language_server
 
-It says what is wrong, in the words of tools/why and tools/asmx, what a word means, in those of docs/FORMATS.md, where a name is
-defined, and what can be typed. Where no program is built, what is wrong comes from the reference.
+It says what is wrong, in the words of tools/why and tools/asmx, what a word means, in those of docs/FORMATS.md, where a
+name is defined, and what can be typed. Where no program is built, what is wrong comes from the reference.
 """
 
 from __future__ import annotations
@@ -194,7 +194,8 @@ class Server:
         try:
             result = work(message.get("params") or {}) if work else None
             if "id" in message:
-                self.send(id=message["id"], **({"result": result} if work else {"error": {"code": -32601, "message": name}}))
+                self.send(id=message["id"],
+                          **({"result": result} if work else {"error": {"code": -32601, "message": name}}))
         except (Failed, LookupError, ValueError) as failed:
             if "id" in message:
                 self.send(id=message["id"], error={"code": -32603, "message": str(failed)})
@@ -265,7 +266,8 @@ class Server:
             return ""
         value = addresses(path, self.files()).get(name)
         where = "" if os.path.realpath(defined.file) == path else f" of {os.path.basename(defined.file)}"
-        return f"`{defined.text}`, line {defined.line + 1}{where}" + (f": 0x{value % (1 << 32):08x}" if value is not None else "")
+        told = "" if value is None else f": 0x{value % (1 << 32):08x}"
+        return f"`{defined.text}`, line {defined.line + 1}{where}{told}"
 
     def on_textdocument_definition(self, given: Any) -> Any:
         path, line, column = self.place(given)
@@ -281,7 +283,8 @@ class Server:
         path = path_of(given["textDocument"]["uri"])
         if path.endswith(".pip"):
             return []
-        return [{"name": name, "kind": 12 if one.text.startswith(name) else 14, "range": range_of(one.line, 0, len(one.text)),
+        return [{"name": name, "kind": 12 if one.text.startswith(name) else 14,
+                 "range": range_of(one.line, 0, len(one.text)),
                  "selectionRange": range_of(one.line, 0, len(one.text))}
                 for name, one in definitions(path, self.files()).items() if os.path.realpath(one.file) == path]
 
@@ -294,7 +297,8 @@ class Server:
 
     def assembly_items(self, path: str, before: list[str]) -> Iterator[tuple[str, int, str]]:
         if len([word for word in before if word]) < 2 or before[-2:-1] and before[-2].endswith(":"):
-            yield from ((name, KEYWORD, text) for name, text in assembly_words().items() if NAME_IN.search(name) and name != "NAME:")
+            known = ((name, text) for name, text in assembly_words().items() if NAME_IN.search(name))
+            yield from ((name, KEYWORD, text) for name, text in known if name != "NAME:")
         elif before[-2:-1] == ["sys"]:
             yield from ((str(number), KEYWORD, f"{name}: {told}") for number, (name, told) in meanings.calls().items())
         else:
@@ -338,7 +342,8 @@ def diagnostic(lines: list[str], wrong: Wrong) -> dict[str, Any]:
     text = lines[wrong.line] if wrong.line < len(lines) else ""
     found = re.compile(r"\S+").match(text, wrong.column)
     end = found.end() if found and wrong.column else len(text)
-    return {"range": range_of(wrong.line, units(text[:wrong.column]), units(text[:end])), "severity": 1, "source": "pip", "message": wrong.why}
+    return {"range": range_of(wrong.line, units(text[:wrong.column]), units(text[:end])), "severity": 1,
+            "source": "pip", "message": wrong.why}
 
 
 def built(program: str) -> str:

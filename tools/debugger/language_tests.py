@@ -22,7 +22,8 @@ class Client:
     """An editor's side of the protocol."""
 
     def __init__(self) -> None:
-        words = [sys.executable, "-B", os.path.join(calling.REPOSITORY, "tools", "language_server"), "--program", calling.direct(PROGRAM)]
+        words = [sys.executable, "-B", os.path.join(calling.REPOSITORY, "tools", "language_server"), "--program",
+                 calling.direct(PROGRAM)]
         self.process = subprocess.Popen(words, stdin=subprocess.PIPE, stdout=subprocess.PIPE)
         self.sent = 0
 
@@ -41,13 +42,15 @@ class Client:
         """Opens a text, and answers what is wrong with it."""
         assert self.process.stdout
         told = calling.contents(path).decode() if text is None else text
-        self.send("textDocument/didOpen", False, textDocument={"uri": "file://" + path, "text": told, "version": 1, "languageId": "pip"})
+        self.send("textDocument/didOpen", False,
+                  textDocument={"uri": "file://" + path, "text": told, "version": 1, "languageId": "pip"})
         message = wire.read(self.process.stdout)
         assert message and message["method"] == "textDocument/publishDiagnostics"
         return message["params"]["diagnostics"]
 
     def at(self, method: str, path: str, line: int, column: int) -> Any:
-        return self.send("textDocument/" + method, True, textDocument={"uri": "file://" + path}, position={"line": line, "character": column})
+        return self.send("textDocument/" + method, True, textDocument={"uri": "file://" + path},
+                         position={"line": line, "character": column})
 
     def end(self) -> None:
         self.send("shutdown", True)
@@ -97,8 +100,10 @@ class Session(unittest.TestCase):
     def test_assembly(self) -> None:
         text = ".frames 16\n.cpus 1\n.page 0x00400000\nli r1 65536\nload r1 r2 0\nbeq r0 r0 nowhere\n"
         found = self.client.opened("/nowhere/a.s", text)
-        self.assertEqual([(one["range"]["start"]["line"], one["message"].split("\n")[0].split(":")[0]) for one in found],
-                         [(3, "'65536' is outside the limits, which are 0 to 65535"), (4, "'load' is no instruction; did you mean ldw?"),
+        self.assertEqual([(one["range"]["start"]["line"], one["message"].split("\n")[0].split(":")[0])
+                          for one in found],
+                         [(3, "'65536' is outside the limits, which are 0 to 65535"),
+                          (4, "'load' is no instruction; did you mean ldw?"),
                           (5, "no line defines 'nowhere'")])
 
     def test_asmx_with_an_included_text(self) -> None:
@@ -106,12 +111,15 @@ class Session(unittest.TestCase):
         client = self.client
         with tempfile.TemporaryDirectory() as folder:
             main, part = (os.path.join(os.path.realpath(folder), name) for name in ("main.asmx", "part.asmx"))
-            for path, text in ((main, ".frames 16\n.cpus 1\n.page 0x400000\n.include part.asmx\n"), (part, "old: li r1 1\n")):
+            for path, text in ((main, ".frames 16\n.cpus 1\n.page 0x400000\n.include part.asmx\n"),
+                               (part, "old: li r1 1\n")):
                 with open(path, "w", encoding="utf-8") as file:
                     file.write(text)
             client.opened(part, "here: li r1 1   # changed in the editor\n")
-            wrongs = client.opened(main, ".equ N 4\n.frames 16\n.cpus 1\n.page 0x400000\n.include part.asmx\n la r2 here\n j gone\n li r1 N\n")
-            self.assertEqual([(one["range"]["start"]["line"], one["message"]) for one in wrongs], [(6, "no line defines the name gone")])
+            wrongs = client.opened(main,
+                                   ".equ N 4\n.frames 16\n.cpus 1\n.page 0x400000\n.include part.asmx\n la r2 here\n j gone\n li r1 N\n")
+            self.assertEqual([(one["range"]["start"]["line"], one["message"]) for one in wrongs],
+                             [(6, "no line defines the name gone")])
             found = client.at("definition", main, 5, 8)
             self.assertEqual((found["uri"], found["range"]["start"]["line"]), ("file://" + part, 0))
             self.assertIn(".equ N 4", client.at("hover", main, 7, 7)["contents"]["value"])

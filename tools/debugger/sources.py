@@ -31,7 +31,7 @@ class Source:
     names: dict[str, Named] = field(default_factory=dict)
     constants: dict[str, int] = field(default_factory=dict)
     line_of: dict[Word, Place] = field(default_factory=dict)
-    starts_of: dict[Place, list[Word]] = field(default_factory=dict)     # of each line its first word, in each page that has it
+    starts_of: dict[Place, list[Word]] = field(default_factory=dict)     # of a line its first word, in each page
     by_frame: dict[int, list[tuple[int, str]]] = field(default_factory=dict)
     words: dict[int, Sequence[int]] = field(default_factory=dict)            # of each frame, as the image has them
 
@@ -54,7 +54,8 @@ class Source:
         return self.line_of[word]
 
     def starts_at(self, file: str, line: int) -> tuple[int, list[Word]]:
-        """The first line from this one on that has words, and the first word of it; several, where pages include one file."""
+        """The first line from this one on that has words, and the first word of it; several, where pages include one
+        file."""
         lines = sorted(place.line for place in self.starts_of if place.file == file and place.line >= line)
         return (lines[0], self.starts_of[Place(file, lines[0])]) if lines else (line, [])
 

@@ -2,8 +2,8 @@
 
     tools/debug FILE [SEED] [--native N | --slots N TURNS]
 
-The states are those of a process over the exported library, of the same text as the program and not of the same proof; where the
-program is proved, each stop compares the state with the program's own.
+The states are those of a process over the exported library, of the same text as the program and not of the same proof;
+where the program is proved, each stop compares the state with the program's own.
 """
 
 from __future__ import annotations
@@ -26,8 +26,8 @@ from .sources import PAGE
 
 AROUND = 5                       # lines of a source before and after the one that is looked at
 MOST_TOLD = 32
-SHORT = {"b": "break", "c": "continue", "n": "next", "s": "step", "p": "print", "l": "list", "q": "quit", "rc": "reverse",
-         "bt": "ancestors", "w": "watch", "x": "words"}
+SHORT = {"b": "break", "c": "continue", "n": "next", "s": "step", "p": "print", "l": "list", "q": "quit",
+         "rc": "reverse", "bt": "ancestors", "w": "watch", "x": "words"}
 HISTORY = os.path.expanduser("~/.pip_debug_history")
 
 
@@ -140,7 +140,8 @@ class Terminal(cmd.Cmd):
     # Stops
 
     def do_break(self, text: str) -> None:
-        """break NAME|LINE|FILE:LINE|ADDRESS|P:ADDRESS [partition P] [after N] [if A == B]: stops before a turn there, the Nth time."""
+        """break NAME|LINE|FILE:LINE|ADDRESS|P:ADDRESS [partition P] [after N] [if A == B]: stops before a turn there,
+        the Nth time."""
         text, _, condition = text.partition(" if ")
         words, after = counted(text.split())
         part = None
@@ -153,7 +154,8 @@ class Terminal(cmd.Cmd):
         print(f"{stop.number}: break at {stop.told()}")
 
     def do_catch(self, text: str) -> None:
-        """catch fault|park|refused|interrupt [after N], or words of a trace line, as reply 8, out, switch * 28: stops after such a turn."""
+        """catch fault|park|refused|interrupt [after N], or words of a trace line, as reply 8, out, switch * 28: stops
+        after such a turn."""
         words, after = counted(text.split())
         if not words:
             raise Failed("catch has words of a line")
@@ -161,7 +163,8 @@ class Terminal(cmd.Cmd):
         print(f"{stop.number}: a turn whose line has {stop.told()}")
 
     def do_watch(self, text: str) -> None:
-        """watch NAME|P:ADDRESS|fF:I [COUNT] [after N]: stops after a turn that changed a word. At an address it follows the mapping."""
+        """watch NAME|P:ADDRESS|fF:I [COUNT] [after N]: stops after a turn that changed a word. At an address it follows
+        the mapping."""
         words, after = counted(text.split())
         if not words:
             raise Failed("watch has a name, an address of a partition, or a word of a frame")
@@ -192,8 +195,8 @@ class Terminal(cmd.Cmd):
     def do_processors(self, text: str) -> None:
         """processors: what runs on each."""
         for cpu, at in enumerate(self.debugger.states.registers()):
-            where = f"partition {at.part}, pc 0x{at.pc:08x} {self.debugger.name_at(at.part, at.pc)}" if at else "nothing"
-            print(f"{cpu} runs {where}")
+            name = self.debugger.name_at(at.part, at.pc) if at else ""
+            print(f"{cpu} runs " + (f"partition {at.part}, pc 0x{at.pc:08x} {name}" if at else "nothing"))
 
     def do_processor(self, text: str) -> None:
         """processor CPU: addresses without a partition, and registers in conditions, are those of this one."""
@@ -240,7 +243,8 @@ class Terminal(cmd.Cmd):
     def do_ancestors(self, text: str) -> None:
         """ancestors: the partition that runs, and those above it."""
         for part in ancestors(self.debugger.partitions(), self.debugger.partition()):
-            print(f"partition {part.name}" + (f", which {part.up} has at 0x{part.born:08x}" if part.depth else ", the root"))
+            print(f"partition {part.name}"
+                  + (f", which {part.up} has at 0x{part.born:08x}" if part.depth else ", the root"))
 
     def do_list(self, text: str) -> None:
         """list [NAME|LINE]: lines of the source around the next turn, or around a name or a line."""
@@ -314,11 +318,13 @@ class Terminal(cmd.Cmd):
     def do_store(self, text: str) -> None:
         """store ADDRESS X: what runs on the processor that is looked at stores a word, with all that follows."""
         address, value = text.split()
-        self.debugger.states.edit("store", self.debugger.processor(), self.debugger.value(address), self.debugger.value(value))
+        self.debugger.states.edit("store", self.debugger.processor(), self.debugger.value(address),
+                                  self.debugger.value(value))
         self.where()
 
     def do_every(self, text: str) -> None:
-        """every STATES [FROM [DEPTH]]: the lines that can come over all interleavings; way N goes to one. ! is a refused call, fault or park."""
+        """every STATES [FROM [DEPTH]]: the lines that can come over all interleavings; way N goes to one. ! is a
+        refused call, fault or park."""
         search = self.debugger.search(text.split())
         self.way_texts = [line.way for line in search.lines]
         many = len(search.lines) > MOST_TOLD
@@ -355,7 +361,8 @@ def counted(words: list[str]) -> tuple[list[str], int]:
 def registers_of(cpu: int, at: At | None) -> list[str]:
     if at is None:
         return [f"processor {cpu} runs nothing"]
-    rows = ["  " + "  ".join(f"r{r:<2} 0x{at.registers[r]:08x}" for r in range(first, first + 4)) for first in range(0, 16, 4)]
+    rows = ["  " + "  ".join(f"r{r:<2} 0x{at.registers[r]:08x}" for r in range(first, first + 4))
+            for first in range(0, 16, 4)]
     return [f"processor {cpu} runs partition {at.part}, pc 0x{at.pc:08x}", *rows]
 
 
@@ -369,10 +376,13 @@ def part_line(part: Part, masked: list[int], cpus: list[int]) -> str:
 
 def translation(debugger: Debugger, part: int, address: int) -> list[str]:
     told = debugger.states.translate(part, address)
-    lines = [f"partition {part}, address 0x{address:08x}: vpage 0x{address // PAGE:x}, word {address % PAGE // 4} of the page"]
+    index = address % PAGE // 4
+    lines = [f"partition {part}, address 0x{address:08x}: vpage 0x{address // PAGE:x}, word {index} of the page"]
     for name, level in zip(("page table", "first shadow", "second shadow"), told["levels"]):
         entry = f"directory {level['directory']} word {level['index']} is 0x{level['entry']:08x}"
-        row = f", table {level['table']} word {level['at']} is 0x{level['word']:08x}" if level["word"] is not None else ": no table"
+        row = ": no table"
+        if level["word"] is not None:
+            row = f", table {level['table']} word {level['at']} is 0x{level['word']:08x}"
         lines.append(f"  {name:13} {entry}{row}")
     for access, answer in zip(("load", "store", "fetch"), told["answers"]):
         lines.append(f"  {access:13} {answer if isinstance(answer, str) else f'word {answer[1]} of frame {answer[0]}'}")
@@ -416,16 +426,19 @@ def loop(terminal: Terminal) -> None:
 
 
 def main() -> None:
-    parser = argparse.ArgumentParser(description="A debugger of runs, in a terminal. The states are of the same text as the program, "
-                                                 "not of the same proof; where the program is proved, each stop compares them.")
+    parser = argparse.ArgumentParser(
+        description="A debugger of runs, in a terminal. The states are of the same text as the program, not of the same "
+                    "proof; where the program is proved, each stop compares them.")
     parser.add_argument("file", metavar="FILE", help="an image, or an assembly text or source of tools/asmx")
     parser.add_argument("seed", metavar="SEED", nargs="?", default="1")
     monitor = parser.add_mutually_exclusive_group()
     monitor.add_argument("--native", metavar="N", help="as by `native`: a monitor outside the machine runs N children")
     monitor.add_argument("--slots", nargs=2, metavar=("N", "TURNS"), help="as by `slots`")
     parser.add_argument("--source", metavar="FILE", help="of an image: the text that it was made of")
-    parser.add_argument("--every", type=int, default=EVERY, metavar="K", help="keep a state each K steps, for the way back")
-    parser.add_argument("--check", action=argparse.BooleanOptionalAction, help="compare each stop with the program; without it where it is proved")
+    parser.add_argument("--every", type=int, default=EVERY, metavar="K",
+                        help="keep a state each K steps, for the way back")
+    parser.add_argument("--check", action=argparse.BooleanOptionalAction,
+                        help="compare each stop with the program; without it where it is proved")
     calling.take_program(parser)
     given = parser.parse_args()
     calling.guarded("debug", lambda: work(given))

@@ -1,4 +1,5 @@
-"""Messages of JSON, each after a header with its length, as the Debug Adapter and the Language Server Protocol have them."""
+"""Messages of JSON, each after a header with its length, as the Debug Adapter and the Language Server Protocol have
+them."""
 
 from __future__ import annotations
 

@@ -44,26 +44,33 @@ class Program:
         if not self.built.exists():
             return False
         made = self.built.stat().st_mtime
-        return all(path.stat().st_mtime <= made for path in self.sources() if "out" not in path.relative_to(REPOSITORY).parts)
+        return all(path.stat().st_mtime <= made for path in self.sources()
+                   if "out" not in path.relative_to(REPOSITORY).parts)
 
     def sources(self) -> list[Path]:
         folders = [REPOSITORY / "crates", REPOSITORY / "tools" / "exporter", self.source]
         kinds = (".rt", ".rs", ".toml", ".py", ".txt")
-        return [REPOSITORY / "crates.txt", *(path for folder in folders for path in folder.rglob("*") if path.suffix in kinds)]
+        return [REPOSITORY / "crates.txt",
+                *(path for folder in folders for path in folder.rglob("*") if path.suffix in kinds)]
 
     def files(self) -> dict[str, str]:
         """The files of the crate in an export."""
         from . import workspace              # here, since what is built doesn't need it
         place = self.source.name
-        manifest = workspace.PACKAGE.format(name=self.name) + "\n" + (self.source / "manifest.toml").read_text(encoding="utf-8")
-        files = {f"{place}/Cargo.toml": manifest, f"{place}/LICENSE": (REPOSITORY / "LICENSE").read_text(encoding="utf-8")}
-        return {**files, **{f"{place}/src/{path.name}": path.read_text(encoding="utf-8") for path in sorted((self.source / "src").iterdir())}}
+        manifest = workspace.PACKAGE.format(name=self.name) + "\n"
+        manifest += (self.source / "manifest.toml").read_text(encoding="utf-8")
+        files = {f"{place}/Cargo.toml": manifest,
+                 f"{place}/LICENSE": (REPOSITORY / "LICENSE").read_text(encoding="utf-8")}
+        return {**files,
+                **{f"{place}/src/{path.name}": path.read_text(encoding="utf-8")
+                   for path in sorted((self.source / "src").iterdir())}}
 
     def build(self) -> None:
         from . import crates, workspace
         from .tokens import Trouble
         if not shutil.which("cargo"):
-            raise Failed(f"{self.what} is a program that cargo builds, and there is no cargo here: install Rust 1.85 or later{self.without_cargo}")
+            raise Failed(f"{self.what} is a program that cargo builds, and there is no cargo here: "
+                         f"install Rust 1.85 or later{self.without_cargo}")
         print(f"building {self.what} by cargo; this takes about half a minute, once", file=sys.stderr)
         try:
             found = crates.chosen(crates.crates_of(REPOSITORY), list(self.uses))
@@ -71,8 +78,10 @@ class Program:
             workspace.write(self.folder, {**workspace.files_of(found, REPOSITORY, None), **self.files()})
         except (Trouble, OSError) as trouble:
             raise Failed(str(trouble)) from None
-        words = ["cargo", "build", "--release", "--quiet", "--offline", *(["--features", ",".join(self.features)] if self.features else [])]
-        done = subprocess.run(words, cwd=self.folder / self.source.name, stdin=subprocess.DEVNULL, stdout=subprocess.DEVNULL,
+        words = ["cargo", "build", "--release", "--quiet", "--offline",
+                 *(["--features", ",".join(self.features)] if self.features else [])]
+        done = subprocess.run(words, cwd=self.folder / self.source.name, stdin=subprocess.DEVNULL,
+                              stdout=subprocess.DEVNULL,
                               stderr=subprocess.PIPE, text=True)
         if done.returncode:
             raise Failed(f"cargo can't build {self.what}: {done.stderr.strip()[-4000:]}")
