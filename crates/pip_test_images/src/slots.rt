@@ -45,7 +45,7 @@ fn a_slot_ends_by_a_line(rt: HostRuntime) -> Result<(), Fail> {
     let text =
         "image 26 1 0 1\nbuilt 0 0x00401000\n0 0 call 8 switch 1 13 63\n4 0 switch 13 1 32\n5 0 call 8 switch 1 13 63\n9 0 switch 13 1 32\nend 10\n";
     check(&rt, image, (1, 3, 2), &[], 0, text)?;
-    check(&rt, image, (1, 3, 2), &[0], 4, "")
+    check(&rt, image, (1, 3, 2), &[1], 4, "")
 }
 
 #[test]
