@@ -85,7 +85,8 @@ class Collected:
     def __enter__(self) -> Collected:
         return self
 
-    def __exit__(self, kind: type[BaseException] | None, wrong: BaseException | None, trace: TracebackType | None) -> bool:
+    def __exit__(self, kind: type[BaseException] | None, wrong: BaseException | None,
+                 trace: TracebackType | None) -> bool:
         if not isinstance(wrong, Wrong):
             return False
         self.wrongs.append(wrong)
@@ -313,7 +314,8 @@ class Text:
         if len(operands) != count:
             raise Wrong(place, f"{name} has {count} operand{'' if count == 1 else 's'}")
         if name in ("neg", "not") and operands[0] == operands[1]:
-            raise Wrong(place, f"{name} has two different registers: it puts 0 into the first, since no register is always 0")
+            raise Wrong(place, f"{name} has two different registers: it puts 0 into the first, since no register is "
+                               "always 0")
         written = [form.format(*operands) for form in forms] or [" ".join(words)]
         return [self.plain(place, line.split(), at, elsewhere) for line in written]
 
@@ -415,7 +417,8 @@ class Text:
         for item in page.in_order():
             if item.at > end:
                 lines.append((item.place, f".zero {item.at - end}"))
-            told = [".word 0"] * item.size                   # of a line that is wrong, so that what is after it stays in its place
+            # of a line that is wrong, so that what is after it stays in its place
+            told = [".word 0"] * item.size
             with collected:
                 told = item.write()
             lines += [(item.place, line) for line in told]
@@ -424,7 +427,8 @@ class Text:
 
 
 def processed(path: str, files: Files | None = None) -> tuple[list[tuple[Place, str]], Text]:
-    """The lines of the assembly text of a file, each with its place in the source. `files` says what may be included."""
+    """The lines of the assembly text of a file, each with its place in the source. `files` says what may be included.
+    """
     text, collected = Text(), Collected()
     places: list[Place] = []
     with collected:
@@ -434,7 +438,8 @@ def processed(path: str, files: Files | None = None) -> tuple[list[tuple[Place, 
             if len(places) > MOST_LINES:
                 raise Failed(f"{path} has more than {MOST_LINES} lines, with what it includes")
     lines = text.written(collected)
-    collected.wrongs += [Wrong(place, "the line has more than 120 bytes") for place, line in lines if len(line.encode()) > 120]
+    collected.wrongs += [Wrong(place, "the line has more than 120 bytes") for place, line in lines
+                         if len(line.encode()) > 120]
     told = {wrong.place for wrong in collected.wrongs}
     collected.wrongs += [wrong for wrong in refused(lines) if wrong.place not in told]
     collected.judge(places)
@@ -448,8 +453,8 @@ def take_line(text: Text, collected: Collected, place: Place, words: list[str]) 
 
 
 def refused(lines: list[tuple[Place, str]]) -> list[Wrong]:
-    """What the reference's assembler refuses, by the places in the source. After each line the text is tried again, with a word in
-    that line's place."""
+    """What the reference's assembler refuses, by the places in the source. After each line the text is tried again,
+    with a word in that line's place."""
     texts = [line.encode() for _, line in lines]
     found: list[Wrong] = []
     while len(found) <= MOST_TOLD:

@@ -38,7 +38,8 @@ class Run:
     trouble: str = ""
 
     def told(self) -> str:
-        return f"first seed {self.seed}" + (f" with {self.plan}" if self.plan else "") + (f" ({self.trouble})" if self.trouble else "")
+        return f"first seed {self.seed}" + (f" with {self.plan}" if self.plan else "") + (f" ({self.trouble})"
+                                                                                          if self.trouble else "")
 
     def place(self) -> tuple[int, Plan]:
         return self.seed, self.plan or Plan(0, 0, 0)
@@ -54,7 +55,8 @@ class Group:
 
 
 class End:
-    """How a run ends, line by line of its trace, and where the first call was refused or something faulted or parked."""
+    """How a run ends, line by line of its trace, and where the first call was refused or something faulted or parked.
+    """
 
     def __init__(self, header: str) -> None:
         self.runs = ["partition 1"] + ["nothing"] * (int(header.split()[2]) - 1)
@@ -139,7 +141,8 @@ def in_order(groups: dict[str, Group]) -> list[Group]:
     return sorted(groups.values(), key=lambda group: (-group.count, group.first.place()))
 
 
-LINE = re.compile(r" *(\d{1,18}) runs?, first seed (\d{1,10})(?: with (\.line [\d ]{5,24}))?(?: \((step [^()]*)\))?: (.+)")
+LINE = re.compile(r" *(\d{1,18}) runs?, first seed (\d{1,10})(?: with (\.line [\d ]{5,24}))?(?: \((step [^()]*)\))?: "
+                  r"(.+)")
 
 
 def parts(paths: list[str]) -> dict[str, Group]:
@@ -167,8 +170,10 @@ def main() -> None:
     parser.add_argument("--outs", action="store_true",
                         help="runs that show other words, or show them more often, are other groups")
     parser.add_argument("--line", nargs=3, metavar=("L", "FIRST", "PERIOD"),
-                        help="each plan of line L in the place of the image's own; FIRST and PERIOD are numbers or ranges, 400..420 or 400..420/5")
-    parser.add_argument("--write", metavar="OUT", help="with one seed and one plan: write the image with that plan there")
+                        help="each plan of line L in the place of the image's own; FIRST and PERIOD are numbers or "
+                             "ranges, 400..420 or 400..420/5")
+    parser.add_argument("--write", metavar="OUT",
+                        help="with one seed and one plan: write the image with that plan there")
     parser.add_argument("--merge", nargs="+", metavar="PART",
                         help="put outputs of this tool together; - is standard input")
     calling.take_program(parser)

@@ -136,7 +136,8 @@ def main() -> None:
         description="A run step by step, by the reference, of which nothing is proved; its lines are compared with "
                     "the program's.",
         epilog="The status is 0 where the lines agree, and 1 where they differ.")
-    parser.add_argument("image", metavar="FILE", help="an image, of which - is standard input, or an assembly text or source of tools/asmx")
+    parser.add_argument("image", metavar="FILE",
+                        help="an image, of which - is standard input, or an assembly text or source of tools/asmx")
     parser.add_argument("steps", metavar="STEPS")
     parser.add_argument("seed", metavar="SEED")
     parser.add_argument("--source", metavar="FILE",

@@ -46,7 +46,8 @@ class Counted:
         with tempfile.TemporaryFile() as file:       # a pipe would give the input in pieces, now these and now those
             file.write(text)
             file.seek(0)
-            done = subprocess.run([*self.command, *(words or ["script"])], stdin=file, cwd=self.folder.name, env=ENVIRONMENT,
+            done = subprocess.run([*self.command, *(words or ["script"])], stdin=file, cwd=self.folder.name,
+                                  env=ENVIRONMENT,
                                   stdout=subprocess.DEVNULL, stderr=subprocess.PIPE)
         if done.returncode:
             raise Failed(f"the program ends with status {done.returncode}")

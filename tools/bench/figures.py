@@ -15,8 +15,10 @@ Figure = tuple[str, int]
 
 BOOT = "boot 32 1"
 FIVE = "0x401000 0x402000 0x403000 0x404000 0x405000"
-LINES = ("ld 0 0x400000", "ld 0 0xfffffffc", "lb 0 0x400003", "st 0 0x400000 7", "st 0 0x401ffc 0x89abcdef", "peek 6 0", "# a remark", "",
-         "ld 0 4194304", "sb 0 0x400003 0xaa", "fetch 0", "peek 32 0", "reg 0 0", "pc 0 0x400000", "raise 3", "poll 0", "call 0 7",
+LINES = ("ld 0 0x400000", "ld 0 0xfffffffc", "lb 0 0x400003", "st 0 0x400000 7", "st 0 0x401ffc 0x89abcdef", "peek 6 0",
+         "# a remark", "",
+         "ld 0 4194304", "sb 0 0x400003 0xaa", "fetch 0", "peek 32 0", "reg 0 0", "pc 0 0x400000", "raise 3", "poll 0",
+         "call 0 7",
          "call 0 7 0x400000", "#")
 DELETED = ("bare", "rows0", "rows1000", "tables10", "tables100", "chain5", "chain100", "children200")
 
@@ -36,7 +38,8 @@ call 0 5 0x40d000 0x401000 0xffc0d000 3
 call 0 5 0x40e000 0x401000 0xffc0e000 3
 call 0 8 0x401000 64 256"""
 
-# A child with a handler for vector 64; the root has handlers for the vectors 14 and 65, and for line 1. Both have a block for 63.
+# A child with a handler for vector 64; the root has handlers for the vectors 14 and 65, and for line 1. Both have a
+# block for 63.
 CHILD = f"""boot 32 1
 call 0 0 {FIVE}
 st 0 0x406000 0x407000
@@ -56,7 +59,8 @@ st 0 0xfffff0fc 0xfffff4cc"""
 
 # The lines of assembly texts, of pages with a thousand lines each
 HEAD = ".frames 64\n.cpus 1\n.page 0x00400000\nhere:\n"
-ASSEMBLY = ("li r1 7", "sltu r10 r11 r12", "bltu r1 r2 here", ".word 7", ".zero 1", "# counts how many pages are left in the list", "")
+ASSEMBLY = ("li r1 7", "sltu r10 r11 r12", "bltu r1 r2 here", ".word 7", ".zero 1",
+            "# counts how many pages are left in the list", "")
 
 
 # Programs of the root: one that computes, and one that loads and stores
@@ -131,7 +135,8 @@ class Figures:
         return self.more(script(setup, "", 0), script(setup, line, 1))
 
     def figures(self) -> Iterator[Figure]:
-        for part in (self.of_starts, self.of_lines, self.of_partitions, self.of_switches, self.of_texts, self.of_runs, self.of_steps,
+        for part in (self.of_starts, self.of_lines, self.of_partitions, self.of_switches, self.of_texts, self.of_runs,
+                     self.of_steps,
                      self.of_frames, self.of_load):
             yield from part()
 
@@ -143,7 +148,8 @@ class Figures:
         for line in LINES:
             yield f"a line '{line}'", self.per(BOOT, line)
         yield "a line 'call 0 12' with five addresses", self.per(BOOT, f"call 0 12 {FIVE}")
-        # Loads of the root from that many pages in turn: up to 64 of them have a place each in the cache; of 100, two have one place.
+        # Loads of the root from that many pages in turn: up to 64 of them have a place each in the cache; of 100, two
+        # have one place.
         for pages in 1, 4, 64, 100:
             lines = "\n".join(f"ld 0 {0x400000 + 4096 * k:#x}" for k in range(pages))
             yield f"a line 'ld', of {pages} pages in turn", self.per("boot 256 1", lines, pages)
@@ -152,7 +158,8 @@ class Figures:
         yield "a line with an accepted createPartition of the root", self.more(creations(100), creations(700)) // 600
         makes = "call 0 0 0xffc0a000 0xffc0b000 0xffc0c000 0xffc0d000 0xffc0e000"
         yield "the line with which a child makes a partition", self.once(FAMILY, makes)
-        yield "the line with which the root deletes that child", self.once(f"boot 64 1\ncall 0 0 {FIVE}", "call 0 1 0x401000")
+        yield "the line with which the root deletes that child", self.once(f"boot 64 1\ncall 0 0 {FIVE}",
+                                                                           "call 0 1 0x401000")
         for case in DELETED:
             before, with_it = deletions.scripts(case)
             yield f"the line that deletes, {case}", self.more(before.encode(), with_it.encode())
@@ -163,7 +170,8 @@ class Figures:
         yield "a fault of a child that is delivered, as the half of it and of the yield after it", \
             self.per(f"{CHILD}\ncall 0 8 0x401000 64 256", "ld 0 0x20000000\ncall 0 8 0x401000 63 256", 2)
         # A poll that takes a line of the root masks it, so the line before is vsti; these two are taken off.
-        yield "a poll that takes a line", self.per(CHILD, "call 0 11\nraise 1\npoll 0") - self.per(CHILD, "call 0 11\nraise 1")
+        yield "a poll that takes a line", self.per(CHILD, "call 0 11\nraise 1\npoll 0") - self.per(CHILD, "call 0 11\n"
+                                                                                                          "raise 1")
 
     def of_texts(self) -> Iterator[Figure]:
         for line in ASSEMBLY:
@@ -184,7 +192,8 @@ class Figures:
             yield f"a step of the monitor, by {command}", (many - few) // 100000
 
     def of_steps(self) -> Iterator[Figure]:
-        """The steps of programs that compute, and that load and store; of children that a monitor runs, and of slots."""
+        """The steps of programs that compute, and that load and store; of children that a monitor runs, and of slots.
+        """
         for what, text in (("that computes", COMPUTES), ("of seven loads and stores and a branch", ACCESSES)):
             image = self.program.written(text.encode(), "asm")
             few, many = (self.program.instructions(image, "run", steps, "1") for steps in ("10000", "110000"))
@@ -197,7 +206,9 @@ class Figures:
         yield "a step by slots", (many - few) // 100000
 
     def of_frames(self) -> Iterator[Figure]:
-        """A row of a tree and a frame of zeros, by machines of two sizes beside the same run without a text; and a frame of an audit."""
+        """A row of a tree and a frame of zeros, by machines of two sizes beside the same run without a text; and a
+        frame of an audit.
+        """
         few, many = (self.program.written(f".frames {frames}\n.cpus 1\n".encode(), "asm") for frames in (16, 4096))
         runs = self.more(few, many, "run", "0", "1")
         yield "a row, by tree", (self.more(few, many, "tree", "0", "1") - runs) // 4080

@@ -2,10 +2,11 @@
 
     bench/run [--program PATH] [--plain | --beside PATH] [--tables]
 
-They are of its start, of a line of each kind, of partitions that are made and deleted, of events that switch, of assembly texts, of the
-steps of runs, of texts of frames, and of a generated load. The program is the built one, unless PATH is given: build it first, by ./pip.
---plain builds the plain program of bench/plain by cargo, and puts its figures beside; --beside does so for any program of the same
-commands. --tables prints the rows of the tables of docs/PERFORMANCE.md, with times and worst inputs, too; it takes half an hour.
+They are of its start, of a line of each kind, of partitions that are made and deleted, of events that switch, of
+assembly texts, of the steps of runs, of texts of frames, and of a generated load. The program is the built one, unless
+PATH is given: build it first, by ./pip. --plain builds the plain program of bench/plain by cargo, and puts its figures
+beside; --beside does so for any program of the same commands. --tables prints the rows of the tables of
+docs/PERFORMANCE.md, with times and worst inputs, too; it takes half an hour.
 """
 
 from __future__ import annotations
@@ -56,7 +57,8 @@ def show(given: argparse.Namespace) -> None:
 
 
 def main() -> None:
-    parser = argparse.ArgumentParser(description=__doc__, formatter_class=argparse.RawDescriptionHelpFormatter, usage=argparse.SUPPRESS)
+    parser = argparse.ArgumentParser(description=__doc__, formatter_class=argparse.RawDescriptionHelpFormatter,
+                                     usage=argparse.SUPPRESS)
     parser.add_argument("--program", default=PROGRAM, metavar="PATH", help="the program that is counted")
     other = parser.add_mutually_exclusive_group()
     other.add_argument("--plain", action="store_true", help="beside the plain program")

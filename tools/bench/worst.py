@@ -1,16 +1,17 @@
 """Writes inputs that cost a command most, as far as such were found.
 
-    bench/worst.py names KIND COUNT         an assembly text of that many labels
-    bench/worst.py chain DEPTH BYTES KIND   a script that works at the end of a chain of partitions
-    bench/worst.py audit                    a text of 4096 frames
-    bench/worst.py build WANTS COUNT        a script of a child that is built with that many wants, and ended, again and again
-    bench/worst.py calls                    an assembly text, for `run`: its root makes and ends a child in a loop
-    bench/worst.py faults                   an assembly text, for `native` and `slots`: each child faults at each instruction
-    bench/worst.py fill                     an assembly text, for `every`: it stores a word in one place after the other
+    bench/worst.py names KIND COUNT         an assembly text of that many labels bench/worst.py chain DEPTH BYTES KIND
+    a script that works at the end of a chain of partitions bench/worst.py audit                    a text of 4096
+    frames bench/worst.py build WANTS COUNT        a script of a child that is built with that many wants, and ended,
+    again and again bench/worst.py calls                    an assembly text, for `run`: its root makes and ends a child
+    in a loop bench/worst.py faults                   an assembly text, for `native` and `slots`: each child faults at
+    each instruction bench/worst.py fill                     an assembly text, for `every`: it stores a word in one
+    place after the other
 
-KIND of names: `numbers` are ordinary names and `drawn` are 32 random letters; `prefixes` begin with the same 26 letters; `chosen` would fall
-into one part in 64 of the assembler's table, were its hash to begin with 0. KIND of a chain: `create` makes and ends a child again and again,
-`prepare` gives a child tables and takes them back. BYTES is the size of the script, at most. WANTS, at most 990, are in a directory each.
+KIND of names: `numbers` are ordinary names and `drawn` are 32 random letters; `prefixes` begin with the same 26
+letters; `chosen` would fall into one part in 64 of the assembler's table, were its hash to begin with 0. KIND of a
+chain: `create` makes and ends a child again and again, `prepare` gives a child tables and takes them back. BYTES is the
+size of the script, at most. WANTS, at most 990, are in a directory each.
 """
 
 from __future__ import annotations
@@ -96,14 +97,17 @@ def chain(depth: str, most: str, kind: str) -> Iterator[str]:
 # ---- children that are built
 
 def built(wants: str, count: str) -> Iterator[str]:
-    """The events of `build` of pip_parent: of each want stores that chain the pages of its table, a prepare and an addVAddr."""
+    """The events of `build` of pip_parent: of each want stores that chain the pages of its table, a prepare and an
+    addVAddr.
+    """
     pages = iter(0x400000 + 4096 * k for k in range(4075))
     base = [next(pages) for _ in range(5)]
     lines = [deletions.call(0, *base)]
     for k in range(int(wants)):
         chain = [next(pages) for _ in range(4 if k and k % 170 == 0 else 3)]
         lines += [f"st 0 {page:#x} {following:#x}" for page, following in zip(chain, chain[1:])]
-        lines += [deletions.call(3, base[0], 0x400000 * (k + 1), chain[0]), deletions.call(5, next(pages), base[0], 0x400000 * (k + 1), 3)]
+        lines += [deletions.call(3, base[0], 0x400000 * (k + 1), chain[0]),
+                  deletions.call(5, next(pages), base[0], 0x400000 * (k + 1), 3)]
     yield "boot 4096 1"
     for _ in range(int(count)):
         yield from lines
@@ -197,7 +201,8 @@ def frames_text(memory: Memory) -> Iterator[str]:
 
 KINDS: dict[str, Callable[..., Iterator[str]]] = {
     "names": labels, "chain": chain, "build": built, "audit": lambda: frames_text(slow_memory()),
-    "calls": lambda: iter(CALLS.split("\n")), "faults": lambda: iter(FAULTS.split("\n")), "fill": lambda: iter(FILL.split("\n"))}
+    "calls": lambda: iter(CALLS.split("\n")), "faults": lambda: iter(FAULTS.split("\n")),
+    "fill": lambda: iter(FILL.split("\n"))}
 
 
 def lines(kind: str, *words: str) -> Iterator[str]:

@@ -3,8 +3,8 @@
     tools/check/run.py [--only NAME ..] [--all] [--program PATH | --unproved] [--list] [--write-calls]
                        [--write-meanings]
 
-The status is 0 if none fails, and 1 if one does; each that fails says why. One for which a tool is missing is skipped: the last line
-names it, and with --all it fails.
+The status is 0 if none fails, and 1 if one does; each that fails says why. One for which a tool is missing is skipped:
+the last line names it, and with --all it fails.
 """
 
 from __future__ import annotations
@@ -20,19 +20,24 @@ from collections.abc import Iterator
 from types import FrameType
 
 from ..common import calling
-from . import (answering, audits, authors, cheats, counters, counts, debugging, devices, documents, edits, endings, examples,
-               exercises, exporting, grading, guests, hints, house, links, meanings, memory, pages, playground, playground_judge,
+from . import (answering, audits, authors, cheats, counters, counts, debugging, devices, documents, edits, endings,
+               examples,
+               exercises, exporting, grading, guests, hints, house, links, meanings, memory, pages, playground,
+               playground_judge,
                playground_runs, playing, public_calls, releasing, separate, shells, sources, tools,
                tutorial, unbuilt, wrapper)
 from .running import Check, Differs, Skipped
 
-# A name, and its parts: functions that are given the program's path and raise Differs if something is wrong, or Skipped if a tool is missing.
+# A name, and its parts: functions that are given the program's path and raise Differs if something is wrong, or Skipped
+# if a tool is missing.
 CHECKS: dict[str, Check | tuple[Check, ...]] = {
-    "endings": (endings.wrong_words, endings.word_not_utf8, endings.empty_script, endings.bad_line, endings.closed_input,
+    "endings": (endings.wrong_words, endings.word_not_utf8, endings.empty_script, endings.bad_line,
+                endings.closed_input,
                 endings.full_device, endings.too_much_input),
     "refused-memory": memory.refused_memory,
     "answering": (answering.typed_script, answering.gathered_answers),
-    "documents": (documents.readme_sessions, documents.examples_with_arrows, tutorial.blocks, links.links, meanings.same),
+    "documents": (documents.readme_sessions, documents.examples_with_arrows, tutorial.blocks, links.links,
+                  meanings.same),
     "step-counters": counters.step_counters,
     "house": (house.house, sources.ghost_imports),
     "public-calls": public_calls.public_calls,
@@ -59,7 +64,8 @@ CHECKS: dict[str, Check | tuple[Check, ...]] = {
     "export-registry": exporting.of_registry,
     "export-clippy": exporting.clippy,
     "export-miri": exporting.miri,
-    "playground": (playground.module, playground.states, playground_runs.runs, playground.reasons, playground_judge.judge),
+    "playground": (playground.module, playground.states, playground_runs.runs, playground.reasons,
+                   playground_judge.judge),
     "playground-browser": playing.in_browser,
     "release": releasing.works,
     "commands": tuple(tools.compared(command, cases) for command, cases in tools.CASES.items()),
@@ -68,11 +74,15 @@ CHECKS: dict[str, Check | tuple[Check, ...]] = {
 }
 
 
-LONGEST = 2400           # seconds of a part of a check. More means that it waits for what never comes, as for a process that was killed for memory
+# seconds of a part of a check. More means that it waits for what never comes, as for a process that was killed for
+# memory
+LONGEST = 2400
 
 
 def made(name: str, check: Check | tuple[Check, ...], program: str) -> tuple[str, str]:
-    """Makes all parts of a check, says how it ended, and answers that, ok, skipped or fails, and why parts were skipped."""
+    """Makes all parts of a check, says how it ended, and answers that, ok, skipped or fails, and why parts were
+    skipped.
+    """
     begun = time.monotonic()
     missing: dict[str, None] = {}
     for part in check if isinstance(check, tuple) else (check,):
@@ -89,7 +99,9 @@ def made(name: str, check: Check | tuple[Check, ...], program: str) -> tuple[str
 
 @contextlib.contextmanager
 def limited(seconds: float) -> Iterator[None]:
-    """Ends what is done inside, as a check that fails, where it takes longer: a check that waits for ever would end without a result."""
+    """Ends what is done inside, as a check that fails, where it takes longer: a check that waits for ever would end
+    without a result.
+    """
     def end(_number: int, _frame: FrameType | None) -> None:
         raise Differs(f"it isn't done after {seconds:g} seconds")
 
@@ -117,8 +129,10 @@ def checked() -> int:
     calling.take_program(parser)
     parser.add_argument("--all", action="store_true", help="one that is skipped fails")
     parser.add_argument("--list", action="store_true", help="print the names of the checks")
-    parser.add_argument("--write-calls", action="store_true", help="write public_calls.txt as the sources have its calls")
-    parser.add_argument("--write-meanings", action="store_true", help="write meanings.json as docs/FORMATS.md has its rows")
+    parser.add_argument("--write-calls", action="store_true",
+                        help="write public_calls.txt as the sources have its calls")
+    parser.add_argument("--write-meanings", action="store_true",
+                        help="write meanings.json as docs/FORMATS.md has its rows")
     given = parser.parse_args()
     if given.list:
         print("\n".join(CHECKS))

@@ -14,18 +14,20 @@ MARK = b"-- the next command --\n"
 
 
 def readme_sessions(program: str) -> None:
-    """Each indented block of README.md that begins with a command: its commands give what is below them. And how many crates a build
-    names is as the page has it."""
+    """Each indented block of README.md that begins with a command: its commands give what is below them. And how many
+    crates a build names is as the page has it."""
     with tempfile.TemporaryDirectory() as place:
         os.symlink(os.path.join(REPOSITORY, "examples"), os.path.join(place, "examples"))
         os.symlink(os.path.abspath(program), os.path.join(place, "pip"))
         for session in sessions(read("README.md")):
             commands = [command for command, _ in session]
             shown = b"".join(output + MARK for _, output in session)
-            told = "; ".join(f"{{ {command}\n}}; s=$?; printf '%s' '{MARK.decode()}'; (exit $s)" for command in commands)
+            told = "; ".join(f"{{ {command}\n}}; s=$?; printf '%s' '{MARK.decode()}'; (exit $s)"
+                             for command in commands)
             output, status = run(["sh", "-c", told], cwd=place)
             expect(f"README.md, the session from '$ {commands[0]}' on", (output, status), (shown, 0))
-    named, count = part(r"`crate \d+ of (\d+)`", read("README.md")), len(crates.chosen(crates.crates_of(Path(REPOSITORY)), ["pip"]))
+    named, count = part(r"`crate \d+ of (\d+)`",
+                        read("README.md")), len(crates.chosen(crates.crates_of(Path(REPOSITORY)), ["pip"]))
     if named != str(count):
         raise Differs(f"README.md has a build of {named} crates, where {count} make the program")
 

@@ -106,7 +106,8 @@ def whole_script(program: str, path: str) -> None:
 def without_cargo(path: str) -> None:
     """Where no judge is built and there is no cargo, that is one sentence."""
     with tempfile.TemporaryDirectory() as place:
-        script = ("from dataclasses import replace; from tools.exercises import exercise; from tools.judge import building; "
+        script = ("from dataclasses import replace; from tools.exercises import exercise; from tools.judge import "
+                  "building; "
                   "building.JUDGE = replace(building.JUDGE, name='none'); exercise.main()")
         words = [sys.executable, "-B", "-c", script, "map", path]
         done = subprocess.run(words, cwd=REPOSITORY, env={"PATH": place}, timeout=SECONDS, stdout=subprocess.PIPE,

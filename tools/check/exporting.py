@@ -41,10 +41,12 @@ def listed() -> None:
     with open(os.path.join(REPOSITORY, "docs", "EXPORT.md"), encoding="utf-8") as file:
         table = file.read().split("## Requirements\n", 1)[1].split("\n## ", 1)[0]
     named = set(re.findall(r"`([A-Z][A-Za-z0-9]*[a-z][A-Za-z0-9]*)`", table))
-    found = {re.search(r"\b[A-Z][A-Za-z0-9]*[a-z][A-Za-z0-9]*", part) for _, part in export.untested(Path(REPOSITORY), [])}
+    found = {re.search(r"\b[A-Z][A-Za-z0-9]*[a-z][A-Za-z0-9]*", part) for _,
+             part in export.untested(Path(REPOSITORY), [])}
     due = {name.group() for name in found if name}
     if due != named:
-        raise Differs(f"docs/EXPORT.md, Requirements: {sorted(due - named)} isn't named, {sorted(named - due)} isn't untested")
+        raise Differs(f"docs/EXPORT.md, Requirements: {sorted(due - named)} isn't named, {sorted(named - due)} isn't "
+                      "untested")
 
 
 def by_cargo(program: str) -> None:

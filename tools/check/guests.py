@@ -28,8 +28,8 @@ TRAPS = (64, 65, 70, 200)
 
 
 def hostile_guests(program: str) -> None:
-    """Generated first guests, which call, yield, trap, load and store at random. That the check finds a monitor that doesn't take its
-    handler of the line away is tried first."""
+    """Generated first guests, which call, yield, trap, load and store at random. That the check finds a monitor that
+    doesn't take its handler of the line away is tried first."""
     text = contents(os.path.join(REPOSITORY, MONITOR)).decode()
     careless = text.replace(*CARELESS)
     if careless == text or not any(troubles(program, careless, seed) for seed in SEEDS):
@@ -87,7 +87,8 @@ def attempt(drawn: random.Random) -> list[str]:
     if kind < .6:
         return [*put(3, drawn.choice(PLACES) + 4 * drawn.randint(0, 300)), "ldw r4 r3 0", "out r4"]
     if kind < .8:
-        return [*put(3, drawn.choice(PLACES) + 4 * drawn.randint(0, 300)), *put(4, drawn.choice([*WORDS, drawn.getrandbits(32)])),
+        return [*put(3, drawn.choice(PLACES) + 4 * drawn.randint(0, 300)),
+                *put(4, drawn.choice([*WORDS, drawn.getrandbits(32)])),
                 "stw r4 r3 0"]
     return [drawn.choice([f"int {drawn.choice(TRAPS)}", f".word {drawn.getrandbits(32) | 1}", "out r1"])]
 

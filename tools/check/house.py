@@ -21,15 +21,16 @@ LIST = os.path.join(os.path.dirname(os.path.abspath(__file__)), "allowances.txt"
 MOST = 120                              # columns of a line
 IS_LEFT = re.compile(r'"|^\s*#\[')       # a line of source with a text or an attribute, which `rt fmt` leaves as it is
 # a type or a constant of a source, but none of an impl or a trait
-ITEM_LINES = re.compile(r"^(?:pub(?:\([a-z]+\))? )?(?:struct|enum|trait|type|const|static) (?!fn |_:)(\w+)", re.MULTILINE)
+ITEM_LINES = re.compile(r"^(?:pub(?:\([a-z]+\))? )?(?:struct|enum|trait|type|const|static) (?!fn |_:)(\w+)",
+                        re.MULTILINE)
 TESTS = "pip_test_"                     # crates of tests: what a test calls its text or its steps is its file's own
 DEFINITION = re.compile(r"(?:abbrev pub|unfoldable pub|pub record|pub data|pub(?=[^\s:]* :)|pub) ([^\s:(]+)")
 
 
 @dataclass
 class Allowances:
-    """How many lines may be too wide, by crate and of the documents; how many definitions may have no remark, by crate; which names may be
-    several definitions'; and which may be several types' or constants' of the sources.
+    """How many lines may be too wide, by crate and of the documents; how many definitions may have no remark, by crate;
+    which names may be several definitions'; and which may be several types' or constants' of the sources.
     """
 
     wide: dict[str, int] = field(default_factory=dict)
@@ -68,8 +69,10 @@ def found_in(top: str) -> Allowances:
         with open(path, encoding="utf-8") as file:
             wide["tools"] += sum(len(line) > MOST for line in file.read().split("\n"))
     for path in documents(top):
-        wide["documents"] += sum(len(line) > MOST and not line.lstrip().startswith("|") for line in without_code(path).split("\n"))
-    return Allowances({crate: count for crate, count in wide.items() if count}, {crate: count for crate, count in bare.items() if count},
+        wide["documents"] += sum(len(line) > MOST and not line.lstrip().startswith("|")
+                                 for line in without_code(path).split("\n"))
+    return Allowances({crate: count for crate, count in wide.items() if count},
+                      {crate: count for crate, count in bare.items() if count},
                       several(files), several(items))
 
 
@@ -134,10 +137,14 @@ def troubles(top: str, allowed: Allowances) -> list[str]:
 
 
 PLANTED = {
-    "crates/pip_one/specs/Rows.antt": "-- a row\nabbrev pub is_row : Bool\nis_row = true\n\npub record Row : Type 0 where\n  pub at : Bool\n",
-    "crates/pip_two/specs/Rows.antt": "-- a row of another kind\npub is_row : Bool\nis_row = false\n" + "-" * (MOST + 1) + "\n",
-    "crates/pip_one/src/rows.rt": "pub(crate) struct Rows<A> {\n    at: A,\n}\n\nimpl Rows {\n    type Kept = u32;\n}\n",
-    "crates/pip_two/src/rows.rt": "// " + "-" * MOST + "\nconst WIDE: &str = \"" + "-" * MOST + "\";\n\npub enum Rows {}\n\ntype Kept = u8;\n",
+    "crates/pip_one/specs/Rows.antt": "-- a row\nabbrev pub is_row : Bool\nis_row = true\n\n"
+                                      "pub record Row : Type 0 where\n  pub at : Bool\n",
+    "crates/pip_two/specs/Rows.antt": "-- a row of another kind\npub is_row : Bool\nis_row = false\n" + "-" * (MOST + 1)
+    + "\n",
+    "crates/pip_one/src/rows.rt":
+        "pub(crate) struct Rows<A> {\n    at: A,\n}\n\nimpl Rows {\n    type Kept = u32;\n}\n",
+    "crates/pip_two/src/rows.rt": "// " + "-" * MOST + "\nconst WIDE: &str = \"" + "-" * MOST
+    + "\";\n\npub enum Rows {}\n\ntype Kept = u8;\n",
     "crates/pip_test_one/src/rows.rt": "const WIDE: u32 = 7;\n",
     "tools/one/rows.py": "ROWS = (1,)      # " + "w" * MOST + "\n",
     "docs/ROWS.md": "| " + "-" * MOST + " |\n\nA " + "w" * MOST + "\n",

@@ -1,4 +1,6 @@
-"""What a document links to in the repository, or names by its path from the top, is there; and so is each contract that PROVED.md names."""
+"""What a document links to in the repository, or names by its path from the top, is there; and so is each contract that
+PROVED.md names.
+"""
 
 from __future__ import annotations
 
@@ -45,11 +47,13 @@ def checks_named() -> Iterator[str]:
         yield from re.findall(r"\bcheck `([a-z-]+)`", text)
         table = r"^\|.*(?:\| check \(.*|by the check) \|\n\|[-|]+\|\n((?:\|.*\n)+)"
         for rows in re.findall(table, text, re.MULTILINE) if os.path.basename(path) == "CONTRIBUTING.md" else ():
-            yield from " ".join(re.findall("`([^`]*)`", "".join(row.rsplit(" | ", 1)[1] for row in rows.splitlines()))).split()
+            yield from " ".join(re.findall("`([^`]*)`",
+                                           "".join(row.rsplit(" | ", 1)[1] for row in rows.splitlines()))).split()
 
 
 def contracts() -> None:
-    """Each contract in the table of PROVED.md is one of its crate. That the check finds one that isn't is tried first."""
+    """Each contract in the table of PROVED.md is one of its crate. That the check finds one that isn't is tried first.
+    """
     with open(os.path.join(REPOSITORY, "docs", "PROVED.md"), encoding="utf-8") as file:
         text = file.read()
     if list(gone(text.replace("`soak_load`", "`soak_loads`"))) != ["pip_soak has no soak_loads"]:
@@ -59,7 +63,9 @@ def contracts() -> None:
 
 
 def gone(text: str) -> Iterator[str]:
-    """What the table of the crates names and no source of its crates declares: a function, a type, a trait, or a clause."""
+    """What the table of the crates names and no source of its crates declares: a function, a type, a trait, or a
+    clause.
+    """
     files = [(crate, told) for crate, _, told in sources(REPOSITORY)]
     for line in text.split("## Crate by crate")[1].split("\n## ")[0].split("\n"):
         crates = re.findall(r"\[(pip_\w+)\]\(", line.split(" | ")[0])

@@ -37,7 +37,8 @@ def compare(program: str, sets: int, companies: int) -> None:
                 first = next(pair for pair in zip(own + [""], beside + [""]) if pair[0] != pair[1])
                 raise Differs(f"child {k} of {n}, {turns} turns: {first[0]!r}, and in other company {first[1]!r}")
     if busy < sets // 10 or changed < sets * companies // 2:
-        raise Differs(f"of {sets} children {busy} write words, and {changed} of {sets * companies} companies have other lines: that shows little")
+        raise Differs(f"of {sets} children {busy} write words, and {changed} of {sets * companies} companies have "
+                      "other lines: that shows little")
 
 
 def with_room(seed: int) -> tuple[int, Image] | None:

@@ -13,7 +13,8 @@ from .running import REPOSITORY, Differs, expect, run
 
 FOLDER = "examples/tutorial/"
 
-# A block with the link above it that names its file; 'From' says that it is a part of the file, whose lines follow one another there.
+# A block with the link above it that names its file; 'From' says that it is a part of the file, whose lines follow one
+# another there.
 BLOCK = re.compile(r"^(From )?\[([^\]\n]+)\]\(\.\./(examples/[^)\n]+)\):\n\n```\n(.*?)^```$", re.M | re.S)
 
 
@@ -48,7 +49,9 @@ def commands_give(name: str, pip: str, by: str) -> None:
 
 
 def blocks(program: str) -> None:
-    """Each block of the tutorial is the file that it names, or a part of it, and the tutorial shows or links each of its files."""
+    """Each block of the tutorial is the file that it names, or a part of it, and the tutorial shows or links each of
+    its files.
+    """
     tutorial = text("docs/TUTORIAL.md")
     found = BLOCK.findall(tutorial)
     if 2 * len(found) != len(re.findall("^```", tutorial, re.M)):
@@ -59,7 +62,8 @@ def blocks(program: str) -> None:
         due = with_answers(name)
         block = in_file(name, shown)
         if block != due if not part else not any(due[k:k + len(block)] == block for k in range(len(due))):
-            raise Differs(f"docs/TUTORIAL.md, the block of {name}, is {'no part of' if part else 'not'} the file with its answers")
+            raise Differs(f"docs/TUTORIAL.md, the block of {name}, is {'no part of' if part else 'not'} the file with "
+                          "its answers")
     linked = {f"{FOLDER}{name}" for name in re.findall(rf"\]\(\.\./{FOLDER}([^)]+)\)", tutorial)}
     left_out = sorted({*files(".pip"), *files(".s"), *files(".session")} - linked)
     if left_out:

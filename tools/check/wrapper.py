@@ -1,4 +1,6 @@
-"""./pip builds where it has to, says so in one sentence, and runs the program. Stand-ins for `rt` and `cargo` build here."""
+"""./pip builds where it has to, says so in one sentence, and runs the program. Stand-ins for `rt` and `cargo` build
+here.
+"""
 
 from __future__ import annotations
 
@@ -16,7 +18,8 @@ from typing import IO
 from .checkout import SOURCES, Checkout, Ended
 from .running import SECONDS, Differs, Skipped, expect as expect_output, part, run
 
-WRONG = ((), ("help",), ("--help", "script"), ("script", "x"), ("run", "06", "1"), ("run", "1", "0"), ("run", "0x", "1"),
+WRONG = ((), ("help",), ("--help", "script"), ("script", "x"), ("run", "06", "1"), ("run", "1", "0"),
+         ("run", "0x", "1"),
          ("run", "10000001", "1"), ("tree", "1", "4294967296"), ("core", "1", "99999999999"), ("soak", "1000001", "1"),
          ("native", "1"), ("native", "0", "1"), ("native", "9", "1"), ("native", "1", "10000001"),
          ("slots", "1", "1"), ("slots", "9", "1", "1"), ("slots", "1", "9999999", "1"), ("slots", "8", "8", "125001"),
@@ -35,10 +38,14 @@ OF_REFERENCE = "unproved: the reference answers, a second telling of the model i
 EXPLAINED = ((("script", "crates.txt"), "pip reads standard input: ./pip script < crates.txt\n"),
              (("run", "crates.txt", "10", "1"), "pip reads standard input: ./pip run 10 1 < crates.txt\n"),
              (("--unproved", "asm", "crates.txt"), "pip reads standard input: ./pip --unproved asm < crates.txt\n"),
-             (("script", "none.pip"), "./pip script < FILE "), (("run", "06", "1"), "STEPS is a number, decimal without a 0 before it"),
-             (("run", "100000000", "1"), "STEPS is at most 10000000\n./pip run STEPS SEED < IMAGE "), (("run", "1", "0"), "SEED is at least 1\n"),
-             (("run", "1"), "./pip run STEPS SEED < IMAGE "), (("slots", "8", "8", "125001"), "N * (TURNS + 2) * ROUNDS is at most 10000000\n"),
-             (("evry",), "evry: did you mean every?\n"), (("--unprovd", "script"), "--unprovd: did you mean --unproved?\n"),
+             (("script", "none.pip"), "./pip script < FILE "),
+             (("run", "06", "1"), "STEPS is a number, decimal without a 0 before it"),
+             (("run", "100000000", "1"), "STEPS is at most 10000000\n./pip run STEPS SEED < IMAGE "),
+             (("run", "1", "0"), "SEED is at least 1\n"),
+             (("run", "1"), "./pip run STEPS SEED < IMAGE "),
+             (("slots", "8", "8", "125001"), "N * (TURNS + 2) * ROUNDS is at most 10000000\n"),
+             (("evry",), "evry: did you mean every?\n"),
+             (("--unprovd", "script"), "--unprovd: did you mean --unproved?\n"),
              (("[a-z]*",), "[a-z]*: there is no such command\n./pip script < FILE "), ((), "./pip script < FILE "))
 # What is said of a status.
 STATUSES = ((3, "status 3: standard input can't be read"), (4, "status 4: standard output can't be written"),
@@ -98,7 +105,8 @@ def tells_its_progress(checkout: Checkout) -> None:
     """A line where another crate comes, and after 10 seconds one where the count is another."""
     for more, seconds, due in (("so far: 12 of 48 functions checked", 12, "crate 1 of 3: pip_base, 12 of 48 functions"),
                                ("rt: chose --jobs 4 for pip_late", 4, "crate 2 of 3: pip_late"),
-                               ("rt: pip: begins with what a check kept in /other", 4, "crate 3 of 3: pip, which begins with what a check kept")):
+                               ("rt: pip: begins with what a check kept in /other", 4,
+                                "crate 3 of 3: pip, which begins with what a check kept")):
         checkout.touch("crates.txt")
         _, messages, _, _ = checkout.run("script", SECONDS_OF_MORE="3", MORE=more, SECONDS_LONG=str(seconds))
         lines = messages.splitlines()
@@ -195,7 +203,8 @@ def runs_unproved(checkout: Checkout) -> None:
     checkout.touch(SOURCES[0])
     output, messages, status, _ = checkout.run("--unproved", "script", REFUSED="1")
     expect("unproved, where cargo can't", (output, status), ("the reference ran script\n", 9))
-    if "wasn't built. The end of" not in messages or "cargo's log" not in messages or not messages.endswith(OF_REFERENCE):
+    has_log = "wasn't built. The end of" in messages and "cargo's log" in messages
+    if not has_log or not messages.endswith(OF_REFERENCE):
         raise Differs(f"./pip --unproved, where cargo can't build, says {messages!r}")
     expect("what is left of it", [name for name in os.listdir(checkout.place) if "begun" in name], [])
     without_cargo(checkout)
@@ -258,10 +267,12 @@ def hands_on(checkout: Checkout) -> None:
     """Without a terminal the program has the same input, also a closed one, and a signal to ./pip alone ends it."""
     checkout.run("script")
     checkout.write_program("crates/pip/out/pip", "#!/bin/sh\ncat || exit 3\n")
-    told = subprocess.run([checkout.path("pip"), "script"], input=b"a line\n", stdout=subprocess.PIPE, stderr=subprocess.PIPE)
+    told = subprocess.run([checkout.path("pip"), "script"], input=b"a line\n", stdout=subprocess.PIPE,
+                          stderr=subprocess.PIPE)
     expect("its input", (told.stdout, told.stderr, told.returncode), (b"a line\n", b"", 0))
     closed = checkout.run("-c", 'exec "$0" script <&-', checkout.path("pip"), command="/bin/sh")
-    expect("a closed input", (closed[1].splitlines()[-1:], closed[2]), ([STATUSES[0][1] + ": is it open, and no folder?"], 3))
+    expect("a closed input", (closed[1].splitlines()[-1:], closed[2]),
+           ([STATUSES[0][1] + ": is it open, and no folder?"], 3))
     checkout.write_program("crates/pip/out/pip", "#!/bin/sh\necho $$\nexec sleep 300\n")
     for number in (signal.SIGTERM, signal.SIGINT, signal.SIGHUP):
         begun = checkout.begin("script")
@@ -289,7 +300,9 @@ def says_what_is_built(checkout: Checkout) -> None:
 
 
 def of_an_unproved_release(checkout: Checkout) -> None:
-    """Where a release says that it is unproved, its program runs without a word, with neither kit nor cargo, and says so."""
+    """Where a release says that it is unproved, its program runs without a word, with neither kit nor cargo, and says
+    so.
+    """
     checkout.run("--unproved", "script")
     checkout.write("UNPROVED", "")
     os.remove(checkout.path("bin/rt"))

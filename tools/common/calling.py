@@ -23,9 +23,11 @@ class Failed(Exception):
 def take_program(parser: argparse.ArgumentParser) -> None:
     """The options --program and --unproved of a tool."""
     parser.add_argument("--program", default=os.environ.get("PIP") or PROVED, metavar="PATH",
-                        help="the program; without it the environment's PIP, else the one that ./pip has proved and built")
+                        help="the program; without it the environment's PIP, else the one that ./pip has proved and "
+                             "built")
     parser.add_argument("--unproved", dest="program", action="store_const", const=UNPROVED,
-                        help="the program that ./pip --unproved has built by cargo: the same text, and nothing is proved of it")
+                        help="the program that ./pip --unproved has built by cargo: the same text, and nothing is "
+                             "proved of it")
 
 
 @functools.lru_cache(maxsize=None)
@@ -55,13 +57,15 @@ def built() -> dict[str, str]:
 
 def missing(program: str, found: dict[str, str]) -> str:
     """Which program there is, and how the one that isn't there comes to be."""
-    by_cargo = "./pip --unproved script < examples/first.pip builds one by cargo in about a minute, and nothing is proved of it"
+    by_cargo = ("./pip --unproved script < examples/first.pip builds one by cargo in about a minute, "
+                "and nothing is proved of it")
     proves = "./pip script < examples/first.pip proves and builds it, in a quarter of an hour or more"
     if program == UNPROVED:
         there = "the proved one is, and is taken without --unproved" if PROVED in found else "nor is a proved one"
         return f"no program that cargo built is here, as new as the sources, and {there}: {by_cargo}"
     if UNPROVED in found:
-        return f"no proved program is here, as new as the sources, but one that cargo built is: say --unproved; {proves}"
+        return ("no proved program is here, as new as the sources, but one that cargo built is: say --unproved; "
+                f"{proves}")
     return f"no program is here, as new as the sources: {proves}; {by_cargo}, and --unproved takes that"
 
 
@@ -115,7 +119,9 @@ def number(text: str, least: int, most: int, what: str) -> int:
 
 
 def guarded(tool: str, work: Callable[[], int | None]) -> NoReturn:
-    """Runs a tool: a failure is one line on standard error and status 2, also a full device; a closed pipe ends it quietly."""
+    """Runs a tool: a failure is one line on standard error and status 2, also a full device; a closed pipe ends it
+    quietly.
+    """
     try:
         status = work()
         sys.stdout.flush()
@@ -138,7 +144,9 @@ def reason(failed: Exception) -> str:
 
 
 def can_flush() -> bool:
-    """Whether the output can be written. Where it can't, what is left goes nowhere, so that Python says no more about it."""
+    """Whether the output can be written. Where it can't, what is left goes nowhere, so that Python says no more about
+    it.
+    """
     try:
         sys.stdout.flush()
     except OSError:

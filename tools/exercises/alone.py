@@ -112,8 +112,8 @@ def main() -> None:
 # Outside
 
 class Processes:
-    """The processes that judge now, so that all of them can be ended, with their children. They have a folder of their own
-    for a while."""
+    """The processes that judge now, so that all of them can be ended, with their children. They have a folder of their
+    own for a while."""
 
     def __init__(self, place: str) -> None:
         self.place = place

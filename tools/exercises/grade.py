@@ -168,7 +168,8 @@ def judged_by(processes: alone.Processes, given: argparse.Namespace, exercises: 
         pool.shutdown(cancel_futures=True)
 
 
-def alike(exercises: dict[str, judging.Exercise], works: list[Work], by_seeds: bool) -> list[tuple[str, str, list[str]]]:
+def alike(exercises: dict[str, judging.Exercise], works: list[Work],
+          by_seeds: bool) -> list[tuple[str, str, list[str]]]:
     """The works that are like another one, or like the public solution."""
     found = []
     for name, exercise in exercises.items():
@@ -204,7 +205,8 @@ def csv_rows(table: Table) -> list[list[object]]:
     rows: list[list[object]] = [["student", *names, "goals", "solved", "alike"]]
     for student in table.students:
         works = [table.works.get((student, name)) for name in table.columns]
-        like = [f"{name}: {other}" for name, _, who in table.alike if student in who for other in who if other != student]
+        like = [f"{name}: {other}" for name, _, who in table.alike if student in who for other in who
+                if other != student]
         cells = (work.count if work else "" for work in works)
         rows.append([student, *cells, table.count(student), table.whole(student), "; ".join(like)])
     return rows

@@ -40,7 +40,8 @@ def plain(words: list[str], names: dict[str, str], is_program: bool) -> Iterator
 
 
 def alike(texts: Mapping[str, Sequence[str]]) -> list[tuple[str, list[str]]]:
-    """The works that are the same text, and of different texts those that are nearly the same: how, and whose they are."""
+    """The works that are the same text, and of different texts those that are nearly the same: how, and whose they are.
+    """
     same: dict[tuple[str, ...], list[str]] = {}
     for who, text in texts.items():
         if text:

@@ -14,11 +14,13 @@ PROMISE = "the same text, not the same proof"
 
 
 def main() -> None:
-    parser = argparse.ArgumentParser(prog="export", description="The crates as ordinary Rust, for cargo: " + PROMISE + ".")
+    parser = argparse.ArgumentParser(prog="export",
+                                     description="The crates as ordinary Rust, for cargo: " + PROMISE + ".")
     one = parser.add_mutually_exclusive_group(required=True)
     one.add_argument("--to", type=Path, metavar="FOLDER", help="a new folder, or an earlier export")
     one.add_argument("--untested", action="store_true",
-                     help="write nothing: list, by public function, the parts of what it requires that a debug build doesn't test")
+                     help="write nothing: list, by public function, the parts of what it requires that a debug build "
+                          "doesn't test")
     parser.add_argument("--only", nargs="+", default=[], metavar="CRATE", help="these crates and those that they use")
     parser.add_argument("--deps", choices=("registry", "shims"),
                         help="public crates from cargo's registry, or the small ones that come with this tool; without "
@@ -49,8 +51,11 @@ def done(given: argparse.Namespace) -> int:
 
 
 def untested(repository: Path, only: list[str]) -> list[tuple[str, str]]:
-    """The parts of requirements that no test makes, each after its crate and its public function; those of tests are left out."""
-    found = [crate for crate in crates.chosen(crates.crates_of(repository), only) if not crate.name.startswith("pip_test")]
+    """The parts of requirements that no test makes, each after its crate and its public function; those of tests are
+    left out.
+    """
+    found = [crate for crate in crates.chosen(crates.crates_of(repository), only)
+             if not crate.name.startswith("pip_test")]
     return [(f"{crate.name}::{name}", part) for crate in found for path in crate.sources()
             for name, parts in requirements.untested(path.read_text(encoding="utf-8")).items() for part in parts]
 

@@ -1,4 +1,6 @@
-"""Tests of what a function requires, as far as Rust can make them: comparisons of numbers, of frames, of lengths and of counts."""
+"""Tests of what a function requires, as far as Rust can make them: comparisons of numbers, of frames, of lengths and of
+counts.
+"""
 
 from __future__ import annotations
 
@@ -137,7 +139,8 @@ def term(text: str, types: dict[str, str], fields: bool) -> Term | None:
 def line_of(text: str, types: dict[str, str]) -> Term | None:
     """The interrupt line of a plan."""
     found = re.fullmatch(r"(\w+)(?:\.now|\.old)?\.line", text)
-    return Term(f"{found.group(1)}.line", "u32") if found and re.fullmatch(r"(& )?Plan", types.get(found.group(1), "")) else None
+    return Term(f"{found.group(1)}.line", "u32") if found and re.fullmatch(r"(& )?Plan",
+                                                                           types.get(found.group(1), "")) else None
 
 
 def size(text: str, types: dict[str, str]) -> Term | None:
@@ -159,7 +162,8 @@ def untested(text: str) -> dict[str, list[str]]:
     found: dict[str, list[str]] = {}
     for place, token in enumerate(source.tokens):
         function = source.function_of(place) if token.kind == "clause" and token.text.startswith("requires") else None
-        if function is None or not re.search(r"\bpub (?:const )?$", text[max(0, source.at(function).start - 16):source.at(function).start]):
+        if function is None or not re.search(r"\bpub (?:const )?$",
+                                             text[max(0, source.at(function).start - 16):source.at(function).start]):
             continue
         types = source.parameters(function)
         body = token.text[token.text.index("{") + 1:token.text.rindex("}")]

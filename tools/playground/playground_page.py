@@ -1,4 +1,5 @@
-"""The page that runs: what it has to know of docs/ and examples/, the module, and the views of tools/step, in one file."""
+"""The page that runs: what it has to know of docs/ and examples/, the module, and the views of tools/step, in one file.
+"""
 
 from __future__ import annotations
 
@@ -30,11 +31,14 @@ BEGINNING = ".frames 64\n.cpus 1\n.page 0x400000\n"      # without these lines a
 
 
 def main() -> None:
-    parser = argparse.ArgumentParser(prog="make_page", description="One HTML file that runs the program: the same text, not the same proof.")
+    parser = argparse.ArgumentParser(prog="make_page",
+                                     description="One HTML file that runs the program: the same text, not the same "
+                                                 "proof.")
     parser.add_argument("--to", type=Path, required=True, metavar="FILE", help="the page")
     made = parser.add_mutually_exclusive_group()
     made.add_argument("--module", type=Path, metavar="FILE", help="the module, where make_module has made it")
-    made.add_argument("--debian", type=Path, metavar="FOLDER", help="where Debian's rustc-web and what it needs were unpacked")
+    made.add_argument("--debian", type=Path, metavar="FOLDER",
+                      help="where Debian's rustc-web and what it needs were unpacked")
     given = parser.parse_args()
     calling.guarded("make_page", lambda: write(given.to, given.module, given.debian))
 
@@ -62,17 +66,22 @@ def facts() -> dict[str, Any]:
     """What the page has of the documents."""
     further: dict[bytes, tuple[int | None, ...]] = {b"boot": (script.WORD, script.WORD), b"call": ()}
     forms = {name.decode(): list(form) for name, form in {**script.FORMS, **further}.items()}
-    return {"statuses": list(meanings.statuses().values()), "calls": page.told_calls(), "vectors": meanings.vectors(), "forms": forms,
-            "causes": meanings.causes(), "assembly": of_assembly(), "ends": ends(), "examples": [*examples(), *exercises()], "most": MOST_EDITED,
+    return {"statuses": list(meanings.statuses().values()), "calls": page.told_calls(), "vectors": meanings.vectors(),
+            "forms": forms,
+            "causes": meanings.causes(), "assembly": of_assembly(), "ends": ends(),
+            "examples": [*examples(), *exercises()], "most": MOST_EDITED,
             "exercises": [{"name": told["exercise"], "kind": told["kind"]} for told in exercises()]}
 
 
 def of_assembly() -> dict[str, Any]:
     """What each word takes that begins a line of an assembly text, and the instructions by their opcodes."""
-    kinds = {opcode: (kind.name, instructions.FORMS[kind.form], kind.least, kind.most) for opcode, kind in instructions.KINDS.items()}
+    kinds = {opcode: (kind.name, instructions.FORMS[kind.form], kind.least, kind.most) for opcode,
+             kind in instructions.KINDS.items()}
     names = [*why.DIRECTIVES, *(name.encode() for name in instructions.OPCODES)]
-    limits = {**{name.decode(): told for name, told in why.LIMITS.items()}, **{name: f"{least} to {most}" for name, _, least, most in kinds.values()}}
-    return {"operands": {name.decode(): why.operands_of(name) for name in names}, "called": why.CALLED, "limits": limits, "ofAsmx": why.OF_ASMX,
+    limits = {**{name.decode(): told for name, told in why.LIMITS.items()},
+              **{name: f"{least} to {most}" for name, _, least, most in kinds.values()}}
+    return {"operands": {name.decode(): why.operands_of(name) for name in names}, "called": why.CALLED,
+            "limits": limits, "ofAsmx": why.OF_ASMX,
             "like": why.LIKE, "signs": why.SIGNS, "distances": assembly.DISTANCES, "kinds": kinds}
 
 
@@ -85,18 +94,23 @@ def ends() -> dict[str, str]:
 # What there is to choose from
 
 def examples() -> list[dict[str, str]]:
-    found = [path for path in sorted(EXAMPLES.rglob("*")) if path.suffix in (".pip", ".s") and "solutions" not in path.parts]
-    return [example(path) for path in sorted(found, key=lambda path: (group(path) != "Examples", group(path), path.name != FIRST))]
+    found = [path for path in sorted(EXAMPLES.rglob("*")) if path.suffix in (".pip", ".s")
+             and "solutions" not in path.parts]
+    return [example(path)
+            for path in sorted(found, key=lambda path: (group(path) != "Examples", group(path), path.name != FIRST))]
 
 
 def group(path: Path) -> str:
-    return path.parent.name.capitalize() if path.parent != EXAMPLES else "Examples" if path.suffix == ".pip" else "Programs"
+    if path.parent != EXAMPLES:
+        return path.parent.name.capitalize()
+    return "Examples" if path.suffix == ".pip" else "Programs"
 
 
 def example(path: Path) -> dict[str, str]:
     """A text, with the answers or the trace that are beside it; of a trace the words of its command, too."""
     is_script = path.suffix == ".pip"
-    made = {"name": path.name, "group": group(path), "kind": "script" if is_script else "assembly", "text": path.read_text(encoding="utf-8")}
+    made = {"name": path.name, "group": group(path), "kind": "script" if is_script else "assembly",
+            "text": path.read_text(encoding="utf-8")}
     beside = path.with_suffix(".out" if is_script else ".run")
     if not beside.exists():
         return made
@@ -112,7 +126,8 @@ def exercises() -> Iterator[dict[str, str]]:
         if solution is None:
             raise Failed(f"docs/EXERCISES.md has the exercise {name}, and examples/solutions has none of it")
         is_script = solution.suffix == ".pip"
-        yield {"name": "exercise " + name, "exercise": name, "group": "Exercises", "kind": "script" if is_script else "assembly",
+        yield {"name": "exercise " + name, "exercise": name, "group": "Exercises", "kind": "script"
+               if is_script else "assembly",
                "text": remarks(name, told.partition("\n")[2]) + ("" if is_script else BEGINNING)}
 
 

@@ -11,7 +11,8 @@ from collections.abc import Callable
 from typing import TypeVar
 
 from . import generate_audit, generate_every, generate_native, generate_programs
-from .model import HANDLERS, LAST_BLOCK, LINES, NOWHERE, PAGE, READ, ROOT, SAVED, SLOTS, WRITE, Node, Tree, World, pages_needed
+from .model import (HANDLERS, LAST_BLOCK, LINES, NOWHERE, PAGE, READ, ROOT, SAVED, SLOTS, WRITE, Node, Tree, World,
+                    pages_needed)
 from .script import LONGEST, Script
 
 ODD_ADDRESSES = (0, 1, 4, 0x00400001, 0x00401800, 0x00800000, 0x7FFFF000, 0xFFFFFFFF, 0xFFFFF004)
@@ -242,13 +243,15 @@ class Story:
         cpu, node = self.caller()
         if not self.tree.is_free(node, HANDLERS) and self.spared(cpu):
             return
-        self.give_blocks(cpu, HANDLERS, self.random.sample(VECTORS, self.random.randrange(1, 4)), (0x10000000, 0xFFC0A000))
+        self.give_blocks(cpu, HANDLERS, self.random.sample(VECTORS, self.random.randrange(1, 4)),
+                         (0x10000000, 0xFFC0A000))
         if self.chance(0.3):
             block = self.any_page(node) + self.pick(0, 1024, LAST_BLOCK, LAST_BLOCK + 4)
             self.say("st", cpu, HANDLERS + 4 * self.random.choice(VECTORS), self.pick(self.odd(block), block, 2, 0))
 
     def give_blocks(self, cpu: int, page: int, vectors: list[int], pcs: tuple[int, ...] = (0x00400100,)) -> None:
-        """Entries and blocks in a page that is, or is to be, a handler table; what runs there stores to it at `page`."""
+        """Entries and blocks in a page that is, or is to be, a handler table; what runs there stores to it at `page`.
+        """
         for vector in vectors:
             offset = BLOCKS + BLOCK * self.random.randrange((LAST_BLOCK - BLOCKS) // BLOCK + 1)
             if self.chance(0.1):

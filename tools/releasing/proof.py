@@ -44,8 +44,8 @@ What is trusted
 UNPROVED_TEXT = """pip {version}, unproved
 
 Nothing is proved of the program {program}: cargo built it of the same text as the sources that are beside it.
-No gate was run for this release. What the gate proves of the sources is in docs/PROVED.md, and .ci/run runs it with the kit;
-{page} and rust/ are the same text, and not the same proof.
+No gate was run for this release. What the gate proves of the sources is in docs/PROVED.md, and .ci/run runs it with
+the kit; {page} and rust/ are the same text, and not the same proof.
 
 commit    {commit}
 files     {tree} (git's hash of the commit's tree)
@@ -75,13 +75,16 @@ def sums_of(found: Checkout, program: str, page_sum: str) -> str:
 
 def unproved(version: str, found: Checkout, page_sum: str) -> str:
     """That of a release for which no gate was run."""
-    told = UNPROVED_TEXT.format(version=version, program=repository.UNPROVED, page=PAGE, commit=found.commit(), tree=found.tree())
+    told = UNPROVED_TEXT.format(version=version, program=repository.UNPROVED, page=PAGE, commit=found.commit(),
+                                tree=found.tree())
     return told + sums_of(found, repository.UNPROVED, page_sum)
 
 
 def text(version: str, record: Record, found: Checkout, is_again: bool, page_sum: str) -> str:
-    told = TEXT.format(version=version, program=PROGRAM, page=PAGE, commit=record.commit, tree=record.tree, kit=record.kit,
-                       begun=record.begun, ended=record.ended, closing="\n".join(f"          {line}" for line in record.closing),
+    told = TEXT.format(version=version, program=PROGRAM, page=PAGE, commit=record.commit, tree=record.tree,
+                       kit=record.kit,
+                       begun=record.begun, ended=record.ended,
+                       closing="\n".join(f"          {line}" for line in record.closing),
                        again=AGAIN[is_again], trusted=trusted(found))
     return told + sums_of(found, PROGRAM, page_sum)
 

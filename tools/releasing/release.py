@@ -32,11 +32,17 @@ def main() -> None:
         prog="release", description="A folder and a tarball for a person without the kit and without cargo.",
         epilog="It refuses a checkout that isn't clean, and one on which 'release --gate' hasn't passed.")
     parser.add_argument("version", nargs="?", metavar="VERSION", help="as 1.2, or 1.2-rc1")
-    parser.add_argument("--gate", action="store_true", help="run .ci/run, and keep a record of it in out/; its status is the gate's")
+    parser.add_argument("--gate", action="store_true",
+                        help="run .ci/run, and keep a record of it in out/; its status is the gate's")
     parser.add_argument("--unproved", action="store_true",
-                        help="without a gate, of the program that ./pip --unproved has built: the folder, PROOF and ./pip say so")
-    parser.add_argument("--to", type=Path, metavar="FOLDER", help="where the folder and the tarball go, outside the checkout; without it pip-release beside it")
-    parser.add_argument("--again", type=Path, metavar="CHECKOUT", help="another checkout of the commit, in which ./pip has built, too: the programs have to be the same")
+                        help="without a gate, of the program that ./pip --unproved has built: the folder, PROOF and "
+                             "./pip say so")
+    parser.add_argument("--to", type=Path, metavar="FOLDER",
+                        help="where the folder and the tarball go, outside the checkout; without it pip-release beside "
+                             "it")
+    parser.add_argument("--again", type=Path, metavar="CHECKOUT",
+                        help="another checkout of the commit, in which ./pip has built, too: the programs have to be "
+                             "the same")
     page = parser.add_mutually_exclusive_group()
     page.add_argument("--module", type=Path, metavar="FILE", help="the page's module, where make_module has made it")
     page.add_argument("--debian", type=Path, metavar="FOLDER",
@@ -71,7 +77,8 @@ def place_of(given: argparse.Namespace, found: Checkout) -> Path:
 
 
 def made(given: argparse.Namespace, found: Checkout, to: Path) -> Path:
-    """Makes all in a folder of its own, and puts it where it belongs only when it is whole. Answers the tarball's path."""
+    """Makes all in a folder of its own, and puts it where it belongs only when it is whole. Answers the tarball's path.
+    """
     name = f"pip-{given.version}{'-unproved' if given.unproved else ''}"
     folder, tarball = to / name, to / f"{name}.tar.gz"
     for path in (folder, tarball):
@@ -114,7 +121,8 @@ def need_same(found: Checkout, other: Checkout) -> None:
 # The parts
 
 def copied(found: Checkout, top: Path, program: Path) -> None:
-    """What is committed, and the program with its mark, so that ./pip runs it. Of one that is unproved ./pip says so."""
+    """What is committed, and the program with its mark, so that ./pip runs it. Of one that is unproved ./pip says so.
+    """
     for name in found.files():
         target = top / name
         target.parent.mkdir(parents=True, exist_ok=True)

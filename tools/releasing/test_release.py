@@ -31,7 +31,8 @@ exit {status}
 TOOL = "import os, sys\nto = sys.argv[sys.argv.index('--to') + 1]\n"
 FILES = {
     ".gitignore": "out/\n",
-    "pip": "#!/bin/sh\nhere=$(realpath \"$(dirname \"$0\")\")/out/rust/target/release/pip\n[ ! -e \"$here\" ] || echo \"unproved $here\"\n",
+    "pip": "#!/bin/sh\nhere=$(realpath \"$(dirname \"$0\")\")/out/rust/target/release/pip\n"
+           "[ ! -e \"$here\" ] || echo \"unproved $here\"\n",
     ".ci/run": GATE.format(more="", status=0),
     "README.md": "# A title\n\nSee [what is proved](docs/PROVED.md#trusted).\n",
     "docs/PROVED.md": "# Proved\n\n## Trusted\n\n- The kit.\n\n## More\n\nIt.\n",
@@ -76,10 +77,12 @@ class Releases(unittest.TestCase):
         with contextlib.redirect_stdout(io.TextIOWrapper(io.BytesIO())):
             return gate.run(found or self.found)
 
-    def made(self, version: str = "1.2", again: Path | None = None, to: str | None = "to", unproved: bool = False) -> Path:
+    def made(self, version: str = "1.2", again: Path | None = None, to: str | None = "to",
+             unproved: bool = False) -> Path:
         """Makes a release, and answers its folder; where `to` is None it goes beside the checkout."""
         place = Path(self.place.name)
-        given = argparse.Namespace(version=version, gate=False, unproved=unproved, again=again, module=None, debian=None, to=None if to is None else place / to)
+        given = argparse.Namespace(version=version, gate=False, unproved=unproved, again=again, module=None,
+                                   debian=None, to=None if to is None else place / to)
         with contextlib.redirect_stdout(io.StringIO()):
             release.work(given, self.found)
         return place / (release.BESIDE if to is None else to) / f"pip-{version}{'-unproved' if unproved else ''}"
@@ -120,9 +123,11 @@ class Releases(unittest.TestCase):
         self.assertLess({"UNPROVED", "PROOF", "out/rust/target/release/pip", "out/sources-seen"}, parts)
         self.assertNotIn("crates/pip/out/pip", parts)
         told = (made / "PROOF").read_text()
-        self.assertTrue(told.startswith("pip 1.2, unproved\n\nNothing is proved of the program out/rust/target/release/pip"), told)
+        self.assertTrue(told.startswith("pip 1.2, unproved\n\nNothing is proved of the program "
+                                        "out/rust/target/release/pip"), told)
         self.assertNotIn("passed", told)
-        sums = subprocess.run("grep -E '^[0-9a-f]{64}  ' PROOF | sha256sum --check --quiet", shell=True, cwd=made, stdout=subprocess.PIPE)
+        sums = subprocess.run("grep -E '^[0-9a-f]{64}  ' PROOF | sha256sum --check --quiet", shell=True, cwd=made,
+                              stdout=subprocess.PIPE)
         self.assertEqual((sums.returncode, sums.stdout), (0, b""))
 
     def test_is_the_same_each_time(self) -> None:
