@@ -1,4 +1,4 @@
-# The words of its states differ in two registers and a third only far apart, and by little: a hash that adds products of them collides.
+# Chosen so that a hash whose products aren't folded takes its states to few places. `every 200000` takes as long as of spread.asmx.
 .frames 16
 .cpus 1
 .page 0x400000

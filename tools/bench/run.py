@@ -57,8 +57,8 @@ def show(given: argparse.Namespace) -> None:
 
 
 def main() -> None:
-    parser = argparse.ArgumentParser(description=__doc__, formatter_class=argparse.RawDescriptionHelpFormatter,
-                                     usage=argparse.SUPPRESS)
+    parser = argparse.ArgumentParser(description=__doc__, usage=argparse.SUPPRESS,
+                                     formatter_class=argparse.RawDescriptionHelpFormatter)
     parser.add_argument("--program", default=PROGRAM, metavar="PATH", help="the program that is counted")
     other = parser.add_mutually_exclusive_group()
     other.add_argument("--plain", action="store_true", help="beside the plain program")

@@ -18,8 +18,8 @@ SCRIPTS = {
     "`poll 0`": "a line 'poll 0'",
     "a remark of ten bytes": "a line '# a remark'",
     "`call 0 7`, a refused call without arguments": "a line 'call 0 7'",
-    "`call 0 0` with five pages, an accepted createPartition of the root": "a line with an accepted createPartition of "
-                                                                           "the root",
+    "`call 0 0` with five pages, an accepted createPartition of the root":
+        "a line with an accepted createPartition of the root",
     "the same by a child of the root": "the line with which a child makes a partition",
     "`call 0 1` of the root, which deletes a child of five pages": "the line that deletes, bare",
     "the same with one table and 1,000 rows in it": "the line that deletes, rows1000",

@@ -4,6 +4,7 @@ from __future__ import annotations
 
 import os
 import statistics
+import struct
 import subprocess
 import tempfile
 from collections.abc import Callable
@@ -56,19 +57,32 @@ def macros(name: str) -> Input:
     return image
 
 
-def full_image(program: Counted) -> bytes:
-    """An image of all the pages that there are, each word an instruction."""
-    pages = [0x400000 + 4096 * k for k in range(4074)] + [0xFFFFF000]
-    text = "".join(f".page {page:#x}\n" + "addi r10 r11 -12\n" * 1024 for page in pages[:900])
-    first = program.written((".frames 4096\n.cpus 1\n" + text).encode(), "asm")
-    words = first[28:28 + 4096]
-    head = first[:20] + len(pages).to_bytes(4, "little")
-    return head + b"".join((page // 4096).to_bytes(4, "little") + words for page in pages)
+def full_image(line: str) -> Input:
+    """An image of all the pages that there are, each word that of a line."""
+    def image(program: Counted) -> bytes:
+        first = program.written((HEAD + f"{line}\n" * 1024).encode(), "asm")
+        pages = [0x400 + k for k in range(4074)] + [0xFFFFF]
+        head = first[:8] + struct.pack("<4I", 4096, 1, 0, len(pages))
+        return head + b"".join(struct.pack("<I", page) + first[28:] for page in pages)
+    return image
 
 
 def core_of_all(program: Counted) -> bytes:
     """The text of a machine of 4096 frames that has booted."""
     return program.written(program.written(b".frames 4096\n.cpus 1\n", "asm"), "core", "0", "1")
+
+
+def remarks(program: Counted) -> bytes:
+    return b".frames 16\n.cpus 1\n" + b"#\n" * 8388000
+
+
+def many_lines(program: Counted) -> bytes:
+    pages = (f".page {0x401000 + 4096 * k:#x}\n" + "li r1 7\n" * 1000 for k in range(400))
+    return (HEAD.replace(".frames 64", ".frames 4096") + "".join(pages)).encode()
+
+
+def nothing(program: Counted) -> bytes:
+    return b""
 
 
 TIMES = [
@@ -77,11 +91,9 @@ TIMES = [
     Timed("of seven loads and stores and a branch", ("run", "2000000", "1"), assembled(ACCESSES)),
     Timed("100,000 pairs of createPartition and deletePartition", ("script",),
           lambda program: script(BOOT, f"call 0 0 {FIVE}\ncall 0 1 0x401000", 100000 // PART)),
-    Timed("two million lines `li` assembled", ("asm",),
-          lambda program: (HEAD + "".join(f".page {0x401000 + 4096 * k:#x}\n" + "li r1 7\n" * 1000 for k in range(400))
-                           ).replace(".frames 64", ".frames 4096").encode()),
+    Timed("two million lines `li` assembled", ("asm",), many_lines),
     Timed("five audits of 4096 frames, whole", ("audit", "4096"), core_of_all),
-    Timed("a million events of `soak`", ("soak", str(1000000 // PART), "1"), lambda program: b""),
+    Timed("a million events of `soak`", ("soak", str(1000000 // PART), "1"), nothing),
     Timed("a million lines `ld 0 0x400000`", ("script",),
           lambda program: script(BOOT, "ld 0 0x400000", 1000000 // PART)),
 ]
@@ -89,30 +101,28 @@ CHAIN = ("chain", "111", "16777216")
 WORST = [
     Timed("`names prefixes 100000`, names that differ only in their last letters", ("asm",),
           generated("names", "prefixes", "100000")),
-    Timed("16 MB of remarks, where the pass over all bytes costs most by comparison", ("asm",),
-          lambda program: b".frames 16\n.cpus 1\n" + b"#\n" * 8388000),
-    Timed("`chain 111 16777216 create`: the lowest of 111 partitions makes and ends a child, 168,000 times",
-          ("script",),
+    Timed("16 MB of remarks, where the pass over all bytes costs most by comparison", ("asm",), remarks),
+    Timed("`chain 111 16777216 create`: the lowest of 111 partitions makes and ends a child, 168,000 times", ("script",),
           generated(*CHAIN, "create")),
     Timed("`chain 111 16777216 prepare`: it gives a child tables and takes them back", ("script",),
           generated(*CHAIN, "prepare")),
-    Timed("`build 240`: the events by which `build` makes a child with 240 wants, each in a directory of its own, 500 "
-          "times", ("script",),
-          generated("build", "240", "500")),
+    Timed("`build 240 500`: the events by which `build` makes a child with 240 wants, each in a directory of its own, "
+          "500 times", ("script",), generated("build", "240", "500")),
     Timed("`audit`: 3,000 descriptors that share 1,024 tables, with two alternating sets of first shadows",
-          ("audit", "4096"),
-          generated("audit")),
+          ("audit", "4096"), generated("audit")),
     Timed("`calls`: an image whose root makes and ends a child in a loop", ("run", "10000000", "1"), image_of("calls")),
     Timed("`faults`: an image whose children fault at each instruction", ("native", "8", "10000000"),
           image_of("faults")),
-    Timed("the same: slots without turns, so that each step is a switch", ("slots", "8", "0", "625000"),
+    Timed("the same image: slots without turns, so that each step is a switch", ("slots", "8", "0", "625000"),
           image_of("faults")),
-    Timed("it reads nothing", ("soak", "1000000", "1"), lambda program: b""),
-    Timed("an image of 16 MB without a word of 0", ("dis",), full_image),
-    Timed("the same image", ("tree", "0", "1"), full_image),
-    Timed("the same image", ("core", "0", "1"), full_image),
-    Timed("`fill`: an image that stores a word in each page after the other", ("every", "20000"), image_of("fill")),
-    Timed("`bench/collide.asmx`", ("every", "200000"), macros("collide.asmx")),
+    Timed("it reads nothing", ("soak", "1000000", "1"), nothing),
+    Timed("an image of 16 MB without a word of 0, all of them instructions", ("dis",), full_image("addi r10 r11 -12")),
+    Timed("the same with words that are none", ("dis",), full_image(".word 0xfedcba98")),
+    Timed("the first of these images", ("tree", "0", "1"), full_image("addi r10 r11 -12")),
+    Timed("the same", ("core", "0", "1"), full_image("addi r10 r11 -12")),
+    Timed("`fill`: an image that stores a word in one place after the other", ("every", "20000"), image_of("fill")),
+    Timed("`bench/collide.asmx`, chosen against hashes without folded products", ("every", "200000"),
+          macros("collide.asmx")),
     Timed("`bench/spread.asmx`, the same with other registers", ("every", "200000"), macros("spread.asmx")),
     Timed("`examples/monitor.s`", ("every", "1000000"), example("examples", "monitor.s")),
     Timed("`examples/retry.s`, on two processors", ("every", "1000000"), example("examples", "retry.s")),
@@ -129,7 +139,7 @@ def used(program: Counted, text: bytes, words: tuple[str, ...]) -> float:
         process.returncode = os.waitstatus_to_exitcode(status)
     if process.returncode not in (0, 9):
         raise Failed(f"{' '.join(words)} ends with status {process.returncode}")
-    return float(usage.ru_utime + usage.ru_stime)
+    return usage.ru_utime + usage.ru_stime
 
 
 def row_of_times(row: Timed, ours: Counted, plain: Counted) -> str:
