@@ -1,30 +1,30 @@
 """Writes inputs that cost a command most, as far as such were found.
 
-    bench/worst.py names KIND COUNT         an assembly text of that many labels
-    bench/worst.py chain DEPTH BYTES KIND   a script that works at the end of a chain of partitions
-    bench/worst.py audit                    a text of 4096 frames
-    bench/worst.py build WANTS COUNT        a script: a child is built with that many wants and ended, again and again
-    bench/worst.py calls                    an assembly text, for `run`: its root makes and ends a child in a loop
-    bench/worst.py faults                   an assembly text, for `native` and `slots`: each child faults at each instruction
-    bench/worst.py fill                     an assembly text, for `every`: it stores a word in one place after the other
+    bench/worst.py names KIND COUNT         an assembly text of that many labels bench/worst.py chain DEPTH BYTES KIND
+    a script that works at the end of a chain of partitions bench/worst.py audit                    a text of 4096
+    frames bench/worst.py build WANTS COUNT        a script: a child is built with that many wants and ended, again and
+    again bench/worst.py calls                    an assembly text, for `run`: its root makes and ends a child in a loop
+    bench/worst.py faults                   an assembly text, for `native` and `slots`: each child faults at each
+    instruction bench/worst.py fill                     an assembly text, for `every`: it stores a word in one place
+    after the other
 
-KIND of names: `numbers` are ordinary names and `drawn` are 32 random letters; `prefixes` begin with the same 26 letters; `chosen` would fall
-into one part in 64 of the assembler's table, were its hash to begin with 0. KIND of a chain: `create` makes and ends a child again and again,
-`prepare` gives a child tables and takes them back. BYTES is the size of the script, at most. WANTS, at most 990, are
-each in a directory of its own.
+KIND of names: `numbers` are ordinary names and `drawn` are 32 random letters; `prefixes` begin with the same 26
+letters; `chosen` would fall into one part in 64 of the assembler's table, were its hash to begin with 0. KIND of a
+chain: `create` makes and ends a child again and again, `prepare` gives a child tables and takes them back. BYTES is the
+size of the script, at most. WANTS, at most 990, are each in a directory of its own.
 """
 
 import functools
 import itertools
 import random
 import sys
-from typing import Callable, Dict, Iterator, Tuple
+from collections.abc import Callable, Iterator
 
 from . import deletions
 
 LETTERS = "abcdefghijklmnopqrstuvwxyzABCDEFGHIJKLMNOPQRSTUVWXYZ_"
 FACTOR = 0x9E3779B97F4A7C15
-Memory = Dict[int, Dict[int, int]]
+Memory = dict[int, dict[int, int]]
 
 
 # ---- names
@@ -49,7 +49,7 @@ def chosen(count: int) -> Iterator[str]:
     return itertools.islice(found, count)
 
 
-def five_letters() -> Iterator[Tuple[str, int]]:
+def five_letters() -> Iterator[tuple[str, int]]:
     """All names of five letters with their hashes, which begin with 0."""
     for letters in itertools.product(LETTERS, repeat=4):
         front, hashed = "".join(letters), functools.reduce(mixed, letters, 0)
@@ -62,7 +62,7 @@ def mixed(hashed: int, letter: str) -> int:
 
 
 def labels(kind: str, count: str) -> Iterator[str]:
-    names: Dict[str, Callable[[int], Iterator[str]]] = {
+    names: dict[str, Callable[[int], Iterator[str]]] = {
         "numbers": numbers, "drawn": drawn, "prefixes": prefixes, "chosen": chosen}
     yield from (".frames 16", ".cpus 1", ".page 0x400000")
     for name in names[kind](int(count)):
@@ -95,7 +95,9 @@ def chain(depth: str, most: str, kind: str) -> Iterator[str]:
 # ---- children that are built
 
 def built(wants: str, count: str) -> Iterator[str]:
-    """The events of `build` of pip_parent: of each want stores that chain the pages of its table, a prepare and an addVAddr."""
+    """The events of `build` of pip_parent: of each want stores that chain the pages of its table, a prepare and an
+    addVAddr.
+    """
     pages = iter(0x400000 + 4096 * k for k in range(4075))
     base = [next(pages) for _ in range(5)]
     lines = [deletions.call(0, *base)]
@@ -158,7 +160,8 @@ def slow_memory() -> Memory:
     """A root that tells of 3000 children. They share their 1024 tables, but have two sets of first shadows by turns."""
     tables = range(1000, 2024)
     children = [*range(60, 1000), *range(2024, 4084)]
-    memory: Memory = {2: {i: table * 4096 + 1 for i, table in enumerate(tables)}, 51: {i: 0x400001 for i in range(1024)}}
+    memory: Memory = {2: {i: table * 4096 + 1 for i, table in enumerate(tables)},
+                      51: {i: 0x400001 for i in range(1024)}}
     for k, child in enumerate(children):
         memory.setdefault(tables[k // 1024], {})[k % 1024] = child * 4096 + 0x1F
     put_list(memory, 10, tables, lambda k: 51 if k < 3 else 52)
@@ -194,9 +197,10 @@ def frames_text(memory: Memory) -> Iterator[str]:
     yield "end 0"
 
 
-KINDS: Dict[str, Callable[..., Iterator[str]]] = {
+KINDS: dict[str, Callable[..., Iterator[str]]] = {
     "names": labels, "chain": chain, "build": built, "audit": lambda: frames_text(slow_memory()),
-    "calls": lambda: iter(CALLS.split("\n")), "faults": lambda: iter(FAULTS.split("\n")), "fill": lambda: iter(FILL.split("\n"))}
+    "calls": lambda: iter(CALLS.split("\n")), "faults": lambda: iter(FAULTS.split("\n")),
+    "fill": lambda: iter(FILL.split("\n"))}
 
 
 def lines(kind: str, *words: str) -> Iterator[str]:

@@ -1,4 +1,6 @@
-"""The tools for authors of monitors: tools/asmx, tools/why, tools/trace, tools/explore and tools/every, beside the program."""
+"""The tools for authors of monitors: tools/asmx, tools/why, tools/trace, tools/explore and tools/every, beside the
+program.
+"""
 
 from __future__ import annotations
 
@@ -59,16 +61,21 @@ def preprocessor(program: str) -> None:
         with open(source, "a") as file:
             file.write("li r1 70000   # too large\n")
         last = SOURCE.count("\n") + 1
-        ends("tools/asmx", tool(program, "asmx", source, "--image", built), 2, f"source.s:{last}: range, in 'li r1 70000': '70000' is outside")
+        ends("tools/asmx", tool(program, "asmx", source, "--image", built), 2,
+             f"source.s:{last}: range, in 'li r1 70000': '70000' is outside")
         with open(source, "a") as file:
             file.write("out r1\nlb r1 r2 0\n")
         told = tool(program, "asmx", source, "--image", built)
-        ends("tools/asmx of two wrong lines", told, 2, f"source.s:{last}: range", f"source.s:{last + 2}: 'lb' is no instruction; did you mean ldb?")
-        ends("tools/asmx to a full device", tool(program, "asmx", programs()[0], "--image", "/dev/full"), 2, "/dev/full: No space left")
+        ends("tools/asmx of two wrong lines", told, 2, f"source.s:{last}: range",
+             f"source.s:{last + 2}: 'lb' is no instruction; did you mean ldb?")
+        ends("tools/asmx to a full device", tool(program, "asmx", programs()[0], "--image", "/dev/full"), 2,
+             "/dev/full: No space left")
         for words, due in ((("/nonexistent",), "can't be read"), ((place,), "can't be read"),
-                            ((programs()[0], "--line", "0"), "lines"), ((source, "--image", "/nonexistent/x"), "range")):
+                            ((programs()[0], "--line", "0"), "lines"),
+                           ((source, "--image", "/nonexistent/x"), "range")):
             ends(f"tools/asmx {' '.join(words)}", tool(program, "asmx", *words), 2, due)
-        for text, due in ((b"\xff\x00\n.page \xfe\n", "- is no text: it has the byte 0x00 at offset 1"), (b"PIPIMG2\n", "- is an image, and no text"),
+        for text, due in ((b"\xff\x00\n.page \xfe\n", "- is no text: it has the byte 0x00 at offset 1"),
+                          (b"PIPIMG2\n", "- is an image, and no text"),
                           (b"\xff\n", "-:1: ")):
             ends("tools/asmx of bytes", tool(program, "asmx", "-", text=text), 2, due)
 
@@ -143,13 +150,15 @@ def reasons(program: str) -> None:
     ends("tools/why", tool(program, "why", good), 0, "is a good script")
     ends("tools/why", tool(program, "why", "/nonexistent"), 2, "can't be read")
     ends("tools/why", tool(program, "why", "-", text=b"\xff\xfe"), 1, "rule: ")
-    ends("tools/why of bytes", tool(program, "why", "-", text=b"a\n\x7f"), 1, "- is no text: it has the byte 0x7f at offset 2")
+    ends("tools/why of bytes", tool(program, "why", "-", text=b"a\n\x7f"), 1,
+         "- is no text: it has the byte 0x7f at offset 2")
     told = tool(program, "why", "-", text=b"boot 32 1\nld 0 00\nprint\nld 0 0\ncall 0\n")
     ends("tools/why of several", told, 1, "-:2:6: ", "-:3:1: ", "-:5:7: ")
     ends("tools/why of nothing", tool(program, "why", "-"), 1, "- is empty")
     ends("tools/why", tool(program, "why", "-", "--as", "asm"), 1, "the text ends before")
     ends("tools/why of an image", tool(program, "why", "-", text=b"PIPIMG2\n"), 1, "is an image, and no text")
-    ends("tools/why of a source", tool(program, "why", "-", text=b".frames 16\n.cpus 1\n.equ A 3\n"), 1, "a source of tools/asmx")
+    ends("tools/why of a source", tool(program, "why", "-", text=b".frames 16\n.cpus 1\n.equ A 3\n"), 1,
+         "a source of tools/asmx")
 
 
 def traces(program: str) -> None:
@@ -168,7 +177,8 @@ def traces(program: str) -> None:
         ends("tools/trace", tool(program, "trace", built, "15", "1", "--source", sum_of, "--from", "2"), 0,
              "next+1", "out r2", "r2  0x0000000a")
         right = tool(program, "trace", built, "15", "1", "--source", sum_of)[1]
-        ends("tools/trace by another source", tool(program, "trace", built, "15", "1", "--source", programs()[0]), 0, "isn't the source of this image")
+        ends("tools/trace by another source", tool(program, "trace", built, "15", "1", "--source", programs()[0]), 0,
+             "isn't the source of this image")
         if right:
             raise Differs(f"tools/trace by its own source: {right}")
         liar = os.path.join(place, "liar")
@@ -183,7 +193,8 @@ def traces(program: str) -> None:
 
 
 def timers(program: str, place: str) -> None:
-    """A monitor that loses a request by its timer alone: its groups by the plan, with the step, and the image of one."""
+    """A monitor that loses a request by its timer alone: its groups by the plan, with the step, and the image of one.
+    """
     source, lossy, built = (os.path.join(place, name) for name in ("lossy.s", "lossy.img", "one.img"))
     text = examples.contents(os.path.join(REPOSITORY, "examples", "timer_and_services.s"))
     with open(source, "wb") as file:
@@ -200,13 +211,17 @@ def timers(program: str, place: str) -> None:
         raise Differs(f"tools/explore --line: no group has the step of its first trouble: {lines}")
     first, period = faulty.split(" with .line 0 ")[1].split(" ")[:2]
     step, what = faulty.split("(step ")[1].split(")")[0].split(": ")
-    ends("tools/explore --write", tool(program, "explore", lossy, "900", "1", "1", "--line", "0", first, period, "--write", built), 0, f"(step {step}: ")
-    ends("tools/trace --from of the first trouble", tool(program, "trace", built, "900", "1", "--from", step, "--source", source), 0, f"{step} 0 ", what)
+    ends("tools/explore --write",
+         tool(program, "explore", lossy, "900", "1", "1", "--line", "0", first, period, "--write", built), 0,
+         f"(step {step}: ")
+    ends("tools/trace --from of the first trouble",
+         tool(program, "trace", built, "900", "1", "--from", step, "--source", source), 0, f"{step} 0 ", what)
     with open(os.path.join(place, "timers"), "w") as file:
         file.write(told[0])
     if (merged := tool(program, "explore", "--merge", os.path.join(place, "timers"))[0]) != told[0]:
         raise Differs(f"tools/explore --merge of timers: {merged!r}, where {told[0]!r} is due")
-    for words, due in ((("--line", "16", "1", "1"), "L is a number"), (("--line", "0", "9..1", "1"), "the end of FIRST"),
+    for words, due in ((("--line", "16", "1", "1"), "L is a number"),
+                       (("--line", "0", "9..1", "1"), "the end of FIRST"),
                        (("--write", built), "--write is for one seed")):
         ends(f"tools/explore {' '.join(words)}", tool(program, "explore", lossy, "9", "1", "1", *words), 2, due)
 
@@ -246,7 +261,8 @@ def interleavings(program: str) -> None:
     ends("tools/every", told, 0, "call 10 reply 0 0x00000000: 0    # vcli: Ok", "closed    # nothing else can come")
     lost = next(line.split()[0] for line in told[0].splitlines() if " out 0x00000002: " in line)
     early = next(line.split()[0] for line in told[0].splitlines() if " switch 1 1 32: " in line)
-    ends("tools/every --page", tool(program, "every", *all_of_race, "--page", early), 0, "<title>race.asmx: switch 1 1 32")
+    ends("tools/every --page", tool(program, "every", *all_of_race, "--page", early), 0,
+         "<title>race.asmx: switch 1 1 32")
     told = tool(program, "every", guests, "2000", "--trouble")
     ends("tools/every --trouble", told, 0, "Running", "by 905 choices")
     if len(told[0].splitlines()) != 3:
@@ -280,10 +296,12 @@ def ways_of_an_image(program: str, race: str, lost: str, place: str) -> None:
 
 def refuses_searches(program: str, built: str) -> None:
     for words, due in (((built, "0"), "STATES is a number"), ((built, "1", "x"), "FROM is a number"),
-                       ((built, "1", "0", "0"), "DEPTH is a number"), ((built, "10000", "--trace", "99"), "N is a number"),
+                       ((built, "1", "0", "0"), "DEPTH is a number"),
+                       ((built, "10000", "--trace", "99"), "N is a number"),
                        ((built, "1", "--script", "1"), "no line can come"), (("/nonexistent", "1"), "can't be read"),
                        (("-", "1"), "- is empty"),
                        (("examples/hostile.s", "1", "--source", built), "--source is for an image")):
         ends(f"tools/every {' '.join(words)}", tool(program, "every", *words), 2, due)
     ends("tools/every of no image", tool(program, "every", "-", "1", text=b"PIPIMG1\n"), 2, "bad image oldversion 0")
-    ends("tools/every of a source without a name", tool(program, "every", "-", "1", text=b".frames 16\n"), 2, "a source is given by its name")
+    ends("tools/every of a source without a name", tool(program, "every", "-", "1", text=b".frames 16\n"), 2,
+         "a source is given by its name")

@@ -288,7 +288,8 @@ class Changes(WithStates):
             other = os.path.join(folder, "other")
             with open(other, "w", encoding="utf-8") as file:
                 program = calling.direct(PROGRAM)
-                file.write(f'#!/bin/sh\nif [ "$1" = core ]; then "{program}" "$@" | sed "s/^0000: 0/0000: 1/"; else exec "{program}" "$@"; fi\n')
+                file.write(f'#!/bin/sh\nif [ "$1" = core ]; then "{program}" "$@" | sed "s/^0000: 0/0000: 1/"; else '
+                           f'exec "{program}" "$@"; fi\n')
             os.chmod(other, 0o755)
             for program, due in ((PROGRAM, ""), (other, "core 100 1 of the program differs from what is shown here")):
                 debugger = Debugger(program, self.states, MONITOR)

@@ -117,7 +117,8 @@ class Session(unittest.TestCase):
                     file.write(text)
             client.opened(part, "here: li r1 1   # changed in the editor\n")
             wrongs = client.opened(main,
-                                   ".equ N 4\n.frames 16\n.cpus 1\n.page 0x400000\n.include part.asmx\n la r2 here\n j gone\n li r1 N\n")
+                                   ".equ N 4\n.frames 16\n.cpus 1\n.page 0x400000\n.include part.asmx\n la r2 here\n"
+                                   " j gone\n li r1 N\n")
             self.assertEqual([(one["range"]["start"]["line"], one["message"]) for one in wrongs],
                              [(6, "no line defines the name gone")])
             found = client.at("definition", main, 5, 8)

@@ -427,7 +427,8 @@ def loop(terminal: Terminal) -> None:
 
 def main() -> None:
     parser = argparse.ArgumentParser(
-        description="A debugger of runs, in a terminal. The states are of the same text as the program, not of the same "
+        description="A debugger of runs, in a terminal. The states are of the same text as the program, not of the "
+                    "same "
                     "proof; where the program is proved, each stop compares them.")
     parser.add_argument("file", metavar="FILE", help="an image, or an assembly text or source of tools/asmx")
     parser.add_argument("seed", metavar="SEED", nargs="?", default="1")
