@@ -140,7 +140,7 @@ def used(program: Counted, text: bytes, words: tuple[str, ...]) -> float:
         process.returncode = os.waitstatus_to_exitcode(status)
     if process.returncode not in (0, 9):
         raise Failed(f"{' '.join(words)} ends with status {process.returncode}")
-    return usage.ru_utime + usage.ru_stime
+    return float(usage.ru_utime + usage.ru_stime)
 
 
 def row_of_times(row: Timed, ours: Counted, plain: Counted) -> str:
