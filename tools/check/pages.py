@@ -142,7 +142,8 @@ def hostile(program: str) -> None:
     """Input that is no script or image, or means harm to the page."""
     refused = ((("-",), b"", "no line with an answer"), (("-",), b"# only a remark\n", "no line with an answer"),
                (("-",), b"ld 0 0\n", "bad line 1"), (("-",), b"\xff\xfe\n", "bad line 1"),
-               (("-",), b"PIPIMG2\n", "is an image"), (("-", "10", "1"), b"no image", "bad image"),
+               (("-",), b"PIPIMG2\n", "is an image"), (("-", "10", "1"), b"PIPIMG2\x00", "bad image"),
+               (("-", "10", "1"), b"no image", "a source is given by its name"),
                (("-", "x", "1"), b"", "STEPS is a number"), (("-", "10", "0"), b"", "SEED is a number"),
                (("-", "99999999999", "1"), b"", "STEPS is a number"), (("/nonexistent",), b"", "can't be read"),
                (("-",), b"boot 16 1\n" + b"raise 1\n" * 3001, "a page has at most"), (("-", "10"), b"", "both needed"))
