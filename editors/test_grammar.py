@@ -6,6 +6,8 @@ import glob
 import json
 import os
 import re
+import shutil
+import subprocess
 import unittest
 from typing import Any
 
@@ -32,7 +34,8 @@ PATTERNS, OF_ASMX = patterns(GRAMMAR), patterns(grammar("asmx.tmLanguage.json"))
 
 
 def tokens(line: str, patterns: list[tuple[str, re.Pattern[str]]] = PATTERNS) -> list[tuple[str | None, str]]:
-    """The parts of a line with their scopes, as an editor finds them: the first match, and of two the earlier pattern."""
+    """The parts of a line with their scopes, as an editor finds them: the first match, and of two the earlier pattern.
+    """
     at = 0
     found: list[tuple[str | None, str]] = []
     while at < len(line):
@@ -72,7 +75,8 @@ def bad_line(path: str) -> int | None:
 
 class TestOfAsmx(unittest.TestCase):
     def test_every_source_of_the_repository_is_known(self) -> None:
-        paths = [path for ending in ("asmx", "s") for path in glob.glob(os.path.join(REPOSITORY, "**", "*." + ending), recursive=True)]
+        paths = [path for ending in ("asmx", "s")
+                 for path in glob.glob(os.path.join(REPOSITORY, "**", "*." + ending), recursive=True)]
         self.assertGreater(len([path for path in paths if path.endswith(".asmx")]), 4)
         for path in paths:
             for number, line in enumerate(read(path).split("\n"), 1):
@@ -81,11 +85,14 @@ class TestOfAsmx(unittest.TestCase):
 
     def test_what_a_source_adds(self) -> None:
         scopes = [[(name or "").rsplit(".", 1)[0] for name, _ in tokens(line, OF_ASMX)] for line in
-                  (".equ A B+8*4096", "  la r1 A+4   # where", "j next", ".page A at 0xffc00000", ".handler 63 0x400 child r6=0x10", "a: out r1", ".include ../x.s")]
+                  (".equ A B+8*4096", "  la r1 A+4   # where", "j next", ".page A at 0xffc00000",
+                   ".handler 63 0x400 child r6=0x10", "a: out r1", ".include ../x.s")]
         number, name, operator = "constant.numeric", "variable.other.label", "keyword.operator"
-        directive, mnemonic, register = "keyword.control.directive", "support.function.mnemonic", "variable.language.register"
+        directive, mnemonic = "keyword.control.directive", "support.function.mnemonic"
+        register = "variable.language.register"
         self.assertEqual(scopes, [[directive, name, name, operator, number, operator, number],
-                                  [mnemonic, register, name, operator, number, "comment.line.number-sign"], [mnemonic, name],
+                                  [mnemonic, register, name, operator, number, "comment.line.number-sign"],
+                                  [mnemonic, name],
                                   [directive, name, "keyword.other.at", number],
                                   [directive, number, number, name, register, operator, number],
                                   ["entity.name.label", mnemonic, register], [directive, "string.unquoted.path"]])
@@ -110,6 +117,19 @@ class TestPackage(unittest.TestCase):
         self.assertEqual(languages, {})
         for language in told["languages"]:
             self.assertEqual(grammar(language["configuration"]), {"comments": {"lineComment": "#"}})
+
+
+@unittest.skipUnless(shutil.which("node"), "no node")
+class TestExtension(unittest.TestCase):
+    def test_an_editor_is_told_what_the_tools_say(self) -> None:
+        """Beside a stand-in for the editor's own module."""
+        done = subprocess.run(["node", os.path.join(HERE, "stand_in.js")], stdout=subprocess.PIPE, check=True, timeout=300)
+        told = json.loads(done.stdout)
+        self.assertEqual(told["wrong"], [[3, "'jmp' is no instruction; did you mean jal or j?"]])
+        self.assertIn("createPartition", told["hover"])
+        self.assertEqual(told["definition"], 3)
+        self.assertLess({"li", "la", "call", "not", ".handler"}, set(told["completion"]))
+        self.assertEqual((told["debug"][0], told["debug"][1][1].split("/")[-1]), ("python3", "debug_adapter"))
 
 
 class TestGrammar(unittest.TestCase):
@@ -141,6 +161,8 @@ class TestGrammar(unittest.TestCase):
         self.assertEqual(scopes("# ld  0"), ["comment.line.number-sign"])
 
     def test_what_makes_a_line_bad_is_seen(self) -> None:
-        for line in ("ld 0 00", "ld 0 0X1f", "ld 0 0x1F", "LD 0 0", "ld  0 0", " ld 0 0", "ld 0 0 ", "ld\t0 0", "ld 0 0\r", "load 0 0",
-                     "ld 0 +1", "ld 0 1_000", "ld 0 0x", "ld 0 0x123456789", "ld 0 0 # a remark", "9x:", "x: 1", ".pages 1"):
+        for line in ("ld 0 00", "ld 0 0X1f", "ld 0 0x1F", "LD 0 0", "ld  0 0", " ld 0 0", "ld 0 0 ", "ld\t0 0",
+                     "ld 0 0\r", "load 0 0",
+                     "ld 0 +1", "ld 0 1_000", "ld 0 0x", "ld 0 0x123456789", "ld 0 0 # a remark", "9x:", "x: 1",
+                     ".pages 1"):
             self.assertFalse(is_known(line), line)

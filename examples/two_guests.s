@@ -5,22 +5,19 @@
 #
 # A guest is a partition, its top, with a worker below it. The worker counts; with every eighth number it asks its top
 # by `int 70` to show it, and then loads an address at which it has no page. Both come to the top, which lets it go on.
-# So from the last line of the root on each guest has the lines that it would have alone.
+# So from the line with which a guest begins on it has the lines that it would have alone. two_guests.every goes through
+# the first turns in all orders: no line is taken before the root has made all its children.
 #
-# Interrupt lines 0 to 3 are raised once, at step 100. They only serve to bring the root to processor 1. Their handler
-# is there from the start: a line before the root's first instruction would find no guest, as two_guests.every shows.
+# Interrupt line 0 only serves to bring the root to processor 1. Meanwhile the keeper runs on processor 0, a child of
+# the root that asks again and again to give its processor away. Before any guest runs the root takes its handler of the
+# line away, and before the second runs the handler of all yields: a guest could use them. So whatever the first does,
+# the second begins, and has the lines that it has alone: the check `hostile-guests` tries 480 programs.
 .frames 256
 .cpus 2
-.line 0 100 0
-.line 1 100 0
-.line 2 100 0
-.line 3 100 0
+.line 0 100 100
 
 # ---- The root's program. r10 is never written by any of the programs, so that it is 0.
 .page 0x400000
-# vcli: no line is taken while the guests are made.
-sys 10
-bne r0 r10 root_refused
 # The second guest gets copies of the programs of the first.
 li r6 <top
 lih r6 >top
@@ -45,27 +42,49 @@ li r11 10
 li r12 0
 lih r12 0x2000
 jal r14 make_child
+# The keeper gets no further pages.
+li r6 0
+lih r6 0x47
+li r11 0
+jal r14 make_child
+# From now on the line is handled at `give`: before, no guest would be there.
+li r6 0xf000
+lih r6 0xffff
+li r7 0xf400
+lih r7 0xffff
+stw r7 r6 128
 
-# ---- The handler of the four lines, and where the root goes on here.
-#
-# The first guest is let run. Where a line was taken on its processor it has run no instruction yet, since its turn
-# polls first, and a line is pending. So its block for the vector 63 has what it begins with.
+# ---- The handler of the line, and where the root goes on here: the keeper is let run.
 give:
+li r1 0
+lih r1 0x47
+li r2 63
+li r3 256
+sys 8
+# That is refused with status 14 where it runs: the line came to the other processor.
+li r2 14
+bne r0 r2 root_refused
+# The line has no handler any more, and stays pending. Vector 65 has one now, and the keeper can yield by it.
+li r6 0xf000
+lih r6 0xffff
+stw r10 r6 128
+li r7 0xf444
+lih r7 0xffff
+stw r7 r6 260
+# The first guest gets this processor.
 li r1 0
 lih r1 0x41
 li r2 63
 li r3 256
 sys 8
-# That is refused with status 14 where it runs: the line came to the other processor, which the second guest gets.
-li r2 14
-bne r0 r2 root_refused
-# Before both run the root takes its handlers away. The lines that are still pending are never taken.
+beq r10 r10 root_refused
+
+# ---- The handler of vector 65: the second guest gets the processor of the child that yields, which is the keeper's, or
+# that of a first guest that gives its own away. First this handler goes, too, since a guest is to be let run once.
+begin:
 li r6 0xf000
 lih r6 0xffff
-stw r10 r6 128
-stw r10 r6 132
-stw r10 r6 136
-stw r10 r6 140
+stw r10 r6 260
 li r1 0
 lih r1 0x44
 li r2 63
@@ -222,12 +241,22 @@ int 70
 ldw r3 r10 0
 beq r10 r10 worker
 
-# ---- The root's handler table, its last page: the vectors 32 to 35 are handled at `give`.
+# ---- The keeper's program: it yields to the root by vector 65, again and again, until that is accepted.
+.page 0x479000
+keeper:
+li r4 32
+pause:
+addi r4 r4 -1
+bne r4 r10 pause
+li r1 0
+li r2 65
+li r3 256
+sys 8
+beq r10 r10 keeper
+
+# ---- The root's handler table, its last page, and the blocks of the line and of vector 65.
 .page 0xfffff000
-.zero 32
-.word 0xfffff400
-.word 0xfffff400
-.word 0xfffff400
-.word 0xfffff400
-.zero 220
+.zero 256
 .word give
+.zero 16
+.word begin

@@ -1,5 +1,7 @@
 """Runs a command of the tools: finds its module by the name that was called."""
 
+from __future__ import annotations
+
 import importlib
 import os
 import sys
@@ -8,6 +10,8 @@ COMMANDS = {
     "asmx": "authors.asmx",
     "compare.py": "reference.comparison",
     "count": "bench.count",
+    "debug": "debugger.terminal",
+    "debug_adapter": "debugger.adapter",
     "draw.py": "draw.pictures",
     "every": "authors.every",
     "exercise": "exercises.exercise",
@@ -16,6 +20,8 @@ COMMANDS = {
     "gate": "bench.gate",
     "grade": "exercises.grade",
     "growth.py": "bench.growth",
+    "language_server": "debugger.language",
+    "make_judge": "judge.building",
     "make_module": "playground.module",
     "make_page": "playground.playground_page",
     "program.py": "reference.commands",
@@ -25,6 +31,7 @@ COMMANDS = {
     "shell": "authors.shell",
     "step": "step.command",
     "trace": "authors.trace",
+    "tried": "edits.tried",
     "why": "authors.why",
     "worst.py": "bench.worst",
 }

@@ -20,6 +20,7 @@ from typing import NamedTuple
 
 from ..common import calling
 from ..common.calling import Failed
+from ..reference import assembly, instructions
 from . import why
 
 NAME = re.compile(r"[A-Za-z_][A-Za-z0-9_]{0,31}")
@@ -27,10 +28,22 @@ REGISTER = re.compile(r"r([0-9]|1[0-5])")
 NUMBER = re.compile(r"0x[0-9a-f]{1,8}|0|[1-9][0-9]{0,9}")
 TERM = re.compile(r"0x[0-9a-f]{1,8}|[0-9]+|[A-Za-z_][A-Za-z0-9_]*")
 REMARK = re.compile(r"(^|\s)#.*$")
-BRANCHES = {"beq": 2, "bne": 2, "blt": 2, "bltu": 2, "jal": 1, "j": 0}     # which operand is branched to
+BRANCHES = {"beq": 2, "bne": 2, "blt": 2, "bltu": 2, "jal": 1}     # which operand is branched to
+# What is written by other instructions: how many operands it has, and what it becomes
+WRITTEN = {
+    "la": (2, ("li {0} <{1}", "lih {0} >{1}")), "j": (1, ("beq r0 r0 {0}",)), "nop": (0, ("mov r0 r0",)),
+    "call": (2, ("jal {0} {1}",)), "ret": (1, ("jr {0}",)), "neg": (2, ("li {0} 0", "sub {0} {0} {1}")),
+    "not": (2, ("li {0} 0", "sub {0} {0} {1}", "addi {0} {0} -1")),
+}
+KNOWN = [*instructions.OPCODES, *WRITTEN]
+LIKE = {**why.LIKE, "jmp": "jal or j"}
+IMAGE = b"PIPIMG"
+MOST_IMAGE = 1 << 25
 PAGE, WORDS = 4096, 1024
 DEEPEST = 16             # files in files
 MOST_LINES = 1 << 20
+MOST_FILES = 64          # that are included, each as often as it is
+MOST_NUMBER = 1 << 32    # what a number, and each product on the way to it, is below
 MOST_TOLD = 20           # lines that are wrong
 
 
@@ -50,7 +63,7 @@ class Wrong(Exception):
 
     def __init__(self, place: Place, why: str) -> None:
         super().__init__(f"{place.file}:{place.line}: {why}")
-        self.place = place
+        self.place, self.why = place, why
 
 
 class AllWrong(Wrong):
@@ -60,7 +73,7 @@ class AllWrong(Wrong):
         told = [str(wrong) for wrong in wrongs[:MOST_TOLD]]
         more = [f"and {len(wrongs) - MOST_TOLD} lines more"] if len(wrongs) > MOST_TOLD else []
         Exception.__init__(self, "\n".join(told + more))
-        self.place = wrongs[0].place
+        self.place, self.why, self.wrongs = wrongs[0].place, wrongs[0].why, wrongs
 
 
 class Collected:
@@ -72,7 +85,8 @@ class Collected:
     def __enter__(self) -> Collected:
         return self
 
-    def __exit__(self, kind: type[BaseException] | None, wrong: BaseException | None, trace: TracebackType | None) -> bool:
+    def __exit__(self, kind: type[BaseException] | None, wrong: BaseException | None,
+                 trace: TracebackType | None) -> bool:
         if not isinstance(wrong, Wrong):
             return False
         self.wrongs.append(wrong)
@@ -87,11 +101,35 @@ class Collected:
 
 # The lines of all files
 
-def lines_of(path: str, above: tuple[str, ...] = ()) -> Iterator[tuple[Place, list[str]]]:
+
+class Files:
+    """The files that a source is made of. Any file may be included."""
+
+    def __init__(self) -> None:
+        self.count = 0
+
+    def inner(self, place: Place, path: str) -> str:
+        """The file that a line includes."""
+        inner = os.path.join(os.path.dirname(place.file) if place.file != "-" else "", path)
+        if not os.path.isfile(inner):
+            raise Wrong(place, f"there is no file {inner}")
+        return inner
+
+    def contents(self, path: str) -> bytes:
+        self.count += 1
+        if self.count > MOST_FILES:
+            raise Failed(f"{path}: more than {MOST_FILES} files are included")
+        return calling.contents(path)
+
+
+def lines_of(path: str, files: Files, above: tuple[str, ...] = ()) -> Iterator[tuple[Place, list[str]]]:
     """The lines of a file and of those that it includes, without remarks: a place and its words each."""
     if len(above) > DEEPEST:
         raise Failed(f"{path}: files are included more than {DEEPEST} deep")
-    text = calling.contents(path).decode("utf-8", "replace").removeprefix("\ufeff")
+    data = files.contents(path)
+    if data and (what := why.no_text(path, data)):
+        raise Failed(what)
+    text = data.decode("utf-8", "replace").removeprefix("\ufeff")
     for number, line in enumerate(text.split("\n"), 1):
         place = Place(path, number)
         words = REMARK.sub("", line).split()
@@ -100,12 +138,10 @@ def lines_of(path: str, above: tuple[str, ...] = ()) -> Iterator[tuple[Place, li
             continue
         if len(words) != 2:
             raise Wrong(place, ".include has one path, without spaces")
-        inner = os.path.join(os.path.dirname(path) if path != "-" else "", words[1])
-        if not os.path.isfile(inner):
-            raise Wrong(place, f"there is no file {inner}")
+        inner = files.inner(place, words[1])
         if os.path.realpath(inner) in [os.path.realpath(file) for file in (*above, path)]:
             raise Wrong(place, f"{inner} includes itself")
-        yield from lines_of(inner, above + (path,))
+        yield from lines_of(inner, files, above + (path,))
 
 
 # Pages
@@ -164,6 +200,8 @@ class Text:
     def take(self, place: Place, words: list[str]) -> None:
         """One line."""
         first = words[0]
+        if first.startswith((";", "//")):
+            raise Wrong(place, f"{first!r} begins no line{why.hint(first)}")
         if first == ".equ":
             self.take_constant(place, words[1:])
         elif first == ".page":
@@ -171,6 +209,7 @@ class Text:
         elif first in (".frames", ".cpus", ".line"):
             self.head.append((place, " ".join([first] + [self.number_text(place, word) for word in words[1:]])))
         elif not self.pages:
+            self.pages.append(Page(place, 0, 0))            # lest all lines after it be told, too
             raise Wrong(place, f"{first!r} stands before the first page")
         elif first == ".handler":
             self.take_handler(place, words[1:])
@@ -193,6 +232,7 @@ class Text:
         if len(words) != 2 or not NAME.fullmatch(words[0]) or REGISTER.fullmatch(words[0]):
             raise Wrong(place, ".equ has a name and a number, and no register is a name here")
         self.new_name(place, words[0])
+        self.constants[words[0]] = 0                        # lest each line that uses it be told, too
         self.constants[words[0]] = self.number(place, words[1])
 
     def new_name(self, place: Place, name: str) -> None:
@@ -258,29 +298,37 @@ class Text:
     def take_instruction(self, place: Place, words: list[str]) -> None:
         page = self.pages[-1]
         at = page.here()
-        size = 2 if words[0] == "la" else 1
+        size = len(WRITTEN[words[0]][1]) if words[0] in WRITTEN else 1
         page.add(place, size, lambda: self.instruction(place, words, at, page.seen != page.address))
 
     # What becomes of words, once all names are known
 
     def instruction(self, place: Place, words: list[str], at: int, elsewhere: bool) -> list[str]:
         name, operands = words[0], words[1:]
-        if name == "la":
-            if len(operands) != 2:
-                raise Wrong(place, "la has a register and an address")
-            return [self.half(place, which, operands) for which in ("<", ">")]
+        hints = "".join(dict.fromkeys(why.hint(word) for word in operands))
+        if name not in KNOWN and name != ".word":
+            raise Wrong(place, why.no_instruction(name, KNOWN, LIKE) + hints)
+        if hints:
+            raise Wrong(place, f"{' '.join(words)!r} isn't an instruction here{hints}")
+        count, forms = WRITTEN.get(name, (len(operands), ()))
+        if len(operands) != count:
+            raise Wrong(place, f"{name} has {count} operand{'' if count == 1 else 's'}")
+        if name in ("neg", "not") and operands[0] == operands[1]:
+            raise Wrong(place, f"{name} has two different registers: it puts 0 into the first, since no register is "
+                               "always 0")
+        written = [form.format(*operands) for form in forms] or [" ".join(words)]
+        return [self.plain(place, line.split(), at, elsewhere) for line in written]
+
+    def plain(self, place: Place, words: list[str], at: int, elsewhere: bool) -> str:
+        """A line with what names become in it."""
+        name, operands = words[0], words[1:]
         if name in BRANCHES:
             place_of = BRANCHES[name]
             if len(operands) != place_of + 1:
                 raise Wrong(place, f"{name} has {place_of + 1} operands")
             operands = operands[:place_of] + [self.distance(place, operands[place_of], at, elsewhere)]
-            return [" ".join(["beq", "r0", "r0"] + operands if name == "j" else [name] + operands)]
-        return [" ".join([name] + [self.operand(place, word, name == ".word") for word in operands])]
-
-    def half(self, place: Place, which: str, operands: list[str]) -> str:
-        register, value = operands
-        mnemonic = {"<": "li", ">": "lih"}[which]
-        return f"{mnemonic} {register} {self.operand(place, which + value, False)}"
+            return " ".join([name] + operands)
+        return " ".join([name] + [self.operand(place, word, name == ".word") for word in operands])
 
     def operand(self, place: Place, word: str, is_address: bool) -> str:
         if word[:1] in ("<", ">"):
@@ -326,8 +374,11 @@ class Text:
         signs = re.split(r"([+-])", word if word[:1] in ("+", "-") else "+" + word)
         if signs[0] or len(signs) > 64:
             raise Wrong(place, f"{word!r} is no number")
-        return sum((1 if sign == "+" else -1) * self.product(place, part, with_labels)
-                   for sign, part in zip(signs[1::2], signs[2::2]))
+        value = sum((1 if sign == "+" else -1) * self.product(place, part, with_labels)
+                    for sign, part in zip(signs[1::2], signs[2::2]))
+        if abs(value) >= MOST_NUMBER:
+            raise Wrong(place, f"{word!r} has more than 32 bits")
+        return value
 
     def product(self, place: Place, text: str, with_labels: bool) -> int:
         value, terms = 1, text.split("*")
@@ -347,6 +398,8 @@ class Text:
             else:
                 raise Wrong(place, f"no line defines the name {term}" if NAME.fullmatch(term)
                             else f"{term!r} is no number")
+            if abs(value) >= MOST_NUMBER:
+                raise Wrong(place, f"{text!r} has more than 32 bits")
         return value
 
     def written(self, collected: Collected) -> list[tuple[Place, str]]:
@@ -364,24 +417,31 @@ class Text:
         for item in page.in_order():
             if item.at > end:
                 lines.append((item.place, f".zero {item.at - end}"))
+            # of a line that is wrong, so that what is after it stays in its place
+            told = [".word 0"] * item.size
             with collected:
-                lines += [(item.place, line) for line in item.write()]
+                told = item.write()
+            lines += [(item.place, line) for line in told]
             end = max(end, item.at + item.size)
         return lines
 
 
-def processed(path: str) -> tuple[list[tuple[Place, str]], Text]:
-    """The lines of the assembly text of a file, each with its place in the source."""
+def processed(path: str, files: Files | None = None) -> tuple[list[tuple[Place, str]], Text]:
+    """The lines of the assembly text of a file, each with its place in the source. `files` says what may be included.
+    """
     text, collected = Text(), Collected()
     places: list[Place] = []
     with collected:
-        for place, words in lines_of(path):
+        for place, words in lines_of(path, files or Files()):
             places.append(place)
             take_line(text, collected, place, words)
             if len(places) > MOST_LINES:
                 raise Failed(f"{path} has more than {MOST_LINES} lines, with what it includes")
     lines = text.written(collected)
-    collected.wrongs += [Wrong(place, "the line has more than 120 bytes") for place, line in lines if len(line.encode()) > 120]
+    collected.wrongs += [Wrong(place, "the line has more than 120 bytes") for place, line in lines
+                         if len(line.encode()) > 120]
+    told = {wrong.place for wrong in collected.wrongs}
+    collected.wrongs += [wrong for wrong in refused(lines) if wrong.place not in told]
     collected.judge(places)
     return lines, text
 
@@ -392,25 +452,50 @@ def take_line(text: Text, collected: Collected, place: Place, words: list[str]) 
             text.take(place, words)
 
 
+def refused(lines: list[tuple[Place, str]]) -> list[Wrong]:
+    """What the reference's assembler refuses, by the places in the source. After each line the text is tried again,
+    with a word in that line's place."""
+    texts = [line.encode() for _, line in lines]
+    found: list[Wrong] = []
+    while len(found) <= MOST_TOLD:
+        try:
+            assembly.assemble(b"".join(line + b"\n" for line in texts))
+            break
+        except assembly.BadLine as bad:
+            at = min(bad.line, len(lines)) - 1
+            place, line = lines[at] if lines else (Place("the text", 1), "")
+            found.append(Wrong(place, f"{bad.kind}, in {line!r}{reason(texts, bad.line, bad.kind)}"))
+            if bad.line > len(lines) or line.startswith(".") and not line.startswith(".word"):
+                break
+            texts[at] = b".word 0"
+    return found
+
+
 def assembled(program: str, lines: list[tuple[Place, str]]) -> bytes:
-    """The image. Lines that the program refuses are told by their places in the source: after each one the text is tried
-    again, with a word in that line's place."""
-    collected, texts = Collected(), [line for _, line in lines]
-    while True:
-        image, status = calling.output(program, ["asm"], "".join(line + "\n" for line in texts).encode())
-        if status not in (0, 2):
-            raise Failed(f"asm ends with status {status}")
-        if status == 0:
-            collected.judge([place for place, _ in lines])
-            return image
+    """The image, by the program."""
+    image, status = calling.output(program, ["asm"], "".join(line + "\n" for _, line in lines).encode())
+    if status == 2:
         _, _, number, kind = image.decode().split()
-        at = min(int(number), len(lines)) - 1
-        place, line = lines[at] if lines else (Place("the text", 1), "")
-        with collected:
-            raise Wrong(place, f"{kind}, in {line!r}{reason([text.encode() for text in texts], int(number), kind)}")
-        if not lines or line.startswith(".") and not line.startswith(".word") or len(collected.wrongs) > MOST_TOLD:
-            collected.judge([place for place, _ in lines])
-        texts[at] = ".word 0"
+        place, line = lines[min(int(number), len(lines)) - 1]
+        raise Wrong(place, f"{kind}, in {line!r}: the program refuses it, and the reference doesn't")
+    if status:
+        raise Failed(f"asm ends with status {status}")
+    return image
+
+
+def image_of(program: str, path: str) -> tuple[bytes, str | None]:
+    """The image of a file, and its path where it is a source."""
+    data = calling.contents(path, MOST_IMAGE)
+    if not data:
+        raise Failed(f"{path} is empty")
+    if data.startswith(IMAGE):
+        return data, None
+    if path == "-":
+        raise Failed("a source is given by its name, since it may include others")
+    try:
+        return assembled(program, processed(path)[0]), path
+    except Wrong as wrong:
+        raise Failed(wrong) from None
 
 
 def reason(texts: list[bytes], number: int, kind: str) -> str:

@@ -16,11 +16,11 @@ import re
 import subprocess
 import sys
 import tempfile
-import time
 from typing import NamedTuple
 
 from ..common import calling, meanings, plans
 from ..common.calling import Failed
+from ..common.progress import Progress
 from ..reference import image as images
 from ..reference.image import Image
 from ..step import page, states
@@ -28,8 +28,6 @@ from . import asmx, trace, ways
 from .ways import Way
 
 MOST = 10_000_000
-MOST_IMAGE = 1 << 25
-IMAGE = b"PIPIMG"
 LINE = re.compile(r"(\d+) (\d+) (.+): ([^:]+)")
 END = re.compile(r"states (\d+) (?:depth (\d+) (closed|stopped)|(within) (\d+))")
 REASONS = {3: "its input can't be read", 4: "its output can't be written", 5: "no memory was found: give fewer STATES"}
@@ -62,25 +60,6 @@ class Search(NamedTuple):
 
 # The program
 
-
-class Progress:
-    """How long the program has searched, and how much memory it has: on a terminal each half second, else each ten."""
-
-    def __init__(self, pid: int) -> None:
-        self.pid, self.begun, self.told = pid, time.monotonic(), False
-        self.terminal = sys.stderr.isatty()
-        self.every = 0.5 if self.terminal else 10.0
-
-    def tell(self) -> None:
-        text = f"searching, {time.monotonic() - self.begun:.0f} s{memory_of(self.pid)}"
-        print(f"\r{text:50}" if self.terminal else text, end="" if self.terminal else "\n", file=sys.stderr, flush=True)
-        self.told = True
-
-    def end(self) -> None:
-        if self.told and self.terminal:
-            print(f"\r{'':50}\r", end="", file=sys.stderr, flush=True)
-
-
 def memory_of(pid: int) -> str:
     """How much memory a process has, where the system says it."""
     try:
@@ -111,13 +90,13 @@ def waited(program: str, words: list[str], given: int, told: int) -> int:
         process = subprocess.Popen([calling.direct(program), *words], stdin=given, stdout=told)
     except OSError as error:
         raise Failed(f"{program} can't be run: {error.strerror}") from None
-    progress = Progress(process.pid)
+    progress = Progress()
     try:
         while True:
             try:
                 return process.wait(progress.every)
             except subprocess.TimeoutExpired:
-                progress.tell()
+                progress.tell(f"searching, {progress.seconds():.0f} s{memory_of(process.pid)}")
     finally:
         progress.end()
         process.kill()
@@ -226,17 +205,10 @@ def main() -> None:
 
 def image_of(given: argparse.Namespace) -> tuple[bytes, str | None]:
     """The image, and the source of its names."""
-    data = calling.contents(given.file, MOST_IMAGE)
-    if data.startswith(IMAGE):
-        return data, given.source
-    if given.source:
+    data, source = asmx.image_of(given.program, given.file)
+    if source and given.source:
         raise Failed("--source is for an image, and this is a source")
-    if given.file == "-":
-        raise Failed("a source is given by its name, since it may include others")
-    try:
-        return asmx.assembled(given.program, asmx.processed(given.file)[0]), given.file
-    except asmx.Wrong as wrong:
-        raise Failed(wrong) from None
+    return data, source or given.source
 
 
 def words_of(given: argparse.Namespace) -> list[str]:

@@ -1,6 +1,6 @@
 """The runs of many seeds and timers side by side, grouped by how they end, with the first run of each group.
 
-    tools/explore IMAGE STEPS FIRST LAST [--line L FIRST PERIOD]
+    tools/explore FILE STEPS FIRST LAST [--line L FIRST PERIOD]
     tools/explore --merge PART ..
 """
 
@@ -11,8 +11,6 @@ import hashlib
 import itertools
 import os
 import re
-import sys
-import time
 from collections import Counter
 from collections.abc import Callable, Iterable, Sequence
 from concurrent.futures import ThreadPoolExecutor
@@ -21,9 +19,10 @@ from dataclasses import dataclass
 from ..common import calling, plans
 from ..common.calling import Failed
 from ..common.plans import Plan
+from ..common.progress import Progress
+from . import asmx
 
 MOST_STEPS = 10_000_000
-MOST_IMAGE = 1 << 25
 SWITCH = re.compile(r"^\d+ (\d+) (call \d+ )?switch (\d+) (\d+) (\d+)$")
 PARK = re.compile(r"^\d+ (\d+) park (\d+) (\d+)$")
 REPLY = re.compile(r"^\d+ \d+ call (\d+) reply (\d+) 0x[0-9a-f]{8}$")
@@ -39,7 +38,8 @@ class Run:
     trouble: str = ""
 
     def told(self) -> str:
-        return f"first seed {self.seed}" + (f" with {self.plan}" if self.plan else "") + (f" ({self.trouble})" if self.trouble else "")
+        return f"first seed {self.seed}" + (f" with {self.plan}" if self.plan else "") + (f" ({self.trouble})"
+                                                                                          if self.trouble else "")
 
     def place(self) -> tuple[int, Plan]:
         return self.seed, self.plan or Plan(0, 0, 0)
@@ -55,7 +55,8 @@ class Group:
 
 
 class End:
-    """How a run ends, line by line of its trace, and where the first call was refused or something faulted or parked."""
+    """How a run ends, line by line of its trace, and where the first call was refused or something faulted or parked.
+    """
 
     def __init__(self, header: str) -> None:
         self.runs = ["partition 1"] + ["nothing"] * (int(header.split()[2]) - 1)
@@ -113,16 +114,19 @@ def ending(program: str, image: bytes, steps: str, run: Run, with_outs: bool) ->
     return Group(1, Run(run.seed, run.plan, end.trouble), end.told(tree, with_outs))
 
 
-def explored(one: Callable[[Run], Group], runs: Iterable[Run], jobs: int, progress: Progress) -> dict[str, Group]:
-    """The groups of these runs, by how they end."""
+def explored(one: Callable[[Run], Group], runs: Iterable[Run], count: int, jobs: int) -> dict[str, Group]:
+    """The groups of that many runs, by how they end."""
     groups: dict[str, Group] = {}
-    waiting, done = iter(runs), 0
+    waiting, done, progress = iter(runs), 0, Progress()
     with ThreadPoolExecutor(jobs) as pool:
         while part := list(itertools.islice(waiting, 16 * jobs)):
             for group in pool.map(one, part):
                 add(groups, group)
                 done += 1
-                progress(done, len(groups))
+                left = progress.seconds() * (count - done) / done
+                several = "" if len(groups) == 1 else "s"
+                progress.tell(f"{done} of {count} runs, {len(groups)} group{several}, about {left:.0f} s left")
+    progress.end()
     return groups
 
 
@@ -137,7 +141,8 @@ def in_order(groups: dict[str, Group]) -> list[Group]:
     return sorted(groups.values(), key=lambda group: (-group.count, group.first.place()))
 
 
-LINE = re.compile(r" *(\d{1,18}) runs?, first seed (\d{1,10})(?: with (\.line [\d ]{5,24}))?(?: \((step [^()]*)\))?: (.+)")
+LINE = re.compile(r" *(\d{1,18}) runs?, first seed (\d{1,10})(?: with (\.line [\d ]{5,24}))?(?: \((step [^()]*)\))?: "
+                  r"(.+)")
 
 
 def parts(paths: list[str]) -> dict[str, Group]:
@@ -154,44 +159,27 @@ def parts(paths: list[str]) -> dict[str, Group]:
     return groups
 
 
-class Progress:
-    """A line on standard error: on a terminal each half second, else each ten."""
-
-    def __init__(self, of: int) -> None:
-        self.of = of
-        self.begun = self.last = time.monotonic()
-        self.terminal = sys.stderr.isatty()
-
-    def __call__(self, done: int, groups: int) -> None:
-        now = time.monotonic()
-        if now - self.last < (0.5 if self.terminal else 10) and not (self.terminal and done == self.of):
-            return
-        self.last = now
-        left = (now - self.begun) * (self.of - done) / done
-        told = f"{done} of {self.of} runs, {groups} group{'' if groups == 1 else 's'}, about {left:.0f} s left"
-        end = "" if self.terminal and done < self.of else "\n"
-        print(f"\r{told:60}" if self.terminal else told, end=end, file=sys.stderr, flush=True)
-
-
 def main() -> None:
     parser = argparse.ArgumentParser(
         description="The runs of many seeds, grouped by how they end.",
         epilog="FIRST and LAST are seeds, from 1 on. Several machines: see tools/README.md.")
-    parser.add_argument("words", nargs="*", metavar="IMAGE STEPS FIRST LAST",
+    parser.add_argument("words", nargs="*", metavar="FILE STEPS FIRST LAST",
                         help="an image, how many steps, and the seeds")
     parser.add_argument("--jobs", type=int, default=os.cpu_count(), metavar="N",
                         help="how many runs at once; without it one a processor")
     parser.add_argument("--outs", action="store_true",
                         help="runs that show other words, or show them more often, are other groups")
     parser.add_argument("--line", nargs=3, metavar=("L", "FIRST", "PERIOD"),
-                        help="each plan of line L in the place of the image's own; FIRST and PERIOD are numbers or ranges, 400..420 or 400..420/5")
-    parser.add_argument("--write", metavar="OUT", help="with one seed and one plan: write the image with that plan there")
+                        help="each plan of line L in the place of the image's own; FIRST and PERIOD are numbers or "
+                             "ranges, 400..420 or 400..420/5")
+    parser.add_argument("--write", metavar="OUT",
+                        help="with one seed and one plan: write the image with that plan there")
     parser.add_argument("--merge", nargs="+", metavar="PART",
                         help="put outputs of this tool together; - is standard input")
     calling.take_program(parser)
     given = parser.parse_args()
     if bool(given.merge) == bool(given.words) or given.words and len(given.words) != 4:
-        parser.error("either IMAGE STEPS FIRST LAST, or --merge PART ..")
+        parser.error("either FILE STEPS FIRST LAST, or --merge PART ..")
     calling.guarded("explore", lambda: work(given))
 
 
@@ -205,15 +193,15 @@ def work(given: argparse.Namespace) -> None:
         last = calling.number(numbers[2], first, 0xFFFFFFFF, "LAST")
         if not 1 <= given.jobs <= 1024:
             raise Failed("--jobs is 1 to 1024")
-        image = calling.contents(path, MOST_IMAGE)
+        image, _ = asmx.image_of(given.program, path)
         varied: Sequence[Plan | None] = [None]
         if given.line:
             varied = plans.of_words(given.line)
         if given.write:
             write(given, image, varied, last - first + 1)
         runs = (Run(seed, plan) for seed in range(first, last + 1) for plan in varied)
-        groups = explored(lambda run: ending(given.program, image, str(steps), run, given.outs), runs, given.jobs,
-                          Progress((last - first + 1) * len(varied)))
+        groups = explored(lambda run: ending(given.program, image, str(steps), run, given.outs), runs,
+                          (last - first + 1) * len(varied), given.jobs)
     for group in in_order(groups):
         print(f"{group.count:>6} run{'' if group.count == 1 else 's'}, {group.first.told()}: {group.told}")
 

@@ -109,7 +109,8 @@ class Session:
         return [partition_line(x, [cpu for cpu, name in enumerate(runs) if name == x.name]) for x in found]
 
     def runs(self) -> list[int]:
-        """What runs on each processor: a partition's name, or 0. The answers so far are those of the program once more."""
+        """What runs on each processor: a partition's name, or 0. The answers so far are those of the program once more.
+        """
         lines = self.asked.lines
         found = [1] + [0] * (int(lines[0].split()[2], 0) - 1)
         for line, answer in zip(lines, text_of(self.program, ["script"], b"".join(line + b"\n" for line in lines))):
@@ -124,7 +125,8 @@ class Session:
         output, _ = calling.output(self.program, ["audit", str(frames)], walk.core_text(looker.seen).encode())
         last = output.decode().splitlines()[-1]
         rows = sum(len(x.rows) for x in found)
-        return [f"{last}    # {len(found)} partition{'s' * (len(found) > 1)} and {rows} rows, each word as the tree wants it" if last == "yes" else last]
+        return [f"{last}    # {len(found)} partition{'s' * (len(found) > 1)} and {rows} rows, each word as the tree "
+                "wants it" if last == "yes" else last]
 
 
 def partition_line(x: walk.Partition, cpus: list[int]) -> str:
@@ -161,7 +163,8 @@ def undo(session: Session, operand: str) -> list[str]:
 
 
 def listed(session: Session, operand: str) -> list[str]:
-    return [f"{place:>4}  {line.decode('utf-8', 'replace')}" for place, line in enumerate(session.kept, 1)] or ["no line yet"]
+    return [f"{place:>4}  {line.decode('utf-8', 'replace')}" for place,
+            line in enumerate(session.kept, 1)] or ["no line yet"]
 
 
 COMMANDS = {
@@ -203,7 +206,8 @@ def typed() -> str | None:
 
 
 def main() -> None:
-    parser = argparse.ArgumentParser(description="A script typed line by line: each answer in words, and a bad line costs nothing.", epilog=HELP,
+    parser = argparse.ArgumentParser(description="A script typed line by line: each answer in words, and a bad line "
+                                                 "costs nothing.", epilog=HELP,
                                      formatter_class=argparse.RawDescriptionHelpFormatter)
     parser.add_argument("file", nargs="?", metavar="FILE", help="begin with the lines of this script")
     calling.take_program(parser)

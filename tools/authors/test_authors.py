@@ -1,4 +1,4 @@
-"""Tests of the tools for authors, without the program. The check `author-tests` runs them."""
+"""Tests of the tools for authors, without the program. The check `unit-tests` runs them."""
 
 from __future__ import annotations
 
@@ -8,6 +8,7 @@ import unittest
 from collections.abc import Callable
 
 from ..common import calling, plans
+from ..exercises import alone
 from ..reference import assembly
 from . import asmx, explore, why
 
@@ -43,23 +44,74 @@ class Preprocessor(unittest.TestCase):
         self.assertEqual(self.of_page("a: la r1 a\nla r2 a+8\nj a\n"),
                          ["a:", "li r1 <a", "lih r1 >a", "li r2 8", "lih r2 64", "beq r0 r0 a"])
 
+    def test_what_other_assemblers_have(self) -> None:
+        self.assertEqual(self.of_page("a: nop\ncall r15 a\nret r15\nneg r1 r2\nnot r3 r4\n"),
+                         ["a:", "mov r0 r0", "jal r15 a", "jr r15", "li r1 0", "sub r1 r1 r2", "li r3 0",
+                          "sub r3 r3 r4", "addi r3 r3 -1"])
+        for text, told in (("jmp loop", "'jmp' is no instruction; did you mean jal or j"),
+                           ("mov r1, r2", "separated by spaces, not by commas"),
+                           ("lw r1 0(r2)", "did you mean ldw.: an address is a register and a number"),
+                           ("; x", "a remark begins with #"),
+                           ("out r1 ; x", "a remark begins with #"), ("neg r1 r1", "two different registers"),
+                           ("call a", "call has 2 operands"),
+                           ("beqz r1 a", "did you mean beq with a register that holds 0"),
+                           (".foo 1", "no line begins with '.foo'")):
+            with self.subTest(text=text):
+                self.refused("a:\n" + text, told, line=5)
+
+    def test_all_seven_are_told(self) -> None:
+        with self.assertRaises(asmx.Wrong) as found:
+            self.of_page("jmp loop\nli r1 65536\n.equ A zz\nmov r1, r2\nli r2 A\nsb r1 r2 0\nj gone\nout r99\n"
+                         "beq r1 r2\n")
+        self.assertEqual([int(line.split(":")[1]) for line in str(found.exception).split("\n")],
+                         [4, 5, 6, 7, 9, 10, 11, 12])
+
     def test_pages_elsewhere(self) -> None:
         text = ".page 0x401000 at 0xffc00000\nout r1\nb:\nla r1 b\nbne r1 r0 b\n.word b\n"
-        self.assertEqual(self.of_page(text), [".page 0x00401000", "out r1", "# b:", "li r1 4", "lih r1 65472", "bne r1 r0 -3",
+        self.assertEqual(self.of_page(text),
+                         [".page 0x00401000", "out r1", "# b:", "li r1 4", "lih r1 65472", "bne r1 r0 -3",
                                               ".word 0xffc00004"])
 
     def test_handlers(self) -> None:
         text = "start:\n.page 0xfffff000\n.handler 1 0x10 start r2=7\n.handler 0 0x1c\n"
-        self.assertEqual(self.of_page(text), ["start:", ".page 0xfffff000", ".word 0xfffff01c", ".word 0xfffff010", ".zero 2",
+        self.assertEqual(self.of_page(text),
+                         ["start:", ".page 0xfffff000", ".word 0xfffff01c", ".word 0xfffff010", ".zero 2",
                                               ".word start", ".zero 2", ".word 0x00000007"])
 
     def test_files_in_files(self) -> None:
         self.assertEqual(self.of_page(".include inner\nout r2\n", inner="out r1\n"), ["out r1", "out r2"])
         self.refused(".include main\n", "includes itself")
 
+    def test_limits(self) -> None:
+        self.assertEqual(self.of_page(".equ A 0xffffffff\n.equ B A-A*1\n.word A\n"), [".word 0xffffffff"])
+        for text in (".equ A 4294967295\n.equ B A*A\n", ".equ A 0xffffffff+1\n", ".word 65536*65536\n"):
+            self.refused(text, "has more than 32 bits", 3 + text.count("\n"))
+        with self.assertRaisesRegex(calling.Failed, "more than 64 files are included"):
+            self.of_page(".include one\n" * 64, one="li r1 1\n")
+
+    def test_what_a_work_includes(self) -> None:
+        with tempfile.TemporaryDirectory() as place:
+            real = os.path.realpath(place)
+            for name in ("inner.s", "work.asmx"):
+                with open(os.path.join(real, name), "w") as file:
+                    file.write("li r1 1\n")
+            os.symlink("inner.s", os.path.join(real, "link.s"))
+            os.mkfifo(os.path.join(real, "fifo.s"))
+            files, at = alone.OwnFiles(["monitor.s"]), asmx.Place(os.path.join(real, "work.asmx"), 1)
+            self.assertEqual(files.contents(files.inner(at, "inner.s")), b"li r1 1\n")
+            self.assertIn(b".line 0", files.contents(files.inner(at, "monitor.s")))
+            for path in ("/etc/passwd", "../other/map.pip", "a/../../b"):
+                with self.assertRaisesRegex(asmx.Wrong, "includes files of its own folder"):
+                    files.inner(at, path)
+            for path in ("link.s", "fifo.s", "nothing.s", "."):
+                with self.assertRaises(calling.Failed):
+                    files.contents(files.inner(at, path))
+
     def test_what_is_refused(self) -> None:
-        for text, told in ((".equ r1 3", "no register"), (".equ a 3 4", "a name and a number"), ("li r1 zz", "no line defines"),
-                           ("j zz", "no line defines"), (".include gone", "there is no file"), (".zero 1025", "0 to 1024"),
+        for text, told in ((".equ r1 3", "no register"), (".equ a 3 4", "a name and a number"),
+                           ("li r1 zz", "no line defines"),
+                           ("j zz", "no line defines"), (".include gone", "there is no file"),
+                           (".zero 1025", "0 to 1024"),
                            (".page 0x400000", "defined before"), (".page 0x401001", "multiple of 4096"),
                            (".page 0x401000 in 0x402000", "after it 'at'"), (".handler 256 0x400", "below 256"),
                            (".handler 1 0xfd0", "at most 4028"), (".handler 1 0x400 0 r1", "isn't rN=X"),
@@ -74,7 +126,8 @@ class Preprocessor(unittest.TestCase):
             self.of_page("j gone\nli r17 1\n.equ r1 2\nli r1 gone\n.zero 9999\n")
         told = [line.split(":", 1)[1] for line in str(found.exception).split("\n")]
         self.assertEqual(told, ["4: no line defines the name gone", "5: there is no register r17: they are r0 to r15",
-                                "6: .equ has a name and a number, and no register is a name here", "7: no line defines the name gone", "8: .zero has a number from 0 to 1024"])
+                                "6: .equ has a name and a number, and no register is a name here",
+                                "7: no line defines the name gone", "8: .zero has a number from 0 to 1024"])
 
     def test_no_more_than_twenty_are_told(self) -> None:
         with self.assertRaises(asmx.Wrong) as found:
@@ -82,7 +135,7 @@ class Preprocessor(unittest.TestCase):
         self.assertEqual(str(found.exception).split("\n")[20:], ["and 3 lines more"])
 
     def test_a_line_that_is_too_long(self) -> None:
-        self.refused("foo" + " r1" * 40, "more than 120 bytes")
+        self.refused("add" + " r1" * 40, "more than 120 bytes")
 
     def test_the_page_is_full(self) -> None:
         self.refused(".zero 1024\nout r1", "no room", line=5)
@@ -94,31 +147,37 @@ class Reasons(unittest.TestCase):
             judge(text.split(b"\n"), text.count(b"\n") + 1, *more)
         return found.exception.name, found.exception.column
 
-    def test_each_row_of_the_tables_is_found(self) -> None:
-        self.assertEqual(set(why.tables()), set(why.ROWS) | {"asm " + kind for kind in why.KINDS} | {"asm distance"})
-
     def test_scripts(self) -> None:
-        for line, due in ((b"ld 0 0\r", ("return", 7)), (b" ld 0 0", ("spaces", 1)), (b"ld 0  0", ("spaces", 5)), (b"ld 0 0 # x", ("remark", 8)),
-                          (b"LD 0 0", ("case", 1)), (b"ld 0 0X1", ("case", 6)), (b"ld 0 00", ("number", 6)), (b"ld 0 4294967296", ("large", 6)),
-                          (b"ld 0 0x123456789", ("large", 6)), (b"ld 1 0", ("processor", 4)), (b"boot 32 1", ("second", 1)),
-                          (b"sb 0 0 256", ("range", 8)), (b"raise 16", ("range", 7)), (b"load 0", ("form", 1)), (b"ld 0", ("count", 5)),
-                          (b"poll 0 0", ("count", 8)), (b"call 0 1 1 2 3 4 5 6", ("count", 20)), (b"#" * 121, ("long", 121))):
+        for line, due in ((b"ld 0 0\r", ("return", 7)), (b" ld 0 0", ("spaces", 1)), (b"ld 0  0", ("spaces", 5)),
+                          (b"ld 0 0 # x", ("remark", 8)),
+                          (b"LD 0 0", ("case", 1)), (b"ld 0 0X1", ("case", 6)), (b"ld 0 00", ("number", 6)),
+                          (b"ld 0 4294967296", ("large", 6)),
+                          (b"ld 0 0x123456789", ("large", 6)), (b"ld 1 0", ("processor", 4)),
+                          (b"boot 32 1", ("second", 1)),
+                          (b"sb 0 0 256", ("range", 8)), (b"raise 16", ("range", 7)), (b"load 0", ("form", 1)),
+                          (b"ld 0", ("count", 5)),
+                          (b"poll 0 0", ("count", 8)), (b"call 0 1 1 2 3 4 5 6", ("count", 20)),
+                          (b"#" * 121, ("long", 121))):
             self.assertEqual(self.cause(why.judge_script, b"boot 32 1\n" + line), due, line)
         self.assertEqual(self.cause(why.judge_script, b"boot 15 1"), ("boot", 6))
         self.assertEqual(self.cause(why.judge_script, b"\xef\xbb\xbfboot 16 1"), ("mark", 1))
         self.assertEqual(self.cause(why.judge_script, b"ld 0 0"), ("second", 1))
 
     def test_what_is_meant(self) -> None:
-        for line, kind, due in ((b"ld r1 r0 4", "unknown", "is ldw meant"), (b"addi r4 r3 32768", "range", "which are -32768 to 32767"),
-                                (b"int 63", "range", "which are 64 to 255"), (b"shli r1 r1 32", "range", "which are 0 to 31"),
-                                (b".equ A 3", "unknown", "a source of tools/asmx"), (b"zzz", "unknown", "no line begins with 'zzz'")):
+        for line, kind, due in ((b"ld r1 r0 4", "unknown", "'ld' is no instruction; did you mean ldw?"),
+                                (b"addi r4 r3 32768", "range", "which are -32768 to 32767"),
+                                (b"int 63", "range", "which are 64 to 255"),
+                                (b"shli r1 r1 32", "range", "which are 0 to 31"),
+                                (b".equ A 3", "unknown", "a source of tools/asmx"),
+                                (b"zzz", "unknown", "'zzz' is no instruction")):
             with self.assertRaises(why.Cause) as found:
                 why.judge_assembly([b".frames 64", b".cpus 1", b".page 0x400000", line], 4, kind)
             self.assertIn(due, found.exception.here)
 
     def test_assembly(self) -> None:
         head = b".frames 64\n.cpus 1\n.page 0x400000\n"
-        for line, due in ((b"li r16 1", ("asm operand", 4)), (b"li r1", ("asm operand", 6)), (b"li r1 65536", ("asm range", 7)),
+        for line, due in ((b"li r16 1", ("asm operand", 4)), (b"li r1", ("asm operand", 6)),
+                          (b"li r1 65536", ("asm range", 7)),
                           (b"lx r1", ("asm unknown", 1)), (b"bne r1 r2 x", ("asm label", 11)), (b"x:", None),
                           (b"out r1 # x", ("remark", 8)), (b".zero 1025", ("asm size", 1))):
             text = head + line
@@ -133,10 +192,12 @@ class Reasons(unittest.TestCase):
 class Groups(unittest.TestCase):
     def test_the_end_of_a_trace(self) -> None:
         end = explore.End("image 64 2 0 1")
-        for line in ("1 0 call 8 switch 1 13 64", "2 0 switch 13 1 14", "3 1 park 13 14", "4 0 call 1 reply 14 0x00000000", "5 0 out 0x00000001"):
+        for line in ("1 0 call 8 switch 1 13 64", "2 0 switch 13 1 14", "3 1 park 13 14",
+                     "4 0 call 1 reply 14 0x00000000", "5 0 out 0x00000001"):
             end.take(line)
         self.assertEqual(end.told(["part 1 depth"], True).split("; "),
-                         ["processor 0 runs partition 1", "processor 1 runs nothing (parked: 13, vector 14)", "faults: vector 14 of 13", "parks: vector 14 of 13",
+                         ["processor 0 runs partition 1", "processor 1 runs nothing (parked: 13, vector 14)",
+                          "faults: vector 14 of 13", "parks: vector 14 of 13",
                           "refused: call 1 status 14", "tree: 1 (b151e0b3)", "shown: 0x00000001 x 1"])
 
     def test_the_first_trouble_is_kept_with_its_step(self) -> None:
@@ -151,18 +212,23 @@ class Groups(unittest.TestCase):
         for group in (explore.Group(1, run(9), "a"), explore.Group(1, run(3), "b"),
                       explore.Group(1, run(4, None, "step 2: park 1 14"), "a"), explore.Group(1, run(5), "a")):
             explore.add(groups, group)
-        self.assertEqual(explore.in_order(groups), [explore.Group(3, run(4, None, "step 2: park 1 14"), "a"), explore.Group(1, run(3), "b")])
+        self.assertEqual(explore.in_order(groups),
+                         [explore.Group(3, run(4, None, "step 2: park 1 14"), "a"), explore.Group(1, run(3), "b")])
 
     def test_a_line_of_the_output_is_read_again(self) -> None:
         first = explore.Run(4, plans.Plan(0, 400, 40), "step 7: call 1 reply 14 0x00000000")
-        found = explore.LINE.fullmatch(f"     3 runs, {first.told()}: processor 0 runs nothing (parked: 13, vector 14); faults: none")
+        found = explore.LINE.fullmatch(f"     3 runs, {first.told()}: processor 0 runs nothing (parked: 13, vector "
+                                       "14); faults: none")
         assert found is not None
-        self.assertEqual(found.groups(), ("3", "4", ".line 0 400 40", first.trouble, "processor 0 runs nothing (parked: 13, vector 14); faults: none"))
+        self.assertEqual(found.groups(),
+                         ("3", "4", ".line 0 400 40", first.trouble,
+                          "processor 0 runs nothing (parked: 13, vector 14); faults: none"))
         self.assertEqual(plans.read(found[3]), first.plan)
 
     def test_plans(self) -> None:
         told = [str(plan) for plan in plans.of_words(["3", "400..402", "40..50/10"])]
         self.assertEqual(told, [f".line 3 {first} {period}" for first in (400, 401, 402) for period in (40, 50)])
-        for words in (["16", "1", "1"], ["0", "2..1", "1"], ["0", "1..", "1"], ["0", "1..2/0", "1"], ["0", "1..1000", "1..1000"], ["0", "x", "1"]):
+        for words in (["16", "1", "1"], ["0", "2..1", "1"], ["0", "1..", "1"], ["0", "1..2/0", "1"],
+                      ["0", "1..1000", "1..1000"], ["0", "x", "1"]):
             with self.assertRaises(calling.Failed):
                 plans.of_words(words)

@@ -1,4 +1,4 @@
-"""Tests of ways and of what tools/every says, without the program. The check `author-tests` runs them."""
+"""Tests of ways and of what tools/every says, without the program. The check `unit-tests` runs them."""
 
 from __future__ import annotations
 

@@ -1,6 +1,6 @@
 """A run step by step: who ran, where, which instruction, and the program's line; at the end all registers.
 
-    tools/trace IMAGE STEPS SEED [--source FILE]
+    tools/trace FILE STEPS SEED [--source FILE]
 
 The steps come from tools/reference, of which nothing is proved. Its lines are compared with those of the program, and
 where they differ that is said, and the status is 1.
@@ -19,7 +19,6 @@ from ..reference.model import FETCH, PAGE, Fault, World
 from . import asmx
 
 MOST_STEPS = 200_000
-MOST_IMAGE = 1 << 25
 
 
 class Watched(runs.Turn):
@@ -137,11 +136,12 @@ def main() -> None:
         description="A run step by step, by the reference, of which nothing is proved; its lines are compared with "
                     "the program's.",
         epilog="The status is 0 where the lines agree, and 1 where they differ.")
-    parser.add_argument("image", metavar="IMAGE", help="- is standard input")
+    parser.add_argument("image", metavar="FILE",
+                        help="an image, of which - is standard input, or an assembly text or source of tools/asmx")
     parser.add_argument("steps", metavar="STEPS")
     parser.add_argument("seed", metavar="SEED")
     parser.add_argument("--source", metavar="FILE",
-                        help="the assembly text, or the source of tools/asmx, for its names")
+                        help="of an image: the text that it was made of, for its names")
     parser.add_argument("--from", dest="first", default="0", metavar="STEP", help="show the steps from this one on")
     parser.add_argument("--partition", type=int, metavar="NAME", help="show the steps of this partition alone")
     calling.take_program(parser)
@@ -153,10 +153,10 @@ def work(given: argparse.Namespace) -> int | None:
     count = calling.number(given.steps, 0, MOST_STEPS, "STEPS")
     seed = calling.number(given.seed, 1, 0xFFFFFFFF, "SEED")
     first = calling.number(given.first, 0, count, "--from")
-    data = calling.contents(given.image, MOST_IMAGE)
+    data, source = asmx.image_of(given.program, given.image)
     due = calling.text_of(given.program, ["run", str(count), str(seed)], data)
     image = images.read(data)
-    names = Names(image, given.source)
+    names = Names(image, source or given.source)
     found: list[str] = []
     if names.warning:
         print(f"trace: {names.warning}", file=sys.stderr)

@@ -9,7 +9,7 @@ import functools
 import re
 from array import array
 from collections.abc import Callable, Iterator, Sequence
-from typing import List, NamedTuple, Optional
+from typing import NamedTuple
 
 from ..common.calling import Failed
 from ..common.plans import Plan
@@ -28,11 +28,11 @@ BLOCK = 17                       # words of a block: a pc and 16 registers
 class Choice(NamedTuple):
     """The turn of a processor, or a line that is raised. The other one is None."""
 
-    cpu: Optional[int]
-    line: Optional[int]
+    cpu: int | None
+    line: int | None
 
 
-Way = List[Choice]
+Way = list[Choice]
 
 
 def read(image: Image, text: str) -> Way:
@@ -56,9 +56,9 @@ class Made(NamedTuple):
     """A choice that was made: the line that was raised, or the turn and its lines, and the world after it."""
 
     step: int
-    line: Optional[int]
-    turn: Optional[trace.Watched]
-    lines: List[str]
+    line: int | None
+    turn: trace.Watched | None
+    lines: list[str]
     world: World
 
 

@@ -8,8 +8,8 @@ from __future__ import annotations
 import argparse
 import difflib
 import re
-from collections.abc import Callable
-from typing import NoReturn, Optional, Tuple
+from collections.abc import Callable, Iterator
+from typing import NoReturn, Optional
 
 from ..common import calling, meanings
 from ..common.calling import Failed
@@ -17,47 +17,21 @@ from ..reference import assembly, instructions, script
 
 NUMBER = re.compile(rb"0|[1-9][0-9]*|0x[0-9a-f]{1,8}")
 LONGEST = 120
-OF_ASMX = (".equ", ".handler", ".include", "la", "j")       # lines that tools/asmx adds
-LIKE = {"ld": "ldw", "st": "stw", "load": "ldw", "store": "stw", "move": "mov", "call": "sys", "trap": "int"}
+MOST_TOLD = 20           # bad lines of one text
+# What tools/asmx adds
+OF_ASMX = (".equ", ".handler", ".include", "la", "j", "nop", "call", "ret", "neg", "not")
+LIKE = {"ld": "ldw", "st": "stw", "load": "ldw", "store": "stw", "lw": "ldw", "sw": "stw", "lb": "ldb", "sb": "stb",
+        "move": "mov", "jmp": "jal", "trap": "int", "ecall": "sys", "syscall": "sys",
+        "subi": "addi with a negative number", "bgt": "blt", "bgtu": "bltu",
+        "beqz": "beq with a register that holds 0", "bnez": "bne with a register that holds 0"}
+# What other assemblers write, and this one doesn't: a sign in a word, and what to do
+SIGNS = ((",", "operands are separated by spaces, not by commas"),
+         ("(", "an address is a register and a number: ldw r1 r2 0, without brackets"),
+         ("[", "an address is a register and a number: ldw r1 r2 0, without brackets"),
+         (";", "a remark begins with #"), ("//", "a remark begins with #"))
 DIRECTIVES = (b".frames", b".cpus", b".line", b".page", b".word", b".zero")
 
-# How a cause is found in the tables: by words of the row's first cell
-TEXT = "why-is-my-line-bad"
-ROWS = {
-    "return": "a carriage return",
-    "mark": "a byte order mark",
-    "spaces": "an indentation",
-    "remark": "a remark after a line",
-    "case": "upper case",
-    "number": "`00`",
-    "large": "more than eight digits",
-    "processor": "`ld 1 0` after",
-    "boot": "`boot 15 1`",
-    "second": "a second `boot`",
-    "range": "`sb 0 0x400000 256`",
-    "form": "`load 0 0`",
-    "count": "`ld 0`",
-    "long": "121 bytes or more",
-}
-Form = Tuple[Optional[int], ...]      # what each number of a line is below; None is the number of processors
-KINDS = ("unknown", "operand", "range", "twice", "size", "label")
-
-
-def tables() -> dict[str, list[str]]:
-    """The rows of the two tables, by cause: what stands in their cells."""
-    text = meanings.formats()
-    bad = meanings.rows(text, "### Why is my line bad?")
-    kinds = meanings.rows(text, "### Faults of a text")
-    far = [row for row in kinds if row[1].startswith("the distance")]
-    found: dict[str, list[str] | None] = {"asm distance": far[0] if far else None}
-    for cause, begins in ROWS.items():
-        found[cause] = next((row for row in bad if row[0].startswith(begins)), None)
-    for kind in KINDS:
-        found["asm " + kind] = next((row for row in kinds if row[0] == f"`{kind}`" and row not in far), None)
-    missing = [cause for cause, row in found.items() if row is None]
-    if missing:
-        raise Failed(f"docs/FORMATS.md has no row for {', '.join(missing)}")
-    return {cause: row for cause, row in found.items() if row is not None}
+Form = tuple[Optional[int], ...]      # what each number of a line is below; None is the number of processors
 
 
 class Cause(Exception):
@@ -181,9 +155,20 @@ def unknown(word: bytes) -> str:
         return f"{shown(word)} doesn't stand here, or is no good name"
     if word.decode("latin1") in OF_ASMX:
         return f"no line of an assembly text begins with {shown(word)}: the file is a source of tools/asmx"
-    near = difflib.get_close_matches(word.decode("latin1"), [*instructions.OPCODES, *LIKE], 2, 0.6)
-    meant = " or ".join(dict.fromkeys(LIKE.get(name, name) for name in near))
-    return f"no line begins with {shown(word)}" + (f": is {meant} meant?" if meant else "")
+    return no_instruction(word.decode("utf-8", "replace"), list(instructions.OPCODES), LIKE)
+
+
+def no_instruction(word: str, names: list[str], like: dict[str, str]) -> str:
+    """A sentence about a word that begins no line, with what may be meant by it."""
+    near = difflib.get_close_matches(word, [*names, *like], 2, 0.6)
+    meant = " or ".join(dict.fromkeys(like.get(name, name) for name in near))
+    what = "no line begins with " + repr(word) if word.startswith(".") else f"{word!r} is no instruction"
+    return what + (f"; did you mean {meant}?" if meant else hint(word))
+
+
+def hint(word: str) -> str:
+    """What to do about a sign that other assemblers have."""
+    return next((f": {told}" for sign, told in SIGNS if sign in word), "")
 
 
 def is_number(word: bytes) -> bool:
@@ -225,7 +210,7 @@ def wrong_operand(words: list[tuple[int, bytes]], line: bytes) -> tuple[int, str
     due = operands_of(name)
     for (column, word), what in zip(operands, due):
         if not IS[what](word):
-            return column, f"{shown(word)} isn't {CALLED[what]}"
+            return column, f"{shown(word)} isn't {CALLED[what]}{hint(word.decode('utf-8', 'replace'))}"
     if len(operands) > len(due):
         return operands[len(due)][0], f"{name.decode()} has {len(due)} operands, and here are {len(operands)}"
     return len(line) + 1, f"{name.decode()} has {len(due)} operands, and here are {len(operands)}"
@@ -253,6 +238,16 @@ def wrong_name(words: list[tuple[int, bytes]], line: bytes) -> tuple[int, str]:
 
 # The tool
 
+def no_text(name: str, data: bytes) -> str:
+    """What a file is that is no text; nothing where it is one."""
+    if not data:
+        return f"{name} is empty"
+    if data.startswith(b"PIPIMG"):
+        return f"{name} is an image, and no text: ./pip dis < {name} writes its text"
+    found = re.search(rb"[\x00-\x08\x0e-\x1f\x7f]", data)
+    return f"{name} is no text: it has the byte 0x{data[found.start()]:02x} at offset {found.start()}" if found else ""
+
+
 def is_assembly(lines: list[bytes]) -> bool:
     first = next((line for line in lines if line and not line.startswith(b"#")), b"")
     return first.lstrip(b" \t\xef\xbb\xbf").lower().startswith(b".")
@@ -260,8 +255,8 @@ def is_assembly(lines: list[bytes]) -> bool:
 
 def why(program: str, name: str, text: bytes, as_assembly: bool | None = None) -> tuple[list[str], bool]:
     """The sentences about a text, and whether it is good."""
-    if text.startswith(b"PIPIMG"):
-        return [f"{name} is an image, and no text: ./pip dis < {name} writes its text"], False
+    if (what := no_text(name, text)) and (text or as_assembly is None):
+        return [what], False
     lines = list(script.lines(text))
     assembles = is_assembly(lines) if as_assembly is None else as_assembly
     output, status = calling.output(program, ["asm" if assembles else "script"], text)
@@ -271,17 +266,50 @@ def why(program: str, name: str, text: bytes, as_assembly: bool | None = None) -
     found = re.search(rb"bad line (\d+)(?: (\w+))?\n$", output)
     if found is None:
         raise Failed(f"the program refuses {name}, and names no line")
-    place = int(found[1])
+    return refused(name, text, int(found[1]), found[2].decode() if assembles else None), False
+
+
+def wrong_lines(program: str, lines: list[bytes], assembles: bool) -> Iterator[tuple[int, Cause]]:
+    """Each bad line and its cause: the program names one, and the text is tried again with a harmless line in its
+    place."""
+    lines = list(lines)
+    for _ in range(MOST_TOLD):
+        output, status = calling.output(program, ["asm" if assembles else "script"],
+                                        b"".join(line + b"\n" for line in lines))
+        found = re.search(rb"bad line (\d+)(?: (\w+))?\n$", output)
+        if status != 2 or found is None:
+            return
+        place = int(found[1])
+        cause = cause_of(lines, place, found[2].decode() if assembles else None)
+        yield place, cause
+        if place > len(lines) or cause.name == "second" or is_head(lines[place - 1]):
+            return
+        lines[place - 1] = b".word 0" if assembles else b"#"
+
+
+def is_head(line: bytes) -> bool:
+    """A line without which all after it would be wrong."""
+    return line.startswith((b"boot", b".")) and not line.startswith(b".word")
+
+
+def cause_of(lines: list[bytes], place: int, kind: str | None) -> Cause:
+    """Why a line is bad; that of an assembly text has a kind."""
     try:
-        if assembles:
-            judge_assembly(lines, place, found[2].decode())
+        if kind is not None:
+            judge_assembly(lines, place, kind)
         judge_script(lines, place)
     except Cause as cause:
-        return told(name, place, lines, cause), False
+        return cause
+
+
+def refused(name: str, text: bytes, place: int, kind: str | None) -> list[str]:
+    """The sentences about a text whose first bad line is known; that of an assembly text has a kind."""
+    lines = list(script.lines(text))
+    return told(name, place, lines, cause_of(lines, place, kind))
 
 
 def told(name: str, place: int, lines: list[bytes], cause: Cause) -> list[str]:
-    row = tables()[cause.name]
+    row = meanings.causes()[cause.name]
     rule = row[1] if cause.name.startswith("asm") else row[0]
     reason = "" if cause.name.startswith("asm") else row[1]
     line = lines[place - 1].decode("utf-8", "replace") if place <= len(lines) else ""
@@ -310,4 +338,9 @@ def work(given: argparse.Namespace) -> int | None:
     text = calling.contents(given.file)
     sentences, good = why(given.program, given.file, text, None if given.kind is None else given.kind == "asm")
     print("\n".join(sentences))
+    if len(sentences) > 1:
+        lines = list(script.lines(text))
+        assembles = is_assembly(lines) if given.kind is None else given.kind == "asm"
+        for place, cause in list(wrong_lines(given.program, lines, assembles))[1:]:
+            print("\n" + "\n".join(told(given.file, place, lines, cause)))
     return 0 if good else 1

@@ -29,7 +29,8 @@ def lend(pages: list[int], first: int, count: int, place: int) -> list[str]:
 
 def family(pages: list[int], count: int) -> list[str]:
     """A child with a handler for vector 64 and so many pages of its own."""
-    lines = ["st 0 0xfffff104 0xfffff400", "st 0 0xfffff400 0x00400100", call(0, *pages[:5])] + table(pages, 5, 0xFFFFF000)
+    lines = ["st 0 0xfffff104 0xfffff400", "st 0 0xfffff400 0x00400100", call(0, *pages[:5])]
+    lines += table(pages, 5, 0xFFFFF000)
     lines += [f"st 0 {hex(pages[8] + 0x100)} 0xfffff400", f"st 0 {hex(pages[8] + 0x400)} 0x10000000"]
     lines += lend(pages, 8, 1, 0xFFFFF000)
     return lines + lend(pages, 9, count, CHILD_PAGES[0])

@@ -3,9 +3,9 @@
     bench/gate rt ci                    the whole gate, from nothing
     bench/gate rt must-fail pip_kern    a crate's edits
 
-Kinds: the crate's own proof, with the second check of a program for Rattle's own compiler; the proof and the build of its tests; and its
-edits, with their seed (one more check of the whole crate). Processes are looked at every second, so one that ends between two looks
-loses up to that; what a process had used when it was seen last is counted.
+Kinds: the crate's own proof, with the second check of a program for Rattle's own compiler; the proof and the build of
+its tests; and its edits, with their seed (one more check of the whole crate). Processes are looked at every second, so
+one that ends between two looks loses up to that; what a process had used when it was seen last is counted.
 """
 
 from __future__ import annotations
@@ -17,9 +17,8 @@ import sys
 import threading
 import time
 from collections import defaultdict
-from typing import DefaultDict, Dict, Tuple
 
-Used = DefaultDict[Tuple[str, str], Dict[int, float]]      # by crate and kind: the seconds of each process
+Used = defaultdict[tuple[str, str], dict[int, float]]      # by crate and kind: the seconds of each process
 KINDS = ("proof", "tests", "edits")
 TICKS = os.sysconf("SC_CLK_TCK")
 NAME = re.compile(rb"\0--crate-name\0([^\0]+)\0")

@@ -9,12 +9,12 @@ from __future__ import annotations
 
 import math
 import sys
-from typing import List, NamedTuple, Tuple
+from typing import NamedTuple
 
 from ..common import calling
 from ..draw.svg import INK, PALE, Drawing
 from . import deletions
-from .count import instructions
+from .count import Counted
 
 
 class Curve(NamedTuple):
@@ -26,7 +26,7 @@ class Curve(NamedTuple):
     aside: tuple[int, int]       # where the last figure is from its point
 
 
-Points = List[Tuple[int, int]]      # a size, and the instructions
+Points = list[tuple[int, int]]      # a size, and the instructions
 CURVES = [
     Curve("chain", "partitions in a chain, each with a table", (1, 2, 5, 10, 20, 50, 100), "#7d4fa8", "end", (-10, 4)),
     Curve("children", "children of the child", (0, 1, 2, 5, 10, 20, 50, 100, 200), "#c0392b", "start", (10, 4)),
@@ -37,16 +37,16 @@ CURVES = [
 
 # The counts
 
-def deletion(case: str) -> int:
+def deletion(program: Counted, case: str) -> int:
     """The instructions of the line that deletes."""
     before, with_it = deletions.scripts(case)
-    return instructions(with_it.encode()) - instructions(before.encode())
+    return program.instructions(with_it.encode()) - program.instructions(before.encode())
 
 
-def counted(curve: Curve) -> Points:
+def counted(program: Counted, curve: Curve) -> Points:
     points = []
     for size in curve.sizes:
-        points.append((size, deletion(f"{curve.kind}{size}")))
+        points.append((size, deletion(program, f"{curve.kind}{size}")))
         print(f"{curve.kind} {size}: {points[-1][1]}", flush=True)
     return points
 
@@ -70,8 +70,10 @@ def down(count: float) -> float:
 
 def draw(curves: list[tuple[Curve, Points]]) -> str:
     drawing = Drawing()
-    drawing.text(16, 30, "The line call 0 1, which deletes a child: instructions by what the child has", size=16, bold=True)
-    drawing.text(16, 52, "Both axes are logarithmic. Along the grey diagonal ten times as many take ten times the instructions.",
+    drawing.text(16, 30, "The line call 0 1, which deletes a child: instructions by what the child has", size=16,
+                 bold=True)
+    drawing.text(16, 52, "Both axes are logarithmic. Along the grey diagonal ten times as many take ten times the "
+                         "instructions.",
                  colour=PALE)
     draw_axes(drawing)
     for curve, points in curves:
@@ -113,7 +115,8 @@ def draw_legend(drawing: Drawing, curve: Curve, points: Points, top: float) -> N
     drawing.rectangle(left + 9, top - 3, 6, 6, curve.colour, corner=3)
     drawing.text(left + 34, top + 4, curve.what, size=12, bold=True)
     drawing.text(left + 34, top + 21, f"with {least}: {first:,}; with {most:,}: {last:,}")
-    drawing.text(left + 34, top + 38, f"each more takes {rise(points[:2]):,.0f} at first, {rise(points[-2:]):,.0f} in the end")
+    drawing.text(left + 34, top + 38,
+                 f"each more takes {rise(points[:2]):,.0f} at first, {rise(points[-2:]):,.0f} in the end")
 
 
 def rise(two: Points) -> float:
@@ -129,6 +132,7 @@ def main() -> None:
 
 
 def show() -> None:
-    curves = [(curve, counted(curve)) for curve in CURVES]
+    program = Counted()
+    curves = [(curve, counted(program, curve)) for curve in CURVES]
     with open(sys.argv[1], "w", encoding="utf-8") as file:
         file.write(draw(curves))

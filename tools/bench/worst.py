@@ -1,25 +1,30 @@
 """Writes inputs that cost a command most, as far as such were found.
 
-    bench/worst.py names KIND COUNT         an assembly text of that many labels
-    bench/worst.py chain DEPTH BYTES KIND   a script that works at the end of a chain of partitions
-    bench/worst.py audit                    a text of 4096 frames
+    bench/worst.py names KIND COUNT         an assembly text of that many labels bench/worst.py chain DEPTH BYTES KIND
+    a script that works at the end of a chain of partitions bench/worst.py audit                    a text of 4096
+    frames bench/worst.py build WANTS COUNT        a script: a child is built with that many wants and ended, again and
+    again bench/worst.py calls                    an assembly text, for `run`: its root makes and ends a child in a loop
+    bench/worst.py faults                   an assembly text, for `native` and `slots`: each child faults at each
+    instruction bench/worst.py fill                     an assembly text, for `every`: it stores a word in one place
+    after the other
 
-KIND of names: `numbers` are ordinary names and `drawn` are 32 random letters; `prefixes` begin with the same 26 letters; `chosen` would fall
-into one part in 64 of the assembler's table, were its hash to begin with 0. KIND of a chain: `create` makes and ends a child again and again,
-`prepare` gives a child tables and takes them back. BYTES is the size of the script, at most.
+KIND of names: `numbers` are ordinary names and `drawn` are 32 random letters; `prefixes` begin with the same 26
+letters; `chosen` would fall into one part in 64 of the assembler's table, were its hash to begin with 0. KIND of a
+chain: `create` makes and ends a child again and again, `prepare` gives a child tables and takes them back. BYTES is the
+size of the script, at most. WANTS, at most 990, are each in a directory of its own.
 """
 
 import functools
 import itertools
 import random
 import sys
-from typing import Callable, Dict, Iterator, Tuple
+from collections.abc import Callable, Iterator
 
 from . import deletions
 
 LETTERS = "abcdefghijklmnopqrstuvwxyzABCDEFGHIJKLMNOPQRSTUVWXYZ_"
 FACTOR = 0x9E3779B97F4A7C15
-Memory = Dict[int, Dict[int, int]]
+Memory = dict[int, dict[int, int]]
 
 
 # ---- names
@@ -44,7 +49,7 @@ def chosen(count: int) -> Iterator[str]:
     return itertools.islice(found, count)
 
 
-def five_letters() -> Iterator[Tuple[str, int]]:
+def five_letters() -> Iterator[tuple[str, int]]:
     """All names of five letters with their hashes, which begin with 0."""
     for letters in itertools.product(LETTERS, repeat=4):
         front, hashed = "".join(letters), functools.reduce(mixed, letters, 0)
@@ -57,7 +62,7 @@ def mixed(hashed: int, letter: str) -> int:
 
 
 def labels(kind: str, count: str) -> Iterator[str]:
-    names: Dict[str, Callable[[int], Iterator[str]]] = {
+    names: dict[str, Callable[[int], Iterator[str]]] = {
         "numbers": numbers, "drawn": drawn, "prefixes": prefixes, "chosen": chosen}
     yield from (".frames 16", ".cpus 1", ".page 0x400000")
     for name in names[kind](int(count)):
@@ -87,13 +92,76 @@ def chain(depth: str, most: str, kind: str) -> Iterator[str]:
         yield from again
 
 
+# ---- children that are built
+
+def built(wants: str, count: str) -> Iterator[str]:
+    """The events of `build` of pip_parent: of each want stores that chain the pages of its table, a prepare and an
+    addVAddr.
+    """
+    pages = iter(0x400000 + 4096 * k for k in range(4075))
+    base = [next(pages) for _ in range(5)]
+    lines = [deletions.call(0, *base)]
+    for k in range(int(wants)):
+        chain = [next(pages) for _ in range(4 if k and k % 170 == 0 else 3)]
+        lines += [f"st 0 {page:#x} {following:#x}" for page, following in zip(chain, chain[1:])]
+        place = 0x400000 * (k + 1)
+        lines += [deletions.call(3, base[0], place, chain[0]), deletions.call(5, next(pages), base[0], place, 3)]
+    yield "boot 4096 1"
+    for _ in range(int(count)):
+        yield from lines
+        yield deletions.call(1, base[0])
+
+
+# ---- programs
+
+CALLS = """.frames 32
+.cpus 1
+.page 0x400000
+li r6 0x1000
+lih r6 0x40
+li r2 0x2000
+lih r2 0x40
+li r3 0x3000
+lih r3 0x40
+li r4 0x4000
+lih r4 0x40
+li r5 0x5000
+lih r5 0x40
+again:
+mov r1 r6
+sys 0
+mov r1 r6
+sys 1
+beq r0 r0 again"""
+
+# The word of an access to an address where there is nothing: it is made again and again
+FAULTS = ".frames 117\n.cpus 1\n" + "\n".join(f".page {0x400000 + 4096 * child:#x}\nldw r1 r0 0" for child in range(8))
+
+# At first it computes, so that the words with which those of the states are compared are those of the beginning.
+FILL = """.frames 4096
+.cpus 1
+.page 0x400000
+li r1 0x1000
+lih r1 0x40
+li r3 300
+wait:
+addi r3 r3 -1
+bne r3 r0 wait
+li r5 4
+fill:
+stw r1 r1 0
+add r1 r1 r5
+beq r0 r0 fill"""
+
+
 # ---- memories
 
 def slow_memory() -> Memory:
     """A root that tells of 3000 children. They share their 1024 tables, but have two sets of first shadows by turns."""
     tables = range(1000, 2024)
     children = [*range(60, 1000), *range(2024, 4084)]
-    memory: Memory = {2: {i: table * 4096 + 1 for i, table in enumerate(tables)}, 51: {i: 0x400001 for i in range(1024)}}
+    memory: Memory = {2: {i: table * 4096 + 1 for i, table in enumerate(tables)},
+                      51: {i: 0x400001 for i in range(1024)}}
     for k, child in enumerate(children):
         memory.setdefault(tables[k // 1024], {})[k % 1024] = child * 4096 + 0x1F
     put_list(memory, 10, tables, lambda k: 51 if k < 3 else 52)
@@ -129,11 +197,20 @@ def frames_text(memory: Memory) -> Iterator[str]:
     yield "end 0"
 
 
+KINDS: dict[str, Callable[..., Iterator[str]]] = {
+    "names": labels, "chain": chain, "build": built, "audit": lambda: frames_text(slow_memory()),
+    "calls": lambda: iter(CALLS.split("\n")), "faults": lambda: iter(FAULTS.split("\n")),
+    "fill": lambda: iter(FILL.split("\n"))}
+
+
+def lines(kind: str, *words: str) -> Iterator[str]:
+    """The lines of an input."""
+    return KINDS[kind](*words)
+
+
 def main() -> None:
     words = sys.argv[1:]
-    kinds: Dict[str, Callable[..., Iterator[str]]] = {
-        "names": labels, "chain": chain, "audit": lambda: frames_text(slow_memory())}
-    if not words or words[0] not in kinds:
+    if not words or words[0] not in KINDS:
         sys.exit(__doc__)
-    for line in kinds[words[0]](*words[1:]):
+    for line in lines(*words):
         sys.stdout.write(line + "\n")

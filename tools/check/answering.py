@@ -18,7 +18,9 @@ MOST = LINES // 800      # writes: a read brings up to 16384 bytes, which are 11
 
 
 def typed_script(program: str) -> None:
-    """Over pipes that stay open each answer comes before more is sent, also where the first half of the next line was sent."""
+    """Over pipes that stay open each answer comes before more is sent, also where the first half of the next line was
+    sent.
+    """
     for halves in False, True:
         process = subprocess.Popen([program, "script"], stdin=subprocess.PIPE, stdout=subprocess.PIPE, bufsize=0)
         try:
@@ -37,7 +39,8 @@ def type_lines(process: subprocess.Popen[bytes], halves: bool) -> None:
         sent = len(ahead) // 2
         got = take(process.stdout, len(answer))
         if got != answer:
-            raise Differs(f"line {number}{' and half of the next' if sent else ''} was sent, and {short(got)} came, where {short(answer)} is due")
+            raise Differs(f"line {number}{' and half of the next' if sent else ''} was sent, and {short(got)} came, "
+                          f"where {short(answer)} is due")
     rest, _ = process.communicate(timeout=SECONDS)
     expect("the end of a typed script", (rest, process.returncode), (b"", 2))
 
@@ -56,8 +59,10 @@ def take(stream: IO[bytes], count: int) -> bytes:
 def gathered_answers(program: str) -> None:
     """A long script out of a file makes few writes."""
     with tempfile.TemporaryDirectory() as place:
-        library, counted, script, text = (os.path.join(place, name) for name in ("writes.so", "count", "script", "text"))
-        subprocess.run(["gcc", "-O1", "-shared", "-fPIC", "-o", library, os.path.join(HERE, "writes.c"), "-ldl"], check=True)
+        library, counted, script, text = (os.path.join(place, name)
+                                          for name in ("writes.so", "count", "script", "text"))
+        subprocess.run(["gcc", "-O1", "-shared", "-fPIC", "-o", library, os.path.join(HERE, "writes.c"), "-ldl"],
+                       check=True)
         with open(script, "wb") as file:
             file.write(b"boot 32 1\n" + b"ld 0 0x400000\n" * LINES)
         due = b"boot 32 1\n" + b"0x00000000\n" * LINES

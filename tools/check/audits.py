@@ -56,7 +56,9 @@ def with_word(memory: audit.Memory, frame: int, index: int, word: int) -> bytes:
 
 
 def each_word(program: str) -> None:
-    """A small machine with one word changed lays out no sound tree, but where it is a user's, or the root's mask or lines."""
+    """A small machine with one word changed lays out no sound tree, but where it is a user's, or the root's mask or
+    lines.
+    """
     rng, memory = random.Random(1), audit.read(16, small_text())
     told, _ = run([program, "audit", "16"], small_text())
     places = [(f, i) for f in range(16) for i in range(1024)]

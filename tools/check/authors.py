@@ -1,4 +1,6 @@
-"""The tools for authors of monitors: tools/asmx, tools/why, tools/trace, tools/explore and tools/every, beside the program."""
+"""The tools for authors of monitors: tools/asmx, tools/why, tools/trace, tools/explore and tools/every, beside the
+program.
+"""
 
 from __future__ import annotations
 
@@ -7,14 +9,13 @@ import os
 import subprocess
 import sys
 import tempfile
-from typing import Tuple
 
 from ..authors import why
 from ..reference import commands as reference, generate
 from . import examples
 from .running import REPOSITORY, SECONDS, Differs, run
 
-Told = Tuple[str, str, int]          # output, messages and status of a tool
+Told = tuple[str, str, int]          # output, messages and status of a tool
 CASES = 300
 
 
@@ -60,16 +61,23 @@ def preprocessor(program: str) -> None:
         with open(source, "a") as file:
             file.write("li r1 70000   # too large\n")
         last = SOURCE.count("\n") + 1
-        ends("tools/asmx", tool(program, "asmx", source, "--image", built), 2, f"source.s:{last}: range, in 'li r1 70000': '70000' is outside")
+        ends("tools/asmx", tool(program, "asmx", source, "--image", built), 2,
+             f"source.s:{last}: range, in 'li r1 70000': '70000' is outside")
         with open(source, "a") as file:
             file.write("out r1\nlb r1 r2 0\n")
         told = tool(program, "asmx", source, "--image", built)
-        ends("tools/asmx of two wrong lines", told, 2, f"source.s:{last}: range", f"source.s:{last + 2}: unknown, in 'lb r1 r2 0'")
-        ends("tools/asmx to a full device", tool(program, "asmx", programs()[0], "--image", "/dev/full"), 2, "/dev/full: No space left")
+        ends("tools/asmx of two wrong lines", told, 2, f"source.s:{last}: range",
+             f"source.s:{last + 2}: 'lb' is no instruction; did you mean ldb?")
+        ends("tools/asmx to a full device", tool(program, "asmx", programs()[0], "--image", "/dev/full"), 2,
+             "/dev/full: No space left")
         for words, due in ((("/nonexistent",), "can't be read"), ((place,), "can't be read"),
-                            ((source, "--line", "0"), "lines"), ((source, "--image", "/nonexistent/x"), "range")):
+                            ((programs()[0], "--line", "0"), "lines"),
+                           ((source, "--image", "/nonexistent/x"), "range")):
             ends(f"tools/asmx {' '.join(words)}", tool(program, "asmx", *words), 2, due)
-        ends("tools/asmx of bytes", tool(program, "asmx", "-", text=b"\xff\x00\n.page \xfe\n"), 2, "-:1: ")
+        for text, due in ((b"\xff\x00\n.page \xfe\n", "- is no text: it has the byte 0x00 at offset 1"),
+                          (b"PIPIMG2\n", "- is an image, and no text"),
+                          (b"\xff\n", "-:1: ")):
+            ends("tools/asmx of bytes", tool(program, "asmx", "-", text=text), 2, due)
 
 
 # The child shows 42, which its block has in r2, and the address at which it sees a name of its own.
@@ -141,10 +149,16 @@ def reasons(program: str) -> None:
     ends("tools/why", tool(program, "why", bad), 1, ":7:6: '00' is no number", "rule: ")
     ends("tools/why", tool(program, "why", good), 0, "is a good script")
     ends("tools/why", tool(program, "why", "/nonexistent"), 2, "can't be read")
-    ends("tools/why", tool(program, "why", "-", text=b"\xff\xfe\x00"), 1, "rule: ")
+    ends("tools/why", tool(program, "why", "-", text=b"\xff\xfe"), 1, "rule: ")
+    ends("tools/why of bytes", tool(program, "why", "-", text=b"a\n\x7f"), 1,
+         "- is no text: it has the byte 0x7f at offset 2")
+    told = tool(program, "why", "-", text=b"boot 32 1\nld 0 00\nprint\nld 0 0\ncall 0\n")
+    ends("tools/why of several", told, 1, "-:2:6: ", "-:3:1: ", "-:5:7: ")
+    ends("tools/why of nothing", tool(program, "why", "-"), 1, "- is empty")
     ends("tools/why", tool(program, "why", "-", "--as", "asm"), 1, "the text ends before")
     ends("tools/why of an image", tool(program, "why", "-", text=b"PIPIMG2\n"), 1, "is an image, and no text")
-    ends("tools/why of a source", tool(program, "why", "-", text=b".frames 16\n.cpus 1\n.equ A 3\n"), 1, "a source of tools/asmx")
+    ends("tools/why of a source", tool(program, "why", "-", text=b".frames 16\n.cpus 1\n.equ A 3\n"), 1,
+         "a source of tools/asmx")
 
 
 def traces(program: str) -> None:
@@ -163,7 +177,8 @@ def traces(program: str) -> None:
         ends("tools/trace", tool(program, "trace", built, "15", "1", "--source", sum_of, "--from", "2"), 0,
              "next+1", "out r2", "r2  0x0000000a")
         right = tool(program, "trace", built, "15", "1", "--source", sum_of)[1]
-        ends("tools/trace by another source", tool(program, "trace", built, "15", "1", "--source", programs()[0]), 0, "isn't the source of this image")
+        ends("tools/trace by another source", tool(program, "trace", built, "15", "1", "--source", programs()[0]), 0,
+             "isn't the source of this image")
         if right:
             raise Differs(f"tools/trace by its own source: {right}")
         liar = os.path.join(place, "liar")
@@ -172,13 +187,14 @@ def traces(program: str) -> None:
         os.chmod(liar, 0o755)
         ends("tools/trace", tool(liar, "trace", built, "20", "1"), 1, "the reference differs from the program")
         for words, told in ((("-", "x", "1"), "STEPS is a number"), (("-", "1", "0"), "SEED is a number"),
-                            (("-", "1", "1"), "bad image"), (("/nonexistent", "1", "1"), "can't be read"),
+                            (("-", "1", "1"), "- is empty"), (("/nonexistent", "1", "1"), "can't be read"),
                             ((built, "1", "1", "--source", "/nonexistent"), "can't be read")):
             ends(f"tools/trace {' '.join(words)}", tool(program, "trace", *words), 2, told)
 
 
 def timers(program: str, place: str) -> None:
-    """A monitor that loses a request by its timer alone: its groups by the plan, with the step, and the image of one."""
+    """A monitor that loses a request by its timer alone: its groups by the plan, with the step, and the image of one.
+    """
     source, lossy, built = (os.path.join(place, name) for name in ("lossy.s", "lossy.img", "one.img"))
     text = examples.contents(os.path.join(REPOSITORY, "examples", "timer_and_services.s"))
     with open(source, "wb") as file:
@@ -195,13 +211,17 @@ def timers(program: str, place: str) -> None:
         raise Differs(f"tools/explore --line: no group has the step of its first trouble: {lines}")
     first, period = faulty.split(" with .line 0 ")[1].split(" ")[:2]
     step, what = faulty.split("(step ")[1].split(")")[0].split(": ")
-    ends("tools/explore --write", tool(program, "explore", lossy, "900", "1", "1", "--line", "0", first, period, "--write", built), 0, f"(step {step}: ")
-    ends("tools/trace --from of the first trouble", tool(program, "trace", built, "900", "1", "--from", step, "--source", source), 0, f"{step} 0 ", what)
+    ends("tools/explore --write",
+         tool(program, "explore", lossy, "900", "1", "1", "--line", "0", first, period, "--write", built), 0,
+         f"(step {step}: ")
+    ends("tools/trace --from of the first trouble",
+         tool(program, "trace", built, "900", "1", "--from", step, "--source", source), 0, f"{step} 0 ", what)
     with open(os.path.join(place, "timers"), "w") as file:
         file.write(told[0])
     if (merged := tool(program, "explore", "--merge", os.path.join(place, "timers"))[0]) != told[0]:
         raise Differs(f"tools/explore --merge of timers: {merged!r}, where {told[0]!r} is due")
-    for words, due in ((("--line", "16", "1", "1"), "L is a number"), (("--line", "0", "9..1", "1"), "the end of FIRST"),
+    for words, due in ((("--line", "16", "1", "1"), "L is a number"),
+                       (("--line", "0", "9..1", "1"), "the end of FIRST"),
                        (("--write", built), "--write is for one seed")):
         ends(f"tools/explore {' '.join(words)}", tool(program, "explore", lossy, "9", "1", "1", *words), 2, due)
 
@@ -227,8 +247,8 @@ def groups(program: str) -> None:
             raise Differs(f"tools/explore --merge: {merged!r}, where {whole!r} is due")
         timers(program, place)
         for words, due in (((built, "x", "1", "2"), "STEPS is"), ((built, "1", "2", "1"), "LAST is"),
-                            ((built, "1", "0", "1"), "FIRST is"), ((built,), "either IMAGE"),
-                            (("-", "1", "1", "2"), "bad image"), (("--merge", source), "no line of this tool"),
+                            ((built, "1", "0", "1"), "FIRST is"), ((built,), "either FILE"),
+                            (("-", "1", "1", "2"), "- is empty"), (("--merge", source), "no line of this tool"),
                             ((built, "1", "1", "2", "--jobs", "0"), "--jobs is")):
             ends(f"tools/explore {' '.join(words)}", tool(program, "explore", *words), 2, due)
 
@@ -236,15 +256,17 @@ def groups(program: str) -> None:
 def interleavings(program: str) -> None:
     """The race's lines with their ways: as a trace, as a script, and as a run that shows the same."""
     race, guests = (os.path.join(REPOSITORY, "examples", name) for name in ("every/race.asmx", "two_guests.s"))
-    all_of_race, early = (race, "10000"), (guests, "1000", "0", "8")
+    all_of_race = (race, "10000")
     told = tool(program, "every", *all_of_race)
     ends("tools/every", told, 0, "call 10 reply 0 0x00000000: 0    # vcli: Ok", "closed    # nothing else can come")
     lost = next(line.split()[0] for line in told[0].splitlines() if " out 0x00000002: " in line)
-    told = tool(program, "every", *early, "--trouble")
-    ends("tools/every --trouble", told, 0, "NotChild", "by 8 choices")
+    early = next(line.split()[0] for line in told[0].splitlines() if " switch 1 1 32: " in line)
+    ends("tools/every --page", tool(program, "every", *all_of_race, "--page", early), 0,
+         "<title>race.asmx: switch 1 1 32")
+    told = tool(program, "every", guests, "2000", "--trouble")
+    ends("tools/every --trouble", told, 0, "Running", "by 905 choices")
     if len(told[0].splitlines()) != 3:
-        raise Differs(f"tools/every --trouble of a line before the first vcli: {told[0]!r}")
-    ends("tools/every --page", tool(program, "every", *early, "--page", "6"), 0, "<title>two_guests.s: call 8 reply 5")
+        raise Differs(f"tools/every --trouble of two guests: {told[0]!r}")
     told = tool(program, "every", *all_of_race, "--script", lost)
     ends("tools/every --script", told, 0, "raise 0", "answers of the reference")
     if run([program, "script"], told[0].encode())[1]:
@@ -274,9 +296,12 @@ def ways_of_an_image(program: str, race: str, lost: str, place: str) -> None:
 
 def refuses_searches(program: str, built: str) -> None:
     for words, due in (((built, "0"), "STATES is a number"), ((built, "1", "x"), "FROM is a number"),
-                       ((built, "1", "0", "0"), "DEPTH is a number"), ((built, "10000", "--trace", "99"), "N is a number"),
+                       ((built, "1", "0", "0"), "DEPTH is a number"),
+                       ((built, "10000", "--trace", "99"), "N is a number"),
                        ((built, "1", "--script", "1"), "no line can come"), (("/nonexistent", "1"), "can't be read"),
-                       (("-", "1"), "a source is given by its name"),
+                       (("-", "1"), "- is empty"),
                        (("examples/hostile.s", "1", "--source", built), "--source is for an image")):
         ends(f"tools/every {' '.join(words)}", tool(program, "every", *words), 2, due)
     ends("tools/every of no image", tool(program, "every", "-", "1", text=b"PIPIMG1\n"), 2, "bad image oldversion 0")
+    ends("tools/every of a source without a name", tool(program, "every", "-", "1", text=b".frames 16\n"), 2,
+         "a source is given by its name")

@@ -2,7 +2,6 @@
 
 from __future__ import annotations
 
-import base64
 import json
 import os
 import select
@@ -12,7 +11,8 @@ import tempfile
 from typing import Any
 
 NAMES = ("chromium", "chromium-browser", "google-chrome", "google-chrome-stable")
-CODES = {"ArrowRight": 39, "ArrowLeft": 37, "ArrowDown": 40, "Home": 36, "End": 35, "PageDown": 34, "PageUp": 33, "Tab": 9, "Enter": 13}
+CODES = {"ArrowRight": 39, "ArrowLeft": 37, "ArrowDown": 40, "Home": 36, "End": 35, "PageDown": 34, "PageUp": 33,
+         "Tab": 9, "Enter": 13}
 SECONDS = 30
 
 
@@ -110,12 +110,3 @@ class Browser:
         """The page as on a screen or on paper, and in light or dark."""
         scheme = {"name": "prefers-color-scheme", "value": "dark" if dark else "light"}
         self.send("Emulation.setEmulatedMedia", media=kind, features=[scheme])
-
-    def picture(self, path: str, whole: bool = False) -> None:
-        answer = self.send("Page.captureScreenshot", format="png", captureBeyondViewport=whole)
-        with open(path, "wb") as file:
-            file.write(base64.b64decode(answer["data"]))
-
-    def paper(self, path: str) -> None:
-        with open(path, "wb") as file:
-            file.write(base64.b64decode(self.send("Page.printToPDF", printBackground=True)["data"]))

@@ -1,9 +1,10 @@
-"""tools/exercise: each cheat of tools/exercises/cheats misses the goals that it names, and no other.
+"""tools/exercise: each cheat of tools/exercises/cheats misses the goals that it names; where nothing is drawn no more.
 
-A file there is a whole text, or NAME.edit, an edit of the exercise's solution: `old: ` is a line, or a part of one, that
-is in it once, and the lines `new: ` after it take its place; without any it goes. `file: ` names another file than the
-solution, whose edited text is judged. Its first lines are `# misses: ` and a goal; a line `# says: ` has words of the verdict.
-A file good_NAME is another way that reaches all goals, so that no goal asks for more than the exercise: `# misses: nothing`.
+A file there is a whole text, or NAME.edit, an edit of the exercise's solution: `old: ` is a line, or a part of one,
+that is in it once, and the lines `new: ` after it take its place; without any it goes. `file: ` names another file than
+the solution, whose edited text is judged. Its first lines are `# misses: ` and a goal; a line `# says: ` has words of
+the verdict. A file good_NAME is another way that reaches all goals, so that no goal asks for more than the exercise:
+`# misses: nothing`.
 """
 
 from __future__ import annotations
@@ -12,18 +13,20 @@ import functools
 import os
 import re
 import tempfile
+from collections import Counter
 from collections.abc import Callable
 from concurrent.futures import ThreadPoolExecutor
 from dataclasses import dataclass
 
 from ..common.calling import Failed
-from ..exercises import exercise
-from ..exercises.tasks import EXERCISES
+from ..exercises import exercise, judging
+from ..judge import building
+from .exporting import need_cargo
 from .running import REPOSITORY, Differs
 
 CHEATS = os.path.join(REPOSITORY, "tools", "exercises", "cheats")
 SOLUTIONS = os.path.join(REPOSITORY, "examples", "solutions")
-LEAST = 150              # cheats in all: a folder that isn't found would pass
+LEAST_CHEATS, LEAST_GOOD = 10, 5     # of each exercise
 
 
 @dataclass(frozen=True)
@@ -35,9 +38,20 @@ class Cheat:
     def told(self) -> str:
         return os.path.relpath(self.path, REPOSITORY)
 
+    @property
+    def is_good(self) -> bool:
+        return os.path.basename(self.path).startswith("good_")
+
     def marked(self, mark: str) -> list[str]:
         """What is after such a remark."""
         return re.findall(rf"^# {mark}: (.*)$", read(self.path), re.M)
+
+
+def need_judge() -> None:
+    """Builds the judge, or skips a check where it can't be built."""
+    if not os.environ.get("PIP_JUDGE"):
+        need_cargo()
+    building.program()
 
 
 def read(path: str) -> str:
@@ -50,7 +64,9 @@ def solution_of(name: str) -> str:
 
 
 def edited(cheat: Cheat) -> tuple[str, str]:
-    """The text of an edit, and the ending of its file."""
+    """The text of a cheat, and the ending of its file."""
+    if not cheat.path.endswith(".edit"):
+        return read(cheat.path), os.path.splitext(cheat.path)[1]
     lines = [line.split(": ", 1) for line in read(cheat.path).splitlines() if not line.startswith("#")]
     source = next((os.path.join(REPOSITORY, rest) for mark, rest in lines if mark == "file"), solution_of(cheat.name))
     pairs: list[tuple[str, list[str]]] = []
@@ -73,29 +89,29 @@ def replaced(cheat: Cheat, text: str, old: str, new: list[str]) -> str:
     return text.replace(old, "\n".join(new))
 
 
-def verdict(program: str, cheat: Cheat) -> exercise.Judged:
-    if not cheat.path.endswith(".edit"):
-        return exercise.judged(program, cheat.name, cheat.path)
-    text, ending = edited(cheat)
+def judged(name: str, text: str, ending: str, is_program: bool, seed: str | None = None,
+           secret: str | None = None) -> judging.Judged:
+    """What is said of a text in a file of its own."""
     with tempfile.TemporaryDirectory() as place:
-        path = os.path.join(place, "cheat" + ending)
+        path = os.path.join(place, name + ending)
         with open(path, "w", encoding="utf-8") as file:
             file.write(text)
-        return exercise.judged(program, cheat.name, path)
+        return judging.judged(name, path, text.encode(), is_program, seed, secret)
 
 
-def fault(program: str, cheat: Cheat) -> str | None:
+def fault(cheat: Cheat, is_program: bool) -> str | None:
     """What is wrong with the verdict of a cheat."""
     due = cheat.marked("misses")
     try:
-        found = verdict(program, cheat)
+        found = judged(cheat.name, *edited(cheat), is_program)
     except (Failed, Differs) as failed:
         return f"{cheat.told}: {failed}"
     if not due or not read(cheat.path).startswith("# misses: "):
         return f"{cheat.told}: its first line doesn't name the goal that it misses"
-    if found.refused or (found.missing() or ["nothing"]) != due:
-        return f"{cheat.told}: it misses {found.refused or found.missing()}, where {due} is due"
-    if (due == ["nothing"]) != os.path.basename(cheat.path).startswith("good_"):
+    missing = found.missing() or ["nothing"]
+    if found.refused or not set(due) <= set(missing) or missing != due and cheat.name not in exercise.DRAWS:
+        return f"{cheat.told}: it misses {found.refused or found.missing()}, where {due} is due; --again {found.secret}"
+    if (due == ["nothing"]) != cheat.is_good:
         return f"{cheat.told}: it is good, or its name says so"
     said = "\n".join(found.lines(True))
     lacks = [words for words in cheat.marked("says") if words not in said]
@@ -108,10 +124,15 @@ def all_cheats() -> list[Cheat]:
 
 
 def cheats(program: str) -> None:
-    found = all_cheats()
-    if sum(not os.path.basename(cheat.path).startswith("good_") for cheat in found) < LEAST or {cheat.name for cheat in found} != set(EXERCISES):
-        raise Differs(f"tools/exercises/cheats has {len(found)} cheats, or no folder for an exercise")
-    judge: Callable[[Cheat], str | None] = lambda cheat: fault(program, cheat)
+    need_judge()
+    found, exercises = all_cheats(), judging.exercises()
+    for is_good, least in ((False, LEAST_CHEATS), (True, LEAST_GOOD)):
+        counts = Counter(cheat.name for cheat in found if cheat.is_good == is_good)
+        few = [name for name in exercises if counts[name] < least]
+        if few or set(counts) != set(exercises):
+            what = "good works" if is_good else "cheats"
+            raise Differs(f"tools/exercises/cheats has less than {least} {what} of {few}, or a folder of none")
+    judge: Callable[[Cheat], str | None] = lambda cheat: fault(cheat, exercises[cheat.name].is_program)
     with ThreadPoolExecutor(os.cpu_count()) as pool:
         wrong = [told for told in pool.map(judge, found) if told]
     if wrong:

@@ -7,14 +7,15 @@ import shutil
 import signal
 import subprocess
 from collections.abc import Sequence
-from typing import IO, Any, Tuple
+from typing import IO, Any
 
 from .running import REPOSITORY, SECONDS
 
 Process = subprocess.Popen[bytes]
-Ended = Tuple[str, str, int, int]    # output, messages and status of ./pip, and how often it built
+Ended = tuple[str, str, int, int]    # output, messages and status of ./pip, and how often it built
 
-# The stand-in for `rt`. What it builds says with which words it ran, and ends with 7. As with rt, nothing of it is left once it is ended.
+# The stand-in for `rt`. What it builds says with which words it ran, and ends with 7. As with rt, nothing of it is left
+# once it is ended.
 RT = """#!/bin/sh
 echo "rt: chose --jobs 4 for pip_base"
 echo "checked pip_base::words::WORD, 1 of 2"
@@ -45,8 +46,10 @@ REFERENCE = "import sys\nprint('the reference ran', *sys.argv[1:])\nsys.exit(9)\
 SOURCES = ("crates/pip/src/main.rt", "crates/pip_base/specs/Words.antt", "crates/pip_base/proofs/Lib.antt",
            "crates.txt")
 # The program is made of three: one has its line below it, and two others have no part in it
-CRATES = "# a remark\npip_base: bitflags\npip_aside: pip_base\npip may_wait=1: pip_base pip_late\npip_late: pip_base\npip_test: pip\n"
-FOLDERS = ("bin", "crates/pip/src", "crates/pip_base/specs", "crates/pip_base/proofs", "crates/pip_commands/src", "tools/exporter",
+CRATES = ("# a remark\npip_base: bitflags\npip_aside: pip_base\npip may_wait=1: pip_base pip_late\npip_late: pip_base\n"
+          "pip_test: pip\n")
+FOLDERS = ("bin", "crates/pip/src", "crates/pip_base/specs", "crates/pip_base/proofs", "crates/pip_commands/src",
+           "tools/exporter",
            "tools/reference")
 USAGE = "crates/pip_commands/src/top.rt"    # the source with the usage line, which ./pip takes from there
 
@@ -63,7 +66,8 @@ class Checkout:
             shutil.copy(os.path.join(REPOSITORY, name), self.path(name))
         for name in (*SOURCES, USAGE):
             self.touch(name, 1000)
-        for name, text in (("crates.txt", CRATES), ("tools/export", EXPORTER), ("tools/reference/program.py", REFERENCE)):
+        for name, text in (("crates.txt", CRATES), ("tools/export", EXPORTER),
+                           ("tools/reference/program.py", REFERENCE)):
             self.write(name, text)
         for name in ("crates.txt", "tools/export", *FOLDERS[1:]):
             os.utime(self.path(name), (1000, 1000))
@@ -95,7 +99,8 @@ class Checkout:
               stdout: int | IO[bytes] = subprocess.PIPE, cwd: str | None = None, **settings: str) -> Process:
         environment = dict(os.environ, COUNT=self.path("count"), **settings)
         environment["PATH"] = path or self.path("bin") + os.pathsep + environment["PATH"]
-        return subprocess.Popen([command or self.path("pip"), *words], env=environment, cwd=cwd, stdin=subprocess.DEVNULL,
+        return subprocess.Popen([command or self.path("pip"), *words], env=environment, cwd=cwd,
+                                stdin=subprocess.DEVNULL,
                                 stdout=stdout, stderr=stderr, start_new_session=True, preexec_fn=heed_interrupts)
 
     def ended(self, begun: Process) -> Ended:

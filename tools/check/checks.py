@@ -1,9 +1,10 @@
 """The repository's own checks of the built program. The list of them is CHECKS.
 
-    tools/check/run.py [--only NAME ..] [--program PATH] [--list]
+    tools/check/run.py [--only NAME ..] [--all] [--program PATH | --unproved] [--list] [--write-calls]
+                       [--write-meanings]
 
-The status is 0 where none fails, and 1 where one does; each that fails says why. One for which a tool is missing is skipped, and the
-last line counts it.
+The status is 0 if none fails, and 1 if one does; each that fails says why. One for which a tool is missing is skipped:
+the last line names it, and with --all it fails.
 """
 
 from __future__ import annotations
@@ -19,122 +20,88 @@ from collections.abc import Iterator
 from types import FrameType
 
 from ..common import calling
-from . import (answering, audits, authors, cheats, counters, counts, devices, documents, endings, examples, exercises,
-               exporting, hints, house, links, memory, pages, playground, playground_judge,
-               playground_runs, playing, public_calls, releasing, shells, sources, tools,
-               tutorial, wrapper)
-from .running import REPOSITORY, Check, Differs, Skipped
+from . import (answering, audits, authors, cheats, counters, counts, debugging, devices, documents, edits, endings,
+               examples,
+               exercises, exporting, grading, guests, hints, house, links, meanings, memory, pages, playground,
+               playground_judge,
+               playground_runs, playing, public_calls, releasing, separate, shells, sources, tools,
+               tutorial, unbuilt, wrapper)
+from .running import Check, Differs, Skipped
 
-# A name, and a function that is given the program's path and raises Differs where something is wrong, or Skipped where a tool is missing.
-CHECKS: dict[str, Check] = {
-    "wrong-words": endings.wrong_words,
-    "word-not-utf8": endings.word_not_utf8,
-    "empty-script": endings.empty_script,
-    "bad-line": endings.bad_line,
-    "closed-input": endings.closed_input,
-    "full-device": endings.full_device,
+# A name, and its parts: functions that are given the program's path and raise Differs if something is wrong, or Skipped
+# if a tool is missing.
+CHECKS: dict[str, Check | tuple[Check, ...]] = {
+    "endings": (endings.wrong_words, endings.word_not_utf8, endings.empty_script, endings.bad_line,
+                endings.closed_input,
+                endings.full_device, endings.too_much_input),
     "refused-memory": memory.refused_memory,
-    "too-much-input": endings.too_much_input,
-    "typed-script": answering.typed_script,
-    "gathered-answers": answering.gathered_answers,
-    "readme": documents.readme_sessions,
-    "documents": documents.examples_with_arrows,
-    "links": links.links,
+    "answering": (answering.typed_script, answering.gathered_answers),
+    "documents": (documents.readme_sessions, documents.examples_with_arrows, tutorial.blocks, links.links,
+                  meanings.same),
     "step-counters": counters.step_counters,
-    "ghost-imports": sources.ghost_imports,
-    "house": house.house,
+    "house": (house.house, sources.ghost_imports),
     "public-calls": public_calls.public_calls,
+    "edits": edits.edits,
     "types": hints.types,
-    "examples": examples.examples,
-    "programs": examples.programs,
+    "examples": (examples.examples, examples.programs, examples.retries, examples.monitor, tutorial.sessions),
     "searches": examples.searches,
-    "retries": examples.retries,
-    "tutorial-sessions": tutorial.sessions,
-    "tutorial-blocks": tutorial.blocks,
-    "wrapper": wrapper.wrapper,
-    "wrapper-in-turn": wrapper.in_turn,
-    "reference-tests": tools.unit_tests("tools/reference"),
-    "draw-tests": tools.unit_tests("tools/draw"),
-    "author-tests": tools.unit_tests("tools/authors"),
-    "step-tests": tools.unit_tests("tools/step"),
-    "exporter-tests": tools.unit_tests("tools/exporter"),
-    "editor-tests": tools.unit_tests("editors"),
+    "hostile-guests": (guests.hostile_guests, separate.children_are_separate),
+    "wrapper": (wrapper.wrapper, wrapper.in_turn, unbuilt.nothing_is_proved),
+    "unit-tests": tools.unit_tests,
     "pictures": tools.pictures,
-    "asmx": authors.preprocessor,
-    "why": authors.reasons,
-    "trace": authors.traces,
-    "explore": authors.groups,
-    "interleavings": authors.interleavings,
-    "shell": shells.through_a_pipe,
-    "shell-typed": shells.on_a_terminal,
+    "authors": (authors.preprocessor, authors.reasons, authors.traces, authors.groups, authors.interleavings),
+    "debugger": (debugging.debugger, debugging.language_server),
+    "shell": (shells.through_a_pipe, shells.on_a_terminal),
     "exercises": exercises.solutions,
     "exercise-seeds": exercises.by_seeds,
     "cheats": cheats.cheats,
-    "grade": exercises.grades,
-    "full-devices": devices.full_devices,
-    "tools-interrupted": devices.interrupted,
-    "step-pages": pages.pages,
+    "grade": grading.grades,
+    "tools-ended": (devices.full_devices, devices.interrupted),
+    "step-pages": (pages.pages, pages.teachers_loop),
     "step-browser": pages.in_browser,
-    "export-text": exporting.text,
-    "export-cargo": exporting.by_cargo,
+    "export": exporting.text,
+    "export-cargo": (exporting.by_cargo, exporting.unproved),
     "export-registry": exporting.of_registry,
-    "export-unproved": exporting.unproved,
     "export-clippy": exporting.clippy,
     "export-miri": exporting.miri,
-    "playground-tests": tools.unit_tests("tools/playground"),
-    "module": playground.module,
-    "playground-states": playground.states,
-    "playground-runs": playground_runs.runs,
-    "playground-reasons": playground.reasons,
-    "playground-judge": playground_judge.judge,
+    "playground": (playground.module, playground.states, playground_runs.runs, playground.reasons,
+                   playground_judge.judge),
     "playground-browser": playing.in_browser,
-    "release-tests": tools.unit_tests("tools/releasing"),
     "release": releasing.works,
-    "built-again": releasing.built_again,
-    "teachers-loop": pages.teachers_loop,
-    "script": tools.compared("script", 400),
-    "asm": tools.compared("asm", 200),
-    "dis": tools.compared("dis", 200),
-    "run": tools.compared("run", 200),
-    "tree": tools.compared("tree", 100),
-    "core": tools.compared("core", 100),
-    "soak": tools.compared("soak", 200),
-    "native": tools.compared("native", 200),
-    "audit": tools.compared("audit", 200),
-    "every": tools.compared("every", 500),
-    "audits-of-core": audits.round_trips,
-    "audited-words": audits.each_word,
+    "commands": tuple(tools.compared(command, cases) for command, cases in tools.CASES.items()),
+    "audits": (audits.round_trips, audits.each_word),
     "counts": counts.agree(scripts=100, runs=60, loads=40),
-    "monitor": examples.monitor,
 }
 
 
-LONGEST = 2400           # seconds of one check. More means that it waits for what never comes, as for a process that was killed for memory
+# seconds of a part of a check. More means that it waits for what never comes, as for a process that was killed for
+# memory
+LONGEST = 2400
 
 
-def build(program: str) -> None:
-    """Builds the program by ./pip, which builds where it has to."""
-    done = subprocess.run([os.path.join(REPOSITORY, "pip"), "script"], stdin=subprocess.DEVNULL)
-    if done.returncode or not os.access(program, os.X_OK):
-        sys.exit(f"check: there is no program at {program}, and ./pip didn't build it")
-
-
-def made(name: str, check: Check, program: str) -> str:
-    """Makes a check, says how it ended, and answers that: ok, skipped or fails."""
+def made(name: str, check: Check | tuple[Check, ...], program: str) -> tuple[str, str]:
+    """Makes all parts of a check, says how it ended, and answers that, ok, skipped or fails, and why parts were
+    skipped.
+    """
     begun = time.monotonic()
-    try:
-        with limited(LONGEST):
-            check(program)
-    except Skipped as skipped:
-        return told(name, "skipped", f": {skipped}")
-    except (Differs, OSError, subprocess.SubprocessError) as found:
-        return told(name, "fails", f": {found}")
-    return told(name, "ok", f", {time.monotonic() - begun:.1f} s")
+    missing: dict[str, None] = {}
+    for part in check if isinstance(check, tuple) else (check,):
+        try:
+            with limited(LONGEST):
+                part(program)
+        except Skipped as skipped:
+            missing[str(skipped)] = None
+        except (Differs, OSError, subprocess.SubprocessError) as found:
+            return told(name, "fails", f": {found}"), ""
+    why = ", ".join(missing)
+    return told(name, "skipped" if why else "ok", f": {why}" if why else f", {time.monotonic() - begun:.1f} s"), why
 
 
 @contextlib.contextmanager
 def limited(seconds: float) -> Iterator[None]:
-    """Ends what is done inside, as a check that fails, where it takes longer: a check that waits for ever would end without a result."""
+    """Ends what is done inside, as a check that fails, where it takes longer: a check that waits for ever would end
+    without a result.
+    """
     def end(_number: int, _frame: FrameType | None) -> None:
         raise Differs(f"it isn't done after {seconds:g} seconds")
 
@@ -159,19 +126,35 @@ def main() -> None:
 def checked() -> int:
     parser = argparse.ArgumentParser(description="Checks the built program.")
     parser.add_argument("--only", nargs="+", choices=CHECKS, metavar="NAME", help="these checks alone")
-    parser.add_argument("--program", help="the built program; without it ./pip builds and runs crates/pip/out/pip")
+    calling.take_program(parser)
+    parser.add_argument("--all", action="store_true", help="one that is skipped fails")
     parser.add_argument("--list", action="store_true", help="print the names of the checks")
+    parser.add_argument("--write-calls", action="store_true",
+                        help="write public_calls.txt as the sources have its calls")
+    parser.add_argument("--write-meanings", action="store_true",
+                        help="write meanings.json as docs/FORMATS.md has its rows")
     given = parser.parse_args()
     if given.list:
         print("\n".join(CHECKS))
         return 0
-    program = os.path.abspath(given.program or os.path.join(REPOSITORY, "crates", "pip", "out", "pip"))
-    if not given.program:
-        build(program)
-    endings = {name: made(name, CHECKS[name], program) for name in given.only or CHECKS}
-    failed, skipped = ([name for name in endings if endings[name] == ending] for ending in ("fails", "skipped"))
-    without = f", {len(skipped)} skipped: {', '.join(skipped)}" if skipped else ""
+    if given.write_calls:
+        public_calls.rewrite()
+        return 0
+    if given.write_meanings:
+        meanings.rewrite()
+        return 0
+    program = os.path.abspath(calling.direct(given.program))
+    return summed_up({name: made(name, CHECKS[name], program) for name in given.only or CHECKS}, given.all)
+
+
+def summed_up(endings: dict[str, tuple[str, str]], is_all: bool) -> int:
+    """Says which checks failed and which were skipped, and answers the status."""
+    failed = [name for name, (ending, _) in endings.items() if ending == "fails"]
+    skipped = [f"{name} ({why})" for name, (ending, why) in endings.items() if ending == "skipped"]
     if failed:
-        sys.exit(f"check: {len(failed)} of {len(endings)} checks fail: {', '.join(failed)}{without}")
-    print(f"check: {len(endings) - len(skipped)} of {len(endings)} checks pass{without}")
-    return 0
+        print(f"check: {len(failed)} of {len(endings)} checks fail: {', '.join(failed)}")
+    else:
+        print(f"check: {len(endings) - len(skipped)} of {len(endings)} checks pass")
+    if skipped:
+        print(f"{len(skipped)} skipped: {', '.join(skipped)}")
+    return int(bool(failed or is_all and skipped))

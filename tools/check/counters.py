@@ -1,16 +1,19 @@
 """No crate below the commands can make a step counter of its own: none names what one is made of.
 
-A counter of one's own would count nothing for the caller, whose bound would then say nothing. A counter is opened from a `Blank` of
-std's ledger, at the ledger `Brand` or at one that the caller has chosen. So these names are looked for, and the module `ledger` that
-has them, whatever else they are called in a `use`, a type's alias or a macro's argument. The commands may name them, and programs,
-which are known by their `fn main`; and so may crates of tests, on which no other crate may stand. The search of pip_every has a
-counter of its own, too: its choices are calls of a trait of pip_search, which knows no counter, so it counts for nobody.
+A counter of one's own would count nothing for the caller, whose bound would then say nothing. A counter is opened from
+a `Blank` of std's ledger, at the ledger `Brand` or at one that the caller has chosen. So these names are looked for,
+and the module `ledger` that has them, whatever else they are called in a `use`, a type's alias or a macro's argument.
+The commands may name them, and programs, which are known by their `fn main`; and so may crates of tests, on which no
+other crate may stand. The search of pip_every has a counter of its own, too: its choices are calls of a trait of
+pip_search, which knows no counter, so it counts for nobody.
 """
+
+from __future__ import annotations
 
 import os
 import re
 import tempfile
-from typing import Dict, Iterator, List
+from collections.abc import Iterator
 
 from .running import REPOSITORY, Differs
 from .sources import sources, write
@@ -24,28 +27,35 @@ NO_CODE = re.compile(r"""
     | b?r(?P<fence>\#*)".*?"(?P=fence) | b?"(?:\\.|[^"\\])*" | b?'(?:\\(?:x..|u\{[^}]*\}|.)|[^'\\\n])'
     """, re.DOTALL | re.VERBOSE)
 
-# Where a name is another thing: in an import for clauses, in that of the trait, and as a kind of line, in code and in a clause.
+# Where a name is another thing: in an import for clauses, in that of the trait, and as a kind of line, in code and in a
+# clause.
 HARMLESS = re.compile(r"""
     \bghost\s+use\b[^;]*; | \buse\s+std::sync::ledger::Ledger\s*;
     | \benum\s+\w+(?:<[^>{]*>)?\s*\{\s*Blank\b | \b(?:ScriptLine|Statement)::Blank\b(?!\s*::) | \bSome\s+Blank\b
     """, re.VERBOSE)
 
-# The lines of pip_base that define the counter, those of pip_journal that let a caller pick the words of a memory, and those of the
-# search.
+# The lines of pip_base that define the counter, those of pip_journal that let a caller pick the words of a memory, and
+# those of the search.
 DEFINITION = {
     os.path.join("crates", "pip_journal", "src", "first.rt"): ("use std::marker::Brand;", "impl First for Brand {"),
     os.path.join("crates", "pip_every", "src", "later.rt"):
         ("use std::sync::ledger::{Blank, Ledger};", "blank: Blank,", "requires ledger {"),
     os.path.join("crates", "pip_every", "src", "searching.rt"):
         ("use std::marker::Brand;", "use std::sync::ledger::{Blank, Ledger};", "blank: Blank,", "requires ledger {",
-         "words_later::<Brand>(alloc, &mem, cpus, Blank::new(1))", "search_from::<Brand, Brand>(", "limit,\n        Blank::new(1),"),
+         "words_later::<Brand>(alloc, &mem, cpus, Blank::new(1))", "search_from::<Brand, Brand>(",
+         "limit,\n        Blank::new(1),"),
+    os.path.join("crates", "pip_every", "src", "parts.rt"):
+        ("use std::marker::Brand;", "use std::sync::ledger::{Blank, Ledger};", "blank: Blank,", "requires ledger {",
+         "part_from::<Brand, Brand>(", "marks,\n        Blank::new(1),"),
     os.path.join("crates", "pip_base", "src", "steps.rt"):
         ("use std::sync::ledger::{Blank, Book, Ledger, Share};", "pub fn new(blank: Blank) -> Self"),
 }
 
 
 def step_counters(program: str) -> None:
-    """No crate below the commands names what a counter is made of. That the check finds each way to make one is tried first."""
+    """No crate below the commands names what a counter is made of. That the check finds each way to make one is tried
+    first.
+    """
     for spelling, files in FOUND.items():
         if not found_in(files):
             raise Differs(f"a planted counter isn't found: {spelling}")
@@ -59,16 +69,23 @@ def step_counters(program: str) -> None:
 
 def counters_named(top: str) -> Iterator[str]:
     """Where a crate that may not make a counter names what one is made of, or stands on a crate of tests."""
-    programs = {crate for crate, path, text in sources(top) if is_program(path, text)}
+    found = programs(top)
     for crate, path, text in sources(top):
-        if crate != COMMANDS and crate not in programs and not is_of_tests(crate):
+        if crate != COMMANDS and crate not in found and not is_of_tests(crate):
             for name in NAMES.findall(code_of(path, text)):
                 yield f"{path} names {name}"
-    yield from test_crates_used(top)
+    yield from ends_used(top, found)
 
 
-def is_program(path: str, text: str) -> bool:
-    return path.endswith(os.path.join("src", "main.rt")) and re.search(r"\bfn\s+main\s*\(", without_texts(text)) is not None
+def programs(top: str) -> set[str]:
+    """The crates that are programs and nothing else."""
+    mains = {crate for crate, path, text in sources(top) if is_main(path, text)}
+    return mains - {crate for crate, path, _ in sources(top) if path.endswith(os.path.join("src", "lib.rt"))}
+
+
+def is_main(path: str, text: str) -> bool:
+    return path.endswith(os.path.join("src", "main.rt")) and re.search(r"\bfn\s+main\s*\(",
+                                                                       without_texts(text)) is not None
 
 
 def is_of_tests(crate: str) -> bool:
@@ -88,21 +105,21 @@ def without_texts(text: str) -> str:
     return NO_CODE.sub(" ", text)
 
 
-def test_crates_used(top: str) -> Iterator[str]:
-    """The crates of no tests that stand on one of tests, by crates.txt."""
+def ends_used(top: str, found: set[str]) -> Iterator[str]:
+    """The crates that stand on a program, and those of no tests that stand on one of tests, by crates.txt."""
     try:
         with open(os.path.join(top, "crates.txt"), encoding="utf-8") as file:
             lines = [line.split("#")[0] for line in file]
     except FileNotFoundError:
         return
     for line in lines:
-        words = line.replace(":", " ").split()
-        if words and not is_of_tests(words[0]):
-            for used in filter(is_of_tests, words[1:]):
-                yield f"{words[0]} stands on {used}"
+        crate, *used = line.replace(":", " ").split() or [""]
+        for other in used:
+            if other in found or is_of_tests(other) and not is_of_tests(crate):
+                yield f"{crate} stands on {other}"
 
 
-def found_in(files: Dict[str, str]) -> List[str]:
+def found_in(files: dict[str, str]) -> list[str]:
     """What is found in a tree of these files alone."""
     with tempfile.TemporaryDirectory() as planted:
         for path, text in files.items():
@@ -110,7 +127,7 @@ def found_in(files: Dict[str, str]) -> List[str]:
         return list(counters_named(planted))
 
 
-def in_kernel(text: str) -> Dict[str, str]:
+def in_kernel(text: str) -> dict[str, str]:
     return {"crates/pip_mmu/src/lib.rt": f"fn leaf() {{\n{text}}}\n"}
 
 
@@ -119,7 +136,8 @@ OWN = "pub fn own() { Steps::new(Blank::new(1)) }\n"
 # Ways to come by a counter, each of which a search for `Steps::new(Blank::new(1))` or a similar text might miss.
 FOUND = {
     "plain": in_kernel("    let mut own = Steps::new(Blank::new(1));\n"),
-    "under other names": in_kernel("    use pip_base::Steps as Counter;\n    use std::sync::ledger::Blank as Unopened;\n"
+    "under other names": in_kernel("    use pip_base::Steps as Counter;\n"
+                                   "    use std::sync::ledger::Blank as Unopened;\n"
                                    "    let mut own = Counter::new(Unopened::new(1));\n"),
     "by an alias of a type": in_kernel("    type Counter = Steps<Brand>;\n    type Page = Blank;\n"
                                        "    let mut own = Counter::new(Page::new(1));\n"),
@@ -136,28 +154,42 @@ FOUND = {
     "by a function passed": in_kernel("    let make: fn(Blank) -> Steps<Brand> = Steps::new;\n"
                                       "    let mut own = make((Blank::new as fn(u64) -> Blank)(1));\n"),
     "by Self": in_kernel("impl<L: Ledger> Steps<L> { pub fn other(b: Blank) -> Self { Self::new(b) } }\n"),
-    "by the whole module": in_kernel("    use std::sync::ledger as Statement;\n    let mut own = Counter::new(Statement::Blank::new(1));\n"),
+    "by the whole module": in_kernel("    use std::sync::ledger as Statement;\n"
+                                     "    let mut own = Counter::new(Statement::Blank::new(1));\n"),
     "by all names of a module": in_kernel("    use std::sync::*;\n    let mut own = ledger::open();\n"),
-    "beside the import for clauses": in_kernel("    ghost use Rattle.std.specs.Prelude.{length}; use std::marker::Brand;\n"),
+    "beside the import for clauses": in_kernel("    ghost use Rattle.std.specs.Prelude.{length}; use "
+                                               "std::marker::Brand;\n"),
     "in pip_base, beside the counter": {
         "crates/pip_base/src/steps.rt": "use std::sync::ledger::{Blank, Book, Ledger, Share};\n"
-                                        "impl<L: Ledger> Steps<L> { pub fn new(blank: Blank) -> Self { opened(blank) } }\n"
+                                        "impl<L: Ledger> Steps<L> { pub fn new(blank: Blank) -> Self { opened(blank) } "
+                                        "}\n"
                                         "pub fn other(blank: Blank) -> Steps<Brand> { Steps::new(blank) }\n"},
     "in a crate of tests that another names": {"crates/pip_test_counter/src/lib.rt": OWN,
                                                "crates/pip_mmu/src/lib.rt": "use pip_test_counter::own;\n"},
-    "in a crate of tests that another stands on": {"crates/pip_test_counter/src/lib.rt": OWN, "crates/pip_mmu/src/lib.rt": "",
-                                                   "crates.txt": "pip_test_counter: pip_base\npip_mmu: pip_base pip_test_counter\n"},
+    "in a crate of tests that another stands on": {"crates/pip_test_counter/src/lib.rt": OWN,
+                                                   "crates/pip_mmu/src/lib.rt": "",
+                                                   "crates.txt": "pip_test_counter: pip_base\n"
+                                                                 "pip_mmu: pip_base pip_test_counter\n"},
     "offered by pip_audit": {"crates/pip_audit/src/lib.rt": OWN},
+    "in the library part of a program": {"crates/pip_own/src/main.rt": "fn main(rt: HostRuntime) {}\n",
+                                         "crates/pip_own/src/lib.rt": OWN,
+                                         "crates.txt": "pip_own: pip_base\npip_mmu: pip_base pip_own\n"},
+    "in a program that another stands on": {"crates/pip_own/src/main.rt": OWN + "fn main(rt: HostRuntime) {}\n",
+                                            "crates/pip_mmu/src/lib.rt": "",
+                                            "crates.txt": "pip_own: pip_base\npip_mmu: pip_own\n"},
     "in a file main.rt without main": {"crates/pip_mmu/src/main.rt": OWN + "// fn main()\n"},
 }
 
 # What makes none, and is passed.
 PASSED = {
-    "a copied example": {"crates/pip_mine/src/main.rt": "use std::marker::Brand;\nuse std::sync::ledger::{Blank, Ledger};\n"
-                                                        "fn main(rt: HostRuntime) { let own = Steps::new(Blank::new(1)); }\n"},
+    "a copied example": {"crates/pip_mine/src/main.rt": "use std::marker::Brand;\n"
+                                                        "use std::sync::ledger::{Blank, Ledger};\n"
+                                                        "fn main(rt: HostRuntime) { let own = "
+                                                        "Steps::new(Blank::new(1)); }\n"},
     "the commands": {"crates/pip_commands/src/commands/script.rt": OWN},
     "a crate of tests": {"crates/pip_test_kernel/src/lib.rt": OWN, "crates.txt": "pip_test_kernel: pip_base\n"},
     "a counter that is passed on": in_kernel("    use std::sync::ledger::Ledger;\n    steps.tick();\n"),
     "texts and remarks": in_kernel("    note(\"Steps::new(Blank::new(1))\"); // a Blank\n    /* Brand */\n"),
-    "a blank line": in_kernel("    let kind = ScriptLine::Blank;\n    enum Statement<'a> {\n        Blank,\n        Names(&'a [u8]),\n    }\n"),
+    "a blank line": in_kernel("    let kind = ScriptLine::Blank;\n    enum Statement<'a> {\n        Blank,\n"
+                              "        Names(&'a [u8]),\n    }\n"),
 }

@@ -2,9 +2,9 @@
 
     python3 -B -m tools.check.counts [--scripts N] [--runs N] [--loads N] [--seed N]
 
-No output of the program depends on the caches. So a program that says after its output what they counted is made here: in
-a copy of the sources counts_program.txt stands in the place of crates/pip/src/main.rt. `rt try` builds it, without proofs.
-The cases are those generated, the scripts of examples/, and one whose pages share places.
+No output of the program depends on the caches. So a program that says after its output what they counted is made here:
+in a copy of the sources counts_program.txt stands in the place of crates/pip/src/main.rt. `rt try` builds it, without
+proofs. The cases are those generated, the scripts of examples/, and one whose pages share places.
 """
 
 from __future__ import annotations
@@ -23,7 +23,8 @@ from .running import REPOSITORY, Check, Differs
 
 HERE = os.path.dirname(os.path.abspath(__file__))
 
-# Pages that are 32, 64 and 128 away from the first. With 64 places the second has a place of its own, and the others haven't.
+# Pages that are 32, 64 and 128 away from the first. With 64 places the second has a place of its own, and the others
+# haven't.
 SHARED_PLACES = b"boot 200 1\n" + b"".join(b"ld 0 0x%x\n" % address for address in (
     0x400000, 0x420000, 0x400000, 0x440000, 0x400000, 0x480000, 0x400000, 0x440000, 0x420000))
 
@@ -47,12 +48,14 @@ def compare(numbers: dict[str, int], seed: int) -> None:
         total = 0
         for total, (name, words, text) in enumerate(all_cases(numbers, seed), 1):
             write_case(os.path.join(cases, name), words, text)
-        done = subprocess.run(["rt", "try", "--cases", cases], cwd=os.path.join(place, "crates", "pip"), timeout=SECONDS,
+        done = subprocess.run(["rt", "try", "--cases", cases], cwd=os.path.join(place, "crates", "pip"),
+                              timeout=SECONDS,
                               stdout=subprocess.PIPE, stderr=subprocess.STDOUT, stdin=subprocess.DEVNULL)
         told = done.stdout.decode(errors="replace").splitlines()
         if done.returncode or not told or not told[-1].startswith(f"cases={total} ended={total} "):
             wrong = [line for line in told if "output=expected" not in line] or told
-            raise Differs(f"the counts of the caches, or what comes before them: rt try ends with status {done.returncode} after "
+            raise Differs("the counts of the caches, or what comes before them: rt try ends with status "
+                          f"{done.returncode} after "
                           f"{len(told)} lines\n" + "\n".join(wrong[-30:]))
 
 
@@ -71,7 +74,8 @@ def copy_sources(place: str) -> None:
     """The sources, with the program that says the counts."""
     shutil.copy(os.path.join(REPOSITORY, "crates.txt"), place)
     crates = os.path.join(place, "crates")
-    shutil.copytree(os.path.join(REPOSITORY, "crates"), crates, ignore=shutil.ignore_patterns("out", "must-fail"))
+    shutil.copytree(os.path.join(REPOSITORY, "crates"), crates,
+                    ignore=shutil.ignore_patterns("out", "must-fail", "tried"))
     shutil.copy(os.path.join(HERE, "counts_program.txt"), os.path.join(crates, "pip", "src", "main.rt"))
 
 

@@ -3,6 +3,7 @@
 from __future__ import annotations
 
 import os
+import tempfile
 from pathlib import Path
 
 from ..exporter import crates
@@ -13,15 +14,20 @@ MARK = b"-- the next command --\n"
 
 
 def readme_sessions(program: str) -> None:
-    """Each indented block of README.md that begins with a command: its commands give what is below them. And how many crates a build
-    names is as the page has it."""
-    for session in sessions(read("README.md")):
-        commands = [command for command, _ in session]
-        shown = b"".join(output + MARK for _, output in session)
-        told = "; ".join(f"{{ {command}\n}}; s=$?; printf '%s' '{MARK.decode()}'; (exit $s)" for command in commands)
-        output, status = run(["sh", "-c", told])
-        expect(f"README.md, the session from '$ {commands[0]}' on", (output, 0), (shown, 0))
-    named, count = part(r"`crate \d+ of (\d+)`", read("README.md")), len(crates.chosen(crates.crates_of(Path(REPOSITORY)), ["pip"]))
+    """Each indented block of README.md that begins with a command: its commands give what is below them. And how many
+    crates a build names is as the page has it."""
+    with tempfile.TemporaryDirectory() as place:
+        os.symlink(os.path.join(REPOSITORY, "examples"), os.path.join(place, "examples"))
+        os.symlink(os.path.abspath(program), os.path.join(place, "pip"))
+        for session in sessions(read("README.md")):
+            commands = [command for command, _ in session]
+            shown = b"".join(output + MARK for _, output in session)
+            told = "; ".join(f"{{ {command}\n}}; s=$?; printf '%s' '{MARK.decode()}'; (exit $s)"
+                             for command in commands)
+            output, status = run(["sh", "-c", told], cwd=place)
+            expect(f"README.md, the session from '$ {commands[0]}' on", (output, status), (shown, 0))
+    named, count = part(r"`crate \d+ of (\d+)`",
+                        read("README.md")), len(crates.chosen(crates.crates_of(Path(REPOSITORY)), ["pip"]))
     if named != str(count):
         raise Differs(f"README.md has a build of {named} crates, where {count} make the program")
 
@@ -48,14 +54,16 @@ def sessions(text: str) -> list[list[tuple[str, bytes]]]:
 
 def examples_with_arrows(program: str) -> None:
     """Each session of the documents' blocks whose lines have their answer after an arrow, by program and reference."""
-    for name in ("docs/MODEL.md", "docs/FORMATS.md"):
-        for lines, answers in arrow_sessions(read(name)):
-            text = "".join(line + "\n" for line in lines).encode()
-            shown = "".join(answer + "\n" for answer in answers).encode()
-            status = 2 if answers[-1].startswith("bad line") else 0
-            what = f"{name}, the session from '{lines[0]}' on"
-            expect(what + ", by the reference", script.run(text), (shown, status))
-            expect(what, run([program, "script"], text), (shown, status))
+    sessions_shown = arrow_sessions(read("docs/FORMATS.md"))
+    if not sessions_shown:
+        raise Differs("docs/FORMATS.md has no session")
+    for lines, answers in sessions_shown:
+        text = "".join(line + "\n" for line in lines).encode()
+        shown = "".join(answer + "\n" for answer in answers).encode()
+        status = 2 if answers[-1].startswith("bad line") else 0
+        what = f"docs/FORMATS.md, the session from '{lines[0]}' on"
+        expect(what + ", by the reference", script.run(text), (shown, status))
+        expect(what, run([program, "script"], text), (shown, status))
 
 
 def arrow_sessions(text: str) -> list[tuple[list[str], list[str]]]:

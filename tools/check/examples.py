@@ -16,7 +16,9 @@ LEMMA = re.compile(r"^(\w+) : script_text \((.*?)\)\s*≡ \((.*?)\)\nunfolding",
 
 
 def examples(program: str) -> None:
-    """Each script of examples/ and of examples/sessions/ gives what is beside it; a session is also a lemma of its name."""
+    """Each script of examples/ and of examples/sessions/ gives what is beside it; a session is also a lemma of its
+    name.
+    """
     for folder in ("examples", SESSIONS):
         paths = sorted(glob.glob(os.path.join(REPOSITORY, folder, "*.pip")))
         if not paths:
@@ -34,7 +36,8 @@ def sessions_are_lemmas() -> None:
         name, lines = os.path.basename(path)[:-len(".pip")], contents(path).decode().splitlines(keepends=True)
         text = "".join(line for line in lines if not line.startswith("#"))
         if lemmas.get(name) != (text, contents(path[:-len("pip")] + "out").decode()):
-            raise Differs(f"{os.path.relpath(path, REPOSITORY)}: {PROVED} has no lemma {name} of this script and these answers")
+            raise Differs(f"{os.path.relpath(path, REPOSITORY)}: {PROVED} has no lemma {name} of this script and these "
+                          "answers")
 
 
 def written(codes: str) -> str:
@@ -91,8 +94,8 @@ RETRIES = [(seed, period) for period in (40, 53, 90) for seed in range(1, 21)]
 
 
 def retries(program: str) -> None:
-    """The monitor for two processors shows each request once and in its order, whatever the seed and the timer; what it is
-    refused is a child that runs, and what parks is a request while the root runs elsewhere, and both come."""
+    """The monitor for two processors shows each request once and in its order, whatever the seed and the timer; what it
+    is refused is a child that runs, and what parks is a request while the root runs elsewhere, and both come."""
     text = contents(os.path.join(REPOSITORY, "examples", "retry.s"))
     refused = parked = 0
     for seed, period in RETRIES:
@@ -106,9 +109,11 @@ def retries(program: str) -> None:
         others = re.findall(r" call 8 reply (?!14 ).*| call (?!8 )\d+ reply (?!0 ).*| park \d+ (?!70$).*", trace, re.M)
         if others:
             raise Differs(f"{what}: {others[:2]}")
-        refused, parked = refused + trace.count(" call 8 reply 14 "), parked + len(re.findall(r" park \d+ 70$", trace, re.M))
+        refused, parked = refused + trace.count(" call 8 reply 14 "), parked + len(re.findall(r" park \d+ 70$", trace,
+                                                                                              re.M))
     if not refused or not parked:
-        raise Differs(f"examples/retry.s: {refused} turns were tried again, and {parked} requests: where neither comes, nothing is shown")
+        raise Differs(f"examples/retry.s: {refused} turns were tried again, and {parked} requests: where neither "
+                      "comes, nothing is shown")
 
 
 def contents(path: str) -> bytes:

@@ -1,5 +1,7 @@
-"""The export as ordinary Rust: its text is that of the sources, and, where cargo is installed, what cargo builds of it does what the
-program does."""
+"""The export as ordinary Rust: its text is that of the sources, and, where cargo is installed, what cargo builds of it
+does what the program does."""
+
+from __future__ import annotations
 
 import functools
 import multiprocessing
@@ -9,8 +11,11 @@ import shutil
 import subprocess
 import sys
 import tempfile
-from typing import Any, Callable, Dict, List, Tuple
+from collections.abc import Callable
+from pathlib import Path
+from typing import Any
 
+from ..exporter import export
 from ..reference import comparison, generate
 from .running import REPOSITORY, Differs, Skipped, expect, part
 
@@ -28,6 +33,20 @@ def text(program: str) -> None:
     """tools/export compares each word that it writes with the sources."""
     with tempfile.TemporaryDirectory() as place:
         written(place, "shims")
+    listed()
+
+
+def listed() -> None:
+    """Each definition of a requirement that no test makes is in the table of docs/EXPORT.md, and no other is."""
+    with open(os.path.join(REPOSITORY, "docs", "EXPORT.md"), encoding="utf-8") as file:
+        table = file.read().split("## Requirements\n", 1)[1].split("\n## ", 1)[0]
+    named = set(re.findall(r"`([A-Z][A-Za-z0-9]*[a-z][A-Za-z0-9]*)`", table))
+    found = {re.search(r"\b[A-Z][A-Za-z0-9]*[a-z][A-Za-z0-9]*", part) for _,
+             part in export.untested(Path(REPOSITORY), [])}
+    due = {name.group() for name in found if name}
+    if due != named:
+        raise Differs(f"docs/EXPORT.md, Requirements: {sorted(due - named)} isn't named, {sorted(named - due)} isn't "
+                      "untested")
 
 
 def by_cargo(program: str) -> None:
@@ -56,13 +75,16 @@ def of_registry(program: str) -> None:
 
 
 def unproved(program: str) -> None:
-    """./pip --unproved answers an example in a checkout in which nothing is built, and says that nothing is proved of it."""
+    """./pip --unproved answers an example in a checkout in which nothing is built, and says that nothing is proved of
+    it.
+    """
     need_cargo()
     with tempfile.TemporaryDirectory() as place:
         copy_sources(place)
         script = os.path.join(REPOSITORY, "examples", "first.pip")
         with open(script, "rb") as file, open(script.replace(".pip", ".out"), "rb") as due:
-            done = subprocess.run([os.path.join(place, "pip"), "--unproved", "script"], stdin=file, stdout=subprocess.PIPE,
+            done = subprocess.run([os.path.join(place, "pip"), "--unproved", "script"], stdin=file,
+                                  stdout=subprocess.PIPE,
                                   stderr=subprocess.PIPE, timeout=SECONDS)
             expect("./pip --unproved", (done.stdout, done.returncode), (due.read(), 0))
         told = done.stderr.decode()
@@ -75,7 +97,7 @@ def copy_sources(place: str) -> None:
     for name in ("pip", "crates.txt", "LICENSE", "tools/export", "tools/launch.py", "tools/__init__.py"):
         os.makedirs(os.path.dirname(os.path.join(place, name)), exist_ok=True)
         shutil.copy(os.path.join(REPOSITORY, name), os.path.join(place, name))
-    built = shutil.ignore_patterns("out", "proofs", "specs", "must-fail", "__pycache__")
+    built = shutil.ignore_patterns("out", "proofs", "specs", "must-fail", "tried", "__pycache__")
     for name in ("crates", "tools/common", "tools/exporter"):
         shutil.copytree(os.path.join(REPOSITORY, name), os.path.join(place, name), ignore=built)
 
@@ -87,7 +109,9 @@ def clippy(program: str) -> None:
 
 
 def miri(program: str) -> None:
-    """The tests of frames, whose crate alone has unsafe code of its own, in an interpreter that sees undefined behaviour."""
+    """The tests of frames, whose crate alone has unsafe code of its own, in an interpreter that sees undefined
+    behaviour.
+    """
     need_cargo("miri")
     told = cargo(exported().name, "miri", "test", "-p", "pip_test_tables", "frames")
     if not passed(told):
@@ -102,19 +126,20 @@ def need_cargo(tool: str = "") -> None:
     version = re.match(r"cargo (\d+)\.(\d+)", told)
     if not version or tuple(map(int, version.groups())) < EDITION_KNOWN:
         raise Skipped("no cargo of 1.85 or later")
-    if tool and subprocess.run(["cargo", tool, "--version"], stdout=subprocess.DEVNULL, stderr=subprocess.DEVNULL).returncode:
+    if tool and subprocess.run(["cargo", tool, "--version"], stdout=subprocess.DEVNULL,
+                               stderr=subprocess.DEVNULL).returncode:
         raise Skipped(f"no cargo {tool}")
 
 
 @functools.lru_cache(maxsize=None)
-def exported() -> "tempfile.TemporaryDirectory[str]":
+def exported() -> tempfile.TemporaryDirectory[str]:
     """A folder with an export, which goes when the checks end."""
     place = tempfile.TemporaryDirectory()
     written(place.name, "shims")
     return place
 
 
-def written(place: str, deps: "str | None") -> str:
+def written(place: str, deps: str | None) -> str:
     """Writes an export, and answers what tools/export says of it."""
     words = [sys.executable, "-B", EXPORT, "--to", place] + (["--deps", deps] if deps else [])
     return finished("tools/export", words, {})
@@ -126,8 +151,9 @@ def cargo(place: str, *words: str, **settings: str) -> str:
     return finished("cargo " + words[0], ["cargo", *words], {"cwd": place, "env": environment})
 
 
-def finished(what: str, words: List[str], settings: Dict[str, Any]) -> str:
-    done = subprocess.run(words, stdin=subprocess.DEVNULL, stdout=subprocess.PIPE, stderr=subprocess.STDOUT, timeout=SECONDS, **settings)
+def finished(what: str, words: list[str], settings: dict[str, Any]) -> str:
+    done = subprocess.run(words, stdin=subprocess.DEVNULL, stdout=subprocess.PIPE, stderr=subprocess.STDOUT,
+                          timeout=SECONDS, **settings)
     told: str = done.stdout.decode("utf-8", "replace")
     if done.returncode:
         raise Differs(f"{what} ends with {done.returncode}:\n{told[-3000:]}")
@@ -151,7 +177,8 @@ def tests_in(place: str) -> int:
 
 
 def programs(place: str) -> Callable[[str], str]:
-    """Builds the programs, with the tests of what is required and of overflows, and answers their paths by their names."""
+    """Builds the programs, with the tests of what is required and of overflows, and answers their paths by their names.
+    """
     cargo(place, "build", "--quiet", "-p", "pip", "-p", "pip_example", **WARNINGS)
     return lambda name: os.path.join(place, "target", "debug", name)
 
@@ -170,11 +197,13 @@ def check_own_crate(export: str) -> None:
     due = part(r"It prints `(.*?)`", shown) + "\n"
     with tempfile.TemporaryDirectory() as place:
         os.mkdir(os.path.join(place, "src"))
-        for name, text_of in (("Cargo.toml", OWN + needs.replace("../pip-rust", export)), ("src/main.rs", "use " + main)):
+        for name, text_of in (("Cargo.toml", OWN + needs.replace("../pip-rust", export)),
+                              ("src/main.rs", "use " + main)):
             with open(os.path.join(place, name), "w", encoding="utf-8") as file:
                 file.write(text_of)
         cargo(place, "build", "--quiet")
-        expect("the crate of docs/EXPORT.md", comparison.run_built(os.path.join(place, "target", "debug", "own"), [], b""), (due.encode(), 0))
+        expect("the crate of docs/EXPORT.md",
+               comparison.run_built(os.path.join(place, "target", "debug", "own"), [], b""), (due.encode(), 0))
 
 
 def check_cases(built: Callable[[str], str], program: str, cases: int) -> None:
@@ -185,7 +214,7 @@ def check_cases(built: Callable[[str], str], program: str, cases: int) -> None:
             expect(f"the exported program, {command} with the case of seed {seed}", got, due)
 
 
-def both(given: Tuple[str, str, str, int]) -> Tuple[Tuple[bytes, int], Tuple[bytes, int]]:
+def both(given: tuple[str, str, str, int]) -> tuple[tuple[bytes, int], tuple[bytes, int]]:
     """What the export and the program answer to a case."""
     export, program, command, seed = given
     words, text_of = generate.case(command, seed)

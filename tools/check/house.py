@@ -6,6 +6,7 @@ A count above its allowance is refused, and so is one below it, until the allowa
 from __future__ import annotations
 
 import collections
+import glob
 import os
 import re
 import tempfile
@@ -19,26 +20,31 @@ from .sources import write
 LIST = os.path.join(os.path.dirname(os.path.abspath(__file__)), "allowances.txt")
 MOST = 120                              # columns of a line
 IS_LEFT = re.compile(r'"|^\s*#\[')       # a line of source with a text or an attribute, which `rt fmt` leaves as it is
+# a type or a constant of a source, but none of an impl or a trait
+ITEM_LINES = re.compile(r"^(?:pub(?:\([a-z]+\))? )?(?:struct|enum|trait|type|const|static) (?!fn |_:)(\w+)",
+                        re.MULTILINE)
+TESTS = "pip_test_"                     # crates of tests: what a test calls its text or its steps is its file's own
 DEFINITION = re.compile(r"(?:abbrev pub|unfoldable pub|pub record|pub data|pub(?=[^\s:]* :)|pub) ([^\s:(]+)")
 
 
 @dataclass
 class Allowances:
-    """How many lines may be too wide, by crate and of the documents; how many definitions may have no remark, by crate; and which names may
-    be several definitions'.
+    """How many lines may be too wide, by crate and of the documents; how many definitions may have no remark, by crate;
+    which names may be several definitions'; and which may be several types' or constants' of the sources.
     """
 
     wide: dict[str, int] = field(default_factory=dict)
     bare: dict[str, int] = field(default_factory=dict)
     names: set[str] = field(default_factory=set)
+    items: set[str] = field(default_factory=set)
 
 
 def allowances(text: str) -> Allowances:
-    """The allowances of a list: lines 'wide CRATE COUNT', 'bare CRATE COUNT' and 'name NAME'."""
+    """The allowances of a list: lines 'wide CRATE COUNT', 'bare CRATE COUNT', 'name NAME' and 'item NAME'."""
     allowed = Allowances()
     for kind, name, *count in (line.split() for line in text.split("\n") if line and not line.startswith("#")):
-        if kind == "name":
-            allowed.names.add(name)
+        if kind in ("name", "item"):
+            getattr(allowed, kind + "s").add(name)
         else:
             getattr(allowed, kind)[name] = int(count[0])
     return allowed
@@ -54,12 +60,25 @@ def found_in(top: str) -> Allowances:
         for name, is_bare in definitions(text) if os.sep + "specs" + os.sep in path else ():
             bare[crate] += is_bare
             files[name].add(path)
-    for crate, _, text in sources_of(top):
+    items: collections.defaultdict[str, set[str]] = collections.defaultdict(set)
+    for crate, path, text in sources_of(top):
+        for name in () if crate.startswith(TESTS) else ITEM_LINES.findall(text):
+            items[name].add(path)
         wide[crate] += sum(len(line) > MOST and not IS_LEFT.search(line) for line in text.split("\n"))
+    for path in glob.glob(os.path.join(top, "tools", "**", "*.py"), recursive=True):
+        with open(path, encoding="utf-8") as file:
+            wide["tools"] += sum(len(line) > MOST for line in file.read().split("\n"))
     for path in documents(top):
-        wide["documents"] += sum(len(line) > MOST and not line.lstrip().startswith("|") for line in without_code(path).split("\n"))
-    return Allowances({crate: count for crate, count in wide.items() if count}, {crate: count for crate, count in bare.items() if count},
-                      {name for name, paths in files.items() if len(paths) > 1})
+        wide["documents"] += sum(len(line) > MOST and not line.lstrip().startswith("|")
+                                 for line in without_code(path).split("\n"))
+    return Allowances({crate: count for crate, count in wide.items() if count},
+                      {crate: count for crate, count in bare.items() if count},
+                      several(files), several(items))
+
+
+def several(files: dict[str, set[str]]) -> set[str]:
+    """The names that are in two files or more."""
+    return {name for name, paths in files.items() if len(paths) > 1}
 
 
 def logic(top: str) -> Iterator[tuple[str, str, str]]:
@@ -112,13 +131,22 @@ def troubles(top: str, allowed: Allowances) -> list[str]:
     return [*compared(f"lines of more than {MOST} columns", found.wide, allowed.wide),
             *compared("definitions without a remark above them", found.bare, allowed.bare),
             *(f"{name} is defined in two files of specs" for name in sorted(found.names - allowed.names)),
-            *(f"{name} is defined once by now: take it off the allowances" for name in sorted(allowed.names - found.names))]
+            *(f"{name} is a type or a constant of two sources" for name in sorted(found.items - allowed.items)),
+            *(f"{name} is defined once by now: take it off the allowances"
+              for name in sorted((allowed.names - found.names) | (allowed.items - found.items)))]
 
 
 PLANTED = {
-    "crates/pip_one/specs/Rows.antt": "-- a row\nabbrev pub is_row : Bool\nis_row = true\n\npub record Row : Type 0 where\n  pub at : Bool\n",
-    "crates/pip_two/specs/Rows.antt": "-- a row of another kind\npub is_row : Bool\nis_row = false\n" + "-" * (MOST + 1) + "\n",
-    "crates/pip_two/src/rows.rt": "// " + "-" * MOST + "\nconst WIDE: &str = \"" + "-" * MOST + "\";\n",
+    "crates/pip_one/specs/Rows.antt": "-- a row\nabbrev pub is_row : Bool\nis_row = true\n\n"
+                                      "pub record Row : Type 0 where\n  pub at : Bool\n",
+    "crates/pip_two/specs/Rows.antt": "-- a row of another kind\npub is_row : Bool\nis_row = false\n" + "-" * (MOST + 1)
+    + "\n",
+    "crates/pip_one/src/rows.rt":
+        "pub(crate) struct Rows<A> {\n    at: A,\n}\n\nimpl Rows {\n    type Kept = u32;\n}\n",
+    "crates/pip_two/src/rows.rt": "// " + "-" * MOST + "\nconst WIDE: &str = \"" + "-" * MOST
+    + "\";\n\npub enum Rows {}\n\ntype Kept = u8;\n",
+    "crates/pip_test_one/src/rows.rt": "const WIDE: u32 = 7;\n",
+    "tools/one/rows.py": "ROWS = (1,)      # " + "w" * MOST + "\n",
     "docs/ROWS.md": "| " + "-" * MOST + " |\n\nA " + "w" * MOST + "\n",
 }
 
@@ -128,9 +156,10 @@ def house(program: str) -> None:
     with tempfile.TemporaryDirectory() as planted:
         for path, text in PLANTED.items():
             write(planted, path, text)
-        wide = {"pip_two": 2, "documents": 1}
-        more = Allowances({**wide, "pip_two": 3}, {"pip_one": 2}, {"is_row", "is_gone"})
-        for allowed, count in ((Allowances(wide, {"pip_one": 1}, {"is_row"}), 0), (Allowances(), 4), (more, 3)):
+        wide = {"pip_two": 2, "documents": 1, "tools": 1}
+        right = Allowances(wide, {"pip_one": 1}, {"is_row"}, {"Rows"})
+        more = Allowances({**wide, "pip_two": 3}, {"pip_one": 2}, {"is_row", "is_gone"}, {"Rows", "Gone"})
+        for allowed, count in ((right, 0), (Allowances(), 6), (more, 4)):
             if len(troubles(planted, allowed)) != count:
                 raise Differs(f"planted crates: {troubles(planted, allowed)} by {allowed}")
     with open(LIST, encoding="utf-8") as file:

@@ -1,4 +1,6 @@
-"""What a document links to in the repository, or names by its path from the top, is there."""
+"""What a document links to in the repository, or names by its path from the top, is there; and so is each contract that
+PROVED.md names.
+"""
 
 from __future__ import annotations
 
@@ -7,6 +9,7 @@ import re
 from collections.abc import Iterator
 
 from .running import REPOSITORY, Differs
+from .sources import sources
 
 LINK = re.compile(r"\]\(([^)\s]+)\)")
 PATH = re.compile(r"`((?:bench|crates|docs|editors|examples|tools)/[\w./-]+)`")
@@ -29,6 +32,47 @@ def links(program: str) -> None:
                 raise Differs(f"{os.path.relpath(path, REPOSITORY)}: {target} isn't there")
             if anchor and anchor not in anchors.setdefault(place, headings(place)):
                 raise Differs(f"{os.path.relpath(path, REPOSITORY)}: {target} names no heading")
+    contracts()
+    from . import checks        # which has this one in its list
+    unknown = set(checks_named()) - set(checks.CHECKS)
+    if unknown:
+        raise Differs(f"documents name checks that aren't there: {', '.join(sorted(unknown))}")
+
+
+def checks_named() -> Iterator[str]:
+    """What documents name as checks: in a sentence, and in the last column of CONTRIBUTING's tables about checks."""
+    for path in documents(REPOSITORY):
+        with open(path, encoding="utf-8") as file:
+            text = file.read()
+        yield from re.findall(r"\bcheck `([a-z-]+)`", text)
+        table = r"^\|.*(?:\| check \(.*|by the check) \|\n\|[-|]+\|\n((?:\|.*\n)+)"
+        for rows in re.findall(table, text, re.MULTILINE) if os.path.basename(path) == "CONTRIBUTING.md" else ():
+            yield from " ".join(re.findall("`([^`]*)`",
+                                           "".join(row.rsplit(" | ", 1)[1] for row in rows.splitlines()))).split()
+
+
+def contracts() -> None:
+    """Each contract in the table of PROVED.md is one of its crate. That the check finds one that isn't is tried first.
+    """
+    with open(os.path.join(REPOSITORY, "docs", "PROVED.md"), encoding="utf-8") as file:
+        text = file.read()
+    if list(gone(text.replace("`soak_load`", "`soak_loads`"))) != ["pip_soak has no soak_loads"]:
+        raise Differs("docs/PROVED.md: a contract that isn't there isn't found")
+    if list(gone(text)):
+        raise Differs(f"docs/PROVED.md: {', '.join(gone(text))}")
+
+
+def gone(text: str) -> Iterator[str]:
+    """What the table of the crates names and no source of its crates declares: a function, a type, a trait, or a
+    clause.
+    """
+    files = [(crate, told) for crate, _, told in sources(REPOSITORY)]
+    for line in text.split("## Crate by crate")[1].split("\n## ")[0].split("\n"):
+        crates = re.findall(r"\[(pip_\w+)\]\(", line.split(" | ")[0])
+        declared = "\n".join(told for crate, told in files if crate in crates)
+        for name in re.findall(r"`(?:\w+::)?(\w+)`", line.split(" | ")[1] if crates else ""):
+            if not re.search(rf"\b(?:fn|struct|trait|enum|impl|ensures|requires|>) {name}\b", declared):
+                yield f"{' and '.join(crates)} has no {name}"
 
 
 def documents(top: str) -> Iterator[str]:

@@ -5,16 +5,16 @@ from __future__ import annotations
 import os
 import subprocess
 import tempfile
-from collections.abc import Iterator
-from typing import Callable, List, Tuple
+from collections.abc import Callable, Iterator
 
 from ..reference import commands as reference
 from .running import Differs, Output, expect, run
 
 HERE = os.path.dirname(os.path.abspath(__file__))
 SCRIPT = b"# before the boot line\nboot 32 1\nld 0 0x400000\n"
-ASSEMBLY = b".frames 16\n.cpus 1\n.line 0 2 0\n.page 0x00400000\nhere:\nli r1 7\nout r1\nbne r1 r0 there\nthere:\nint 64\n"
-Refused = Callable[[List[str], bytes, int], Tuple[Output, int]]
+ASSEMBLY = (b".frames 16\n.cpus 1\n.line 0 2 0\n.page 0x00400000\n"
+            b"here:\nli r1 7\nout r1\nbne r1 r0 there\nthere:\nint 64\n")
+Refused = Callable[[list[str], bytes, int], tuple[Output, int]]
 NO_MEMORY = 5            # the status
 NO_WORDS = 10            # where memory for the words of the command line is refused to the runtime
 
@@ -29,6 +29,7 @@ def cases() -> Iterator[tuple[list[str], bytes]]:
     yield ["soak", "20", "7"], b""
     native, _ = reference.pip(["asm"], ASSEMBLY.replace(b".frames 16", b".frames 26"))
     yield ["native", "1", "6"], native
+    yield ["slots", "1", "4", "1"], native
     frames, _ = reference.pip(["core", "6", "1"], image)
     yield ["audit", "16"], frames
     yield ["every", "8"], image
@@ -47,7 +48,8 @@ def refusals(program: str, library: str, place: str) -> Refused:
 def refused_memory(program: str) -> None:
     with tempfile.TemporaryDirectory() as place:
         library = os.path.join(place, "refuse.so")
-        subprocess.run(["gcc", "-O1", "-shared", "-fPIC", "-o", library, os.path.join(HERE, "refuse.c"), "-ldl"], check=True)
+        subprocess.run(["gcc", "-O1", "-shared", "-fPIC", "-o", library, os.path.join(HERE, "refuse.c"), "-ldl"],
+                       check=True)
         refused = refusals(program, library, place)
         for words, text in cases():
             whole, count = refused(words, text, 0)
@@ -59,4 +61,5 @@ def refused_memory(program: str) -> None:
                 (output, status), _ = refused(words, text, number)
                 allowed = [NO_MEMORY, NO_WORDS] if number <= for_words else [NO_MEMORY]
                 if output or status not in allowed:
-                    raise Differs(f"pip {words[0]}, with allocation {number} of {count} refused: status {status}, {output[:80]!r}")
+                    raise Differs(f"pip {words[0]}, with allocation {number} of {count} refused: status {status}, "
+                                  f"{output[:80]!r}")

@@ -117,10 +117,15 @@ def run_page(program: str, name: str, steps: int, path: str) -> None:
 
 
 def names_of_a_run(program: str, place: str) -> None:
-    """The page of a run has the names of a source; another source is warned of, and other lines than the program's are refused."""
-    source, path, liar = os.path.join(REPOSITORY, "examples", "monitor.s"), os.path.join(place, "monitor.img"), os.path.join(place, "liar")
-    for words, due, said in ((("--source", source), "0x00400044 next_turn+2: stw r8 r15 0", ""), ((), "0x00400044: stw r8 r15 0", ""),
-                             (("--source", source.replace("monitor", "hostile")), "stw r8 r15 0", "isn't the source of this image")):
+    """The page of a run has the names of a source; another source is warned of, and other lines than the program's are
+    refused.
+    """
+    source = os.path.join(REPOSITORY, "examples", "monitor.s")
+    path, liar = os.path.join(place, "monitor.img"), os.path.join(place, "liar")
+    for words, due, said in ((("--source", source), "0x00400044 next_turn+2: stw r8 r15 0", ""),
+                             ((), "0x00400044: stw r8 r15 0", ""),
+                             (("--source", source.replace("monitor", "hostile")), "stw r8 r15 0",
+                              "isn't the source of this image")):
         page, messages, status = stepped(program, path, "130", "1", "--from", "110", *words)
         step = next(step for step in data_of(page)["steps"] if step["told"] == "step 115")
         if status or not step["did"].endswith(due) or said not in messages or not said and messages:
@@ -137,7 +142,8 @@ def hostile(program: str) -> None:
     """Input that is no script or image, or means harm to the page."""
     refused = ((("-",), b"", "no line with an answer"), (("-",), b"# only a remark\n", "no line with an answer"),
                (("-",), b"ld 0 0\n", "bad line 1"), (("-",), b"\xff\xfe\n", "bad line 1"),
-               (("-",), b"PIPIMG2\n", "is an image"), (("-", "10", "1"), b"no image", "bad image"),
+               (("-",), b"PIPIMG2\n", "is an image"), (("-", "10", "1"), b"PIPIMG2\x00", "bad image"),
+               (("-", "10", "1"), b"no image", "a source is given by its name"),
                (("-", "x", "1"), b"", "STEPS is a number"), (("-", "10", "0"), b"", "SEED is a number"),
                (("-", "99999999999", "1"), b"", "STEPS is a number"), (("/nonexistent",), b"", "can't be read"),
                (("-",), b"boot 16 1\n" + b"raise 1\n" * 3001, "a page has at most"), (("-", "10"), b"", "both needed"))
@@ -157,17 +163,20 @@ def hostile(program: str) -> None:
 # The teacher's loop
 
 def teachers_loop(program: str) -> None:
-    """The loop of docs/TEACHING.md makes a page of each chapter and of no answer, and leaves nothing in the checkout."""
+    """The loop of docs/TEACHING.md makes a page of each chapter and of no answer, and leaves nothing in the checkout.
+    """
     text = examples.contents(os.path.join(REPOSITORY, "docs", "TEACHING.md")).decode()
     commands = [line.strip() for line in text.splitlines() if line.startswith("      ") and "PAGES" in line]
     folders = (REPOSITORY, os.path.join(REPOSITORY, "examples", "tutorial"))
     before = [sorted(os.listdir(folder)) for folder in folders]
     with tempfile.TemporaryDirectory() as place:
-        done = subprocess.run(["sh", "-c", "\n".join(commands)], cwd=REPOSITORY, timeout=SECONDS, stderr=subprocess.PIPE,
+        done = subprocess.run(["sh", "-c", "\n".join(commands)], cwd=REPOSITORY, timeout=SECONDS,
+                              stderr=subprocess.PIPE,
                               env=dict(os.environ, PIP=program, PAGES=place))
         made = sorted(os.listdir(place))
         is_page = all(examples.contents(os.path.join(place, name)).startswith(b"<!doctype html>") for name in made)
-    due = [os.path.basename(path)[:-4] + ".html" for path in sorted(glob.glob(os.path.join(folders[1], "[0-9]*.pip"))) if "answer" not in path]
+    due = [os.path.basename(path)[:-4] + ".html" for path in sorted(glob.glob(os.path.join(folders[1], "[0-9]*.pip")))
+           if "answer" not in path]
     if done.returncode or made != due or len(due) < 10 or not is_page:
         raise Differs(f"the loop of docs/TEACHING.md makes {made}, where {due} are due: {done.stderr.decode()[-200:]}")
     if [sorted(os.listdir(folder)) for folder in folders] != before:
@@ -177,7 +186,8 @@ def teachers_loop(program: str) -> None:
 # In a browser, where one is installed
 
 CHOSEN = "JSON.stringify(document.body.dataset)"
-WIDE = "document.documentElement.scrollWidth <= innerWidth && document.getElementById('count').getBoundingClientRect().right <= innerWidth"
+WIDE = ("document.documentElement.scrollWidth <= innerWidth"
+        " && document.getElementById('count').getBoundingClientRect().right <= innerWidth")
 LEAST_CONTRAST = 4.5
 
 # Each text whose contrast to its background is too small: its element, what it says, and the contrast. A hatched
@@ -188,7 +198,8 @@ PALE_TEXTS = r"""(least => {
     .reduce((sum, x, k) => sum + x * [.2126, .7152, .0722][k], 0);
   const ratio = (a, b) => (Math.max(light(a), light(b)) + .05) / (Math.min(light(a), light(b)) + .05);
   const backgrounds = x => {
-    const style = getComputedStyle(x), colour = parse(style.backgroundColor), isClear = colour.length === 4 && colour[3] === 0;
+    const style = getComputedStyle(x), colour = parse(style.backgroundColor);
+    const isClear = colour.length === 4 && colour[3] === 0;
     const found = !isClear ? [colour.slice(0, 3)] : x.parentElement ? backgrounds(x.parentElement) : [[255, 255, 255]];
     return style.backgroundImage === "none" ? found : found.concat(found.map(c => c.map(v => .65 * v + .35 * 128)));
   };
@@ -196,7 +207,8 @@ PALE_TEXTS = r"""(least => {
   for (const x of document.querySelectorAll("body *")) {
     const text = [...x.childNodes].filter(node => node.nodeType === 3).map(node => node.textContent.trim()).join("");
     if (!text || !x.getClientRects().length || x.disabled || x.closest("noscript, script, style")) continue;
-    const colour = parse(getComputedStyle(x).color).slice(0, 3), worst = Math.min(...backgrounds(x).map(c => ratio(colour, c)));
+    const colour = parse(getComputedStyle(x).color).slice(0, 3);
+    const worst = Math.min(...backgrounds(x).map(c => ratio(colour, c)));
     if (worst < least) found.push(x.tagName + "." + x.className + " '" + text.slice(0, 30) + "': " + worst.toFixed(2));
   }
   return found.join("; ");
@@ -232,7 +244,8 @@ def keys(shown: browser.Browser, address: str) -> None:
             ("", 0, 1, "0x00400000"), ("ArrowRight", 1, 1, "0x00400000"), ("ArrowRight", 2, 1, "0x00400000"),
             ("ArrowLeft", 1, 1, "0x00400000"), ("n", 1, 13, ""), ("End", 27, 13, "0xffc0a000"),
             ("j", 27, 13, "0xffc0b000"), ("n", 27, 22, ""), ("n", 27, 1, "0x00400000"), ("p", 27, 22, ""),
-            ("p", 27, 13, "0xffc0a000"), ("b", 17, 13, "0xffc0a000"), ("l", 17, 13, "0xffc0a000"), ("c", 18, 13, "0xffc0a000"),
+            ("p", 27, 13, "0xffc0a000"), ("b", 17, 13, "0xffc0a000"), ("l", 17, 13, "0xffc0a000"),
+            ("c", 18, 13, "0xffc0a000"),
             ("Home", 0, 1, "0x00400000")):
         if key:
             shown.key(key)
@@ -270,7 +283,8 @@ def frames(shown: browser.Browser) -> None:
         shown.key(key)
         if (got := shown.value("document.body.dataset.frame")) != due:
             raise Differs(f"tools/step in a browser: after '{key}' frame {got} is shown, where {due} is due")
-    if shown.value("document.querySelectorAll('#pages th:not([scope=col])').length") or shown.value("typeof scrollTo") != "function" \
+    if shown.value("document.querySelectorAll('#pages th:not([scope=col])').length") \
+            or shown.value("typeof scrollTo") != "function" \
             or "[native code]" not in shown.value("String(scrollTo)"):
         raise Differs("tools/step in a browser: a head of the table has no scope, or the browser's scrollTo is hidden")
 
@@ -298,9 +312,11 @@ def of_a_run(shown: browser.Browser, address: str) -> None:
     shown.open("about:blank")
     shown.open(address + "#117")
     told = [text_of(shown, selector) for selector in ("#place", "#told", "#answer", "#changed")]
-    told += [shown.value("[...document.querySelectorAll('.registers .now')].map(x => x.textContent).join()"), text_of(shown, ".note")[:31]]
+    told += [shown.value("[...document.querySelectorAll('.registers .now')].map(x => x.textContent).join()"),
+             text_of(shown, ".note")[:31]]
     due = ["step 115", "processor 0, partition 1, 0x00400044 next_turn+2: stw r8 r15 0", "no line",
-           "processor 0: pc = 0x00400048frame 13, word 0 (0x00401000 of partition 1): 0x00401004 \u2192 0x0040100c", "pc\u00a0\u00a00x00400048",
+           "processor 0: pc = 0x00400048frame 13, word 0 (0x00401000 of partition 1): 0x00401004 \u2192 0x0040100c",
+           "pc\u00a0\u00a00x00400048",
            "Instructions and registers are "]
     if told != due:
         raise Differs(f"tools/step in a browser, of a run: {told}, where {due} is due")
@@ -310,7 +326,9 @@ def of_a_run(shown: browser.Browser, address: str) -> None:
 
 
 def sizes(shown: browser.Browser) -> None:
-    """Nothing passes the right edge, at two widths, in light and dark; texts can be read; the scripts run without an error."""
+    """Nothing passes the right edge, at two widths, in light and dark; texts can be read; the scripts run without an
+    error.
+    """
     for width in (1280, 400):
         for dark in (False, True):
             shown.size(width, 900)
@@ -320,7 +338,8 @@ def sizes(shown: browser.Browser) -> None:
                 if not shown.value(WIDE):
                     raise Differs(f"tools/step in a browser: the page is wider than {width} pixels")
                 if pale := shown.value(f"{PALE_TEXTS}({LEAST_CONTRAST})"):
-                    raise Differs(f"tools/step in a browser: too little contrast in {'dark' if dark else 'light'}: {pale}")
+                    raise Differs(f"tools/step in a browser: too little contrast in {'dark' if dark else 'light'}: "
+                                  f"{pale}")
     shown.media("print")
     if shown.value("getComputedStyle(document.querySelector('.controls button')).display") != "none":
         raise Differs("tools/step in a browser: on paper the buttons are shown")

@@ -1,4 +1,8 @@
-"""The program as a module of WebAssembly answers as the program does, and the page over it shows what the other tools show."""
+"""The program as a module of WebAssembly answers as the program does, and the page over it shows what the other tools
+show.
+"""
+
+from __future__ import annotations
 
 import atexit
 import functools
@@ -10,7 +14,7 @@ import shutil
 import subprocess
 import sys
 import tempfile
-from typing import Any, Dict, List, Tuple
+from typing import Any
 
 from ..authors import why
 from ..reference import generate
@@ -49,7 +53,8 @@ def made() -> str:
     atexit.register(shutil.rmtree, place, ignore_errors=True)
     path = os.path.join(place, "pip.wasm")
     make(path)
-    done = subprocess.run([sys.executable, "-B", os.path.join(PLAYGROUND, "make_page"), "--module", path, "--to", page_of(path)],
+    done = subprocess.run([sys.executable, "-B", os.path.join(PLAYGROUND, "make_page"), "--module", path, "--to",
+                           page_of(path)],
                           stdout=subprocess.PIPE, stderr=subprocess.STDOUT)
     if done.returncode:
         raise Differs(f"the page isn't made: {done.stdout.decode('utf-8', 'replace')}")
@@ -64,7 +69,8 @@ def make(path: str) -> None:
     """The compiler is the one in the PATH, or Debian's, unpacked where the environment's RUSTC_WEB says."""
     words = [sys.executable, "-B", os.path.join(PLAYGROUND, "make_module"), "--to", path]
     words += ["--debian", os.environ["RUSTC_WEB"]] if "RUSTC_WEB" in os.environ else []
-    done = subprocess.run(words, env=dict(os.environ, **CHECKED), stdout=subprocess.PIPE, stderr=subprocess.STDOUT, timeout=SECONDS)
+    done = subprocess.run(words, env=dict(os.environ, **CHECKED), stdout=subprocess.PIPE, stderr=subprocess.STDOUT,
+                          timeout=SECONDS)
     told = done.stdout.decode("utf-8", "replace")
     if told.startswith(NO_TARGET):
         raise Skipped("no wasm32 target for cargo")
@@ -72,7 +78,7 @@ def make(path: str) -> None:
         raise Differs(f"the module isn't made: {told[-3000:]}")
 
 
-def examples() -> List[Tuple[List[str], bytes]]:
+def examples() -> list[tuple[list[str], bytes]]:
     found = []
     for path in sorted(glob.glob(os.path.join(REPOSITORY, "examples", "**", "*.pip"), recursive=True)):
         with open(path, "rb") as file:
@@ -80,17 +86,17 @@ def examples() -> List[Tuple[List[str], bytes]]:
     return found
 
 
-def cases() -> List[Tuple[List[str], bytes]]:
+def cases() -> list[tuple[list[str], bytes]]:
     return [generate.case(command, FIRST_SEED + k) for command in generate.COMMANDS for k in range(CASES)]
 
 
-def both(given: Tuple[str, str, List[str], bytes]) -> Tuple[Tuple[bytes, int], Tuple[bytes, int]]:
+def both(given: tuple[str, str, list[str], bytes]) -> tuple[tuple[bytes, int], tuple[bytes, int]]:
     """What the module and the program answer."""
     path, program, words, text = given
     return run(["node", os.path.join(PLAYGROUND, "run.mjs"), path, *words], text), run([program, *words], text)
 
 
-def run(command: List[str], text: bytes) -> Tuple[bytes, int]:
+def run(command: list[str], text: bytes) -> tuple[bytes, int]:
     done = subprocess.run(command, input=text, stdout=subprocess.PIPE, stderr=subprocess.DEVNULL, timeout=SECONDS)
     return done.stdout, done.returncode
 
@@ -107,7 +113,7 @@ def states(program: str) -> None:
                 raise Differs(found)
 
 
-def scripts() -> List[str]:
+def scripts() -> list[str]:
     return sorted(glob.glob(os.path.join(REPOSITORY, "examples", "**", "*.pip"), recursive=True))
 
 
@@ -116,7 +122,7 @@ def answers_of(script: str) -> bool:
     return os.path.exists(script[:-len(".pip")] + ".out")
 
 
-def same_states(given: Tuple[str, str, str]) -> str:
+def same_states(given: tuple[str, str, str]) -> str:
     """What differs, in a sentence; nothing where all is the same."""
     program, path, script = given
     name = os.path.relpath(script, REPOSITORY)
@@ -127,20 +133,22 @@ def same_states(given: Tuple[str, str, str]) -> str:
         return f"tools/step {name}: {messages}"
     count = sum(1 for step in due["steps"] if not step["answer"].startswith("bad line"))
     with open(script, "rb") as file:
-        told = run(["node", os.path.join(PLAYGROUND, "states.mjs"), path, str(max(count, 1))], file.read())[0].splitlines()
+        told = run(["node", os.path.join(PLAYGROUND, "states.mjs"), path, str(max(count, 1))],
+                   file.read())[0].splitlines()
     if len(told) != count:
         return f"the page of {name} has {len(told)} states, where {count} are due"
     found = (differs(json.loads(line), due, k) for k, line in enumerate(told))
     return next((f"the page of {name}, answer {k + 1}: {what}"[:2000] for k, what in enumerate(found) if what), "")
 
 
-def differs(told: Dict[str, Any], due: Dict[str, Any], k: int) -> str:
+def differs(told: dict[str, Any], due: dict[str, Any], k: int) -> str:
     chosen = 7 * k % told["frames"]
     got, wanted = state_of(told, len(told["steps"]) - 1, chosen), state_of(due, k, chosen)
-    return next((f"{part} is {got[part]}, where {wanted[part]} is due" for part in wanted if got[part] != wanted[part]), "")
+    return next((f"{part} is {got[part]}, where {wanted[part]} is due" for part in wanted if got[part] != wanted[part]),
+                "")
 
 
-def state_of(data: Dict[str, Any], k: int, chosen: int) -> Dict[str, Any]:
+def state_of(data: dict[str, Any], k: int, chosen: int) -> dict[str, Any]:
     """A state of a page, with the words of a frame."""
     step = data["steps"][k]
     words = [place for at, place in data["words"].get(str(chosen), []) if at <= k]
@@ -153,13 +161,15 @@ def state_of(data: Dict[str, Any], k: int, chosen: int) -> Dict[str, Any]:
 # What the page says of bad lines
 
 def reasons(program: str) -> None:
-    """Of each generated text that is refused, and of lines that are bad in one way each, the page says what tools/why says."""
+    """Of each generated text that is refused, and of lines that are bad in one way each, the page says what tools/why
+    says.
+    """
     need_node()
     refused_as(program, "script", bad_texts(), len(BAD_LINES))
     refused_as(program, "asm", bad_assembly(), len(BAD_ASSEMBLY))
 
 
-def refused_as(program: str, kind: str, texts: List[bytes], least: int) -> None:
+def refused_as(program: str, kind: str, texts: list[bytes], least: int) -> None:
     with tempfile.TemporaryDirectory() as place:
         files = [os.path.join(place, str(k)) for k in range(len(texts))]
         for name, text in zip(files, texts):
@@ -182,33 +192,46 @@ def facts() -> str:
     return path
 
 
-BAD_LINES = (b"ld 0 0\r", b" ld 0 0", b"ld 0  0", b"ld 0 0 ", b"ld\t0 0", b"ld 0 0 # here", b"LD 0 0", b"ld 0 0X1F", b"ld 0 0x1F", b"ld 0 00",
-             b"ld 0 +1", b"ld 0 0x", b"ld 0 0x100000000", b"ld 0 4294967296", b"ld 0 99999999999", b"ld 1 0", b"boot 64 1", b"sb 0 0 256",
-             b"trap 0 256 0 0", b"raise 16", b"reg 0 17", b"load 0 0", b"ld 0", b"ld 0 0 0", b"call 0", b"call 0 5 1 2 3 4 5 6", b"# " + b"x" * 119,
+BAD_LINES = (b"ld 0 0\r", b" ld 0 0", b"ld 0  0", b"ld 0 0 ", b"ld\t0 0", b"ld 0 0 # here", b"LD 0 0", b"ld 0 0X1F",
+             b"ld 0 0x1F", b"ld 0 00",
+             b"ld 0 +1", b"ld 0 0x", b"ld 0 0x100000000", b"ld 0 4294967296", b"ld 0 99999999999", b"ld 1 0",
+             b"boot 64 1", b"sb 0 0 256",
+             b"trap 0 256 0 0", b"raise 16", b"reg 0 17", b"load 0 0", b"ld 0", b"ld 0 0 0", b"call 0",
+             b"call 0 5 1 2 3 4 5 6", b"# " + b"x" * 119,
              b"call 1 5", b"poll 0 0")
 FIRST_LINES = (b"ld 0 0", b"boot 15 1", b"boot 32 5", b"boot 32", b"\xef\xbb\xbfboot 32 1")
 
 
-def bad_texts() -> List[bytes]:
+def bad_texts() -> list[bytes]:
     found = [b"boot 64 1\n# here\n\n" + line + b"\n" for line in BAD_LINES] + [line + b"\n" for line in FIRST_LINES]
-    return found + [text for text in (generate.case("script", FIRST_SEED + k)[1] for k in range(CASES_OF_REASONS)) if is_utf8(text)]
+    return found + [text for text in (generate.case("script", FIRST_SEED + k)[1] for k in range(CASES_OF_REASONS))
+                    if is_utf8(text)]
 
 
 # Each in the place of the last line of a text that is good
 BEGUN = b".frames 16\n.cpus 1\n.line 3 5 6\n.page 0x400000\nhere:\nli r1 <here\n"
-BAD_ASSEMBLY = (b"ldx r1 r2", b"ld r1 r2 0", b"LI r1 2", b"load r1 r2 0", b"la r1 here", b"zzz", b".equ A 1", b".cpus 1", b".line 4 5 6", b"9a:", b"a b:",
-                b"li r16 1", b"li r1", b"li r1 2 3", b"li r1 <9", b"li r1 >nowhere", b"add r1 r2 3", b"beq r1 r2 nowhere", b".word nowhere", b".word 1 2",
-                b".zero here", b".zero 1025", b".zero 1024", b"li r1 65536", b"addi r1 r2 32768", b"addi r1 r2 -32769", b"shli r1 r2 32", b"int 63",
-                b"sys 65536", b"here:", b"here: li", b".page 0x400000", b".page 0x400004", b".page 0x300000", b".page", b"jal r1 99999", b" li r1 2",
-                b"li  r1 2", b"li r1 2 # two", b"li r1 2\t", b"li r1 0X2", b"li r1 02", b"li r1 4294967296", b"ldw r1 r2 --3", b"jr r1\r",
-                b"addi r1 r2 -0", b"# " + b"x" * 119, b".zero 900\n.zero 200", b"beq r1 r1 far\n.page 0xfffff000\n.zero 1000\nfar:")
-BAD_HEADS = (b"", b".frames 16\n", b".frames 15\n", b".frames 4097\n", b".frames\n", b".cpus 1\n", b".frames 16\n.cpus 5\n", b".frames 16\n.cpus 1\nli r1 1\n",
-             b".frames 16\n.cpus 1\n.line 16 1 1\n", b".frames 16\n.cpus 1\n.line 3 1 1\n.line 3 1 1\n", b"\xef\xbb\xbf.frames 16\n")
+BAD_ASSEMBLY = (b"ldx r1 r2", b"ld r1 r2 0", b"LI r1 2", b"load r1 r2 0", b"la r1 here", b"zzz", b".equ A 1",
+                b".cpus 1", b".line 4 5 6", b"9a:", b"a b:",
+                b"li r16 1", b"li r1", b"li r1 2 3", b"li r1 <9", b"li r1 >nowhere", b"add r1 r2 3",
+                b"beq r1 r2 nowhere", b".word nowhere", b".word 1 2",
+                b".zero here", b".zero 1025", b".zero 1024", b"li r1 65536", b"addi r1 r2 32768", b"addi r1 r2 -32769",
+                b"shli r1 r2 32", b"int 63",
+                b"sys 65536", b"here:", b"here: li", b".page 0x400000", b".page 0x400004", b".page 0x300000", b".page",
+                b"jal r1 99999", b" li r1 2",
+                b"li  r1 2", b"li r1 2 # two", b"li r1 2\t", b"li r1 0X2", b"li r1 02", b"li r1 4294967296",
+                b"ldw r1 r2 --3", b"jr r1\r",
+                b"addi r1 r2 -0", b"# " + b"x" * 119, b".zero 900\n.zero 200",
+                b"beq r1 r1 far\n.page 0xfffff000\n.zero 1000\nfar:")
+BAD_HEADS = (b"", b".frames 16\n", b".frames 15\n", b".frames 4097\n", b".frames\n", b".cpus 1\n",
+             b".frames 16\n.cpus 5\n", b".frames 16\n.cpus 1\nli r1 1\n",
+             b".frames 16\n.cpus 1\n.line 16 1 1\n", b".frames 16\n.cpus 1\n.line 3 1 1\n.line 3 1 1\n",
+             b"\xef\xbb\xbf.frames 16\n")
 
 
-def bad_assembly() -> List[bytes]:
+def bad_assembly() -> list[bytes]:
     found = [BEGUN + line + b"\n" for line in BAD_ASSEMBLY] + list(BAD_HEADS)
-    return found + [text for text in (generate.case("asm", FIRST_SEED + k)[1] for k in range(CASES_OF_REASONS)) if is_utf8(text)]
+    return found + [text for text in (generate.case("asm", FIRST_SEED + k)[1] for k in range(CASES_OF_REASONS))
+                    if is_utf8(text)]
 
 
 def is_utf8(text: bytes) -> bool:

@@ -1,106 +1,197 @@
-"""The calls that public_calls.txt names are public, each under its name and in its crate."""
+"""The calls that public_calls.txt lists are public, each with the parameters, result and clauses that it lists."""
+
+from __future__ import annotations
 
 import os
 import re
 import tempfile
-from typing import Dict, Iterator, List, Set, Tuple
+from collections.abc import Iterator
 
-from .counters import without_texts
 from .running import REPOSITORY, Differs
-from .sources import sources, write
+from .signatures import Library
+from .sources import write
 
 LIST = os.path.join(os.path.dirname(os.path.abspath(__file__)), "public_calls.txt")
-EXPORT = re.compile(r"\bpub\s+use\s+([^;]*);")
-ITEM = re.compile(r"\bpub\s+(?:const\s+fn|const|fn|struct|enum|trait)\s+(\w+)")
+CRATE = re.compile(r"(\w+):$")
+CALL = re.compile(r"    (?:const )?(\w+(?:::\w+)?)")
+
+Entry = tuple[str, str, list[str]]
 
 
 def public_calls(program: str) -> None:
-    """Each call of the list is public. That the check finds one that is gone is tried first, on planted crates."""
-    for what, text in HIDDEN.items():
-        if missing_in(text) != ["pip_planted: Table::find"]:
-            raise Differs(f"a planted call isn't missed: {what}")
-    for what, text in SHOWN.items():
-        if missing_in(text):
-            raise Differs(f"a planted call is missed: {what}")
-    with open(LIST, encoding="utf-8") as file:
-        missing = list(missing_calls(REPOSITORY, calls(file.read())))
-    if missing:
-        raise Differs(f"no longer public: {', '.join(missing)}")
-
-
-def calls(text: str) -> List[Tuple[str, str]]:
-    """The crate and the name of each call of a list."""
-    lines = (line.split("#")[0].strip() for line in text.split("\n"))
-    pairs = (line.split(":", 1) for line in lines if line)
-    return [(crate.strip(), name) for crate, names in pairs for name in names.split()]
-
-
-def missing_calls(top: str, wanted: List[Tuple[str, str]]) -> Iterator[str]:
-    """The calls that aren't public."""
-    code: Dict[str, str] = {}
-    exported: Dict[str, Set[str]] = {}
-    for crate, path, text in sources(top):
-        code[crate] = code.get(crate, "") + "\n" + without_texts(text)
-        if path.endswith(os.path.join("src", "lib.rt")):
-            exported[crate] = names_of(without_texts(text))
-    for crate, call in wanted:
-        owner, _, method = call.rpartition("::")
-        name = owner or method
-        if name not in exported.get(crate, ()) or owner and not has_method(code[crate], owner, method):
-            yield f"{crate}: {call}"
-
-
-def names_of(code: str) -> Set[str]:
-    """The names that the root of a library offers: those of its own items and of its exports."""
-    names = set(ITEM.findall(code))
-    for item in EXPORT.findall(code):
-        parts = re.sub(r"[{}]", ",", item).split(",")
-        names.update(part.split(" as ")[-1].split("::")[-1].strip() for part in parts)
-    return names
-
-
-def has_method(code: str, owner: str, method: str) -> bool:
-    """Whether a trait, or a type by an `impl` of its own, has a public method."""
-    trait = re.compile(rf"\bpub\s+trait\s+{owner}\b[^{{]*\{{")
-    own = re.compile(rf"\bimpl\b(?![^{{]*\bfor\b)[^{{]*\b{owner}\b[^{{]*\{{")
-    return (any(re.search(rf"\bfn\s+{method}\b", block) for block in blocks(code, trait))
-            or any(re.search(rf"\bpub\s+(?:const\s+)?fn\s+{method}\b", block) for block in blocks(code, own)))
-
-
-def blocks(code: str, head: "re.Pattern[str]") -> Iterator[str]:
-    """The text of each block that a head opens, to the brace that closes it."""
-    for found in head.finditer(code):
-        depth, end = 1, found.end()
-        while depth and end < len(code):
-            depth += {"{": 1, "}": -1}.get(code[end], 0)
-            end += 1
-        yield code[found.end():end]
-
-
-def missing_in(text: str) -> List[str]:
-    """What is missed of `Table::find` and `look` in a planted library."""
+    """Each call of the list is as it says. That each kind of change is found is tried first, on planted libraries."""
     with tempfile.TemporaryDirectory() as planted:
-        write(planted, "crates/pip_planted/src/lib.rt", text)
-        return list(missing_calls(planted, calls("pip_planted: Table::find # the call\npip_planted: look\n")))
+        write(planted, PLACE, PLANTED)
+        due = written(planted, "pip_planted:\n    SIZE\n    Table::find\n    Rows::count\n    look\n")
+    if due != LISTED:
+        raise Differs(f"a planted library is listed as {due}")
+    for what, (call, old, new) in CHANGED.items():
+        if calls_of(changes(old, new)) != [call]:
+            raise Differs(f"a planted change isn't found: {what}")
+    for what, (old, new) in SAME.items():
+        if changes(old, new):
+            raise Differs(f"what is no change of a call is refused: {what}")
+    with open(LIST, encoding="utf-8") as file:
+        found = list(differences(REPOSITORY, file.read()))
+    if found:
+        raise Differs("; ".join(found))
 
 
-LOOK = "mod rows;\npub use rows::look;\n"
-BODY = "    requires { 1 ≤ 2 }\n    { 0 }\n"
+def rewrite() -> None:
+    """Writes the list anew: the same calls, as the sources have them. Nothing is written where one isn't public."""
+    with open(LIST, encoding="utf-8") as file:
+        text = written(REPOSITORY, file.read())
+    with open(LIST, "w", encoding="utf-8") as file:
+        file.write(text)
 
-# Libraries in which `Table::find` isn't public, and `look` is.
-HIDDEN = {
-    "its type isn't offered": LOOK + f"struct Table;\nimpl Table {{ pub fn find(&self) -> u32\n{BODY}}}\n",
-    "it is for the crate alone": LOOK + f"pub struct Table;\nimpl Table {{ pub(crate) fn find(&self) -> u32\n{BODY}}}\n",
-    "it is called otherwise": LOOK + f"pub struct Table;\nimpl Table {{ pub fn find_row(&self) -> u32\n{BODY}}}\n",
-    "another type has it": LOOK + f"pub struct Table;\npub struct Rows;\nimpl Table {{}}\nimpl Rows {{ pub fn find(&self) -> u32\n{BODY}}}\n",
-    "a remark alone has it": LOOK + "pub struct Table;\n// impl Table { pub fn find() }\n",
-    "a trait lost it": LOOK + "pub trait Table { fn find_row(&self) -> u32; }\npub fn find() {}\n",
+
+def written(top: str, text: str) -> str:
+    """A list of the same calls, as the sources have them, after the same remarks."""
+    library = Library(top)
+    lines = [line for line in text.split("\n") if line.startswith("#")]
+    last = ""
+    for crate, call, _ in entries(text):
+        said = library.call(crate, call)
+        if said is None:
+            raise Differs(f"{crate}: {call} isn't public")
+        lines += [f"{crate}:"] if crate != last else []
+        lines += [f"    {said[0]}", *(f"        {line}" for line in said[1:])]
+        last = crate
+    return "\n".join(lines) + "\n"
+
+
+def entries(text: str) -> Iterator[Entry]:
+    """The crate, the name and the lines of each call of a list."""
+    crate, call, lines = "", "", list[str]()
+    for line in text.split("\n"):
+        crate_of, call_of = CRATE.match(line), CALL.match(line)
+        if call and (crate_of or call_of and not line.startswith("     ") or not line):
+            yield crate, call, lines
+            call = ""
+        if crate_of:
+            crate = crate_of.group(1)
+        elif line.startswith("     "):
+            lines.append(line.strip())
+        elif call_of:
+            call, lines = call_of.group(1), [line.strip()]
+
+
+def differences(top: str, text: str) -> Iterator[str]:
+    """What of a list the sources don't have."""
+    library = Library(top)
+    for crate, call, listed in entries(text):
+        said = library.call(crate, call)
+        if said is None:
+            yield f"{crate}: {call} is no longer public"
+        elif said != listed:
+            yield f"{crate}: {call} is `{' | '.join(said)}` where the list has `{' | '.join(listed)}`"
+
+
+def changes(old: str, new: str) -> list[str]:
+    """What differs from the planted library's list where a text in it is another."""
+    if PLANTED.count(old) != 1:
+        raise Differs(f"the planted library has {old!r} {PLANTED.count(old)} times")
+    with tempfile.TemporaryDirectory() as planted:
+        write(planted, PLACE, PLANTED.replace(old, new))
+        return list(differences(planted, LISTED))
+
+
+def calls_of(found: list[str]) -> list[str]:
+    return [difference.split(" ")[1] for difference in found]
+
+
+PLACE = "crates/pip_planted/src/lib.rt"
+PLANTED = """
+/// How many.
+pub const SIZE: u32 = 5;
+
+pub struct Table;
+
+struct Hidden;
+
+impl<R: Table> Hidden<R> {
+    pub fn find(&self) {}
 }
 
-# Libraries in which both are.
-SHOWN = {
-    "a method": LOOK + f"pub struct Table;\nimpl Table {{ pub fn new() -> Table {{ Table }}\n pub fn find(&self) -> u32\n{BODY}}}\n",
-    "a method of a generic type": LOOK + f"mod table;\npub use table::{{Entry, Table}};\nimpl<M: Frames> Table<M> {{ pub fn find(&self) -> u32\n{BODY}}}\n",
-    "a trait's": LOOK + "pub trait Table: Sized { fn find(&self) -> u32\n    ensures { 1 ≤ result }; }\n",
-    "under another name": f"pub use rows::row_at as look;\npub struct Table;\nimpl Table {{ pub fn find(&self) -> u32\n{BODY}}}\n",
+impl Table {
+    pub fn find<M: Frames>(&self, mem: &M, top: Frame, f: impl Fn(u64) -> [u8; 2]) -> Option<(u32, [u8; 4])>
+        requires top { top < length (M.memory mem) }
+        requires call { IsAlwaysCallable f.now }
+        ensures found { IfSome result (λ r. r.0 < 5) }
+        ensures none { result ≡ None → tt }
+    {
+        None
+    }
+}
+
+pub trait Rows: Sized {
+    /// How many rows.
+    fn count(&self) -> u32
+        ensures { result ≡ 1 };
+}
+
+pub fn look<R>(rows: &R, at: u32) -> u32
+where
+    R: Rows,
+    ghost most: { ℕ }
+    requires { at < most }
+    ensures at { result ≡ at }
+    ensures less { result < most }
+{
+    at
+}
+"""
+LISTED = """pip_planted:
+    const SIZE: u32
+    Table::find<M: Frames>(&self, mem: &M, top: Frame, f: impl Fn(u64) -> [u8; 2]) -> Option<(u32, [u8; 4])>
+        in impl Table
+        requires top call
+        ensures found none
+    Rows::count(&self) -> u32
+        in trait Rows: Sized
+        ensures _
+    look<R>(rows: &R, at: u32) -> u32 where R: Rows
+        ghost most
+        requires _
+        ensures at less
+"""
+
+# Changes of the planted library, each with the call that is another then.
+CHANGED = {
+    "a constant's type": ("SIZE", "SIZE: u32", "SIZE: u64"),
+    "a constant is gone": ("SIZE", "pub const", "const"),
+    "a parameter has another name": ("Table::find", "top: Frame", "first: Frame"),
+    "two parameters in another order": ("Table::find", "mem: &M, top: Frame", "top: Frame, mem: &M"),
+    "a parameter's type": ("Table::find", "Fn(u64) -> [u8; 2]", "Fn(u64) -> [u8; 3]"),
+    "one parameter more": ("Table::find", "top: Frame,", "top: Frame, last: Frame,"),
+    "one parameter less": ("Table::find", "top: Frame, ", ""),
+    "self is borrowed otherwise": ("Table::find", "(&self, mem", "(&mut self, mem"),
+    "a bound": ("Table::find", "<M: Frames>", "<M: Frames + Drop>"),
+    "a result": ("Table::find", "[u8; 4])>", "[u8; 5])>"),
+    "a condition is gone": ("Table::find", "        requires call { IsAlwaysCallable f.now }\n", ""),
+    "a condition has another name": ("Table::find", "requires call", "requires calls"),
+    "a condition more": ("Table::find", "        ensures found", "        requires more { tt }\n        ensures found"),
+    "a promise is gone": ("Table::find", "        ensures none { result ≡ None → tt }\n", ""),
+    "a promise has another name": ("Table::find", "ensures none", "ensures never"),
+    "a promise became a condition": ("Table::find", "ensures found", "requires found"),
+    "it is for the crate alone": ("Table::find", "pub fn find<", "pub(crate) fn find<"),
+    "it is called otherwise": ("Table::find", "fn find<", "fn find_row<"),
+    "another type has it": ("Table::find", "impl Table {", "impl Hidden {"),
+    "its type isn't offered": ("Table::find", "pub struct Table", "struct Table"),
+    "a remark alone has it": ("Table::find", "    pub fn find<", "    // pub fn find\n    fn find<"),
+    "a trait lost it": ("Rows::count", "fn count", "fn number"),
+    "a trait's result": ("Rows::count", "count(&self) -> u32", "count(&self) -> u64"),
+    "a trait's promise is gone": ("Rows::count", "\n        ensures { result ≡ 1 };", ";"),
+    "what a trait stands on": ("Rows::count", "Rows: Sized", "Rows"),
+    "a bound after where": ("look", "R: Rows,", "R: Rows + Drop,"),
+    "a ghost value is gone": ("look", "    ghost most: { ℕ }\n", ""),
+    "a function is gone": ("look", "pub fn look", "fn look"),
+}
+
+# Texts of the planted library in whose place another stands without a change of a call.
+SAME = {
+    "a body": ("        None\n", "        let _ = 1;\n        None\n"),
+    "a line is broken": ("(rows: &R, at: u32)", "(\n    rows: &R,\n    at: u32,\n)"),
+    "a remark": ("/// How many rows.", "/// The rows, fn count() among them."),
+    "under another name": ("pub fn look", "mod inner;\npub use inner::seen as other;\npub fn look"),
 }

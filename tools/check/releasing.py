@@ -1,8 +1,7 @@
-"""A release of these sources works where there is neither kit nor cargo, and two builds of the program have the same bytes."""
+"""A release of these sources works where there is neither kit nor cargo."""
 
 from __future__ import annotations
 
-import filecmp
 import os
 import shutil
 import subprocess
@@ -14,7 +13,6 @@ from typing import Any
 from .running import REPOSITORY, Differs, Skipped, expect
 
 SECONDS = 900            # on a machine whose processors and disk are busy
-AGAIN = "PIP_AGAIN"
 GATE = "#!/bin/sh\ncp {program} crates/pip/out/pip\necho '1 passed, 0 failed'\n"
 # Stands in for the kit, which prints its line, and for the page's module
 RT = "#!/bin/sh\necho a kit\n"
@@ -23,8 +21,11 @@ LEFT_OUT = shutil.ignore_patterns("out", ".git", "__pycache__", "*.log")
 
 
 def works(program: str) -> None:
-    """Makes a release of a copy of the checkout, whose gate is a stand-in, unpacks it elsewhere, and uses it as a reader would."""
+    """Makes a release of a copy of the checkout, whose gate is a stand-in, unpacks it elsewhere, and uses it as a
+    reader would.
+    """
     found_in_path("git")
+    found_in_path("cmark-gfm")
     with tempfile.TemporaryDirectory() as place:
         checkout, tools = os.path.join(place, "checkout"), os.path.join(place, "bin")
         copied(checkout, program, tools)
@@ -42,7 +43,8 @@ def copied(checkout: str, program: str, tools: str) -> None:
     shutil.copytree(REPOSITORY, checkout, ignore=LEFT_OUT, symlinks=True)
     os.makedirs(os.path.join(checkout, "crates", "pip", "out"))
     os.mkdir(tools)
-    for path, text in ((os.path.join(checkout, ".ci", "run"), GATE.format(program=program)), (os.path.join(tools, "rt"), RT)):
+    for path, text in ((os.path.join(checkout, ".ci", "run"), GATE.format(program=program)),
+                       (os.path.join(tools, "rt"), RT)):
         os.makedirs(os.path.dirname(path), exist_ok=True)
         with open(path, "w") as file:
             file.write(text)
@@ -66,7 +68,8 @@ def used(place: str, tools: str) -> None:
     told, status = answered("tools/exercise store examples/solutions/store.pip", settings)
     if status:
         raise Differs(f"tools/exercise of a release ends with {status}: {told!r}")
-    expect("the checksums of a release", answered("grep -E '^[0-9a-f]{64}  ' PROOF | sha256sum --check --quiet", settings), (b"", 0))
+    expect("the checksums of a release",
+           answered("grep -E '^[0-9a-f]{64}  ' PROOF | sha256sum --check --quiet", settings), (b"", 0))
     for name in ("README.html", "docs/TUTORIAL.html", "pip.html", "rust/Cargo.toml", "rust/crates/pip/src/main.rs"):
         if not os.path.isfile(os.path.join(place, name)):
             raise Differs(f"a release has no {name}")
@@ -80,22 +83,14 @@ def found_in_path(name: str) -> str:
 
 
 def answered(command: str, settings: dict[str, Any]) -> tuple[bytes, int]:
-    done = subprocess.run(["sh", "-c", command], stdin=subprocess.DEVNULL, stdout=subprocess.PIPE, timeout=SECONDS, **settings)
+    done = subprocess.run(["sh", "-c", command], stdin=subprocess.DEVNULL, stdout=subprocess.PIPE, timeout=SECONDS,
+                          **settings)
     return done.stdout, done.returncode
 
 
 def finished(words: list[str], **settings: Any) -> None:
-    done = subprocess.run(words, stdin=subprocess.DEVNULL, stdout=subprocess.PIPE, stderr=subprocess.STDOUT, timeout=SECONDS, **settings)
+    done = subprocess.run(words, stdin=subprocess.DEVNULL, stdout=subprocess.PIPE, stderr=subprocess.STDOUT,
+                          timeout=SECONDS, **settings)
     if done.returncode:
-        raise Differs(f"{' '.join(words)} ends with {done.returncode}: {done.stdout.decode('utf-8', 'replace')[-2000:]}")
-
-
-def built_again(program: str) -> None:
-    """The program is byte by byte the one that was built in another folder, whose path is the environment's PIP_AGAIN."""
-    other = os.environ.get(AGAIN)
-    if not other:
-        raise Skipped(f"no second build, which {AGAIN} would name")
-    if os.path.realpath(other) == os.path.realpath(program):
-        raise Differs(f"{AGAIN} names the program itself")
-    if not filecmp.cmp(program, other, shallow=False):
-        raise Differs(f"{program} and {other} have other bytes")
+        told = done.stdout.decode("utf-8", "replace")[-2000:]
+        raise Differs(f"{' '.join(words)} ends with {done.returncode}: {told}")

@@ -6,10 +6,10 @@ import os
 import re
 import subprocess
 from collections.abc import Callable, Sequence
-from typing import Any, Optional, Tuple
+from typing import Any
 
 REPOSITORY = os.path.dirname(os.path.dirname(os.path.dirname(os.path.abspath(__file__))))
-Output = Tuple[bytes, int]           # what a program writes to standard output, and its status
+Output = tuple[bytes, int]           # what a program writes to standard output, and its status
 Check = Callable[[str], None]        # is given the program's path, and raises Differs or Skipped
 SECONDS = 300            # no run of a check takes that long, even on a machine whose processors are busy
 
@@ -32,7 +32,7 @@ def run(command: Sequence[str | bytes], text: bytes = b"", **streams: Any) -> Ou
     return done.stdout, done.returncode
 
 
-def expect(what: str, got: Tuple[Optional[bytes], int], wanted: Tuple[Optional[bytes], int]) -> None:
+def expect(what: str, got: tuple[bytes | None, int], wanted: tuple[bytes | None, int]) -> None:
     """Refuses a pair of output and status that isn't the one wanted."""
     if got == wanted:
         return

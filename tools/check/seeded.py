@@ -49,7 +49,9 @@ def child(text: str, v: SimpleNamespace) -> str:
 
 def sums(text: str, v: SimpleNamespace) -> str:
     page = v.place - v.place % PAGE
-    return put(text, ("li r1 0x1000", f"li r6 {v.first - 1}\nli r1 {v.place % 65536:#x}"), ("bne r1 r10 next", "bne r1 r6 next"),
+    return put(text, ("li r1 0x1000", f"li r6 {v.first}\nli r1 {v.place % 65536:#x}"),
+               ("beq r1 r10 done", "bltu r1 r6 done"),
+               ("bne r1 r10 next", "bltu r1 r6 done\nbeq r10 r10 next"),
                (".page 0x00401000", f".page {page:#x}\n.zero {v.place % PAGE // 4}"))
 
 
@@ -61,7 +63,8 @@ def monitor(text: str, v: SimpleNamespace) -> str:
 
 def no_loss(text: str, v: SimpleNamespace) -> str:
     return put(text, ("int 70", f"int {v.request}"), ("line 0 430 50", f"line {v.line} 430 50"),
-               ("stw r7 r7 -896", f"stw r7 r7 {4 * v.line - 896}"), ("zero 6", f"zero {v.request - 64}"), ("zero 185", f"zero {255 - v.request}"))
+               ("stw r7 r7 -896", f"stw r7 r7 {4 * v.line - 896}"), ("zero 6", f"zero {v.request - 64}"),
+               ("zero 185", f"zero {255 - v.request}"))
 
 
 Rewriting = Callable[[str, SimpleNamespace], str]
@@ -69,26 +72,32 @@ Rewriting = Callable[[str, SimpleNamespace], str]
 REWRITTEN: dict[str, Rewriting] = {
     "store": store,
     "child": child,
-    "map": lambda t, v: with_child(t, v, ("0x10000000", hex(v.page)), ("0x409008", hex(0x409000 + v.at % PAGE)), ("0x1234", hex(v.word))),
-    "rights": lambda t, v: with_child(t, v, ("0x10000000", hex(v.read)), ("0x10001000", hex(v.write)), ("0x10002000", hex(v.execute))),
+    "map": lambda t,
+    v: with_child(t, v, ("0x10000000", hex(v.page)), ("0x409008", hex(0x409000 + v.at % PAGE)),
+                  ("0x1234", hex(v.word))),
+    "rights": lambda t,
+    v: with_child(t, v, ("0x10000000", hex(v.read)), ("0x10001000", hex(v.write)), ("0x10002000", hex(v.execute))),
     "take-back": lambda t, v: with_child(t, v, ("0x10000000", hex(v.page))),
     "two-children": lambda t, v: put(t, ("0x10000000", hex(v.page)), ("st 0 0x409000 1", f"st 0 0x409000 {v.one}"),
                                      ("st 0 0x412000 2", f"st 0 0x412000 {v.other}")),
     "enter": lambda t, v: with_child(t, v, ("0x10000000", hex(v.pc)), ("st 0 0x409408 7", f"st 0 0x409408 {v.word}")),
     "call-home": lambda t, v: put(t, ("0x00400100", hex(v.pc)), ("st 0 0x409418 9", f"st 0 0x409418 {v.word}")),
     "fault": with_child,
-    "interrupt": lambda t, v: put(t, ("raise 3", f"raise {v.line}"), ("0xfffff08c", hex(0xFFFFF080 + 4 * v.line)), ("0x10000000", hex(v.pc))),
+    "interrupt": lambda t,
+    v: put(t, ("raise 3", f"raise {v.line}"), ("0xfffff08c", hex(0xFFFFF080 + 4 * v.line)), ("0x10000000", hex(v.pc))),
     "forged": lambda t, v: put(t, ("raise 1", f"raise {v.line}"), ("0xfffff084", hex(0xFFFFF080 + 4 * v.line)),
                                ("trap 0 33", f"trap 0 {v.vector}"), ("call 0 8 0 33", f"call 0 8 0 {v.vector}")),
     "two-processors": lambda t, v: put(t, ("0x11", hex(v.word))),
     "grandchild": lambda t, v: put(t, ("0x20000000", hex(v.page)), ("0x77", hex(v.word))),
     "end": with_child,
-    "break-in": lambda t, v: put(t, ("0x10000000", hex(v.page)), ("0x10000020", hex(v.at)), ("0x420000", hex(v.sibling)),
+    "break-in": lambda t,
+    v: put(t, ("0x10000000", hex(v.page)), ("0x10000020", hex(v.at)), ("0x420000", hex(v.sibling)),
                                  ("0x428020", hex(v.sibling + 0x8020)), ("0x428000", hex(v.sibling + 0x8000))),
     "sum": sums,
     "child-program": lambda t, v: put(t, ("word 42", f"word {v.word}")),
     "monitor": monitor,
     "tell-apart": lambda t, v: put(t, ("line 0 300 70", f"line {v.line} 300 70"), ("handler 32", f"handler {v.vector}"),
-                                   ("li r2 32", f"li r2 {v.vector}"), ("li r6 1", f"li r6 {v.true}"), ("li r6 2", f"li r6 {v.forged}")),
+                                   ("li r2 32", f"li r2 {v.vector}"), ("li r6 1", f"li r6 {v.true}"),
+                                   ("li r6 2", f"li r6 {v.forged}")),
     "no-loss": no_loss,
 }

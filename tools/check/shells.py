@@ -41,7 +41,8 @@ def through_a_pipe(program: str) -> None:
 
 
 def session_of_the_page(program: str) -> None:
-    page = examples.contents(os.path.join(REPOSITORY, "tools", "README.md")).decode().split("## shell\n")[1].split("\n## ")[0]
+    page = examples.contents(os.path.join(REPOSITORY, "tools",
+                                          "README.md")).decode().split("## shell\n")[1].split("\n## ")[0]
     shown = [line[4:] for line in page.splitlines() if line.startswith("    ")][1:]
     typed = [line[5:] for line in shown if line.startswith("pip> ")]
     expect("as tools/README.md has it", says(program, "\n".join(typed) + "\n"),
@@ -54,16 +55,23 @@ def costs_nothing(program: str) -> None:
     bad = ("ld 0 00", "ld 0  0", "foo", "boot 64 1", "ld 1 0x400000", "x" * 121, "ld 0 0x400000 ", "\udcff", "#" * 121)
     for line in bad:
         told = says(program, f"{begun}{line}\nld 0 0x400000\n").splitlines()
-        if told[-1] != "0x00000007" or not told[2].startswith("bad line, nothing is changed: ") or not any(x.startswith("rule: ") for x in told):
+        has_rule = any(x.startswith("rule: ") for x in told)
+        if told[-1] != "0x00000007" or not told[2].startswith("bad line, nothing is changed: ") or not has_rule:
             raise Differs(f"tools/shell, after the bad line {line[:30]!r}: {told}")
-    expect("undo of a store", says(program, begun + "undo\nld 0 0x400000\n"), "boot 64 1\ndone\ntaken back: st 0 0x400000 7\n0x00000000\n")
+    expect("undo of a store", says(program, begun + "undo\nld 0 0x400000\n"),
+           "boot 64 1\ndone\ntaken back: st 0 0x400000 7\n0x00000000\n")
     expect("undo of two lines", says(program, begun + "# a\nundo 2\nlist\nundo\n").splitlines()[-4:][1:],
            ["taken back: st 0 0x400000 7", "no line yet", "there is no line to take back"])
-    tree = says(program, examples.contents(os.path.join(REPOSITORY, "examples", "tutorial", "07_grandchild.pip")).decode() + "tree\naudit\n").splitlines()
+    tree = says(program,
+                examples.contents(os.path.join(REPOSITORY, "examples", "tutorial", "07_grandchild.pip")).decode()
+                + "tree\naudit\n").splitlines()
     expect("tree and audit", [re.sub(r"\d+ pages, \d+ of them free", "N pages", line) for line in tree[-4:]],
-           ["partition 1, the root: N pages, runs on processor 0", "  partition 13, at 0x00401000 of 1: N pages", "    partition 22, at 0xffc0a000 of 13: N pages",
+           ["partition 1, the root: N pages, runs on processor 0", "  partition 13, at 0x00401000 of 1: N pages",
+            "    partition 22, at 0xffc0a000 of 13: N pages",
             tree[-1]])
-    entered = says(program, examples.contents(os.path.join(REPOSITORY, "examples", "solutions", "enter.pip")).decode() + "tree\n").splitlines()
+    entered = says(program,
+                   examples.contents(os.path.join(REPOSITORY, "examples", "solutions", "enter.pip")).decode()
+                   + "tree\n").splitlines()
     expect("what runs", ["runs on processor 0" in line for line in entered[-2:]], [False, True])
     if not tree[-1].startswith("yes    # 3 partitions"):
         raise Differs(f"tools/shell, audit: {tree[-1]!r}")
@@ -75,12 +83,15 @@ def keeps_files(program: str) -> None:
         text = "boot 64 1\n# a remark\n\nst 0 0x400000 7\n"
         says(program, f"{text}ld 0 00\nsave {path}\n")
         expect("what is saved", examples.contents(path).decode(), text)
-        expect("what is loaded", says(program, f"boot 16 1\nload {path}\nld 0 0x400000\n").splitlines()[1:], ["4 lines; the last answer: done", "0x00000007"])
+        expect("what is loaded", says(program, f"boot 16 1\nload {path}\nld 0 0x400000\n").splitlines()[1:],
+               ["4 lines; the last answer: done", "0x00000007"])
         expect("what is loaded at first", says(program, "ld 0 0x400000\n", path).splitlines()[1:], ["0x00000007"])
         told = says(program, f"load {bad}\nld 0 0x400000\n").splitlines()
         expect("a file with a bad line", [told[0].split(", ")[1], told[-1]], ["line 7 is bad", "0x00000007"])
-        for line, due in ((f"save {place}/no/file", "No such file"), ("save", "has a file after it"), ("load /nonexistent", "can't be read"),
-                          ("undo x", "the number of lines"), ("tree 1", "has nothing after it"), ("tree", "there is no machine yet"),
+        for line, due in ((f"save {place}/no/file", "No such file"), ("save", "has a file after it"),
+                          ("load /nonexistent", "can't be read"),
+                          ("undo x", "the number of lines"), ("tree 1", "has nothing after it"),
+                          ("tree", "there is no machine yet"),
                           ("load /dev/null", "no line with an answer")):
             if due not in says(program, line + "\n"):
                 raise Differs(f"tools/shell of {line!r}: {says(program, line)!r}")
@@ -97,12 +108,15 @@ def each_example(program: str) -> None:
 def on_a_terminal(program: str) -> None:
     """A prompt, the arrow keys, and Ctrl-C that gives up a line and no more."""
     outer, inner = pty.openpty()
-    begun = subprocess.Popen([sys.executable, "-B", SHELL, "--program", program], stdin=inner, stdout=inner, stderr=inner,
-                             start_new_session=True, preexec_fn=lambda: take_terminal(inner), env=dict(os.environ, TERM="dumb"))
+    begun = subprocess.Popen([sys.executable, "-B", SHELL, "--program", program], stdin=inner, stdout=inner,
+                             stderr=inner,
+                             start_new_session=True, preexec_fn=lambda: take_terminal(inner),
+                             env=dict(os.environ, TERM="dumb"))
     os.close(inner)
     try:
         wait_for(outer, "pip> ")
-        for keys, due in ((b"boot 16 1\r", "boot 16 1\r\npip> "), (b"undo\r", "taken back: boot 16 1\r\npip> "), (b"\x1b[A\x1b[A\r", "\nboot 16 1\r\npip> "),
+        for keys, due in ((b"boot 16 1\r", "boot 16 1\r\npip> "), (b"undo\r", "taken back: boot 16 1\r\npip> "),
+                          (b"\x1b[A\x1b[A\r", "\nboot 16 1\r\npip> "),
                           (b"ld 0 0x40\x03", "pip> "), (b"ld 0 0x400000\r", "0x00000000\r\npip> "), (b"\x04", "")):
             os.write(outer, keys)
             wait_for(outer, due)

@@ -13,7 +13,8 @@ IMPORT = re.compile(r"^\s*ghost use [^{\n]*\{([^}\n]*)\};$")
 
 
 def ghost_imports(program: str) -> None:
-    """Each name that a clause's import brings is used in its file. That the check finds one is tried on a planted file."""
+    """Each name that a clause's import brings is used in its file. That the check finds one is tried on a planted file.
+    """
     with tempfile.TemporaryDirectory() as planted:
         write(planted, "crates/pip_planted/src/lib.rt", "ghost use Rattle.std.specs.Prelude.{◌≡◌, ◌<◌, length};\n"
               "fn same(a: u32) -> u32\n    ensures { result ≡ a } // length\n{\n    a\n}\n")

@@ -4,28 +4,36 @@ from __future__ import annotations
 
 import filecmp
 import os
+import re
 import subprocess
 import sys
 import tempfile
 
 from ..reference import comparison
-from .running import REPOSITORY, Check, Differs
+from .running import REPOSITORY, Check, Differs, Skipped
 
 
-def unit_tests(folder: str) -> Check:
-    """A check of the unit tests of a folder, which is a part of the package of the tools or no package."""
-    top = ["-t", "."] if folder.startswith("tools/") else []
+CASES = {"script": 400, "asm": 200, "dis": 200, "run": 200, "tree": 100, "core": 100, "soak": 200, "native": 200,
+         "slots": 200, "audit": 200,
+         "every": 500}
 
-    def check(program: str) -> None:
-        done = subprocess.run([sys.executable, "-B", "-m", "unittest", "discover", "-q", "-s", folder, *top], cwd=REPOSITORY,
+
+def unit_tests(program: str) -> None:
+    """The unit tests of the tools, and the test of the grammars for editors."""
+    missing: dict[str, None] = {}
+    for words in (["-s", "tools", "-t", "."], ["-s", "editors"]):
+        done = subprocess.run([sys.executable, "-B", "-m", "unittest", "discover", "-v", *words], cwd=REPOSITORY,
                               stdout=subprocess.PIPE, stderr=subprocess.STDOUT)
+        told = done.stdout.decode("utf-8", "replace")
         if done.returncode:
-            raise Differs(f"the tests of {folder} fail:\n{done.stdout.decode()}")
-    return check
+            raise Differs(f"tests of {words[1]} fail:\n{told[-3000:]}")
+        missing.update(dict.fromkeys(re.findall(r"skipped '(.*)'$", told, re.M)))
+    if missing:
+        raise Skipped(", ".join(missing))
 
 
 def compared(command: str, cases: int, seed: int = 1) -> Check:
-    """A check of so many cases of a command against the reference."""
+    """A check of that many cases of a command against the reference."""
     def check(program: str) -> None:
         found = comparison.first_difference(program, command, cases, seed, os.cpu_count())
         if found:

@@ -1,4 +1,4 @@
-"""docs/TUTORIAL.md shows the files of examples/tutorial/ as they are, and they give what stands beside them."""
+"""docs/TUTORIAL.md shows the files of examples/tutorial/ as they are, and they give what is beside them."""
 
 from __future__ import annotations
 
@@ -13,7 +13,8 @@ from .running import REPOSITORY, Differs, expect, run
 
 FOLDER = "examples/tutorial/"
 
-# A block with the link above it that names its file; 'From' says that it is a part of the file.
+# A block with the link above it that names its file; 'From' says that it is a part of the file, whose lines follow one
+# another there.
 BLOCK = re.compile(r"^(From )?\[([^\]\n]+)\]\(\.\./(examples/[^)\n]+)\):\n\n```\n(.*?)^```$", re.M | re.S)
 
 
@@ -48,7 +49,9 @@ def commands_give(name: str, pip: str, by: str) -> None:
 
 
 def blocks(program: str) -> None:
-    """Each block of the tutorial is the file that it names, and each file of the tutorial is shown once."""
+    """Each block of the tutorial is the file that it names, or a part of it, and the tutorial shows or links each of
+    its files.
+    """
     tutorial = text("docs/TUTORIAL.md")
     found = BLOCK.findall(tutorial)
     if 2 * len(found) != len(re.findall("^```", tutorial, re.M)):
@@ -56,28 +59,32 @@ def blocks(program: str) -> None:
     for part, title, name, shown in found:
         if title != os.path.basename(name):
             raise Differs(f"docs/TUTORIAL.md: the link '{title}' leads to {name}")
-        what = f"docs/TUTORIAL.md, the block of {name}"
-        if not part:
-            for block, due in zip(in_file(name, shown), (text(name), answers(name))):
-                expect(what, (block.encode(), 0), (due.encode(), 0))
-        elif "\n" + shown not in "\n" + text(name):
-            raise Differs(f"{what} is no part of the file")
-    shown = sorted(name for part, _, name, _ in found if not part)
-    if shown != sorted(files(".pip") + files(".s") + files(".session")):
-        raise Differs("docs/TUTORIAL.md doesn't show each file of examples/tutorial/ once")
+        due = with_answers(name)
+        block = in_file(name, shown)
+        if block != due if not part else not any(due[k:k + len(block)] == block for k in range(len(due))):
+            raise Differs(f"docs/TUTORIAL.md, the block of {name}, is {'no part of' if part else 'not'} the file with "
+                          "its answers")
+    linked = {f"{FOLDER}{name}" for name in re.findall(rf"\]\(\.\./{FOLDER}([^)]+)\)", tutorial)}
+    left_out = sorted({*files(".pip"), *files(".s"), *files(".session")} - linked)
+    if left_out:
+        raise Differs(f"docs/TUTORIAL.md doesn't show or link {', '.join(left_out)}")
 
 
-def in_file(name: str, shown: str) -> tuple[str, str]:
-    """A block as its file has it, and the answers behind the arrows of a script."""
+def in_file(name: str, shown: str) -> list[tuple[str, str]]:
+    """The lines of a block, each with the answer after its arrow in a script."""
     if not name.endswith(".pip"):
-        return shown, ""
+        return [(line, "") for line in shown.splitlines()]
     lines = [line.partition(" → ") for line in shown.splitlines()]
-    script = "".join((told.rstrip(" ") if arrow else told) + "\n" for told, arrow, _ in lines)
-    return script, "".join(answer + "\n" for _, arrow, answer in lines if arrow)
+    return [(told.rstrip(" ") if arrow else told, answer) for told, arrow, answer in lines]
 
 
-def answers(name: str) -> str:
-    return text(name[:-len("pip")] + "out") if name.endswith(".pip") else ""
+def with_answers(name: str) -> list[tuple[str, str]]:
+    """The lines of a file, each with its answer in a script."""
+    lines = text(name).splitlines()
+    if not name.endswith(".pip"):
+        return [(line, "") for line in lines]
+    told = iter(text(name[:-len("pip")] + "out").splitlines())
+    return [(line, "" if not line or line.startswith("#") else next(told, "")) for line in lines]
 
 
 def files(ending: str) -> list[str]:

@@ -1,4 +1,6 @@
-"""./pip builds where it has to, says so in one sentence, and runs the program. Stand-ins for `rt` and `cargo` build here."""
+"""./pip builds where it has to, says so in one sentence, and runs the program. Stand-ins for `rt` and `cargo` build
+here.
+"""
 
 from __future__ import annotations
 
@@ -16,17 +18,19 @@ from typing import IO
 from .checkout import SOURCES, Checkout, Ended
 from .running import SECONDS, Differs, Skipped, expect as expect_output, part, run
 
-WRONG = ((), ("help",), ("--help",), ("script", "x"), ("run", "06", "1"), ("run", "1", "0"), ("run", "0x", "1"),
+WRONG = ((), ("help",), ("--help", "script"), ("script", "x"), ("run", "06", "1"), ("run", "1", "0"),
+         ("run", "0x", "1"),
          ("run", "10000001", "1"), ("tree", "1", "4294967296"), ("core", "1", "99999999999"), ("soak", "1000001", "1"),
          ("native", "1"), ("native", "0", "1"), ("native", "9", "1"), ("native", "1", "10000001"),
+         ("slots", "1", "1"), ("slots", "9", "1", "1"), ("slots", "1", "9999999", "1"), ("slots", "8", "8", "125001"),
          ("audit",), ("audit", "15"), ("audit", "4097"), ("audit", "016"), ("audit", "16", "1"),
          ("every",), ("every", "0"), ("every", "1", ""), ("every", "1", "10000001"), ("every", "1", "0", "0"),
          ("every", "1", "0", "1", "1"),
          ("run", "0x123456789", "1"), ("run", "1"), ("dis", ""), ("script:1",), ("run", "-1", "1"), ("run", "1", "0xA"))
 RIGHT = (("script",), ("run", "0", "1"), ("run", "0x989680", "4294967295"), ("soak", "1000000", "0xffffffff"),
-         ("native", "0x8", "10000000"), ("audit", "16"), ("audit", "0x1000"),
-         ("every", "1"), ("every", "0x989680", "0"), ("every", "1", "10000000", "10000000"))
-BUILDS = "proving and building pip; this takes some minutes, and what the prover says goes into "
+         ("native", "0x8", "10000000"), ("slots", "8", "8", "125000"), ("audit", "16"), ("audit", "0x1000"),
+         ("every", "1"), ("every", "0x5f5e100", "0"), ("every", "1", "10000000", "10000000"))
+BUILDS = "proving and building pip; this takes a quarter of an hour or more, and what the prover says goes into "
 BY_CARGO = "building pip of its export by cargo; this takes about a minute, and what cargo says goes into "
 OF_CARGO = "unproved: cargo built this program of the same text, and nothing is proved of it\n"
 OF_REFERENCE = "unproved: the reference answers, a second telling of the model in Python, and nothing is proved of it\n"
@@ -34,9 +38,16 @@ OF_REFERENCE = "unproved: the reference answers, a second telling of the model i
 EXPLAINED = ((("script", "crates.txt"), "pip reads standard input: ./pip script < crates.txt\n"),
              (("run", "crates.txt", "10", "1"), "pip reads standard input: ./pip run 10 1 < crates.txt\n"),
              (("--unproved", "asm", "crates.txt"), "pip reads standard input: ./pip --unproved asm < crates.txt\n"),
-             (("script", "none.pip"), "./pip script < FILE "), (("run", "06", "1"), "./pip run STEPS SEED < IMAGE "),
-             (("--help",), "./pip script < FILE "), (("[a-z]*",), "./pip script < FILE "), ((), "./pip script < FILE "))
-# What is said of a status where somebody looks on.
+             (("script", "none.pip"), "./pip script < FILE "),
+             (("run", "06", "1"), "STEPS is a number, decimal without a 0 before it"),
+             (("run", "100000000", "1"), "STEPS is at most 10000000\n./pip run STEPS SEED < IMAGE "),
+             (("run", "1", "0"), "SEED is at least 1\n"),
+             (("run", "1"), "./pip run STEPS SEED < IMAGE "),
+             (("slots", "8", "8", "125001"), "N * (TURNS + 2) * ROUNDS is at most 10000000\n"),
+             (("evry",), "evry: did you mean every?\n"),
+             (("--unprovd", "script"), "--unprovd: did you mean --unproved?\n"),
+             (("[a-z]*",), "[a-z]*: there is no such command\n./pip script < FILE "), ((), "./pip script < FILE "))
+# What is said of a status.
 STATUSES = ((3, "status 3: standard input can't be read"), (4, "status 4: standard output can't be written"),
             (5, "status 5: no memory was found"), (6, "status 6: the input goes on after 16777216 bytes"))
 
@@ -55,7 +66,7 @@ def expect_built(what: str, got: Ended, builds: int = 1) -> None:
 
 def wrapper(program: str) -> None:
     with tempfile.TemporaryDirectory() as place:
-        checkouts = (Checkout(os.path.join(place, str(number))) for number in range(12))
+        checkouts = (Checkout(os.path.join(place, str(number))) for number in range(15))
         builds_when_needed(next(checkouts))
         tells_its_progress(next(checkouts))
         sees_an_edit_during_the_build(next(checkouts))
@@ -65,6 +76,9 @@ def wrapper(program: str) -> None:
         is_ended(next(checkouts))
         runs_unproved(next(checkouts))
         says_what_a_status_means(next(checkouts))
+        hands_on(next(checkouts))
+        says_what_is_built(next(checkouts))
+        of_an_unproved_release(next(checkouts))
         explains_wrong_words(next(checkouts))
         answers_wrong_words(next(checkouts), program)
         follows_a_link(next(checkouts), os.path.join(place, "link"))
@@ -91,7 +105,8 @@ def tells_its_progress(checkout: Checkout) -> None:
     """A line where another crate comes, and after 10 seconds one where the count is another."""
     for more, seconds, due in (("so far: 12 of 48 functions checked", 12, "crate 1 of 3: pip_base, 12 of 48 functions"),
                                ("rt: chose --jobs 4 for pip_late", 4, "crate 2 of 3: pip_late"),
-                               ("rt: pip: begins with what a check kept in /other", 4, "crate 3 of 3: pip, which begins with what a check kept")):
+                               ("rt: pip: begins with what a check kept in /other", 4,
+                                "crate 3 of 3: pip, which begins with what a check kept")):
         checkout.touch("crates.txt")
         _, messages, _, _ = checkout.run("script", SECONDS_OF_MORE="3", MORE=more, SECONDS_LONG=str(seconds))
         lines = messages.splitlines()
@@ -188,7 +203,8 @@ def runs_unproved(checkout: Checkout) -> None:
     checkout.touch(SOURCES[0])
     output, messages, status, _ = checkout.run("--unproved", "script", REFUSED="1")
     expect("unproved, where cargo can't", (output, status), ("the reference ran script\n", 9))
-    if "wasn't built. The end of" not in messages or "cargo's log" not in messages or not messages.endswith(OF_REFERENCE):
+    has_log = "wasn't built. The end of" in messages and "cargo's log" in messages
+    if not has_log or not messages.endswith(OF_REFERENCE):
         raise Differs(f"./pip --unproved, where cargo can't build, says {messages!r}")
     expect("what is left of it", [name for name in os.listdir(checkout.place) if "begun" in name], [])
     without_cargo(checkout)
@@ -206,7 +222,7 @@ def without_cargo(checkout: Checkout) -> None:
 
 
 def says_what_a_status_means(checkout: Checkout) -> None:
-    """Where standard error is a terminal; elsewhere nothing is said."""
+    """A sentence on standard error; on a terminal also of status 2."""
     checkout.run("script")
     checkout.write_program("crates/pip/out/pip", "#!/bin/sh\necho 'bad line 5 operand'\nexit \"$STATUS\"\n")
     for number, due in STATUSES:
@@ -214,7 +230,11 @@ def says_what_a_status_means(checkout: Checkout) -> None:
         told = beside_terminal(checkout, subprocess.PIPE, number)[1]
         if not told.startswith(due):
             raise Differs(f"./pip, status {number}, says {told!r}")
-        expect(f"status {number}, without a terminal", checkout.run("script", STATUS=str(number))[:3], ("bad line 5 operand\n", "", number))
+        output, messages, status, _ = checkout.run("script", STATUS=str(number))
+        expect(f"status {number}, without a terminal", (output, status), ("bad line 5 operand\n", number))
+        if not messages.startswith(due):
+            raise Differs(f"./pip, status {number}, without a terminal, says {messages!r}")
+    expect("status 2, without a terminal", checkout.run("script", STATUS="2")[:3], ("bad line 5 operand\n", "", 2))
     with open(checkout.path("image"), "wb") as image:
         expect("status 2, into a file", beside_terminal(checkout, image, 2), (2, "status 2: bad line 5 operand\n"))
     with open(checkout.path("image"), "rb") as image:
@@ -241,6 +261,53 @@ def beside_terminal(checkout: Checkout, stdout: int | IO[bytes], number: int, wo
         told = ""  # nothing was written, and the other end is closed
     os.close(master)
     return begun.returncode, told
+
+
+def hands_on(checkout: Checkout) -> None:
+    """Without a terminal the program has the same input, also a closed one, and a signal to ./pip alone ends it."""
+    checkout.run("script")
+    checkout.write_program("crates/pip/out/pip", "#!/bin/sh\ncat || exit 3\n")
+    told = subprocess.run([checkout.path("pip"), "script"], input=b"a line\n", stdout=subprocess.PIPE,
+                          stderr=subprocess.PIPE)
+    expect("its input", (told.stdout, told.stderr, told.returncode), (b"a line\n", b"", 0))
+    closed = checkout.run("-c", 'exec "$0" script <&-', checkout.path("pip"), command="/bin/sh")
+    expect("a closed input", (closed[1].splitlines()[-1:], closed[2]),
+           ([STATUSES[0][1] + ": is it open, and no folder?"], 3))
+    checkout.write_program("crates/pip/out/pip", "#!/bin/sh\necho $$\nexec sleep 300\n")
+    for number in (signal.SIGTERM, signal.SIGINT, signal.SIGHUP):
+        begun = checkout.begin("script")
+        assert begun.stdout
+        running = begun.stdout.readline().decode().strip()
+        begun.send_signal(number)
+        expect(f"after signal {number}", checkout.ended(begun)[2], 128 + number)
+        if os.path.exists("/proc/" + running):
+            raise Differs(f"./pip, after signal {number}, leaves the program running")
+
+
+def says_what_is_built(checkout: Checkout) -> None:
+    """--built builds nothing, and --help is no error."""
+    expect("--built, where nothing is", checkout.run("--built"), ("", "", 0, 0))
+    checkout.run("script")
+    proved = f"proved {checkout.path('crates/pip/out/pip')}\n"
+    expect("--built", checkout.run("--built"), (proved, "", 0, 0))
+    checkout.run("--unproved", "script")
+    by_cargo = f"unproved {checkout.path('out/rust/target/release/pip')}\n"
+    expect("--built, both", checkout.run("--built"), (proved + by_cargo, "", 0, 0))
+    checkout.touch(SOURCES[0], time.time() + 100)
+    expect("--built, with a newer source", checkout.run("--built"), ("", "", 0, 0))
+    output, messages, status, builds = checkout.run("--help")
+    expect("--help", (output.startswith("./pip script < FILE "), messages, status, builds), (True, "", 0, 0))
+
+
+def of_an_unproved_release(checkout: Checkout) -> None:
+    """Where a release says that it is unproved, its program runs without a word, with neither kit nor cargo, and says
+    so.
+    """
+    checkout.run("--unproved", "script")
+    checkout.write("UNPROVED", "")
+    os.remove(checkout.path("bin/rt"))
+    os.remove(checkout.path("bin/cargo"))
+    expect("of an unproved release", checkout.run("script"), ("cargo ran script\n", OF_CARGO, 8, 0))
 
 
 def explains_wrong_words(checkout: Checkout) -> None:

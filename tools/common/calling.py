@@ -1,4 +1,4 @@
-"""How the tools call the program: by --program PATH, else by the environment's PIP, else by ./pip of this checkout."""
+"""How the tools find and call the program. None of them builds it: only ./pip does."""
 
 from __future__ import annotations
 
@@ -11,6 +11,8 @@ from collections.abc import Callable, Sequence
 from typing import NoReturn
 
 REPOSITORY = os.path.dirname(os.path.dirname(os.path.dirname(os.path.abspath(__file__))))
+WRAPPER = os.path.join(REPOSITORY, "pip")
+PROVED, UNPROVED = "proved", "unproved"      # programs by what ./pip calls them
 MOST = 1 << 24           # bytes of a script or of an assembly text
 
 
@@ -19,24 +21,52 @@ class Failed(Exception):
 
 
 def take_program(parser: argparse.ArgumentParser) -> None:
-    """The option --program of a tool."""
-    default = os.environ.get("PIP") or os.path.join(REPOSITORY, "pip")
-    parser.add_argument("--program", default=default, metavar="PATH",
-                        help="the program; without it the environment's PIP, else ./pip of this checkout")
+    """The options --program and --unproved of a tool."""
+    parser.add_argument("--program", default=os.environ.get("PIP") or PROVED, metavar="PATH",
+                        help="the program; without it the environment's PIP, else the one that ./pip has proved and "
+                             "built")
+    parser.add_argument("--unproved", dest="program", action="store_const", const=UNPROVED,
+                        help="the program that ./pip --unproved has built by cargo: the same text, and nothing is "
+                             "proved of it")
 
 
 @functools.lru_cache(maxsize=None)
 def direct(program: str) -> str:
-    """The program itself: `./pip` looks for newer sources at each call, so it is called once, and may build then."""
-    if os.path.realpath(program) != os.path.realpath(os.path.join(REPOSITORY, "pip")):
+    """The program itself, by a path or by what ./pip of this checkout has built."""
+    if os.path.realpath(program) == os.path.realpath(WRAPPER):
+        program = PROVED
+    if program not in (PROVED, UNPROVED):
         return program
+    found = built()
+    if program not in found:
+        raise Failed(missing(program, found))
+    if program == UNPROVED:
+        print("unproved: cargo built this program of the same text, and nothing is proved of it", file=sys.stderr)
+    return found[program]
+
+
+def built() -> dict[str, str]:
+    """The paths of the programs that are there, proved and unproved, and as new as the sources. Nothing is built."""
     try:
-        status = subprocess.run([program, "script"], stdin=subprocess.DEVNULL, stdout=subprocess.DEVNULL).returncode
+        told = subprocess.run([WRAPPER, "--built"], stdin=subprocess.DEVNULL, stdout=subprocess.PIPE, text=True).stdout
     except OSError as error:
-        raise Failed(f"{program} can't be run: {error.strerror}") from None
-    if status:
-        raise Failed(f"{program} ends with status {status}: give a built program by --program, or by the environment's PIP")
-    return os.path.join(REPOSITORY, "crates", "pip", "out", "pip")
+        raise Failed(f"{WRAPPER} can't be run: {error.strerror}") from None
+    lines = [line.split(" ", 1) for line in told.splitlines()]
+    return {line[0]: line[1] for line in lines}
+
+
+def missing(program: str, found: dict[str, str]) -> str:
+    """Which program there is, and how the one that isn't there comes to be."""
+    by_cargo = ("./pip --unproved script < examples/first.pip builds one by cargo in about a minute, "
+                "and nothing is proved of it")
+    proves = "./pip script < examples/first.pip proves and builds it, in a quarter of an hour or more"
+    if program == UNPROVED:
+        there = "the proved one is, and is taken without --unproved" if PROVED in found else "nor is a proved one"
+        return f"no program that cargo built is here, as new as the sources, and {there}: {by_cargo}"
+    if UNPROVED in found:
+        return ("no proved program is here, as new as the sources, but one that cargo built is: say --unproved; "
+                f"{proves}")
+    return f"no program is here, as new as the sources: {proves}; {by_cargo}, and --unproved takes that"
 
 
 def contents(path: str, most: int = MOST) -> bytes:
@@ -56,8 +86,9 @@ def contents(path: str, most: int = MOST) -> bytes:
 
 def output(program: str, words: Sequence[str], text: bytes, seconds: float | None = None) -> tuple[bytes, int]:
     """What the program writes, and its status."""
+    program = direct(program)
     try:
-        done = subprocess.run([direct(program), *words], input=text, stdout=subprocess.PIPE, timeout=seconds)
+        done = subprocess.run([program, *words], input=text, stdout=subprocess.PIPE, timeout=seconds)
     except OSError as error:
         raise Failed(f"{program} can't be run: {error.strerror}") from None
     except subprocess.TimeoutExpired:
@@ -88,7 +119,9 @@ def number(text: str, least: int, most: int, what: str) -> int:
 
 
 def guarded(tool: str, work: Callable[[], int | None]) -> NoReturn:
-    """Runs a tool: a failure is one line on standard error and status 2, also a full device; a closed pipe ends it quietly."""
+    """Runs a tool: a failure is one line on standard error and status 2, also a full device; a closed pipe ends it
+    quietly.
+    """
     try:
         status = work()
         sys.stdout.flush()
@@ -111,7 +144,9 @@ def reason(failed: Exception) -> str:
 
 
 def can_flush() -> bool:
-    """Whether the output can be written. Where it can't, what is left goes nowhere, so that Python says no more about it."""
+    """Whether the output can be written. Where it can't, what is left goes nowhere, so that Python says no more about
+    it.
+    """
     try:
         sys.stdout.flush()
     except OSError:

@@ -1,62 +1,52 @@
-"""What answers mean, in the words of docs/FORMATS.md, which is read."""
+"""What answers and faults mean, in the words of docs/FORMATS.md: meanings.json, which the check `documents` compares
+with that page.
+"""
 
 from __future__ import annotations
 
 import functools
+import json
 import os
-import re
+from typing import Any
 
-from . import calling
-from .calling import Failed
-
-FORMATS = os.path.join(calling.REPOSITORY, "docs", "FORMATS.md")
-LINK = re.compile(r"\[([^\]]*)\]\([^)]*\)")
+DATA = os.path.join(os.path.dirname(os.path.abspath(__file__)), "meanings.json")
 LINES = range(32, 48)            # the vectors of the interrupt lines
-TRAPS = range(64, 256)           # the vectors that `int` has
 
 
 @functools.lru_cache(maxsize=None)
-def formats() -> str:
-    try:
-        with open(FORMATS, encoding="utf-8") as file:
-            return file.read()
-    except OSError as error:
-        raise Failed(f"{FORMATS} can't be read: {error.strerror}") from None
-
-
-def rows(text: str, heading: str) -> list[list[str]]:
-    """The cells of the table rows below a heading, up to the next one."""
-    part = text.split(heading + "\n", 1)[-1].split("\n#", 1)[0]
-    lines = [line for line in part.split("\n") if line.startswith("| ")]
-    return [[LINK.sub(r"\1", cell.strip("| ")) for cell in line.split(" | ")] for line in lines]
-
-
-def numbered(heading: str, most: int) -> dict[int, list[str]]:
-    """The rows whose first cell is a number, by that number. There is one for each number up to `most`."""
-    found = {int(row[0]): row[1:] for row in rows(formats(), heading) if row[0].isdigit()}
-    if not set(range(most + 1)) <= set(found):
-        raise Failed(f"docs/FORMATS.md: '{heading}' hasn't each number from 0 to {most}")
-    return found
+def data() -> Any:
+    with open(DATA, encoding="utf-8") as file:
+        return json.load(file)
 
 
 @functools.lru_cache(maxsize=None)
 def statuses() -> dict[int, tuple[str, str]]:
     """Of each status its name and its meaning."""
-    return {number: (row[0], row[1]) for number, row in numbered("## Statuses by number", 18).items()}
+    return {int(number): (name, meaning) for number, (name, meaning) in data()["statuses"].items()}
 
 
 @functools.lru_cache(maxsize=None)
 def calls() -> dict[int, tuple[str, str]]:
     """Of each call its name and its arguments. A number without a call isn't there."""
-    found = {number: (row[0], row[1]) for number, row in numbered("## Calls by number", 11).items()}
-    return {number: row for number, row in found.items() if row[0] != "none"}
+    return {int(number): (name, arguments) for number, (name, arguments) in data()["calls"].items()}
 
 
 @functools.lru_cache(maxsize=None)
 def vectors() -> dict[int, str]:
-    """What a vector comes from, where it comes from one thing alone."""
-    found = rows(formats(), "## Vectors, and what a handler gets")
-    return {int(row[0]): row[1] for row in found if row[0].isdigit()}
+    """What a vector comes from, if it comes from one thing alone."""
+    return {int(number): told for number, told in data()["vectors"].items()}
+
+
+def causes() -> dict[str, list[str]]:
+    """Of each cause for which a line is bad the row of its table: what the line has, why that is bad, what to do."""
+    found: dict[str, list[str]] = data()["causes"]
+    return found
+
+
+def ends() -> dict[str, str]:
+    """When the program ends with each status."""
+    found: dict[str, str] = data()["ends"]
+    return found
 
 
 def of_status(number: int) -> str:

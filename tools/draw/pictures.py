@@ -250,7 +250,8 @@ def draw_block(drawing: Drawing, address: int, block: list[int]) -> None:
         told = TOLD[place - 1] if 0 < place <= len(TOLD) else ""
         drawing.text(620, y + 15, f"{told}, in the place of this word" if told else "this word", size=10,
                      colour=INK if told else PALE)
-    drawing.text(360, 88 + LINE * len(block) + 14, "What is entered by a yield has all 17 words as they are.", size=10, colour=PALE)
+    drawing.text(360, 88 + LINE * len(block) + 14, "What is entered by a yield has all 17 words as they are.", size=10,
+                 colour=PALE)
 
 
 def drawn(words: list[str]) -> str:

@@ -1,4 +1,4 @@
-"""Tests of the drawings. The check `draw-tests` runs them."""
+"""Tests of the drawings. The check `unit-tests` runs them."""
 
 from __future__ import annotations
 
@@ -121,7 +121,8 @@ class Drawings(unittest.TestCase):
 
     def test_an_address_is_translated(self) -> None:
         words = self.words(translation.draw_address(texts.memory(CORE), 13, 0x10000008))
-        for word in ("= 64", "= 8, so word 2", "MMU directory, frame 14", "0x00012001", "page table, frame 18", "0x0001500f",
+        for word in ("= 64", "= 8, so word 2", "MMU directory, frame 14", "0x00012001", "page table, frame 18",
+                     "0x0001500f",
                      "frame 21, rw-, visible", "frame 21", "free", "the parent has it at 0x00409000"):
             self.assertIn(word, words)
 

@@ -2,9 +2,9 @@
 
 from __future__ import annotations
 
-from typing import Dict, NamedTuple
+from typing import NamedTuple
 
-Memory = Dict[int, Dict[int, int]]      # the words of each frame, by index
+Memory = dict[int, dict[int, int]]      # the words of each frame, by index
 
 
 class Page(NamedTuple):

@@ -1,6 +1,6 @@
 """A class at a glance: a row a student, a column an exercise, and in each cell how many goals are reached.
 
-    tools/grade FOLDER [--csv] [--seeds]
+    tools/grade FOLDER [--csv] [--seeds] [--allow EXAMPLE ..]
 """
 
 from __future__ import annotations
@@ -9,40 +9,38 @@ import argparse
 import csv
 import os
 import sys
+import tempfile
 from collections.abc import Iterable
 from concurrent.futures import ThreadPoolExecutor
-from dataclasses import dataclass
+from dataclasses import dataclass, field
 
+from ..authors import asmx
 from ..common import calling
 from ..common.calling import Failed
-from .exercise import PROGRAMS, SCRIPTS, Judged, judged
-from .tasks import EXERCISES
+from ..judge import building
+from . import alone, judging, likeness
 
-
-def endings(name: str) -> tuple[str, ...]:
-    """How the files of an exercise end; none where there is no exercise of this name."""
-    if name not in EXERCISES:
-        return ()
-    return PROGRAMS if EXERCISES[name].by(name, None)[1].is_program else SCRIPTS
+SCRIPTS, PROGRAMS = (".pip",), (".s", ".asmx")
+SOLUTIONS = os.path.join(calling.REPOSITORY, "examples", "solutions")
+SOLUTION = "the solution of examples/solutions"
 
 
 @dataclass(frozen=True)
 class Work:
-    """A file that a student handed in, and what was said of it; why, where it couldn't be judged."""
+    """A file that a student handed in, and what was said of it."""
 
     student: str
     exercise: str
     path: str
-    verdict: Judged | None = None
-    why: str = ""
+    found: alone.Found = field(default_factory=alone.Found)
 
     @property
     def count(self) -> int:
-        return self.verdict.count if self.verdict else 0
+        return sum(self.found.holds)
 
     @property
     def is_whole(self) -> bool:
-        return self.verdict is not None and self.verdict.is_whole
+        return bool(self.found.holds) and all(self.found.holds)
 
 
 @dataclass(frozen=True)
@@ -51,14 +49,12 @@ class Table:
 
     students: list[str]
     works: dict[tuple[str, str], Work]
+    goals: dict[str, int]                        # of each exercise, how many
+    alike: list[tuple[str, str, list[str]]]      # exercise, how, and whose works
 
     @property
     def columns(self) -> list[str]:
-        return [name for name in EXERCISES if any((student, name) in self.works for student in self.students)]
-
-    def of(self, name: str) -> int:
-        """How many goals an exercise has."""
-        return len(EXERCISES[name].by(name, None)[1].goals)
+        return [name for name in self.goals if any((student, name) in self.works for student in self.students)]
 
     def count(self, student: str) -> int:
         return sum(work.count for (of, _), work in self.works.items() if of == student)
@@ -74,21 +70,28 @@ class Table:
         work = self.works.get((student, name))
         if work is None:
             return "-"
-        if work.verdict is None:
+        if work.found.why:
             return "?"
-        return "bad" if work.verdict.refused else f"{work.count}/{self.of(name)}"
+        mark = "=" if any(student in who for of, _, who in self.alike if of == name) else ""
+        return ("bad" if work.found.refused else f"{work.count}/{self.goals[name]}") + mark
 
 
 def main() -> None:
     parser = argparse.ArgumentParser(
         description="A row a student, a column an exercise, and in each cell how many goals are reached.",
-        epilog="FOLDER has a folder for each student, and in it files named by the exercises: map.pip, sum.s, monitor.asmx. "
-               "'-': nothing handed in; 'bad': the text is refused; '?': it can't be judged, and why is on standard error.")
+        epilog="FOLDER has a folder for each student, and in it files named by the exercises: map.pip, sum.s, "
+               "monitor.asmx. '-': nothing handed in; 'bad': the text is refused; '?': it can't be judged, and why is "
+               "on standard error; '=': it is like another one, which is named below the table.")
     parser.add_argument("folder", metavar="FOLDER")
-    parser.add_argument("--csv", action="store_true", help="for a spreadsheet: numbers in columns, nothing where nothing was handed in")
-    parser.add_argument("--seeds", action="store_true", help="each student's values are those of the seed that is the folder's name")
-    parser.add_argument("--jobs", type=int, default=os.cpu_count(), metavar="N", help="how many at once; without it one a processor")
-    calling.take_program(parser)
+    parser.add_argument("--csv", action="store_true",
+                        help="for a spreadsheet: numbers in columns, nothing where nothing was handed in")
+    parser.add_argument("--seeds", action="store_true",
+                        help="each student's values are those of the seed that is the folder's name")
+    parser.add_argument("--allow", nargs="+", default=[], metavar="EXAMPLE",
+                        help="files of examples/ that a work may include by this name, as monitor.s; without it none")
+    parser.add_argument("--again", metavar="SECRET", help="draw what the grading drew that named this secret")
+    parser.add_argument("--jobs", type=int, default=os.cpu_count(), metavar="N",
+                        help="how many at once; without it one a processor")
     given = parser.parse_args()
     calling.guarded("grade", lambda: work(given))
 
@@ -96,72 +99,114 @@ def main() -> None:
 def work(given: argparse.Namespace) -> int:
     if given.jobs < 1:
         raise Failed("--jobs is 1 or more")
-    students, handed_in = found(given.folder)
-    table = Table(students, {(one.student, one.exercise): one for one in all_judged(given, handed_in)})
-    for one in table.works.values():
-        if one.why:
-            print(f"grade: {one.path}: {one.why}", file=sys.stderr)
+    os.environ["PIP_JUDGE"] = os.path.abspath(building.program())       # it may be built, once
+    exercises = judging.exercises()
+    given.secret = given.again or judging.drawn()
+    students, handed_in, others = found(given.folder, exercises)
+    judged = all_judged(given, exercises, handed_in)
+    included = {os.path.realpath(path) for one in judged for path in one.found.files if path != one.path}
+    for path, why in others:
+        if os.path.realpath(path) not in included:
+            print(f"grade: {path} {why}", file=sys.stderr)
+    for one in judged:
+        if one.found.why:
+            print(f"grade: {one.path}: {one.found.why}", file=sys.stderr)
+    goals = {name: one.goals for name, one in exercises.items()}
+    table = Table(students, {(one.student, one.exercise): one for one in judged}, goals,
+                  alike(exercises, judged, given.seeds))
     if given.csv:
         csv.writer(sys.stdout, lineterminator="\n").writerows(csv_rows(table))
     else:
-        print("\n".join(lines(table)))
+        print("\n".join([*lines(table), f"(--again {given.secret} draws the same)"]))
     return 0
 
 
-def found(folder: str) -> tuple[list[str], list[Work]]:
-    """The students of a folder, and their files. What is no work is named on standard error."""
+def found(folder: str, exercises: dict[str, judging.Exercise]) -> tuple[list[str], list[Work], list[tuple[str, str]]]:
+    """The students of a folder, their works, and the other files with what they are."""
     try:
-        students = sorted(entry.name for entry in os.scandir(folder) if entry.is_dir() and not entry.name.startswith("."))
+        students = sorted(entry.name for entry in os.scandir(folder)
+                          if entry.is_dir(follow_symlinks=False) and not entry.name.startswith("."))
         files = [(student, file) for student in students for file in sorted(os.listdir(os.path.join(folder, student)))]
     except OSError as error:
         raise Failed(f"{error.filename or folder} can't be read: {error.strerror}") from None
     if not students:
         raise Failed(f"{folder} has no folder of a student")
     works: dict[tuple[str, str], Work] = {}
+    others = []
     for student, file in files:
         name, ending = os.path.splitext(file)
         path = os.path.join(folder, student, file)
-        if ending not in endings(name):
-            print(f"grade: {path} is no work: " + (f"{name} ends with {' or '.join(endings(name))}" if endings(name) else
-                                                    f"there is no exercise {name}"), file=sys.stderr)
+        endings = () if name not in exercises else PROGRAMS if exercises[name].is_program else SCRIPTS
+        if ending not in endings:
+            why = f"{name} ends with {' or '.join(endings)}" if endings else f"there is no exercise {name}"
+            others.append((path, f"is no work: {why}"))
         elif (student, name) in works:
-            print(f"grade: {path} is left out: {works[student, name].path} is there", file=sys.stderr)
+            others.append((path, f"is left out: {works[student, name].path} is there"))
         else:
             works[student, name] = Work(student, name, path)
-    return students, list(works.values())
+    return students, list(works.values()), others
 
 
-def all_judged(given: argparse.Namespace, works: Iterable[Work]) -> list[Work]:
-    calling.direct(given.program)                    # it may build, once
+def all_judged(given: argparse.Namespace, exercises: dict[str, judging.Exercise], works: Iterable[Work]) -> list[Work]:
+    with tempfile.TemporaryDirectory() as place:
+        return judged_by(alone.Processes(place), given, exercises, works)
+
+
+def judged_by(processes: alone.Processes, given: argparse.Namespace, exercises: dict[str, judging.Exercise],
+              works: Iterable[Work]) -> list[Work]:
+    def judged(one: Work) -> Work:
+        folder, name = os.path.split(one.path)
+        path, seed = os.path.join(os.path.realpath(folder), name), one.student if given.seeds else None
+        asked = alone.Work(one.exercise, exercises[one.exercise].is_program, path, seed, given.secret, given.allow)
+        return Work(one.student, one.exercise, one.path, processes.judge(asked))
+
     pool = ThreadPoolExecutor(given.jobs)
     try:
-        return list(pool.map(lambda one: with_verdict(given, one), works))
+        return list(pool.map(judged, works))
     finally:
+        processes.end_all()
         pool.shutdown(cancel_futures=True)
 
 
-def with_verdict(given: argparse.Namespace, one: Work) -> Work:
-    try:
-        verdict = judged(given.program, one.exercise, one.path, one.student if given.seeds else None)
-        return Work(one.student, one.exercise, one.path, verdict)
-    except Failed as failed:
-        return Work(one.student, one.exercise, one.path, None, str(failed))
+def alike(exercises: dict[str, judging.Exercise], works: list[Work],
+          by_seeds: bool) -> list[tuple[str, str, list[str]]]:
+    """The works that are like another one, or like the public solution."""
+    found = []
+    for name, exercise in exercises.items():
+        texts = {work.student: work.found.essence for work in works if work.exercise == name}
+        if texts and not by_seeds:
+            texts[SOLUTION] = of_solution(name, exercise.is_program)
+        found += [(name, how, who) for how, who in likeness.alike(texts)]
+    return found
+
+
+def of_solution(name: str, is_program: bool) -> list[str]:
+    """What the solution of the repository is like."""
+    path = next(os.path.join(SOLUTIONS, file) for file in os.listdir(SOLUTIONS) if file.rsplit(".", 1)[0] == name)
+    if not is_program:
+        return likeness.essence(calling.contents(path), False)
+    return likeness.essence("".join(line + "\n" for _, line in asmx.processed(path)[0]).encode(), True)
 
 
 def lines(table: Table) -> list[str]:
-    """The table as text: columns side by side, and below them how many students solved each exercise."""
-    most = sum(map(table.of, table.columns))
+    """The table as text: columns side by side, how many students solved each exercise, and which works are alike."""
+    most = sum(table.goals[name] for name in table.columns)
     rows = [["", *table.columns, "goals", "solved"]]
     rows += [[student, *(table.cell(student, name) for name in table.columns), f"{table.count(student)}/{most}",
               f"{table.whole(student)}/{len(table.columns)}"] for student in table.students]
     rows.append(["solved", *(f"{table.solved(name)}/{len(table.students)}" for name in table.columns), "", ""])
     widths = [max(map(len, column)) for column in zip(*rows)]
-    return ["  ".join([row[0].ljust(widths[0]), *(cell.rjust(width) for cell, width in zip(row[1:], widths[1:]))]).rstrip() for row in rows]
+    told = ["  ".join([row[0].ljust(widths[0]), *map(str.rjust, row[1:], widths[1:])]).rstrip() for row in rows]
+    return told + [f"{name}: {how}: {', '.join(who)}" for name, how, who in table.alike]
 
 
 def csv_rows(table: Table) -> list[list[object]]:
-    rows: list[list[object]] = [["student", *(f"{name} of {table.of(name)}" for name in table.columns), "goals", "solved"]]
+    names = [f"{name} of {table.goals[name]}" for name in table.columns]
+    rows: list[list[object]] = [["student", *names, "goals", "solved", "alike"]]
     for student in table.students:
-        cells = [table.works.get((student, name)) for name in table.columns]
-        rows.append([student, *(cell.count if cell else "" for cell in cells), table.count(student), table.whole(student)])
+        works = [table.works.get((student, name)) for name in table.columns]
+        like = [f"{name}: {other}" for name, _, who in table.alike if student in who for other in who
+                if other != student]
+        cells = (work.count if work else "" for work in works)
+        rows.append([student, *cells, table.count(student), table.whole(student), "; ".join(like)])
     return rows

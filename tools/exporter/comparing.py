@@ -1,10 +1,13 @@
-"""Says how an export differs from its sources: each word that came or went otherwise than by the known rules is a difference."""
+"""Says how an export differs from its sources: each word that came or went otherwise than by the known rules is a
+difference.
+"""
+
+from __future__ import annotations
 
 import re
 from collections import Counter
 from dataclasses import dataclass, field
 from pathlib import Path
-from typing import List, Optional, Tuple
 
 from .crates import Crate, crates_of
 from .expecting import Due, Slot, due
@@ -21,7 +24,7 @@ class Report:
     words: int = 0
     went: "Counter[str]" = field(default_factory=Counter)
     came: "Counter[str]" = field(default_factory=Counter)
-    differences: List[str] = field(default_factory=list)
+    differences: list[str] = field(default_factory=list)
 
     def text(self) -> str:
         lines = [f"{self.files} files with {self.words} words of code"]
@@ -55,7 +58,7 @@ def compare_crate(crate: Crate, export: Path, report: Report) -> None:
         report.differences += [f"{export / name}{found}"] if found else []
 
 
-def difference(source: str, export: str, role: Role, report: Report) -> Optional[str]:
+def difference(source: str, export: str, role: Role, report: Report) -> str | None:
     """The first difference of a file, as `:LINE: ..`, or None."""
     try:
         wanted = due(words_of(source, True), role)
@@ -70,7 +73,7 @@ def difference(source: str, export: str, role: Role, report: Report) -> Optional
     return first_difference(wanted, code, report) or missing_clause(wanted.clauses, found)
 
 
-def first_difference(wanted: Due, found: List[Word], report: Report) -> Optional[str]:
+def first_difference(wanted: Due, found: list[Word], report: Report) -> str | None:
     at = 0
     for place, word in enumerate(wanted.words):
         if place in wanted.slots:
@@ -83,15 +86,15 @@ def first_difference(wanted: Due, found: List[Word], report: Report) -> Optional
     return difference_at(found, at, "nothing more is due") if at < len(found) else None
 
 
-def difference_at(found: List[Word], at: int, wanted: str) -> str:
+def difference_at(found: list[Word], at: int, wanted: str) -> str:
     if at == len(found):
         return f": it ends where {wanted}"
     return f":{found[at].line}: {found[at].text!r} where {wanted}"
 
 
-def pass_tests(found: List[Word], at: int, slot: Slot, report: Report) -> Tuple[int, Optional[str]]:
-    """Goes over the tests of what a function requires. Each is a condition of one of its clauses; an unsafe body has one for each
-    clause at least, which is made in each build."""
+def pass_tests(found: list[Word], at: int, slot: Slot, report: Report) -> tuple[int, str | None]:
+    """Goes over the tests of what a function requires. Each is a condition of one of its clauses; an unsafe body has
+    one for each clause at least, which is made in each build."""
     macro = "assert" if slot.unsafe else "debug_assert"
     begin, tested = at, []
     while [word.text for word in found[at:at + 3]] == [macro, "!", "("]:
@@ -110,27 +113,32 @@ def pass_tests(found: List[Word], at: int, slot: Slot, report: Report) -> Tuple[
     return at, None
 
 
-def condition(test: List[str]) -> str:
+def condition(test: list[str]) -> str:
     """A test, written as a clause writes it."""
     text = " ".join(test)
     text = re.sub(r"\( (\w+(?: \. \w+)*(?: \( \))?) as u128 \)", r"\1", text)
-    text = re.sub(r"(\w+) \. len \( \)", r"length \1", text)
+    text = re.sub(r"((?:\w+ \. )*\w+) \. len \( \)", r"length \1", text)
+    text = re.sub(r"(\w+) \. number \( \)", r"\1", text)
+    text = re.sub(r"(\w+) \. cpus \( \)", r"P . count \1", text)
+    text = re.sub(r"(\w+) \. count \( \)", r"length ( M . memory \1 )", text)
+    text = re.sub(r"matches ! \( (\w+) , Size : : Word \) \| \| (\w+) < 256", r"\2 < below_of \1", text)
+    text = re.sub(r"(\w+) \. iter \( \) \. all \( \| (\w+) \| \* (\2 < \d+) \)", r"All ( λ \2 . \3 ) \1", text)
     for ours, theirs in (("< =", "≤"), ("= =", "≡"), ("! =", "≢")):
         text = text.replace(ours, theirs)
     return text
 
 
-def conditions_of(clause: str) -> List[str]:
+def conditions_of(clause: str) -> list[str]:
     """What a clause says, in parts, without the marks that a test hasn't."""
     words = [word.text for word in words_of(clause[clause.index("{") + 1:clause.rindex("}")], False)]
     text = " ".join(words)
-    text = re.sub(r" \. (?:now|old)\b(?: \. items\b)?", "", text)
+    text = re.sub(r" \. (?:now|old)\b(?: \. items\b)?| \. items\b", "", text)
     text = re.sub(r"(\d+) \^ (\d+)", lambda match: str(int(match.group(1)) ** int(match.group(2))), text)
-    text = text.replace("vec_len", "length")
+    text = text.replace("vec_len", "length").replace("array_string_len", "length")
     return [without_brackets(part) for part in parts_of(text)]
 
 
-def parts_of(text: str) -> List[str]:
+def parts_of(text: str) -> list[str]:
     """What `×` joins outside of all brackets."""
     parts, depth = [""], 0
     for word in text.split(" "):
@@ -147,7 +155,7 @@ def without_brackets(part: str) -> str:
     return inner if part.startswith("( ") and part.endswith(" )") and "(" not in inner else part
 
 
-def missing_clause(clauses: List[str], found: List[Word]) -> Optional[str]:
+def missing_clause(clauses: list[str], found: list[Word]) -> str | None:
     """The first clause of a function that no comment of the export shows."""
     comments = " ".join(word.text.lstrip("/") for word in found if word.kind == "comment")
     shown = " ".join(comments.split())

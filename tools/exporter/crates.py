@@ -1,8 +1,9 @@
 """The crates of a repository, by its crates.txt."""
 
+from __future__ import annotations
+
 from dataclasses import dataclass
 from pathlib import Path
-from typing import Dict, List
 
 from .rewriting import Role
 from .tokens import Trouble
@@ -13,14 +14,14 @@ class Crate:
     """A crate with the crates whose names it uses."""
 
     name: str
-    uses: List[str]
+    uses: list[str]
     folder: Path
 
     @property
     def is_program(self) -> bool:
         return (self.folder / "src" / "main.rt").exists()
 
-    def sources(self) -> List[Path]:
+    def sources(self) -> list[Path]:
         return sorted((self.folder / "src").rglob("*.rt"))
 
     def role(self, source: Path) -> Role:
@@ -29,9 +30,9 @@ class Crate:
         return Role(root, root and source.name == "main.rt")
 
 
-def crates_of(repository: Path) -> Dict[str, Crate]:
+def crates_of(repository: Path) -> dict[str, Crate]:
     """All crates by their names, in the order of crates.txt."""
-    found: Dict[str, Crate] = {}
+    found: dict[str, Crate] = {}
     for line in (repository / "crates.txt").read_text(encoding="utf-8").splitlines():
         line = line.split("#")[0].strip()
         if line:
@@ -41,7 +42,7 @@ def crates_of(repository: Path) -> Dict[str, Crate]:
     return found
 
 
-def chosen(crates: Dict[str, Crate], only: List[str]) -> List[Crate]:
+def chosen(crates: dict[str, Crate], only: list[str]) -> list[Crate]:
     """These crates and those that they use, in the order of crates.txt; all where none is named."""
     wanted = set(only or crates)
     unknown = sorted(wanted - set(crates))

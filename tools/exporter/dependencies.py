@@ -1,17 +1,18 @@
 """The public crates: the registry's where cargo can get them without a network, else the small ones of shims/."""
 
+from __future__ import annotations
+
 import os
 import subprocess
 import tempfile
 from pathlib import Path
-from typing import List, Optional
 
 HERE = Path(__file__).resolve().parent
 SHIMS = HERE / "shims"
 STD = "rattle_std"
 
-# The public crates of which the sources use nothing that the registry's lack. bitflags is none of them: the sources write
-# `impl Flags` by hand with a macro of the kit's port, so its shim is always taken.
+# The public crates of which the sources use nothing that the registry's lack. bitflags is none of them: the sources
+# write `impl Flags` by hand with a macro of the kit's port, so its shim is always taken.
 PUBLIC = {
     "anyhow": '"1"',
     "arrayvec": '{ version = "0.7", default-features = false }',
@@ -26,7 +27,7 @@ DEBIAN = Path("/usr/share/cargo/registry")
 SECONDS = 60
 
 
-def shim_names() -> List[str]:
+def shim_names() -> list[str]:
     return sorted(folder.name for folder in SHIMS.iterdir() if (folder / "src" / "lib.rs").exists())
 
 
@@ -35,9 +36,9 @@ def config_of(folder: Path) -> str:
     return f'[source.crates-io]\nreplace-with = "folder"\n\n[source.folder]\ndirectory = "{folder}"\n'
 
 
-def registry() -> Optional[str]:
-    """The text of a configuration by which cargo gets all public crates without a network, "" where it needs none, or None
-    where it can't get them."""
+def registry() -> str | None:
+    """The text of a configuration by which cargo gets all public crates without a network, "" where it needs none, or
+    None where it can't get them."""
     configs = [""] + ([config_of(DEBIAN)] if DEBIAN.is_dir() else [])
     return next((config for config in configs if can_get(config)), None)
 
@@ -53,7 +54,8 @@ def can_get(config: str) -> bool:
         write_config(crate, config)
         words = ["cargo", "fetch", "--offline", "--quiet"]
         try:
-            done = subprocess.run(words, cwd=crate, env=dict(os.environ, CARGO_TARGET_DIR=place), stdin=subprocess.DEVNULL,
+            done = subprocess.run(words, cwd=crate, env=dict(os.environ, CARGO_TARGET_DIR=place),
+                                  stdin=subprocess.DEVNULL,
                                   stdout=subprocess.DEVNULL, stderr=subprocess.DEVNULL, timeout=SECONDS)
         except (OSError, subprocess.TimeoutExpired):
             return False

@@ -1,6 +1,6 @@
 """Changes to a text, by places in it."""
 
-from typing import List, Tuple
+from __future__ import annotations
 
 from .tokens import Trouble
 
@@ -12,7 +12,7 @@ class Edits:
 
     def __init__(self, text: str) -> None:
         self.text = text
-        self.all: List[Tuple[int, int, str]] = []
+        self.all: list[tuple[int, int, str]] = []
 
     def put(self, start: int, end: int, new: str) -> None:
         self.all.append((start, end, new))
@@ -22,7 +22,7 @@ class Edits:
 
     def done(self) -> str:
         """The changed text. A change inside of what is taken out counts for nothing."""
-        pieces: List[str] = []
+        pieces: list[str] = []
         at = 0
         for start, end, new in sorted(self.all):
             if start >= at:
@@ -35,7 +35,7 @@ class Edits:
 
 def without_gone(text: str) -> str:
     """The text without lines of which nothing is left. An empty line beside them stays where it parts two others."""
-    lines: List[str] = []
+    lines: list[str] = []
     beside = False
     for line in text.split("\n"):
         if GONE in line and not line.strip(GONE + " \t"):
@@ -51,6 +51,6 @@ def without_gone(text: str) -> str:
     return "\n".join(lines)
 
 
-def begins_block(lines: List[str]) -> bool:
+def begins_block(lines: list[str]) -> bool:
     """Whether an empty line after these would part nothing."""
     return not lines or not lines[-1].strip() or lines[-1].endswith("{")

@@ -1,8 +1,10 @@
-"""What an export of a source has to be, word by word: worked out by rules of its own, and not by those of the exporter."""
+"""What an export of a source has to be, word by word: worked out by rules of its own, and not by those of the exporter.
+"""
+
+from __future__ import annotations
 
 from collections import Counter
 from dataclasses import dataclass, field
-from typing import Dict, List, Optional, Set, Tuple
 
 from .rewriting import Role
 from .scanner import Word
@@ -12,7 +14,8 @@ KIT_NAMES = ("Vec", "String", "Box", "HostRuntime", "AllocGlobal", "Print")
 KIT_LINE = "use std : : prelude : : kit : : * ;"
 ROOT = "# ! [ no_std ] # [ macro_use ] extern crate rattle_std as std ;"
 NO_MAIN = "# ! [ cfg_attr ( unix , no_main ) ]"
-START = ("# [ cfg ( unix ) ] mod start { # [ unsafe ( no_mangle ) ] extern \"C\" fn main ( count : i32 , first : * mut * const "
+START = ("# [ cfg ( unix ) ] mod start { # [ unsafe ( no_mangle ) ] extern \"C\" fn main ( count : i32 , first : * mut "
+         "* const "
          "core : : ffi : : c_char ) - > i32 { std : : process : : started ( super : : main , count , first ) } }")
 
 
@@ -20,22 +23,23 @@ START = ("# [ cfg ( unix ) ] mod start { # [ unsafe ( no_mangle ) ] extern \"C\"
 class Slot:
     """The place after a function's brace, where tests of what it requires may be."""
 
-    clauses: List[str]
+    clauses: list[str]
     unsafe: bool
 
 
 @dataclass
 class Due:
-    """The words that are due, the slots by the number of words before them, and what went and came, counted by kinds."""
+    """The words that are due, the slots by the number of words before them, and what went and came, counted by kinds.
+    """
 
-    words: List[Word]
-    slots: Dict[int, Slot] = field(default_factory=dict)
-    clauses: List[str] = field(default_factory=list)
+    words: list[Word]
+    slots: dict[int, Slot] = field(default_factory=dict)
+    clauses: list[str] = field(default_factory=list)
     went: "Counter[str]" = field(default_factory=Counter)
     came: "Counter[str]" = field(default_factory=Counter)
 
 
-def due(source: List[Word], role: Role) -> Due:
+def due(source: list[Word], role: Role) -> Due:
     """What is due for the words of a source."""
     found = Due([word for word in source if word.kind != "comment"])
     used = {word.text for word in found.words if word.kind == "code"}
@@ -48,11 +52,11 @@ def due(source: List[Word], role: Role) -> Due:
     return found
 
 
-def texts(words: List[Word], first: int, count: int) -> List[str]:
+def texts(words: list[Word], first: int, count: int) -> list[str]:
     return [word.text for word in words[first:first + count]]
 
 
-def closing_of(words: List[Word], place: int) -> int:
+def closing_of(words: list[Word], place: int) -> int:
     """The place of what closes the bracket there."""
     depth = 0
     for here in range(place, len(words)):
@@ -82,12 +86,12 @@ class SlotWord(Word):
         self.slot = slot
 
 
-def slot_of(words: List[Word], place: int, found: Due) -> Optional[Tuple[int, Slot]]:
+def slot_of(words: list[Word], place: int, found: Due) -> tuple[int, Slot] | None:
     """The place of a function's brace with its slot, where a function with clauses begins there."""
     if words[place].text != "fn" or texts(words, place + 1, 1) == ["("]:
         return None
     here, depth = place, 0
-    clauses: List[str] = []
+    clauses: list[str] = []
     while depth or words[here].kind != "code" or words[here].text not in ("{", ";"):
         word = words[here]
         if word.kind == "clause":
@@ -105,7 +109,7 @@ def slot_of(words: List[Word], place: int, found: Due) -> Optional[Tuple[int, Sl
 
 def leave_out_proofs(found: Due) -> None:
     """Leaves out clauses, ghost items with their `pub`, and implementations of Model."""
-    rest: List[Word] = []
+    rest: list[Word] = []
     place = 0
     while place < len(found.words):
         word = found.words[place]
@@ -123,20 +127,20 @@ def leave_out_proofs(found: Due) -> None:
     found.words = rest
 
 
-def leave_out_visibility(rest: List[Word]) -> None:
+def leave_out_visibility(rest: list[Word]) -> None:
     if rest and rest[-1].text == "pub":
         rest.pop()
     elif [word.text for word in rest[-4:]] == ["pub", "(", "crate", ")"]:
         del rest[-4:]
 
 
-def brace_after(words: List[Word], place: int) -> int:
+def brace_after(words: list[Word], place: int) -> int:
     while words[place].text not in ("{", ";"):
         place += 1
     return place
 
 
-def is_of_model(words: List[Word], place: int) -> bool:
+def is_of_model(words: list[Word], place: int) -> bool:
     """Whether it is an `impl .. Model for ..` with nothing but ghost items in it."""
     brace = brace_after(words, place)
     head = texts(words, place, brace - place)
@@ -144,9 +148,9 @@ def is_of_model(words: List[Word], place: int) -> bool:
     return "for" in head and head[head.index("for") - 1] == "Model" and all(word.kind == "ghost" for word in inner)
 
 
-def leave_out_attributes(words: List[Word], found: Due) -> List[Word]:
+def leave_out_attributes(words: list[Word], found: Due) -> list[Word]:
     """Leaves out tactics, and `Drop` from derives."""
-    rest: List[Word] = []
+    rest: list[Word] = []
     place = 0
     while place < len(words):
         bracket, name = attribute_at(words, place)
@@ -163,7 +167,7 @@ def leave_out_attributes(words: List[Word], found: Due) -> List[Word]:
     return rest
 
 
-def attribute_at(words: List[Word], place: int) -> Tuple[int, List[str]]:
+def attribute_at(words: list[Word], place: int) -> tuple[int, list[str]]:
     """The place of the bracket of an attribute that begins there, and its name, if it is one."""
     if words[place].text != "#":
         return place, []
@@ -171,7 +175,7 @@ def attribute_at(words: List[Word], place: int) -> Tuple[int, List[str]]:
     return bracket, texts(words, bracket + 1, 1) if texts(words, bracket, 1) == ["["] else []
 
 
-def without_drop(derive: List[Word], found: Due) -> List[Word]:
+def without_drop(derive: list[Word], found: Due) -> list[Word]:
     """A derive without `Drop` and the comma beside it; nothing where it has nothing else."""
     names = [word.text for word in derive]
     if "Drop" not in names:
@@ -185,9 +189,9 @@ def without_drop(derive: List[Word], found: Due) -> List[Word]:
     return []
 
 
-def leave_out_drop_bounds(words: List[Word], found: Due) -> List[Word]:
+def leave_out_drop_bounds(words: list[Word], found: Due) -> list[Word]:
     """Leaves out `+ Drop`, and `: Drop` where no other bound follows."""
-    rest: List[Word] = []
+    rest: list[Word] = []
     for place, word in enumerate(words):
         before = rest[-1].text if rest else ""
         alone = before == ":" and texts(words, place + 1, 1) in ([","], [">"])
@@ -199,7 +203,7 @@ def leave_out_drop_bounds(words: List[Word], found: Due) -> List[Word]:
     return rest
 
 
-def change_drop(words: List[Word], found: Due) -> List[Word]:
+def change_drop(words: list[Word], found: Due) -> list[Word]:
     """`fn drop(self) { let T { a, b } = self;` of an `impl Drop` becomes `fn drop(&mut self) { let (a, b) = (..);`."""
     rest = list(words)
     for place in range(len(rest) - 1, -1, -1):
@@ -219,23 +223,26 @@ def change_drop(words: List[Word], found: Due) -> List[Word]:
     return rest
 
 
-def at_line(text: str, line: int) -> List[Word]:
+def at_line(text: str, line: int) -> list[Word]:
     return [Word(part, line) for part in text.split(" ")]
 
 
-def change_expect(words: List[Word], found: Due) -> List[Word]:
-    """`.expect(rt, ..)` loses the runtime."""
-    rest: List[Word] = []
+def change_expect(words: list[Word], found: Due) -> list[Word]:
+    """`.expect(rt, ..)` and `.expect(&rt, ..)` lose the runtime."""
+    rest: list[Word] = []
     for place, word in enumerate(words):
-        if word.text == "," and place >= 4 and texts(words, place - 4, 4) == [".", "expect", "(", "rt"]:
-            rest.pop()
+        count = next((k for k in (1, 2) if word.text == "," and place >= 3 + k
+                      and texts(words, place - 3 - k, 3) == [".", "expect", "("]
+                      and texts(words, place - k, k) == ["&", "rt"][-k:]), 0)
+        if count:
+            del rest[-count:]
             found.went["runtime of expect"] += 1
         else:
             rest.append(word)
     return rest
 
 
-def give_runtime(words: List[Word], found: Due) -> List[Word]:
+def give_runtime(words: list[Word], found: Due) -> list[Word]:
     """`main` and each test have no parameter, and begin with the runtime."""
     rest = list(words)
     for place in range(len(rest) - 1, -1, -1):
@@ -255,7 +262,7 @@ def give_runtime(words: List[Word], found: Due) -> List[Word]:
 
 def place_slots(found: Due) -> None:
     """Takes the slots from among the words, and notes their places."""
-    rest: List[Word] = []
+    rest: list[Word] = []
     for word in found.words:
         if isinstance(word, SlotWord):
             found.slots[len(rest)] = word.slot
@@ -264,7 +271,7 @@ def place_slots(found: Due) -> None:
     found.words = rest
 
 
-def add_head(found: Due, role: Role, used: Set[str]) -> None:
+def add_head(found: Due, role: Role, used: set[str]) -> None:
     """What a root has before its first item and after its last, and the names of the kit."""
     head = (NO_MAIN.split(" ") if role.program else []) + (ROOT.split(" ") if role.root else [])
     found.came["head of a crate"] += role.root

@@ -1,10 +1,12 @@
 """The kernel as ordinary Rust: writes the crates as a workspace of cargo, and compares its text with the sources."""
 
+from __future__ import annotations
+
 import argparse
 from pathlib import Path
 
 from ..common import calling
-from . import comparing, crates, dependencies, workspace
+from . import comparing, crates, dependencies, requirements, workspace
 from .tokens import Trouble
 
 REPOSITORY = Path(__file__).resolve().parent.parent.parent
@@ -12,11 +14,17 @@ PROMISE = "the same text, not the same proof"
 
 
 def main() -> None:
-    parser = argparse.ArgumentParser(prog="export", description="The crates as ordinary Rust, for cargo: " + PROMISE + ".")
-    parser.add_argument("--to", type=Path, required=True, metavar="FOLDER", help="a new folder, or an earlier export")
+    parser = argparse.ArgumentParser(prog="export",
+                                     description="The crates as ordinary Rust, for cargo: " + PROMISE + ".")
+    one = parser.add_mutually_exclusive_group(required=True)
+    one.add_argument("--to", type=Path, metavar="FOLDER", help="a new folder, or an earlier export")
+    one.add_argument("--untested", action="store_true",
+                     help="write nothing: list, by public function, the parts of what it requires that a debug build "
+                          "doesn't test")
     parser.add_argument("--only", nargs="+", default=[], metavar="CRATE", help="these crates and those that they use")
     parser.add_argument("--deps", choices=("registry", "shims"),
-                        help="public crates from cargo's registry, or the small ones that come with this tool; without it the "
+                        help="public crates from cargo's registry, or the small ones that come with this tool; without "
+                             "it the "
                              "registry's where cargo can get them without a network")
     parser.add_argument("--from", dest="repository", type=Path, default=REPOSITORY, metavar="FOLDER",
                         help="the checkout with the sources; without it this one")
@@ -28,6 +36,9 @@ def main() -> None:
 def done(given: argparse.Namespace) -> int:
     """Does what is asked for, and answers the status: 1 where the export differs from the sources."""
     try:
+        if given.untested:
+            print("\n".join(f"{where}: {part}" for where, part in untested(given.repository, given.only)))
+            return 0
         if not given.compare:
             export(given)
         report = comparing.compared(given.repository, given.to)
@@ -37,6 +48,16 @@ def done(given: argparse.Namespace) -> int:
         raise calling.Failed(str(trouble)) from None
     print(report.text())
     return 1 if report.differences else 0
+
+
+def untested(repository: Path, only: list[str]) -> list[tuple[str, str]]:
+    """The parts of requirements that no test makes, each after its crate and its public function; those of tests are
+    left out.
+    """
+    found = [crate for crate in crates.chosen(crates.crates_of(repository), only)
+             if not crate.name.startswith("pip_test")]
+    return [(f"{crate.name}::{name}", part) for crate in found for path in crate.sources()
+            for name, parts in requirements.untested(path.read_text(encoding="utf-8")).items() for part in parts]
 
 
 def export(given: argparse.Namespace) -> None:

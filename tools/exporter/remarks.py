@@ -1,7 +1,8 @@
 """Clauses and ghost items as comments: beside a function that is documented they are part of its documentation."""
 
+from __future__ import annotations
+
 import re
-from typing import List
 
 from .edits import Edits
 from .source import Source
@@ -10,9 +11,9 @@ from .tokens import Token
 QUALIFIERS = ("const", "unsafe", "final")
 
 
-def keep_clauses(source: Source, function: int, clauses: List[Token], edits: Edits) -> None:
-    """Writes a function's clauses, and the comments among them, after its comment: as documentation where the function has some or is
-    public."""
+def keep_clauses(source: Source, function: int, clauses: list[Token], edits: Edits) -> None:
+    """Writes a function's clauses, and the comments among them, after its comment: as documentation where the function
+    has some or is public."""
     first = function
     while source.at(first - 1).kind == "word" and source.at(first - 1).text in QUALIFIERS:
         first -= 1
@@ -31,16 +32,16 @@ def keep_clauses(source: Source, function: int, clauses: List[Token], edits: Edi
     edits.put(place, place, "".join(f"{inset}{mark} {line}".rstrip() + "\n" for line in lines))
 
 
-def comments_at(source: Source, first: int, last: int) -> List[Token]:
+def comments_at(source: Source, first: int, last: int) -> list[Token]:
     """The comments with which a head begins."""
-    found: List[Token] = []
+    found: list[Token] = []
     while first < last and source.at(first).kind == "comment":
         found.append(source.at(first))
         first += 1
     return found
 
 
-def lines_of(clauses: List[Token]) -> List[str]:
+def lines_of(clauses: list[Token]) -> list[str]:
     """The lines of clauses; those that go on are further in."""
     return [line.strip() if number == 0 else "    " + line.strip()
             for clause in clauses for number, line in enumerate(clause.text.split("\n"))]

@@ -1,7 +1,13 @@
-"""Tests of what a function requires, as far as Rust can make them: comparisons of numbers, of lengths and of fields."""
+"""Tests of what a function requires, as far as Rust can make them: comparisons of numbers, of frames, of lengths and of
+counts.
+"""
+
+from __future__ import annotations
+
+from __future__ import annotations
 
 import re
-from typing import Dict, List, NamedTuple, Optional, Set
+from typing import NamedTuple
 
 from .source import Source
 from .tokens import Token, Trouble
@@ -9,25 +15,27 @@ from .tokens import Token, Trouble
 # The integers, and from where on a literal may not fit: a usize may have 32 bits.
 INTEGERS = {"u8": 1 << 8, "u16": 1 << 16, "u32": 1 << 32, "u64": 1 << 64, "usize": 1 << 32}
 SIGNS = {"≤": "<=", "<": "<", "≡": "==", "≢": "!="}
-SLICE = re.compile(r"& (mut )?(\[|str|Vec)")
+SLICE = re.compile(r"(& (mut )?)?(\[|str|Vec|ArrayVec|ArrayString|Processors)")
+EACH = re.compile(r"All \(λ (\w+)\. \1 < (\d+)\) (\w+)\.(?:now|old)(?:\.items)?")
+FITS = re.compile(r"(\w+) < below_of (\w+)")
 
 
 class Term(NamedTuple):
     """What is added up in a side of a comparison, and its type, which a literal has not."""
 
     text: str
-    type: Optional[str]
+    type: str | None
 
 
-def tests_of(source: Source, function: int, clauses: List[Token], brace: int) -> str:
-    """The tests, as lines to be put after the brace with which the body begins. Before unsafe code each is always made, else
-    in debug builds alone."""
+def tests_of(source: Source, function: int, clauses: list[Token], brace: int) -> str:
+    """The tests, as lines to be put after the brace with which the body begins. Before unsafe code each is always made,
+    else in debug builds alone."""
     body = source.tokens[brace:source.closing(brace)]
     unsafe = any(token.is_word("unsafe") for token in body)
     types = source.parameters(function)
     macro = "assert" if unsafe else "debug_assert"
     inset = source.inset(source.at(function).start)
-    lines: List[str] = []
+    lines: list[str] = []
     for clause in clauses:
         if not clause.text.startswith("requires"):
             continue
@@ -38,14 +46,14 @@ def tests_of(source: Source, function: int, clauses: List[Token], brace: int) ->
     return "".join(lines)
 
 
-def conditions_of(clause: str, types: Dict[str, str], fields: bool) -> List[str]:
+def conditions_of(clause: str, types: dict[str, str], fields: bool) -> list[str]:
     """Those conditions of a clause that Rust can test as they are; of fields of `self` only where it is said."""
     body = clause[clause.index("{") + 1:clause.rindex("}")]
     found = (comparison(part, types, fields) for part in factors(body.strip()))
     return [condition for condition in found if condition]
 
 
-def factors(body: str) -> List[str]:
+def factors(body: str) -> list[str]:
     """What `×` joins, without the brackets around it."""
     found, last, depth = [], 0, 0
     for at, character in enumerate(body):
@@ -59,38 +67,60 @@ def factors(body: str) -> List[str]:
     return [part[1:-1] if part.startswith("(") and part.endswith(")") else part for part in found]
 
 
-def comparison(part: str, types: Dict[str, str], fields: bool) -> Optional[str]:
-    """A comparison of two sums, or None where this is none that Rust can make."""
+def comparison(part: str, types: dict[str, str], fields: bool) -> str | None:
+    """A comparison of two sums, or one of the other forms, or None where this is none that Rust can make."""
+    each, fits = EACH.fullmatch(part), FITS.fullmatch(part)
+    if each and SLICE.match(types.get(each.group(3), "")):
+        name, limit, items = each.groups()
+        return f"{items}.iter().all(|{name}| *{name} < {limit})"
+    if fits and types.get(fits.group(1)) == "u32" and types.get(fits.group(2)) == "Size":
+        return f"matches!({fits.group(2)}, Size::Word) || {fits.group(1)} < 256"
     pieces = re.split(r" ([≤<≡≢]) ", part)
     if len(pieces) != 3:
         return None
     left, right = (terms(side, types, fields) for side in (pieces[0], pieces[2]))
     if left is None or right is None:
         return None
-    kinds: Set[str] = {term.type for term in left + right if term.type}
+    kinds: set[str] = {term.type for term in left + right if term.type}
     if not kinds:
         return None
-    wide = len(kinds) > 1 or len(left + right) > 2 or not fit(left + right, min(INTEGERS[kind] for kind in kinds))
+    least = min(INTEGERS.get(kind, 1 << 128) for kind in kinds)
+    wide = len(kinds) > 1 or len(left + right) > 2 or not fit(left + right, least) or "wide" in kinds
     return f"{joined(left, wide)} {SIGNS[pieces[1]]} {joined(right, wide)}"
 
 
-def fit(found: List[Term], limit: int) -> bool:
+def fit(found: list[Term], limit: int) -> bool:
     """Whether each literal among these is below a limit."""
     return all(int(term.text) < limit for term in found if not term.type)
 
 
-def joined(side: List[Term], wide: bool) -> str:
+def joined(side: list[Term], wide: bool) -> str:
     """A sum. A wide one is made in a type in which nothing wraps."""
-    return " + ".join(f"({term.text} as u128)" if wide and term.type else term.text for term in side)
+    return " + ".join(cast(term) if wide and term.type else term.text for term in side)
 
 
-def terms(side: str, types: Dict[str, str], fields: bool) -> Optional[List[Term]]:
-    found = [term(text.strip(), types, fields) for text in side.split(" + ")]
+def cast(term: Term) -> str:
+    return re.sub(r"[^ ]*[a-z][^ ]*", lambda name: f"({name.group()} as u128)", term.text)
+
+
+def terms(side: str, types: dict[str, str], fields: bool) -> list[Term] | None:
+    found = [product(text.strip(), types, fields) for text in side.split(" + ")]
     known = [each for each in found if each is not None]
     return known if len(known) == len(found) else None
 
 
-def term(text: str, types: Dict[str, str], fields: bool) -> Optional[Term]:
+def product(text: str, types: dict[str, str], fields: bool) -> Term | None:
+    """A term, or two of which a product or a remainder is made: a wide one, since it may wrap."""
+    pieces = re.split(r" ([*%]) ", text)
+    if len(pieces) != 3:
+        return term(text, types, fields)
+    left, right = (term(piece, types, fields) for piece in (pieces[0], pieces[2]))
+    if left is None or right is None or not (left.type or right.type):
+        return None
+    return Term(f"{left.text} {pieces[1]} {right.text}", "wide")
+
+
+def term(text: str, types: dict[str, str], fields: bool) -> Term | None:
     power = re.fullmatch(r"(\d+) \^ (\d+)", text)
     if power:
         return Term(str(int(power.group(1)) ** int(power.group(2))), None)
@@ -98,10 +128,45 @@ def term(text: str, types: Dict[str, str], fields: bool) -> Optional[Term]:
         return Term(text, None)
     if types.get(text) in INTEGERS:
         return Term(text, types[text])
-    sized = re.fullmatch(r"(?:length|vec_len) (\w+)\.(?:now|old)(?:\.items)?", text)
-    if sized and SLICE.match(types.get(sized.group(1), "")):
-        return Term(f"{sized.group(1)}.len()", "usize")
+    if types.get(text) in ("Frame", "VPage"):
+        return Term(f"{text}.number()", "u32")
     field = re.fullmatch(r"self\.(?:now|old)\.(\w+)", text)
     if field and fields:
         return Term(f"self.{field.group(1)}", "usize")
+    return line_of(text, types) or size(text, types)
+
+
+def line_of(text: str, types: dict[str, str]) -> Term | None:
+    """The interrupt line of a plan."""
+    found = re.fullmatch(r"(\w+)(?:\.now|\.old)?\.line", text)
+    return Term(f"{found.group(1)}.line", "u32") if found and re.fullmatch(r"(& )?Plan",
+                                                                           types.get(found.group(1), "")) else None
+
+
+def size(text: str, types: dict[str, str]) -> Term | None:
+    """A length, a number of frames, or a number of processors."""
+    sized = re.fullmatch(r"(?:length|vec_len|array_string_len) (\w+)(?:\.now|\.old)?(?:\.items)?", text)
+    if sized and SLICE.match(types.get(sized.group(1), "")):
+        return Term(f"{sized.group(1)}.len()", "usize")
+    if text in ("length self.old.cpus", "length self.now.cpus"):
+        return Term("self.cpus.len()", "usize")
+    counted = re.fullmatch(r"P\.count (\w+)\.(?:now|old)|length \(M\.memory (\w+)\.(?:now|old)\)", text)
+    if counted and re.fullmatch(r"& (mut )?[PM]", types.get(counted.group(1) or counted.group(2), "")):
+        return Term(f"{counted.group(1)}.cpus()" if counted.group(1) else f"{counted.group(2)}.count()", "u32")
     return None
+
+
+def untested(text: str) -> dict[str, list[str]]:
+    """Of a source, by its public functions, the parts of what each requires that no test of the export makes."""
+    source = Source(text)
+    found: dict[str, list[str]] = {}
+    for place, token in enumerate(source.tokens):
+        function = source.function_of(place) if token.kind == "clause" and token.text.startswith("requires") else None
+        if function is None or not re.search(r"\bpub (?:const )?$",
+                                             text[max(0, source.at(function).start - 16):source.at(function).start]):
+            continue
+        types = source.parameters(function)
+        body = token.text[token.text.index("{") + 1:token.text.rindex("}")]
+        parts = [" ".join(part.split()) for part in factors(body.strip()) if not comparison(part, types, False)]
+        found.setdefault(source.at(function + 1).text, []).extend(parts)
+    return {name: parts for name, parts in found.items() if parts}

@@ -1,7 +1,10 @@
-"""A whole source as Rust: without what is there for proofs, with the head of a crate and the runtime of a `main` or a test."""
+"""A whole source as Rust: without what is there for proofs, with the head of a crate and the runtime of a `main` or a
+test.
+"""
+
+from __future__ import annotations
 
 from dataclasses import dataclass
-from typing import List, Optional
 
 from .edits import Edits
 from .source import Source
@@ -61,8 +64,9 @@ def give_runtime(source: Source, edits: Edits) -> None:
         edits.put(source.at(brace).end, source.at(brace).end, f"\n    let {name} = {RUNTIME};")
 
 
-def runtime_taken(source: Source, place: int) -> Optional[str]:
-    """What `main` or a test whose `fn` is there calls its runtime, or None where it takes none or is another function."""
+def runtime_taken(source: Source, place: int) -> str | None:
+    """What `main` or a test whose `fn` is there calls its runtime, or None where it takes none or is another function.
+    """
     if not source.at(place).is_word("fn") or not source.at(place + 2).is_punct("("):
         return None
     if source.at(place + 1).text != "main" and not source.reads(place - 4, "# [ test ]"):
@@ -80,7 +84,7 @@ def refuse_rest(left: Source) -> None:
             raise Trouble(f"left: {token.text!r}")
 
 
-def head_of(source: Source, role: Role) -> List[str]:
+def head_of(source: Source, role: Role) -> list[str]:
     """The lines that a file gets before its first item."""
     lines = [NO_MAIN] if role.program else []
     lines += HEAD if role.root else []
@@ -89,7 +93,7 @@ def head_of(source: Source, role: Role) -> List[str]:
     return lines
 
 
-def with_head(left: Source, head: List[str]) -> str:
+def with_head(left: Source, head: list[str]) -> str:
     """The text with these lines after its own comment and its attributes of the whole file."""
     if not head:
         return left.text

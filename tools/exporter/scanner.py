@@ -1,8 +1,9 @@
-"""The words of a source and of an export, for their comparison. It reads character by character and shares nothing with tokens.py,
-which the exporter uses, so that no fault of one of them hides in the comparison."""
+"""The words of a source and of an export, for their comparison. It reads character by character and shares nothing with
+tokens.py, which the exporter uses, so that no fault of one of them hides in the comparison."""
+
+from __future__ import annotations
 
 from dataclasses import dataclass
-from typing import List
 
 from .tokens import Trouble
 
@@ -22,9 +23,9 @@ class Scanner:
     def __init__(self, text: str, proofs: bool) -> None:
         self.text, self.proofs = text, proofs
         self.at, self.line = 0, 1
-        self.found: List[Word] = []
+        self.found: list[Word] = []
 
-    def words(self) -> List[Word]:
+    def words(self) -> list[Word]:
         while True:
             self.pass_blanks()
             if self.at >= len(self.text):
@@ -143,8 +144,8 @@ class Scanner:
         self.pass_group()
 
     def pass_ghost(self) -> None:
-        """What follows the word `ghost`: an import to its `;`, or a name, `:` or `=`, a group in braces, and `,` or `;`.
-        What a trait says of a name may have a second group, after `=`, for those that say nothing else."""
+        """What follows the word `ghost`: an import to its `;`, or a name, `:` or `=`, a group in braces, and `,` or
+        `;`. What a trait says of a name may have a second group, after `=`, for those that say nothing else."""
         if self.text[self.at:self.at + 40].lstrip().startswith("use "):
             self.pass_after(";")
             return
@@ -183,5 +184,5 @@ class Scanner:
                 return
 
 
-def words_of(text: str, proofs: bool) -> List[Word]:
+def words_of(text: str, proofs: bool) -> list[Word]:
     return Scanner(text, proofs).words()

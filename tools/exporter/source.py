@@ -1,6 +1,8 @@
-"""A source with its tokens, and ways to find one's way in it. Places are those of tokens in the list, not of characters."""
+"""A source with its tokens, and ways to find one's way in it. Places are those of tokens in the list, not of
+characters.
+"""
 
-from typing import Dict, List, Optional
+from __future__ import annotations
 
 from .tokens import Token, Trouble, tokens
 
@@ -12,7 +14,7 @@ class Source:
 
     def __init__(self, text: str) -> None:
         self.text = text
-        self.tokens: List[Token] = tokens(text)
+        self.tokens: list[Token] = tokens(text)
 
     def at(self, place: int) -> Token:
         """The token at a place; an empty one beyond the ends."""
@@ -20,7 +22,7 @@ class Source:
             return self.tokens[place]
         return Token("none", len(self.text), len(self.text), "")
 
-    def words(self, first: int, last: int) -> List[str]:
+    def words(self, first: int, last: int) -> list[str]:
         """The texts of the tokens from `first` to before `last`, without comments."""
         return [token.text for token in self.tokens[max(first, 0):last] if token.kind != "comment"]
 
@@ -31,7 +33,7 @@ class Source:
 
     def closing(self, place: int) -> int:
         """The place of what closes the bracket at `place`."""
-        due: List[str] = []
+        due: list[str] = []
         for here in range(place, len(self.tokens)):
             token = self.tokens[here]
             if token.kind != "punct":
@@ -70,7 +72,7 @@ class Source:
             place = before
         return place
 
-    def before_in_head(self, place: int) -> Optional[int]:
+    def before_in_head(self, place: int) -> int | None:
         """The place of the piece of a head that comes right before a token."""
         last = self.at(place - 1)
         if last.is_word("pub"):
@@ -90,13 +92,13 @@ class Source:
         near = "\n\n" not in self.text[token.end:self.at(place).start]
         return alone and near and not token.text.startswith("//!")
 
-    def attribute_start(self, bracket: int) -> Optional[int]:
+    def attribute_start(self, bracket: int) -> int | None:
         """The place of the `#` of an attribute that ends there, or None where that is one of the whole crate."""
         while bracket >= 0 and not self.at(bracket).is_punct("#"):
             bracket -= 1
         return None if self.at(bracket + 1).is_punct("!") else bracket
 
-    def function_of(self, place: int) -> Optional[int]:
+    def function_of(self, place: int) -> int | None:
         """The place of the `fn` whose clauses begin at `place`, or None for those of a closure or a loop."""
         depth = 0
         for here in range(place - 1, -1, -1):
@@ -110,19 +112,19 @@ class Source:
             depth += (token.text in ")]}") - (token.text in "([{")
         return None
 
-    def parameters(self, function: int) -> Dict[str, str]:
+    def parameters(self, function: int) -> dict[str, str]:
         """The parameters of a function by their names, with the texts of their types, without lifetimes."""
         opening = self.next_punct(function, "(")
-        found: Dict[str, str] = {}
+        found: dict[str, str] = {}
         for words in self.list_items(opening, self.closing(opening)):
             if ":" in words:
                 colon = words.index(":")
                 found[words[colon - 1] if colon else ""] = " ".join(words[colon + 1:])
         return found
 
-    def list_items(self, opening: int, closing: int) -> List[List[str]]:
+    def list_items(self, opening: int, closing: int) -> list[list[str]]:
         """The texts of what commas part between two brackets."""
-        items: List[List[str]] = [[]]
+        items: list[list[str]] = [[]]
         depth = 0
         for place in range(opening + 1, closing):
             token = self.tokens[place]

@@ -1,8 +1,11 @@
-"""Takes out of a source what is there for proofs alone. A rule looks at one place, and answers the place after what it has
-dealt with, or None where it has nothing to say there."""
+"""Takes out of a source what is there for proofs alone. A rule looks at one place, and answers the place after what it
+has dealt with, or None where it has nothing to say there."""
+
+from __future__ import annotations
 
 import re
-from typing import Callable, Dict, List, Optional
+from collections.abc import Callable
+from typing import Optional
 
 from .edits import Edits
 from .remarks import keep_clauses, keep_item
@@ -25,7 +28,7 @@ def strip(source: Source, edits: Edits) -> None:
         place = next((after for after in found if after is not None), place + 1)
 
 
-def ghost_item(source: Source, place: int, edits: Edits) -> Optional[int]:
+def ghost_item(source: Source, place: int, edits: Edits) -> int | None:
     """An import of definitions goes; another ghost item stays as a comment."""
     token = source.at(place)
     head = source.head(place)
@@ -36,9 +39,9 @@ def ghost_item(source: Source, place: int, edits: Edits) -> Optional[int]:
     return place + 1
 
 
-def clauses(source: Source, place: int, edits: Edits) -> Optional[int]:
-    """The clauses of a function become comments, with the comments among them, and tests of what it requires; those of a closure or
-    a loop go."""
+def clauses(source: Source, place: int, edits: Edits) -> int | None:
+    """The clauses of a function become comments, with the comments among them, and tests of what it requires; those of
+    a closure or a loop go."""
     first, last = place, place
     while source.at(first - 1).kind == "comment":
         first -= 1
@@ -55,7 +58,7 @@ def clauses(source: Source, place: int, edits: Edits) -> Optional[int]:
     return last + 1
 
 
-def proof_attribute(source: Source, place: int, edits: Edits) -> Optional[int]:
+def proof_attribute(source: Source, place: int, edits: Edits) -> int | None:
     """`#[tactic(..)]`, `#![tactic(..)]` and the like go."""
     bracket = attribute_bracket(source, place)
     if bracket is None or source.at(bracket + 1).text not in PROOF_ATTRIBUTES:
@@ -65,7 +68,7 @@ def proof_attribute(source: Source, place: int, edits: Edits) -> Optional[int]:
     return closing + 1
 
 
-def derive(source: Source, place: int, edits: Edits) -> Optional[int]:
+def derive(source: Source, place: int, edits: Edits) -> int | None:
     """`Drop` goes out of a list of derives: what Rust drops it drops by itself."""
     bracket = attribute_bracket(source, place)
     if bracket is None or source.at(bracket + 1).text != "derive":
@@ -81,14 +84,15 @@ def derive(source: Source, place: int, edits: Edits) -> Optional[int]:
     return closing + 1
 
 
-def attribute_bracket(source: Source, place: int) -> Optional[int]:
+def attribute_bracket(source: Source, place: int) -> int | None:
     """The place of the `[` of the attribute that begins there."""
     bracket = place + (2 if source.at(place + 1).is_punct("!") else 1)
     return bracket if source.at(bracket).is_punct("[") else None
 
 
-def implementation(source: Source, place: int, edits: Edits) -> Optional[int]:
-    """An `impl Model`, which says what a value means in a proof, stays as a comment; an `impl Drop` gets Rust's form."""
+def implementation(source: Source, place: int, edits: Edits) -> int | None:
+    """An `impl Model`, which says what a value means in a proof, stays as a comment; an `impl Drop` gets Rust's form.
+    """
     brace = source.next_punct(place, "{;),")
     names = source.words(place, brace)
     if not source.at(brace).is_punct("{") or "for" not in names:
@@ -107,7 +111,8 @@ def implementation(source: Source, place: int, edits: Edits) -> Optional[int]:
 
 
 def drop_by_parts(source: Source, brace: int, edits: Edits) -> None:
-    """`fn drop(self) { let T { a, b } = self; ..` takes the parts. Rust's `drop` is lent the value, so it copies them."""
+    """`fn drop(self) { let T { a, b } = self; ..` takes the parts. Rust's `drop` is lent the value, so it copies them.
+    """
     place = next((at for at in range(brace, source.closing(brace)) if source.at(at).is_word("fn")), brace)
     if not source.reads(place, "fn drop ( self ) { let") or not source.at(place + 8).is_punct("{"):
         raise Trouble("a drop of another form")
@@ -121,7 +126,7 @@ def drop_by_parts(source: Source, brace: int, edits: Edits) -> None:
     edits.put(source.at(place + 7).start, source.at(closing + 2).end, f"({', '.join(parts)}) = unsafe {{ ({copies}) }}")
 
 
-def bound(source: Source, place: int, edits: Edits) -> Optional[int]:
+def bound(source: Source, place: int, edits: Edits) -> int | None:
     """A bound `Drop` goes, with the `+` or the `:` before it."""
     before, after = source.at(place - 1), source.at(place + 1)
     if not before.is_punct("+") and not (before.is_punct(":") and after.kind == "punct" and after.text in ",>"):
@@ -130,7 +135,7 @@ def bound(source: Source, place: int, edits: Edits) -> Optional[int]:
     return place + 1
 
 
-def expect_with_runtime(source: Source, place: int, edits: Edits) -> Optional[int]:
+def expect_with_runtime(source: Source, place: int, edits: Edits) -> int | None:
     """`.expect(rt, ..)`: Rust's takes the message alone."""
     if not source.at(place - 1).is_punct("."):
         return None
@@ -142,5 +147,6 @@ def expect_with_runtime(source: Source, place: int, edits: Edits) -> Optional[in
 
 
 # By the kind or, of other tokens, the text of the token at which they may have something to say.
-RULES: Dict[str, List[Rule]] = {"ghost": [ghost_item], "clause": [clauses], "#": [proof_attribute, derive], "impl": [implementation],
+RULES: dict[str, list[Rule]] = {"ghost": [ghost_item], "clause": [clauses], "#": [proof_attribute, derive],
+                                "impl": [implementation],
                                 "Drop": [bound], "expect": [expect_with_runtime]}

@@ -65,14 +65,16 @@ def difference(source: str, export: str, role: Role = Role()) -> str | None:
 
 class Scanning(unittest.TestCase):
     def test_words_of_each_kind(self) -> None:
-        words = words_of("a1 'b 'c' '\\'' \"d \\\" e\" br#\"f\"#\n // g\n1.5_u8 0..2 requires* h { \"}\" i' } ghost j: { k }, ghost m: { n } = { o }; l", True)
+        words = words_of("a1 'b 'c' '\\'' \"d \\\" e\" br#\"f\"#\n // g\n"
+                         "1.5_u8 0..2 requires* h { \"}\" i' } ghost j: { k }, ghost m: { n } = { o }; l", True)
         self.assertEqual([word.text for word in words],
                          ["a1", "'b", "'c'", "'\\''", '"d \\" e"', 'br#"f"#', "// g", "1.5_u8", "0", ".", ".", "2",
                           "requires* h { \"}\" i' }", "ghost j: { k },", "ghost m: { n } = { o };", "l"])
         self.assertEqual([word.line for word in words][5:8], [1, 2, 3])
 
     def test_a_group_has_groups(self) -> None:
-        self.assertEqual([word.text for word in words_of("requires { { a } b } c", True)], ["requires { { a } b }", "c"])
+        self.assertEqual([word.text for word in words_of("requires { { a } b } c", True)],
+                         ["requires { { a } b }", "c"])
 
     def test_what_does_not_end_is_refused(self) -> None:
         for text in ('"a', "requires { a", "requires a b { c }", "ghost a", "/* a"):
@@ -102,14 +104,19 @@ class Differences(unittest.TestCase):
         self.assertRegex(self.refused("if n < 3", "if n > 3"), r"^:\d+: ")
 
     def test_changes_of_code(self) -> None:
-        for old, new in (("#![no_std]\n", ""), ("pub fn f", "fn f"), ("pub fn f", "pub fn F"), ("T>(", "T: Copy>("), ("U: Clone + Copy>", "U: Clone>"), ("#[inline]\n", ""), ('"a  b"', '"a b"'), ("let rt = ", "let rt = &"),
-                         ('expect("c")', 'expect(rt, "c")'), ("derive(Debug)", "derive()"), ("use std::prelude::kit::*;", "")):
+        for old, new in (("#![no_std]\n", ""), ("pub fn f", "fn f"), ("pub fn f", "pub fn F"), ("T>(", "T: Copy>("),
+                         ("U: Clone + Copy>", "U: Clone>"), ("#[inline]\n", ""), ('"a  b"', '"a b"'),
+                         ("let rt = ", "let rt = &"),
+                         ('expect("c")', 'expect(rt, "c")'), ("derive(Debug)", "derive()"),
+                         ("use std::prelude::kit::*;", "")):
             self.assertIsNotNone(self.refused(old, new), new)
 
     def test_tests_that_do_not_follow_from_a_clause(self) -> None:
-        for old, new in (("assert!(f < self.count)", "assert!(f <= self.count)"), ("    assert!(f < self.count);\n", ""),
+        for old, new in (("assert!(f < self.count)", "assert!(f <= self.count)"),
+                         ("    assert!(f < self.count);\n", ""),
                          ("assert!(f < self.count)", "debug_assert!(f < self.count)"), ("<= 1048576", "<= 1048577"),
-                         ("debug_assert!(m < 3)", "assert!(m < 3)"), ("debug_assert!(m < 3)", "debug_assert!(m < g())")):
+                         ("debug_assert!(m < 3)", "assert!(m < 3)"),
+                         ("debug_assert!(m < 3)", "debug_assert!(m < g())")):
             self.assertIsNotNone(self.refused(old, new), new)
 
     def test_a_part_of_a_choice_or_of_a_conclusion_is_no_requirement(self) -> None:
@@ -117,16 +124,19 @@ class Differences(unittest.TestCase):
             source = f"fn f(n: u32, m: u32)\n    requires {{ {clause} }}\n{{\n    g()\n}}\n"
             export = exported(source)
             self.assertIsNone(difference(source, export))
-            self.assertIsNotNone(difference(source, export.replace("    g()", "    debug_assert!(n < 3);\n    g()")), clause)
+            self.assertIsNotNone(difference(source, export.replace("    g()", "    debug_assert!(n < 3);\n    g()")),
+                                 clause)
 
     def test_what_only_looks_as_if_it_were_for_proofs_stays(self) -> None:
-        for source in ("use std::ops::{Drop, Deref};\n", "impl Model for S {\n    fn f() {}\n}\n", "#[tactics]\nfn f() {}\n"):
+        for source in ("use std::ops::{Drop, Deref};\n", "impl Model for S {\n    fn f() {}\n}\n",
+                       "#[tactics]\nfn f() {}\n"):
             self.assertIsNone(difference(source, source))
             self.assertIsNotNone(difference(source, "\n"))
 
     def test_a_test_that_does_not_end(self) -> None:
         start, end = self.export.split("    assert!(f < self.count);")
-        self.assertIsNotNone(difference(SOURCE, start + "    assert!(f < self.count)" + end.replace(";", ""), Role(root=True)))
+        self.assertIsNotNone(difference(SOURCE, start + "    assert!(f < self.count)" + end.replace(";", ""),
+                                        Role(root=True)))
 
     def test_a_clause_that_no_comment_shows(self) -> None:
         self.assertIn("no comment shows", self.refused("(m < 3) }", "(m < 4) }"))
@@ -157,18 +167,21 @@ class Folders(unittest.TestCase):
 
     def test_a_file_too_few_and_too_many(self) -> None:
         os.rename(self.export / "crates/a/src/b.rs", self.export / "crates/a/src/c.rs")
-        self.assertEqual([text.rsplit("/", 1)[1] for text in self.differences()], ["b.rs is missing", "c.rs is of no source"])
+        self.assertEqual([text.rsplit("/", 1)[1] for text in self.differences()],
+                         ["b.rs is missing", "c.rs is of no source"])
 
     def test_an_empty_folder(self) -> None:
         self.assertEqual(len(comparing.compared(self.repository, self.export / "none").differences), 1)
 
 
 class RandomChanges(unittest.TestCase):
-    """One token of an export is changed: left out, written twice, or another one of the same file is put in its place."""
+    """One token of an export is changed: left out, written twice, or another one of the same file is put in its place.
+    """
 
     def test_each_is_refused(self) -> None:
         chance = random.Random(SEED)
-        sources = [(crate.role(path), path) for crate in crates.crates_of(REPOSITORY).values() for path in crate.sources()]
+        sources = [(crate.role(path), path) for crate in crates.crates_of(REPOSITORY).values()
+                   for path in crate.sources()]
         for _ in range(CHANGES):
             role, path = chance.choice(sources)
             source = path.read_text(encoding="utf-8")

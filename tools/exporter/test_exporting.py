@@ -1,4 +1,4 @@
-"""Tests of the exporter on small texts. The check `exporter-tests` runs them."""
+"""Tests of the exporter on small texts. The check `unit-tests` runs them."""
 
 from __future__ import annotations
 
@@ -18,8 +18,10 @@ class Tokens(unittest.TestCase):
         return [(token.kind, token.text) for token in tokens.tokens(text)]
 
     def test_a_clause_and_a_ghost_item_are_one_token_each(self) -> None:
-        self.assertEqual(self.kinds("requires* a { \"}\" x' } ghost b: { c }, ghost e: { f } = { g }; ghost use a.{b}; d"),
-                         [("clause", "requires* a { \"}\" x' }"), ("ghost", "ghost b: { c },"), ("ghost", "ghost e: { f } = { g };"), ("ghost", "ghost use a.{b};"), ("word", "d")])
+        self.assertEqual(self.kinds("requires* a { \"}\" x' } ghost b: { c }, ghost e: { f } = { g }; ghost use a.{b}; "
+                                    "d"),
+                         [("clause", "requires* a { \"}\" x' }"), ("ghost", "ghost b: { c },"),
+                          ("ghost", "ghost e: { f } = { g };"), ("ghost", "ghost use a.{b};"), ("word", "d")])
 
     def test_texts_characters_and_lifetimes(self) -> None:
         self.assertEqual([kind for kind, _ in self.kinds("'a' '\\'' b'\\n' 'a \"\\\"\" r#\"\"\"# // b")],
@@ -34,14 +36,16 @@ class Tokens(unittest.TestCase):
 class Stripping(unittest.TestCase):
     def test_clauses_go_from_their_place(self) -> None:
         self.assertIn("fn f(a: u8) -> u8 {\n",
-                      exported("fn f(a: u8) -> u8\n    requires { a < n }\n    // Why.\n    ensures* name { \"}\" ≡ x' }\n{\n    a\n}\n"))
+                      exported("fn f(a: u8) -> u8\n    requires { a < n }\n    // Why.\n"
+                               "    ensures* name { \"}\" ≡ x' }\n{\n    a\n}\n"))
 
     def test_clauses_of_a_declared_method(self) -> None:
         self.assertEqual(exported("trait T {\n    fn f(&self) -> u8\n        ensures { result ≡ 1 };\n}\n"),
                          "trait T {\n    // ensures { result ≡ 1 }\n    fn f(&self) -> u8;\n}\n")
 
     def test_clauses_of_a_closure_and_a_loop_go(self) -> None:
-        self.assertEqual(exported("fn f() {\n    g(|a| requires { a < 3 } { a + 1 })\n}\n"), "fn f() {\n    g(|a| { a + 1 })\n}\n")
+        self.assertEqual(exported("fn f() {\n    g(|a| requires { a < 3 } { a + 1 })\n}\n"),
+                         "fn f() {\n    g(|a| { a + 1 })\n}\n")
 
     def test_texts_and_remarks_stay(self) -> None:
         text = "// requires { x } ghost\nfn f() -> &'static str {\n    \"ghost requires { x }\"\n}\n"
@@ -55,8 +59,10 @@ class Stripping(unittest.TestCase):
         self.assertEqual(exported("ghost use A.{b, ◌≡◌};\n\nuse a::b;\n"), "use a::b;\n")
 
     def test_a_model_becomes_a_comment(self) -> None:
-        self.assertEqual(exported("/// S.\nstruct S(u8);\n\nimpl Model for S {\n    ghost Value = { ℕ };\n}\n\nfn f() {}\n"),
-                         "/// S.\nstruct S(u8);\n\n// impl Model for S {\n//     ghost Value = { ℕ };\n// }\n\nfn f() {}\n")
+        self.assertEqual(exported("/// S.\nstruct S(u8);\n\nimpl Model for S {\n    ghost Value = { ℕ };\n}\n\n"
+                                  "fn f() {}\n"),
+                         "/// S.\nstruct S(u8);\n\n// impl Model for S {\n//     ghost Value = { ℕ };\n// }\n\n"
+                         "fn f() {}\n")
 
     def test_a_model_with_code_is_refused(self) -> None:
         with self.assertRaises(Trouble):
@@ -68,8 +74,10 @@ class Stripping(unittest.TestCase):
         self.assertEqual(exported("fn f<T: A + Drop, U: Drop>(t: T) {}\n"), "fn f<T: A, U>(t: T) {}\n")
 
     def test_a_drop_copies_the_parts(self) -> None:
-        self.assertIn("fn drop(&mut self) {\n        let (a, b) = unsafe { (std::mem::part_of_dropped(&self.a), std::mem::part_of_dropped(&self.b)) };",
-                      exported("impl Drop for S {\n    fn drop(self) {\n        let S { a, b } = self;\n        free(a, b);\n    }\n}\n"))
+        self.assertIn("fn drop(&mut self) {\n        let (a, b) = unsafe { (std::mem::part_of_dropped(&self.a), "
+                      "std::mem::part_of_dropped(&self.b)) };",
+                      exported("impl Drop for S {\n    fn drop(self) {\n        let S { a, b } = self;\n"
+                               "        free(a, b);\n    }\n}\n"))
 
     def test_a_drop_of_another_form_is_refused(self) -> None:
         with self.assertRaises(Trouble):
@@ -90,14 +98,16 @@ class Stripping(unittest.TestCase):
 class Heads(unittest.TestCase):
     def test_a_test_gets_its_runtime(self) -> None:
         self.assertEqual(exported("#[test]\nfn f(rt: HostRuntime) -> A {\n    g(rt);\n}\n"),
-                         "use std::prelude::kit::*;\n\n#[test]\nfn f() -> A {\n    let rt = std::rt::host();\n    g(rt);\n}\n")
+                         "use std::prelude::kit::*;\n\n#[test]\nfn f() -> A {\n    let rt = std::rt::host();\n"
+                         "    g(rt);\n}\n")
 
     def test_another_function_keeps_its_parameter(self) -> None:
         self.assertIn("fn g(rt: HostRuntime) {\n    h", exported("fn g(rt: HostRuntime) {\n    h(rt);\n}\n"))
 
     def test_a_root_names_the_library_after_its_own_comment(self) -> None:
         self.assertEqual(exported("//! A.\n#![deny(\n    b,\n)]\n\nmod c;\n", Role(root=True)),
-                         "//! A.\n#![deny(\n    b,\n)]\n\n#![no_std]\n\n#[macro_use]\nextern crate rattle_std as std;\n\nmod c;\n")
+                         "//! A.\n#![deny(\n    b,\n)]\n\n#![no_std]\n\n#[macro_use]\nextern crate rattle_std as std;\n"
+                         "\nmod c;\n")
 
     def test_a_program_has_a_start(self) -> None:
         text = exported("fn main() {}\n", Role(root=True, program=True))
@@ -108,20 +118,24 @@ class Heads(unittest.TestCase):
 class Clauses(unittest.TestCase):
     def test_those_of_a_public_function_are_its_documentation(self) -> None:
         self.assertEqual(exported("/// F.\n#[inline]\npub const fn f(a: u8)\n    requires { a ∈\n        b }\n{}\n"),
-                         "/// F.\n///\n/// ```text\n/// requires { a ∈\n///     b }\n/// ```\n#[inline]\npub const fn f(a: u8) {}\n")
+                         "/// F.\n///\n/// ```text\n/// requires { a ∈\n///     b }\n/// ```\n#[inline]\n"
+                         "pub const fn f(a: u8) {}\n")
 
     def test_comments_among_them_stay_there(self) -> None:
         self.assertEqual(exported("/// F.\nfn f(a: A)\n    requires { Is a }\n    // Why.\n    ensures { Is a }\n{}\n"),
-                         "/// F.\n///\n/// ```text\n/// requires { Is a }\n/// // Why.\n/// ensures { Is a }\n/// ```\nfn f(a: A) {}\n")
+                         "/// F.\n///\n/// ```text\n/// requires { Is a }\n/// // Why.\n/// ensures { Is a }\n/// ```\n"
+                         "fn f(a: A) {}\n")
 
     def test_those_of_a_private_function_are_a_comment(self) -> None:
-        self.assertEqual(exported("// F.\nfn f(a: A)\n    requires { Is a }\n{}\n"), "// F.\n// requires { Is a }\nfn f(a: A) {}\n")
+        self.assertEqual(exported("// F.\nfn f(a: A)\n    requires { Is a }\n{}\n"),
+                         "// F.\n// requires { Is a }\nfn f(a: A) {}\n")
 
 
 class Requirements(unittest.TestCase):
     def test_an_unsafe_body_is_always_tested(self) -> None:
         self.assertIn("{\n    assert!(f < self.count);\n    unsafe",
-                      exported("fn f(&self, f: usize)\n    requires { f < self.now.count }\n{\n    unsafe { g() }\n}\n"))
+                      exported("fn f(&self, f: usize)\n    requires { f < self.now.count }\n"
+                               "{\n    unsafe { g() }\n}\n"))
 
     def test_an_unsafe_body_that_cannot_be_tested_is_refused(self) -> None:
         with self.assertRaises(Trouble):
@@ -135,14 +149,16 @@ class Requirements(unittest.TestCase):
         types = {"s": "& [ u8 ]", "n": "u32", "m": "usize", "b": "u8", "f": "impl Fn ( u8 )"}
         cases = {"length s.now ≤ 3": ["s.len() <= 3"], "n < length s.now": ["(n as u128) < (s.len() as u128)"],
                  "m + 1 ≤ length s.now": ["(m as u128) + 1 <= (s.len() as u128)"], "b < 256": ["(b as u128) < 256"],
-                 "n < 2 ^ 32": ["(n as u128) < 4294967296"], "n ≢ 0": ["n != 0"], "IsTrue n": [], "n < other": [], "3 < 4": [],
+                 "n < 2 ^ 32": ["(n as u128) < 4294967296"], "n ≢ 0": ["n != 0"], "IsTrue n": [], "n < other": [],
+                 "3 < 4": [],
                  "(n < 3) ⊎ (m < 4)": [], "n < 3 → m < 4": [], "self.now.count < n": []}
         for clause, tests in cases.items():
             self.assertEqual(requirements.conditions_of(f"requires {{ {clause} }}", types, False), tests, clause)
 
     def test_the_types_of_parameters(self) -> None:
         self.assertIn("debug_assert!(n < 3)",
-                      exported("fn f<'a>(&'a self, mut g: impl Fn(u8, u8) -> u8, n: u8)\n    requires { n < 3 }\n{\n    g()\n}\n"))
+                      exported("fn f<'a>(&'a self, mut g: impl Fn(u8, u8) -> u8, n: u8)\n    requires { n < 3 }\n{\n"
+                               "    g()\n}\n"))
 
 
 class Repository:

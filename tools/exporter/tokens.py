@@ -1,8 +1,9 @@
 """The tokens of a source: those of Rust, with each clause and each ghost item as one token."""
 
+from __future__ import annotations
+
 import re
 from dataclasses import dataclass
-from typing import List, Match, Pattern
 
 CLAUSES = ("requires", "ensures")
 
@@ -26,7 +27,9 @@ class Trouble(Exception):
 
 @dataclass
 class Token:
-    """A piece of the text from `start` to `end`. Its kind is comment, text, char, life, word, number, punct, clause or ghost."""
+    """A piece of the text from `start` to `end`. Its kind is comment, text, char, life, word, number, punct, clause or
+    ghost.
+    """
 
     kind: str
     start: int
@@ -40,9 +43,9 @@ class Token:
         return self.kind == "word" and self.text == text
 
 
-def tokens(text: str) -> List[Token]:
+def tokens(text: str) -> list[Token]:
     """All tokens of a file. Blanks are none."""
-    found: List[Token] = []
+    found: list[Token] = []
     at = after(BLANKS, text, 0)
     while at < len(text):
         token = token_at(text, at)
@@ -51,7 +54,7 @@ def tokens(text: str) -> List[Token]:
     return found
 
 
-def after(pattern: Pattern[str], text: str, at: int) -> int:
+def after(pattern: re.Pattern[str], text: str, at: int) -> int:
     """Where what the pattern takes from a place on ends; the place itself, where it takes nothing."""
     found = pattern.match(text, at)
     return found.end() if found else at
@@ -71,7 +74,7 @@ def token_at(text: str, at: int) -> Token:
     return Token(kind, at, end, text[at:end])
 
 
-def kind_of(match: Match[str]) -> str:
+def kind_of(match: re.Match[str]) -> str:
     return "text" if match.lastgroup == "marks" else match.lastgroup or ""
 
 

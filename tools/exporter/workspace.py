@@ -1,7 +1,9 @@
 """The files of an export, and the folder that holds them."""
 
+from __future__ import annotations
+
 from pathlib import Path
-from typing import Dict, Iterable, List, Optional
+from collections.abc import Iterable
 
 from . import dependencies
 from .crates import Crate
@@ -30,8 +32,9 @@ panic = "abort"
 """
 
 
-def files_of(crates: List[Crate], repository: Path, config: Optional[str]) -> Dict[str, str]:
-    """All files by their paths: with a configuration of cargo public crates are the registry's, else those of shims/."""
+def files_of(crates: list[Crate], repository: Path, config: str | None) -> dict[str, str]:
+    """All files by their paths: with a configuration of cargo public crates are the registry's, else those of shims/.
+    """
     license_text = (repository / "LICENSE").read_text(encoding="utf-8")
     shims = [name for name in dependencies.shim_names() if config is None or name not in dependencies.PUBLIC]
     members = [f"crates/{crate.name}" for crate in crates] + [f"shims/{name}" for name in shims]
@@ -48,7 +51,7 @@ def files_of(crates: List[Crate], repository: Path, config: Optional[str]) -> Di
     return files
 
 
-def shim_files(name: str) -> Dict[str, str]:
+def shim_files(name: str) -> dict[str, str]:
     """A small crate with its manifest, to which manifest.toml adds what it needs."""
     folder = dependencies.SHIMS / name
     more = folder / "manifest.toml"
@@ -59,7 +62,7 @@ def shim_files(name: str) -> Dict[str, str]:
     return files
 
 
-def source_files(crate: Crate) -> Dict[str, str]:
+def source_files(crate: Crate) -> dict[str, str]:
     files = {}
     for path in crate.sources():
         try:
@@ -70,7 +73,7 @@ def source_files(crate: Crate) -> Dict[str, str]:
     return files
 
 
-def workspace_manifest(members: List[str]) -> str:
+def workspace_manifest(members: list[str]) -> str:
     names = "".join(f'    "{member}",\n' for member in members)
     lints = (HERE / "lints.toml").read_text(encoding="utf-8")
     return f'{MARK}\n[workspace]\nresolver = "3"\nmembers = [\n{names}]\n{PROFILE}\n{lints}'
@@ -102,9 +105,9 @@ def dependency_line(crate: str, name: str, exported_names: Iterable[str], shims:
     raise Trouble(f"{crate} uses {name}, for which tools/exporter/shims has nothing")
 
 
-def write(folder: Path, files: Dict[str, str]) -> None:
-    """Makes the folder hold these files, and no other in what an export makes. A file that is so already isn't touched, so that
-    cargo builds what changed alone."""
+def write(folder: Path, files: dict[str, str]) -> None:
+    """Makes the folder hold these files, and no other in what an export makes. A file that is so already isn't touched,
+    so that cargo builds what changed alone."""
     refuse_foreign(folder)
     for name, text in files.items():
         path = folder / name

@@ -17,7 +17,7 @@ const takes = {
 function wrongOperand(words, line) {
   const [[, name], ...operands] = words, due = facts.assembly.operands[name] || [];
   const wrong = operands.find(([, word], k) => k < due.length && !takes[due[k]](word));
-  if (wrong) return [wrong[0], quoted(wrong[1]) + " isn't " + facts.assembly.called[due[operands.indexOf(wrong)]]];
+  if (wrong) return [wrong[0], quoted(wrong[1]) + " isn't " + facts.assembly.called[due[operands.indexOf(wrong)]] + hint(wrong[1])];
   const column = operands.length > due.length ? operands[due.length][0] : encoder.encode(line).length + 1;
   return [column, name + " has " + due.length + " operands, and here are " + operands.length];
 }
@@ -38,8 +38,12 @@ function unknownWord(word) {
   if (ofAsmx.includes(word)) return "no line of an assembly text begins with " + quoted(word) + ": the file is a source of tools/asmx";
   const near = closest(word, [...Object.keys(operands).filter(name => !name.startsWith(".")), ...Object.keys(like)]);
   const meant = [...new Set(near.map(name => like[name] || name))].join(" or ");
-  return "no line begins with " + quoted(word) + (meant ? ": is " + meant + " meant?" : "");
+  const what = word.startsWith(".") ? "no line begins with " + quoted(word) : quoted(word) + " is no instruction";
+  return what + (meant ? "; did you mean " + meant + "?" : hint(word));
 }
+
+// What to do about a sign that other assemblers have
+const hint = word => facts.assembly.signs.filter(([sign]) => word.includes(sign)).map(([, told]) => ": " + told)[0] || "";
 
 // What is wrong with line `place`, of this kind
 function judgeAssembly(lines, place, kind) {

@@ -1,11 +1,14 @@
-"""The compilers that can make a module: one that has the target wasm32, or Debian's with the library built of its sources."""
+"""The compilers that can make a module: one that has the target wasm32, or Debian's with the library built of its
+sources.
+"""
+
+from __future__ import annotations
 
 import os
 import shutil
 import subprocess
 from dataclasses import dataclass, field
 from pathlib import Path
-from typing import Dict, List, Optional
 
 from ..common.calling import Failed
 
@@ -23,10 +26,10 @@ LIBRARY = (
 class Compiler:
     """What cargo has to be told, as variables of the environment."""
 
-    settings: Dict[str, str] = field(default_factory=dict)
+    settings: dict[str, str] = field(default_factory=dict)
 
 
-def found(debian: Optional[Path]) -> Optional[Compiler]:
+def found(debian: Path | None) -> Compiler | None:
     """The compiler, or None where there is none that can make a module."""
     if not shutil.which("cargo"):
         return None
@@ -36,7 +39,7 @@ def found(debian: Optional[Path]) -> Optional[Compiler]:
     return Compiler() if root and has_target(root / "lib") else None
 
 
-def sysroot() -> Optional[Path]:
+def sysroot() -> Path | None:
     """The folder of the compiler that is in the PATH."""
     try:
         done = subprocess.run(["rustc", "--print", "sysroot"], stdout=subprocess.PIPE, stderr=subprocess.DEVNULL)
@@ -71,7 +74,7 @@ def linker() -> str:
     return path
 
 
-def build_library(place: Path, settings: Dict[str, str]) -> None:
+def build_library(place: Path, settings: dict[str, str]) -> None:
     sources = next((place / "usr" / "src").glob("rustc-*/library"), None)
     if sources is None:
         raise Failed(f"{place} has no usr/src/rustc-*/library: unpack rust-web-src there")
@@ -79,7 +82,8 @@ def build_library(place: Path, settings: Dict[str, str]) -> None:
     out.mkdir(parents=True, exist_ok=True)
     environment = dict(os.environ, RUSTC_BOOTSTRAP="1", **settings)
     for name, source, features, needs in LIBRARY:
-        words = [settings["RUSTC"], "--target", TARGET, "--crate-type", "rlib", "--edition", "2024", "--crate-name", name,
+        words = [settings["RUSTC"], "--target", TARGET, "--crate-type", "rlib", "--edition", "2024", "--crate-name",
+                 name,
                  "-C", "opt-level=3", "-C", "panic=abort", "-C", "metadata=wasm", "-Z", "force-unstable-if-unmarked",
                  "--cap-lints", "allow", "--out-dir", str(out), "-L", str(out)]
         words += [word for feature in features for word in ("--cfg", f'feature="{feature}"')]
@@ -87,8 +91,9 @@ def build_library(place: Path, settings: Dict[str, str]) -> None:
         run(f"{name} for {TARGET}", [*words, str(sources / source / "src" / "lib.rs")], environment)
 
 
-def run(what: str, words: List[str], environment: Dict[str, str], place: Optional[Path] = None) -> None:
+def run(what: str, words: list[str], environment: dict[str, str], place: Path | None = None) -> None:
     """Runs a command that builds, and shows what it said where it fails."""
-    done = subprocess.run(words, env=environment, cwd=place, stdin=subprocess.DEVNULL, stdout=subprocess.PIPE, stderr=subprocess.STDOUT)
+    done = subprocess.run(words, env=environment, cwd=place, stdin=subprocess.DEVNULL, stdout=subprocess.PIPE,
+                          stderr=subprocess.STDOUT)
     if done.returncode:
         raise Failed(f"{what} can't be built:\n{done.stdout.decode('utf-8', 'replace')[-3000:]}")

@@ -9,7 +9,6 @@ class Engine {
   constructor(module) {
     this.module = module;
     this.made = null;
-    this.owner = null;                             // whose machine the last run handed back, where somebody says so
   }
 
   instance() {
@@ -22,7 +21,7 @@ class Engine {
 
   // A run of `words`, which reads by `read(buffer)` and writes by `write(bytes)`: its status.
   command(words, read, write) {
-    Object.assign(this, {read, write, owner: null});
+    Object.assign(this, {read, write});
     const made = this.instance(), head = encoder.encode(words), at = made.room(head.length) >>> 0;
     new Uint8Array(made.memory.buffer).set(head, at);
     try {
@@ -32,6 +31,21 @@ class Engine {
       if (!(failed instanceof WebAssembly.RuntimeError)) throw failed;
       return TRAP;
     }
+  }
+
+  // What the judge answers to a request
+  judge(request) {
+    const written = new Written();
+    this.write = bytes => written.take(bytes);
+    const made = this.instance(), bytes = encoder.encode(request), at = made.room(bytes.length) >>> 0;
+    new Uint8Array(made.memory.buffer).set(bytes, at);
+    try {
+      made.judge(at, bytes.length);
+    } catch (failed) {
+      this.made = null;
+      throw failed;
+    }
+    return decoder.decode(written.bytes());
   }
 
   // The words of frames, from `first` on, of the machine that the last run handed back, one frame after the other

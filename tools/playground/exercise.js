@@ -1,35 +1,22 @@
-// The exercises, by the judge of tools/exercises, which translating.py has made JavaScript of.
+// The exercises, by the judge of the module: tools/judge/src/lib.rs says which lines a request and an answer have.
 "use strict";
-const exercises = (() => {
-/* python.js */
-/* host.js */
-/* modules */
 
-  // What a text reaches of an exercise: as tools/exercise says it
-  function judged(program, name, text, seed) {
-    const [, task] = tasks.EXERCISES.get(name).by(name, seed), bytes = py.toUtf8(text);
-    let reached;
-    try {
-      reached = task.reach(program, bytes);
-    } catch (error) {
-      if (py.is_error(error, calling.Failed)) return {name, cant: error.message};
-      if (!py.is_error(error, reachedModule.BadText)) throw error;
-      return {name, refused: error.args[0]};
-    }
-    const reaches = task.goals.map(goal => py.truth(goal.test(reached)));
-    return {name, goals: task.goals.map(({told, hint}, k) => ({told, hint, good: reaches[k]})), remarks: [...task.remarks(reached, reaches.every(good => good))]};
+// Takes a verdict apart: goals, remarks, and what was refused or parked, of which the page says what it means
+function judged(engine, name, text, seed) {
+  const found = {name, goals: [], remarks: [], trouble: [], more: 0};
+  const secret = Array.from(crypto.getRandomValues(new Uint8Array(8)), byte => byte.toString(16).padStart(2, "0")).join("");
+  const takes = {
+    yes: told => found.goals.push({told, good: true, hint: ""}), no: told => found.goals.push({told, good: false, hint: ""}),
+    hint: told => { found.goals[found.goals.length - 1].hint = told; }, say: told => found.remarks.push(told),
+    trouble: told => found.trouble.push(told.split("\t")), more: told => { found.more = Number(told); },
+    cant: told => { found.cant = told; }, refused: told => { [found.refused, found.kind] = [Number(told.split(" ")[0]), told.split(" ")[1]]; },
+  };
+  for (const line of engine.judge(["judge", name, seed, secret, text].join("\n")).split("\n").filter(line => line)) {
+    const at = line.indexOf(" ");
+    takes[line.slice(0, at)](line.slice(at + 1));
   }
-  const reachedModule = reached;
+  return found;
+}
 
-  // An exercise's text with the numbers of a seed in the place of the usual ones; it may have them over the end of a line of remarks
-  function retold(name, text, seed) {
-    const exercise = tasks.EXERCISES.get(name), [found] = exercise.by(name, seed), flat = told => told.replaceAll("\n# ", " ");
-    const told = new Map(exercise.values.map(value => [value.text(value.usual), value.text(found[value.name])]));
-    if (!told.size) return text;
-    const quoted = word => word.replace(/[.*+?^${}()|[\]\\]/g, "\\$&").replaceAll(" ", "(?: |\\n# )");
-    const words = [...told.keys()].sort((a, b) => b.length - a.length).map(quoted).join("|");
-    return text.replace(new RegExp("(?<![\\w.])(?:" + words + ")(?![\\w])", "g"), word => told.get(flat(word)));
-  }
-
-  return {judged, retold, names: tasks.EXERCISES.keys(), isProgram: name => tasks.EXERCISES.get(name).by(name, null)[1].is_program};
-})();
+// An exercise's text with the numbers of a seed in the place of the usual ones
+const retold = (engine, name, text, seed) => engine.judge(["tell", name, seed, "", text].join("\n"));

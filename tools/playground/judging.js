@@ -25,6 +25,13 @@ function judgeText() {
   ask({act: "judge", name, text: by("text").value, seed: by("student").value.trim()});
 }
 
+// What was refused or parked: of a script line, text and answer, of a run step, processor, partition, address and line
+function troubleText(parts) {
+  if (parts.length === 3) return "line " + parts[0] + ": " + parts[1] + " \u2192 " + parts[2] + " (" + means(parts[1], parts[2]) + ")";
+  const [step, cpu, partition, , line] = parts;
+  return "step " + step + ": processor " + cpu + ", partition " + partition + ": " + line + " (" + means("", line) + ")";
+}
+
 function drawVerdict(told) {
   const head = told.name + ": ", why = told.why;
   if (told.cant) fill("verdict", make("h2", head + told.cant));
@@ -33,7 +40,9 @@ function drawVerdict(told) {
     const count = told.goals.filter(({good}) => good).length, first = told.goals.find(({good}) => !good);
     const rows = told.goals.map(goal => make("li." + (goal.good ? "reached" : "missing"), make("b", goal.good ? "yes" : "no"), " " + goal.told,
       ...(goal === first ? [make("p", "hint: " + goal.hint)] : [])));
-    fill("verdict", make("h2", head + count + " of " + told.goals.length + " goals are reached"), make("ul", ...rows), ...told.remarks.map(remark => make("p", remark)));
+    const more = told.more ? ["and " + told.more + " more"] : [];
+    const remarks = [...told.remarks, ...(told.trouble.length ? ["what was refused or parked:"] : []), ...told.trouble.map(troubleText), ...more];
+    fill("verdict", make("h2", head + count + " of " + told.goals.length + " goals are reached"), make("ul", ...rows), ...remarks.map(remark => make("p", remark)));
   }
   say(told.goals && told.goals.every(({good}) => good) ? "all goals are reached" : "judged", false);
 }

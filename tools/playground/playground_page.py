@@ -1,4 +1,7 @@
-"""The page that runs: what it has to know of docs/ and examples/, the module, and the views of tools/step, in one file."""
+"""The page that runs: what it has to know of docs/ and examples/, the module, and the views of tools/step, in one file.
+"""
+
+from __future__ import annotations
 
 import argparse
 import base64
@@ -7,36 +10,40 @@ import re
 import tempfile
 import textwrap
 from pathlib import Path
-from typing import Any, Dict, Iterator, List, Optional, Tuple
+from collections.abc import Iterator
+from typing import Any
 
 from ..authors import why
 from ..common import calling, meanings
 from ..common.calling import Failed
+from ..exercises import exercise
 from ..reference import assembly, instructions, script
 from ..step import page
-from . import module, translating
+from . import module
 
 HERE = Path(__file__).resolve().parent
 REPOSITORY = HERE.parent.parent
 EXAMPLES = REPOSITORY / "examples"
 FIRST = "first.pip"
 MOST_EDITED = 1 << 18          # bytes; a longer text is run, and not shown
-MODULES = ("reached", "goals", "on_memory", "on_control", "on_tree", "programs", "break_in", "tasks")     # of the judge, each after those that it uses
 WIDTH = 100                    # of an exercise's lines
 BEGINNING = ".frames 64\n.cpus 1\n.page 0x400000\n"      # without these lines a program is refused
 
 
 def main() -> None:
-    parser = argparse.ArgumentParser(prog="make_page", description="One HTML file that runs the program: the same text, not the same proof.")
+    parser = argparse.ArgumentParser(prog="make_page",
+                                     description="One HTML file that runs the program: the same text, not the same "
+                                                 "proof.")
     parser.add_argument("--to", type=Path, required=True, metavar="FILE", help="the page")
     made = parser.add_mutually_exclusive_group()
     made.add_argument("--module", type=Path, metavar="FILE", help="the module, where make_module has made it")
-    made.add_argument("--debian", type=Path, metavar="FOLDER", help="where Debian's rustc-web and what it needs were unpacked")
+    made.add_argument("--debian", type=Path, metavar="FOLDER",
+                      help="where Debian's rustc-web and what it needs were unpacked")
     given = parser.parse_args()
     calling.guarded("make_page", lambda: write(given.to, given.module, given.debian))
 
 
-def write(to: Path, made: Optional[Path], debian: Optional[Path]) -> None:
+def write(to: Path, made: Path | None, debian: Path | None) -> None:
     with tempfile.TemporaryDirectory() as place:
         if made is None:
             made = Path(place) / "pip.wasm"
@@ -50,53 +57,60 @@ def write(to: Path, made: Optional[Path], debian: Optional[Path]) -> None:
 
 
 def written(binary: bytes) -> str:
-    judge = translating.translated(REPOSITORY / "tools" / "exercises", MODULES)
     packed = base64.b64encode(gzip.compress(binary, mtime=0)).decode()
-    told = {"/* facts */": page.as_data(facts()), "/* modules */": judge, "/* module */": packed}
-    return page.filled("page.html", [str(HERE), page.HERE], told)
+    told = {"/* facts */": page.as_data(facts()), "/* module */": packed}
+    return re.sub(r"(?m)^ *// .*\n", "", page.filled("page.html", [str(HERE), page.HERE], told))     # remarks stay here
 
 
-def facts() -> Dict[str, Any]:
+def facts() -> dict[str, Any]:
     """What the page has of the documents."""
-    further: Dict[bytes, Tuple[Optional[int], ...]] = {b"boot": (script.WORD, script.WORD), b"call": ()}
+    further: dict[bytes, tuple[int | None, ...]] = {b"boot": (script.WORD, script.WORD), b"call": ()}
     forms = {name.decode(): list(form) for name, form in {**script.FORMS, **further}.items()}
-    return {"statuses": list(meanings.statuses().values()), "calls": page.told_calls(), "vectors": meanings.vectors(), "forms": forms,
-            "causes": why.tables(), "assembly": of_assembly(), "ends": ends(), "examples": [*examples(), *exercises()], "most": MOST_EDITED,
+    return {"statuses": list(meanings.statuses().values()), "calls": page.told_calls(), "vectors": meanings.vectors(),
+            "forms": forms,
+            "causes": meanings.causes(), "assembly": of_assembly(), "ends": ends(),
+            "examples": [*examples(), *exercises()], "most": MOST_EDITED,
             "exercises": [{"name": told["exercise"], "kind": told["kind"]} for told in exercises()]}
 
 
-def of_assembly() -> Dict[str, Any]:
+def of_assembly() -> dict[str, Any]:
     """What each word takes that begins a line of an assembly text, and the instructions by their opcodes."""
-    kinds = {opcode: (kind.name, instructions.FORMS[kind.form], kind.least, kind.most) for opcode, kind in instructions.KINDS.items()}
+    kinds = {opcode: (kind.name, instructions.FORMS[kind.form], kind.least, kind.most) for opcode,
+             kind in instructions.KINDS.items()}
     names = [*why.DIRECTIVES, *(name.encode() for name in instructions.OPCODES)]
-    limits = {**{name.decode(): told for name, told in why.LIMITS.items()}, **{name: f"{least} to {most}" for name, _, least, most in kinds.values()}}
-    return {"operands": {name.decode(): why.operands_of(name) for name in names}, "called": why.CALLED, "limits": limits, "ofAsmx": why.OF_ASMX,
-            "like": why.LIKE, "distances": assembly.DISTANCES, "kinds": kinds}
+    limits = {**{name.decode(): told for name, told in why.LIMITS.items()},
+              **{name: f"{least} to {most}" for name, _, least, most in kinds.values()}}
+    return {"operands": {name.decode(): why.operands_of(name) for name in names}, "called": why.CALLED,
+            "limits": limits, "ofAsmx": why.OF_ASMX,
+            "like": why.LIKE, "signs": why.SIGNS, "distances": assembly.DISTANCES, "kinds": kinds}
 
 
-def ends() -> Dict[str, str]:
+def ends() -> dict[str, str]:
     """Of each status of the program what it means, in short."""
-    found = {row[0]: re.sub(r" \([^)]*\)", "", re.split("[:;]", row[1])[0]) for row in meanings.rows(meanings.formats(), "## Statuses of the program") if row[0].isdigit()}
-    if not {"0", "2", "5", "6"} <= set(found):
-        raise Failed("docs/FORMATS.md: 'Statuses of the program' hasn't each status")
+    found = {status: re.sub(r" \([^)]*\)", "", re.split("[:;]", when)[0]) for status, when in meanings.ends().items()}
     return {**found, "99": "the module stopped"}
 
 
 # What there is to choose from
 
-def examples() -> List[Dict[str, str]]:
-    found = [path for path in sorted(EXAMPLES.rglob("*")) if path.suffix in (".pip", ".s") and "solutions" not in path.parts]
-    return [example(path) for path in sorted(found, key=lambda path: (group(path) != "Examples", group(path), path.name != FIRST))]
+def examples() -> list[dict[str, str]]:
+    found = [path for path in sorted(EXAMPLES.rglob("*")) if path.suffix in (".pip", ".s")
+             and "solutions" not in path.parts]
+    return [example(path)
+            for path in sorted(found, key=lambda path: (group(path) != "Examples", group(path), path.name != FIRST))]
 
 
 def group(path: Path) -> str:
-    return path.parent.name.capitalize() if path.parent != EXAMPLES else "Examples" if path.suffix == ".pip" else "Programs"
+    if path.parent != EXAMPLES:
+        return path.parent.name.capitalize()
+    return "Examples" if path.suffix == ".pip" else "Programs"
 
 
-def example(path: Path) -> Dict[str, str]:
+def example(path: Path) -> dict[str, str]:
     """A text, with the answers or the trace that are beside it; of a trace the words of its command, too."""
     is_script = path.suffix == ".pip"
-    made = {"name": path.name, "group": group(path), "kind": "script" if is_script else "assembly", "text": path.read_text(encoding="utf-8")}
+    made = {"name": path.name, "group": group(path), "kind": "script" if is_script else "assembly",
+            "text": path.read_text(encoding="utf-8")}
     beside = path.with_suffix(".out" if is_script else ".run")
     if not beside.exists():
         return made
@@ -105,16 +119,16 @@ def example(path: Path) -> Dict[str, str]:
     return {**made, "words": words, "out": out}
 
 
-def exercises() -> Iterator[Dict[str, str]]:
+def exercises() -> Iterator[dict[str, str]]:
     """Each exercise as remarks, to begin with; of a program with the lines that each has."""
-    text = (REPOSITORY / "docs" / "EXERCISES.md").read_text(encoding="utf-8")
-    for name, told in re.findall(r"^### ([\w-]+)\n(.*?)(?=^##|\Z)", text, re.M | re.S):
+    for name, told in exercise.sections().items():
         solution = next(EXAMPLES.joinpath("solutions").glob(f"{name}.*"), None)
         if solution is None:
             raise Failed(f"docs/EXERCISES.md has the exercise {name}, and examples/solutions has none of it")
         is_script = solution.suffix == ".pip"
-        yield {"name": "exercise " + name, "exercise": name, "group": "Exercises", "kind": "script" if is_script else "assembly",
-               "text": remarks(name, told) + ("" if is_script else BEGINNING)}
+        yield {"name": "exercise " + name, "exercise": name, "group": "Exercises", "kind": "script"
+               if is_script else "assembly",
+               "text": remarks(name, told.partition("\n")[2]) + ("" if is_script else BEGINNING)}
 
 
 def remarks(name: str, told: str) -> str:

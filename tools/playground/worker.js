@@ -67,16 +67,15 @@ function check({examples}) {
 
 // What a text reaches of an exercise; a text that is refused is explained
 function judgeWork({name, text, seed}) {
-  const found = exercises.judged(engine, name, text, seed || null);
+  const found = judged(engine, name, text, seed);
   if (found.refused) {
-    const lines = linesOfText(text), isAssembly = exercises.isProgram(name);
-    const told = isAssembly && /bad line (\d+) (\w+)\n$/.exec(decoder.decode(run(engine, "asm", encoder.encode(text)).bytes));
-    found.why = isAssembly ? explainedAssembly(lines, Number(told[1]), told[2]) : explained(lines, found.refused);
+    const lines = linesOfText(text);
+    found.why = found.kind ? explainedAssembly(lines, found.refused, found.kind) : explained(lines, found.refused);
   }
   return {part: "judge", ...found};
 }
 
-const retell = ({name, text, seed}) => ({part: "retell", text: exercises.retold(name, text, seed || null)});
+const retell = ({name, text, seed}) => ({part: "retell", text: retold(engine, name, text, seed)});
 
 const acts = {script, assembly, check, judge: judgeWork, retell};
 onmessage = ({data}) => {

@@ -3,9 +3,8 @@
 from __future__ import annotations
 
 import re
-from collections.abc import Iterator
+from collections.abc import Callable, Iterator
 from dataclasses import dataclass
-from typing import Callable, List, Tuple
 
 from . import image, instructions
 from .image import Image, Plan
@@ -21,8 +20,8 @@ DISTANCES = ("beq", "bne", "blt", "bltu", "jal")        # an immediate may be a 
 
 
 Finish = Callable[[int, int], int]                      # the address of a name, and that of the word, to the word
-Waiting = Tuple[bytes, Finish]
-Act = Callable[[int, bytes, List[bytes]], None]         # by the line's number, its first word and the others
+Waiting = tuple[bytes, Finish]
+Act = Callable[[int, bytes, list[bytes]], None]         # by the line's number, its first word and the others
 
 
 class BadLine(Exception):

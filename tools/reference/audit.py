@@ -5,13 +5,12 @@ words are compared with the tree's layout.
 from __future__ import annotations
 
 import re
-from typing import List
 
 from . import layout, runs, sound
 from .model import PAGE, READ, ROOT, SLOTS, WORDS, Node, Pair, Row, Table, Tree, list_pages
 from .script import word_text
 
-Memory = List[List[int]]         # the words of each frame
+Memory = list[list[int]]         # the words of each frame
 LEAST_FRAMES, MOST_FRAMES = 16, 4096
 MOST_TABLES = 1024       # of a descriptor that can be read
 MOST_END = 10000000      # in the last line of a text

@@ -10,17 +10,18 @@ cache counted.
 
 from __future__ import annotations
 
+import functools
 import sys
 from collections.abc import Callable, Iterable, Sequence
-from typing import List, Optional, Tuple
+from typing import Optional
 
-from . import assembly, audit, every, image, native, runs, script
+from . import assembly, audit, every, image, native, runs, script, slots
 from .model import World
 
 USAGE = b"usage: pip script | run STEPS SEED | asm | dis | tree STEPS SEED | core STEPS SEED | soak COUNT SEED" \
-    b" | native N STEPS | audit FRAMES | every STATES [FROM [DEPTH]]\n"
-Ended = Tuple[bytes, int, Optional[World]]       # output and status, and the world that the command leaves
-OnImage = Callable[[image.Image, int, int], Tuple[List[str], World]]
+    b" | native N STEPS | slots N TURNS ROUNDS | audit FRAMES | every STATES [FROM [DEPTH]]\n"
+Ended = tuple[bytes, int, Optional[World]]       # output and status, and the world that the command leaves
+OnImage = Callable[[image.Image, int, int], tuple[list[str], World]]
 MOST_STEPS, MOST_COUNT = 10000000, 1000000
 ON_IMAGES = {"run": runs.run, "tree": runs.tree, "core": runs.core}
 
@@ -55,13 +56,26 @@ def children_and_steps(words: Sequence[str]) -> tuple[int, int] | None:
     return given if given and 1 <= given[0] <= native.MOST_CHILDREN and given[1] <= MOST_STEPS else None
 
 
+def slots_of(words: Sequence[str]) -> tuple[int, int, int] | None:
+    """How many children, the turns of a slot, and the rounds, or None where the words don't say it."""
+    try:
+        n, turns, rounds = [script.number(word.encode()) for word in words]
+    except (ValueError, script.Bad):
+        return None
+    if not 1 <= n <= native.MOST_CHILDREN or max(turns, rounds, slots.steps_of(n, turns, rounds)) > MOST_STEPS:
+        return None
+    return n, turns, rounds
+
+
 def search_of(words: Sequence[str]) -> tuple[int, int, int | None] | None:
     """How many states, from which turn on, and how deep `every` searches, or None where the words don't say it."""
     try:
         given = [script.number(word.encode()) for word in words]
     except (ValueError, script.Bad):
         return None
-    if not 1 <= len(given) <= 3 or any(number > every.MOST for number in given) or 0 in given[:1] + given[2:]:
+    if not 1 <= len(given) <= 3 or 0 in given[:1] + given[2:]:
+        return None
+    if given[0] > every.MOST_STATES or any(number > every.MOST for number in given[1:]):
         return None
     return given[0], given[1] if len(given) > 1 else 0, given[2] if len(given) > 2 else None
 
@@ -91,7 +105,12 @@ def ended(words: Sequence[str], text: bytes) -> Ended:
     if words and words[0] == "native":
         given = children_and_steps(words[1:])
         if given:
-            return natively(*given, text)
+            return of_children(functools.partial(native.native, n=given[0], count=given[1]), given[0], text)
+    if words and words[0] == "slots":
+        shares = slots_of(words[1:])
+        if shares:
+            n, turns, rounds = shares
+            return of_children(functools.partial(slots.slots, n=n, turns=turns, rounds=rounds), n, text)
     if words and words[0] == "audit":
         frames = frames_of(words[1:])
         if frames:
@@ -165,14 +184,14 @@ def shown(text: bytes) -> None:
     sys.stdout.buffer.flush()
 
 
-def natively(n: int, count: int, data: bytes) -> Ended:
+def of_children(command: Callable[[image.Image], tuple[list[str], World]], n: int, data: bytes) -> Ended:
     try:
         machine = image.read(data, native.frames_needed(n))
     except image.BadImage as bad:
         return in_lines([f"bad image {bad.kind} {bad.at}"]), 2, None
     except image.TooFew as few:
         return in_lines([native.short_line(few.frames, n)]), 8, None
-    told, world = native.native(machine, n, count)
+    told, world = command(machine)
     return in_lines(told), 0, world
 
 

@@ -14,14 +14,14 @@ import signal
 import subprocess
 import sys
 import tempfile
-from typing import List, Tuple
 
 from . import commands, generate
 
 REPOSITORY = os.path.dirname(os.path.dirname(os.path.dirname(os.path.abspath(__file__))))
 BUILT = os.path.join(REPOSITORY, "crates", "pip", "out", "pip")
-Answer = Tuple[bytes, int]                                   # output and status
-Difference = Tuple[List[str], bytes, Answer, Answer]         # words and input; what the reference answers, and the program
+Answer = tuple[bytes, int]                                   # output and status
+# words and input; what the reference answers, and the program
+Difference = tuple[list[str], bytes, Answer, Answer]
 SECONDS = 120            # a run of the built program that takes longer counts as a difference
 
 
@@ -47,7 +47,9 @@ def job(given: tuple[str, str, int]) -> tuple[int, Difference | None]:
 
 
 def do_no_more(*_: object) -> None:
-    """A worker at Ctrl-C: the program that it runs is stopped by that, too, and the one that waits for the worker ends it."""
+    """A worker at Ctrl-C: the program that it runs is stopped by that, too, and the one that waits for the worker ends
+    it.
+    """
     signal.pause()
 
 

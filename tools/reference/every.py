@@ -1,7 +1,8 @@
 """What can happen to an image over all interleavings, breadth first, and the text of the command every.
 
 A choice is the turn of a processor or the raise of a line of the image's plans, which can come once so many turns were
-made. A moment is a world without its caches, and the turns made so far, counted up to that many.
+made. A moment is a world without its caches, and the turns made so far, counted up to that many. A turn that changes
+nothing, for its processor runs nothing, stands for all that are left.
 """
 
 from __future__ import annotations
@@ -9,17 +10,17 @@ from __future__ import annotations
 import itertools
 from collections.abc import Iterable, Iterator
 from dataclasses import replace
-from typing import Dict, NamedTuple, Optional, Tuple
+from typing import NamedTuple
 
 from .caches import Cache
 from .image import Image, world as image_world
 from .model import ROOT, Node, Row, Running, Table, Tree, World
 from .runs import Turn
 
-MOST = 10000000          # at most so many states, turns before a line, and choices in a row
+MOST_STATES, MOST = 100000000, 10000000          # at most so many states; turns before a line, and choices in a row
 SHAPING = (0, 1, 3, 4, 5, 6)                     # the calls that change more of partitions than whether they are masked
-Words = Dict[int, int]                           # of a page: the words that aren't 0, by index
-Label = Tuple[int, str]                          # a processor, and a line of the trace without it and the step
+Words = dict[int, int]                           # of a page: the words that aren't 0, by index
+Label = tuple[int, str]                          # a processor, and a line of the trace without it and the step
 
 
 # Worlds that share what they don't change
@@ -78,7 +79,7 @@ class Moment(NamedTuple):
     """Two moments are one state where all of this is equal. Shapes and pages have numbers."""
 
     turns: int
-    processors: tuple[Optional[Running], ...]
+    processors: tuple[Running | None, ...]
     shape: int
     masked: tuple[int, ...]
     pending: tuple[int, ...]
@@ -177,7 +178,7 @@ class Moments:
         told: list[str] = []
         Turn(world, cpu, 0, told.append).take()
         stays_idle = before.processors[cpu] is None and world.processors[cpu] is None
-        turns = before.turns if stays_idle else min(before.turns + 1, self.first)
+        turns = self.first if stays_idle else min(before.turns + 1, self.first)
         return self.moment(world, before, turns), (cpu, told[0].split(" ", 2)[2]) if told else None
 
 

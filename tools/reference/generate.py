@@ -7,10 +7,12 @@ condition of each call has a chance to be met.
 from __future__ import annotations
 
 import random
-from typing import Callable, List, Tuple, TypeVar
+from collections.abc import Callable
+from typing import TypeVar
 
 from . import generate_audit, generate_every, generate_native, generate_programs
-from .model import HANDLERS, LAST_BLOCK, LINES, NOWHERE, PAGE, READ, ROOT, SAVED, SLOTS, WRITE, Node, Tree, World, pages_needed
+from .model import (HANDLERS, LAST_BLOCK, LINES, NOWHERE, PAGE, READ, ROOT, SAVED, SLOTS, WRITE, Node, Tree, World,
+                    pages_needed)
 from .script import LONGEST, Script
 
 ODD_ADDRESSES = (0, 1, 4, 0x00400001, 0x00401800, 0x00800000, 0x7FFFF000, 0xFFFFFFFF, 0xFFFFF004)
@@ -23,7 +25,6 @@ MANY_FRAMES = (1037, 1038, 2065, 4096)
 
 
 T = TypeVar("T")
-Acts = List[Tuple[Callable[["Story"], object], int]]     # what a story does, and how often
 
 
 class Story:
@@ -242,13 +243,15 @@ class Story:
         cpu, node = self.caller()
         if not self.tree.is_free(node, HANDLERS) and self.spared(cpu):
             return
-        self.give_blocks(cpu, HANDLERS, self.random.sample(VECTORS, self.random.randrange(1, 4)), (0x10000000, 0xFFC0A000))
+        self.give_blocks(cpu, HANDLERS, self.random.sample(VECTORS, self.random.randrange(1, 4)),
+                         (0x10000000, 0xFFC0A000))
         if self.chance(0.3):
             block = self.any_page(node) + self.pick(0, 1024, LAST_BLOCK, LAST_BLOCK + 4)
             self.say("st", cpu, HANDLERS + 4 * self.random.choice(VECTORS), self.pick(self.odd(block), block, 2, 0))
 
     def give_blocks(self, cpu: int, page: int, vectors: list[int], pcs: tuple[int, ...] = (0x00400100,)) -> None:
-        """Entries and blocks in a page that is, or is to be, a handler table; what runs there stores to it at `page`."""
+        """Entries and blocks in a page that is, or is to be, a handler table; what runs there stores to it at `page`.
+        """
         for vector in vectors:
             offset = BLOCKS + BLOCK * self.random.randrange((LAST_BLOCK - BLOCKS) // BLOCK + 1)
             if self.chance(0.1):
@@ -540,7 +543,7 @@ def script(seed: int) -> bytes:
     return b"\n".join(lines) + (b"" if rng.random() < 0.1 else b"\n")
 
 
-COMMANDS = ("script", "asm", "dis", "run", "tree", "core", "soak", "native", "audit", "every")
+COMMANDS = ("script", "asm", "dis", "run", "tree", "core", "soak", "native", "slots", "audit", "every")
 
 
 def case(command: str, seed: int) -> tuple[list[str], bytes]:
@@ -564,6 +567,10 @@ def case(command: str, seed: int) -> tuple[list[str], bytes]:
     if command == "native":
         n, data = generate_native.case(seed)
         return [command, str(n), str(count)], data
+    if command == "slots":
+        n, data = generate_native.case(seed)
+        turns = rng.choice((0, 1, 2, 5, 11, 30, 100))
+        return [command, str(n), str(turns), str(count // (n * (turns + 2)))], data
     return [command, str(count), str(start)], generate_programs.image_bytes(seed, 0.08)
 
 

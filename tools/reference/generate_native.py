@@ -1,7 +1,7 @@
 """Images made from a seed for native runs: programs of children, and words where a child will have its handlers.
 
-The children loop, fault, trap, divide by zero, yield to the root and to themselves, ask for what they may not, and break
-their own handler tables, so that the monitor drops them. Some come without a program.
+The children loop, fault, trap, divide by zero, yield to the root and to themselves, ask for what they may not, and
+break their own handler tables, so that the monitor drops them. Some come without a program.
 """
 
 from __future__ import annotations
@@ -49,7 +49,8 @@ class Program(Text):
     # Pages that the image gives words
 
     def program(self) -> None:
-        """A child's program: a beginning, and a loop. A child that is doomed takes its own handler of vector 63 away."""
+        """A child's program: a beginning, and a loop. A child that is doomed takes its own handler of vector 63 away.
+        """
         for register in range(1, 4):
             if self.chance(0.5):
                 self.set(register, self.random.getrandbits(32))
@@ -69,7 +70,9 @@ class Program(Text):
         self.random.choice(self.ways)()
 
     def entries(self) -> None:
-        """A page that becomes a child's handler table: entries for a few vectors beside the one that the command writes."""
+        """A page that becomes a child's handler table: entries for a few vectors beside the one that the command
+        writes.
+        """
         handled = [vector for vector in ENTRIES if self.chance(0.4)]
         self.table({vector: f"0x{PROGRAM + 4 * self.random.randrange(12):08x}" for vector in handled})
 

@@ -179,7 +179,8 @@ class Text:
         """A store and a load of the same place, or one beside it."""
         offset = self.pick(0, 4, 8)
         store = self.pick("stw", "stb")
-        self.say(store, f"r{self.random.randrange(1, 7)}", "r7", offset + self.random.randrange(4 if store == "stb" else 1))
+        self.say(store, f"r{self.random.randrange(1, 7)}", "r7",
+                 offset + self.random.randrange(4 if store == "stb" else 1))
         register = self.random.randrange(1, 7)
         self.say(self.pick("ldw", "ldb"), f"r{register}", "r7", offset)
         self.say("out", f"r{register}")

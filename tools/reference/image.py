@@ -4,7 +4,7 @@ from __future__ import annotations
 
 import struct
 from collections.abc import Iterator, Sequence
-from typing import NamedTuple, Tuple
+from typing import NamedTuple
 
 from .model import PAGE, WORDS, World, boot_tree
 
@@ -18,7 +18,7 @@ class Plan(NamedTuple):
     period: int
 
 
-Page = Tuple[int, Sequence[int]]     # a vpage and 1024 words
+Page = tuple[int, Sequence[int]]     # a vpage and 1024 words
 
 
 class Image(NamedTuple):

@@ -178,7 +178,8 @@ class Tree:
     """
 
     frames: int
-    nodes: dict[int, Node]              # by name, in the order in which they were made, so a parent is never after its child
+    # by name, in the order in which they were made, so a parent is never after its child
+    nodes: dict[int, Node]
     words: dict[int, dict[int, int]]    # by page: words that aren't 0, by index
 
     def children(self, node: Node) -> list[Node]:
@@ -559,7 +560,8 @@ class World:
         return Done()
 
     def reached(self, cpu: int, address: int, access: int, is_word: bool) -> Place | Fault:
-        """What an access of the partition that runs there reaches. The processor's cache learns of one that is aligned."""
+        """What an access of the partition that runs there reaches. The processor's cache learns of one that is aligned.
+        """
         node = self.node_on(cpu)
         place = self.tree.reach(node, address, access, is_word)
         if place != Fault(ALIGNMENT):
@@ -583,7 +585,9 @@ class World:
         self.tree.save(self.node_on(cpu), SAVED, self.running_on(cpu).context)
 
     def enter(self, cpu: int, node: Node, handler: Context, *told: int) -> None:
-        """The partition runs there with the context of its handler, but for the words that it is told in the first registers."""
+        """The partition runs there with the context of its handler, but for the words that it is told in the first
+        registers.
+        """
         self.processors[cpu] = Running(node.name, Context(handler.pc, told + handler.registers[len(told):]))
 
     def deliver(self, cpu: int, vector: int, a: int, b: int) -> Outcome:

@@ -6,7 +6,8 @@ from collections.abc import Iterable
 from typing import NamedTuple
 
 from .image import Image, is_due, world as image_world
-from .model import EXECUTE, HANDLERS, NOWHERE, PAGE, READ, ROOT, SAVED, WRITE, Done, Reply, Status, Switched, World, pages_needed
+from .model import (EXECUTE, HANDLERS, NOWHERE, PAGE, READ, ROOT, SAVED, WRITE, Done, Reply, Status, Switched, World,
+                    pages_needed)
 from .runs import Turn
 from .script import word_text
 
@@ -26,7 +27,8 @@ class Dropped(NamedTuple):
 
 
 def frames_needed(n: int) -> int:
-    """The frames without which there is no room for n children: 13 pages for each, and what the kernel has of the root."""
+    """The frames without which there is no room for n children: 13 pages for each, and what the kernel has of the root.
+    """
     return 13 * n + 13
 
 
@@ -57,8 +59,8 @@ def ask(world: World, number: int, *arguments: int) -> None:
 
 
 def build(world: World, pages: Iterable[int], wants: Iterable[tuple[int, int]]) -> int:
-    """The root builds a child of these pages: its configuration first, then for each want the tables that it lacks, as a
-    chain, and the page that it gets there. Answers the address of its descriptor."""
+    """The root builds a child of these pages: its configuration first, then for each want the tables that it lacks, as
+    a chain, and the page that it gets there. Answers the address of its descriptor."""
     left = iter(pages)
     base = [next(left) for _ in range(5)]
     ask(world, 0, *base)

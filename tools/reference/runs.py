@@ -7,7 +7,8 @@ from collections.abc import Callable, Sequence
 from . import layout
 from .image import Image, is_due, world as image_world
 from .instructions import BRANCHES, NEXT, VALUES, Instruction, WORD as ALL, decode
-from .model import EXECUTE, HANDLERS, PAGE, ROOT, WORDS, WRITE, Context, Done, Idle, Node, Outcome, Parked, Reply, Row, Switched, Tree, Word, World
+from .model import (EXECUTE, HANDLERS, PAGE, ROOT, WORDS, WRITE, Context, Done, Idle, Node, Outcome, Parked, Reply, Row,
+                    Switched, Tree, Word, World)
 from .script import outcome_text, word_text
 
 

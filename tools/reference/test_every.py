@@ -1,4 +1,4 @@
-"""Tests of the search over all interleavings. The check `reference-tests` runs them."""
+"""Tests of the search over all interleavings. The check `unit-tests` runs them."""
 
 from __future__ import annotations
 
@@ -6,7 +6,7 @@ import copy
 import itertools
 import unittest
 from collections.abc import Iterator, Sequence
-from typing import List, NamedTuple, Optional, Tuple
+from typing import NamedTuple
 
 from . import assembly, commands, every, generate_every, image, runs
 from .image import Image
@@ -23,10 +23,10 @@ COUNTS = b".frames 16\n.cpus 3\n.page 0x00400000\nat:\naddi r1 r1 1\nout r1\nbeq
 class Reached(NamedTuple):
     """What choices lead to, copied as a whole: nothing is shared, and nothing is left out."""
 
-    choices: Tuple[int, ...]
+    choices: tuple[int, ...]
     world: World
     turns: int
-    shown: Optional[str]
+    shown: str | None
 
     def value(self) -> object:
         return tuple(runs.core_lines(self.world.tree)), tuple(self.world.processors), self.turns
@@ -41,8 +41,7 @@ def made(machine: Image, first: int, before: Reached, choice: int) -> Reached:
     else:
         was = world.processors[choice]
         runs.Turn(world, choice, 0, told.append).take()
-        if was or world.processors[choice]:
-            turns = min(turns + 1, first)
+        turns = min(turns + 1, first) if was or world.processors[choice] else first
     return Reached(before.choices + (choice,), world, turns, told[0] if told else None)
 
 
@@ -56,9 +55,9 @@ def all_of(machine: Image, first: int, deepest: int) -> Iterator[Reached]:
             row = [made(machine, first, before, choice) for before in row for choice in choices]
 
 
-def told_of_all(machine: Image, first: int, deepest: int) -> List[str]:
+def told_of_all(machine: Image, first: int, deepest: int) -> list[str]:
     """The lines in the middle and the number of states, by going through all rows of choices."""
-    ways: dict[str, Tuple[int, ...]] = {}
+    ways: dict[str, tuple[int, ...]] = {}
     values = set()
     for reached in all_of(machine, first, deepest):
         values.add(reached.value())
@@ -121,9 +120,24 @@ class Every(unittest.TestCase):
                          ["image 16 3 0 1", "1 0 out 0x00000001: 0x2", "states 4 depth 3 stopped"])
 
     def test_no_line_comes_before_so_many_turns(self) -> None:
+        told = every.every(read(PARKS.replace(b".cpus 2", b".cpus 1")), 1000, 2, None)
+        self.assertEqual([line for line in told if " switch " in line], ["3 0 switch 0 1 35: 0x2 raise3 0"])
+
+    def test_a_turn_of_an_idle_processor_stands_for_all_that_are_left(self) -> None:
         told = every.every(read(PARKS), 1000, 2, None)
-        self.assertEqual([line for line in told if " switch " in line],
-                         ["3 0 switch 0 1 35: 0x2 raise3 0", "3 1 switch 0 1 35: 0x2 raise3 1"])
+        self.assertEqual([line for line in told if " switch " in line], [
+            "2 0 switch 1 1 35: 1 raise3 0", "3 0 switch 0 1 35: 0x2 raise3 0", "3 1 switch 0 1 35: 0x2 raise3 1"])
+
+    def test_a_closed_search_names_each_line_of_each_run(self) -> None:
+        for seed in range(1, 40):
+            machine = read("\n".join(generate_every.Small(seed).image()).encode() + b"\n")
+            first = min((plan.first for plan in machine.plans), default=0)
+            *told, last = every.every(machine, 600, first, None)
+            if last.endswith("closed"):
+                named = {line.split(":")[0].split(" ", 1)[1] for line in told[1:]}
+                for order in range(1, 6):
+                    shown = runs.run(machine, 300, order)[0][1:-1]
+                    self.assertLessEqual({line.split(" ", 1)[1] for line in shown}, named, (seed, order))
 
     def test_each_way_of_a_generated_image_shows_its_line(self) -> None:
         for seed in range(1, 20):
@@ -141,7 +155,7 @@ class Every(unittest.TestCase):
             self.assertEqual(len(values), len(search.visits), seed)
 
     def test_words_that_are_no_search(self) -> None:
-        for words in ("", "0", "1 2 3 4", "10000001", "1 10000001", "1 0 0", "1 0 10000001", "01", "x", "1 -1"):
+        for words in ("", "0", "1 2 3 4", "100000001", "1 10000001", "1 0 0", "1 0 10000001", "01", "x", "1 -1"):
             self.assertEqual(commands.pip(["every", *words.split()], b""), (commands.USAGE, 1), words)
         self.assertEqual(commands.pip(["every", "0x10", "0", "1"], b"PIPIMG1\n"), (b"bad image oldversion 0\n", 2))
 

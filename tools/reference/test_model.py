@@ -1,4 +1,4 @@
-"""Tests of the tree, its events and its layout. The check `reference-tests` runs them."""
+"""Tests of the tree, its events and its layout. The check `unit-tests` runs them."""
 
 from __future__ import annotations
 
@@ -7,7 +7,8 @@ import unittest
 from typing import Any
 
 from . import generate, layout, script, sound
-from .model import READ, WRITE, Done, Idle, Parked, Reply, Status, Switched, Word, World, boot_tree, list_pages, root_tables
+from .model import (READ, WRITE, Done, Idle, Parked, Reply, Status, Switched, Word, World, boot_tree, list_pages,
+                    root_tables)
 
 FIVE = [0x401000, 0x402000, 0x403000, 0x404000, 0x405000]
 D, CV = 0x401000, 0x10000000
@@ -63,7 +64,8 @@ class Calls(unittest.TestCase):
     def test_collect_hands_back_a_chain(self) -> None:
         world = world_with_child()
         self.assertEqual(call(world, 4, D, CV), (0, 0x406000))
-        self.assertEqual([world.load(0, a, True) for a in (0x406000, 0x407000, 0x408000)], [Word(0x407000), Word(0x408000), Word(0)])
+        self.assertEqual([world.load(0, a, True) for a in (0x406000, 0x407000, 0x408000)],
+                         [Word(0x407000), Word(0x408000), Word(0)])
         self.assertEqual(call(world, 3, D, CV, 0x406000), (0, 3))
 
     def test_the_conditions_of_add_come_in_order(self) -> None:
@@ -190,7 +192,8 @@ class Caches(unittest.TestCase):
     def with_loan(self, rights: int) -> World:
         """The child runs, with a page at 0x10000000 and a handler page."""
         world = world_with_child(64)
-        for address, word in ((0x40A000, 0x40B000), (0x40B000, 0x40C000), (0x409100, 0xFFFFF400), (0x409400, 0x10000000)):
+        for address, word in ((0x40A000, 0x40B000), (0x40B000, 0x40C000), (0x409100, 0xFFFFF400),
+                              (0x409400, 0x10000000)):
             world.store(0, address, True, word)
         call(world, 3, D, 0xFFFFF000, 0x40A000)
         call(world, 5, 0x409000, D, 0xFFFFF000, READ)

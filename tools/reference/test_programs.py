@@ -1,4 +1,4 @@
-"""Tests of instructions, images, the assembler and runs. The check `reference-tests` runs them."""
+"""Tests of instructions, images, the assembler and runs. The check `unit-tests` runs them."""
 
 from __future__ import annotations
 
@@ -176,6 +176,26 @@ class NativeRuns(unittest.TestCase):
         self.assertEqual(told[2:], ["0 0 run 0", "1 0 switch 13 1 32", "2 0 run 0", "3 0 switch 13 1 32", "4 0 run 0",
                                     "end 6"])
 
+    def test_a_slot_ends_by_a_line(self) -> None:
+        output, status = commands.pip(["slots", "1", "3", "2"], native_image(26, ("beq r0 r0 -1",)))
+        self.assertEqual((output.decode().splitlines()[2:], status),
+                         (["0 0 call 8 switch 1 13 63", "4 0 switch 13 1 32", "5 0 call 8 switch 1 13 63",
+                           "9 0 switch 13 1 32",
+                           "end 10"], 0))
+
+    def test_a_slot_that_its_child_leaves(self) -> None:
+        output, _ = commands.pip(["slots", "2", "3", "1"], native_image(39, ("int 64",), self.FAULTS))
+        self.assertEqual(output.decode().splitlines()[3:],
+                         ["0 0 call 8 switch 1 14 63", "1 0 switch 14 1 64", "5 0 call 8 switch 1 26 63",
+                          "6 0 switch 26 1 14",
+                          "end 10"])
+
+    def test_a_child_that_lost_its_handler(self) -> None:
+        output, _ = commands.pip(["slots", "1", "9", "2"], native_image(26, self.LOSES_ITS_HANDLER))
+        self.assertEqual(output.decode().splitlines()[2:],
+                         ["0 0 call 8 switch 1 13 63", "4 0 switch 13 1 64", "11 0 call 8 reply 16 0x00000000",
+                          "end 22"])
+
     def test_the_next_child(self) -> None:
         monitor = native.Monitor([0x401000, 0x402000, 0x403000])
         self.assertEqual(monitor.next(), 0)
@@ -268,7 +288,9 @@ class Words(unittest.TestCase):
         forms: tuple[list[str], ...] = (
             ["script", "x"], ["run", "5"], ["run", "06", "1"], ["run", "1", "0"], ["run", "10000001", "1"],
             ["soak", "1000001", "1"], ["native", "0", "1"], ["native", "9", "1"], ["native", "1"],
-            ["native", "1", "10000001"], ["native", "01", "1"], ["audit"], ["audit", "15"],
+            ["native", "1", "10000001"], ["native", "01", "1"], ["slots", "0", "1", "1"], ["slots", "9", "1", "1"],
+            ["slots", "1", "1"], ["slots", "1", "9999999", "1"], ["slots", "5", "2", "500001"], ["audit"],
+            ["audit", "15"],
             ["audit", "4097"], ["audit", "16", "1"], ["--help"], [], ["tree", "1", "1", "1"], ["asm", ""])
         for words in forms:
             self.assertEqual(commands.pip(words, b""), (commands.USAGE, 1), words)

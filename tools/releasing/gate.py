@@ -52,7 +52,8 @@ def run(found: Checkout) -> int:
 def shown(found: Checkout, log: IO[bytes]) -> tuple[int, list[str]]:
     """The status of the gate, and its lines, which are passed on as they come."""
     lines = []
-    with subprocess.Popen([str(found.place / ".ci" / "run")], stdin=subprocess.DEVNULL, stdout=subprocess.PIPE, stderr=subprocess.STDOUT) as gate:
+    with subprocess.Popen([str(found.place / ".ci" / "run")], stdin=subprocess.DEVNULL, stdout=subprocess.PIPE,
+                          stderr=subprocess.STDOUT) as gate:
         assert gate.stdout is not None
         for line in gate.stdout:
             log.write(line)
@@ -72,12 +73,15 @@ def now() -> str:
 
 
 def passed(found: Checkout) -> Record:
-    """The record of a gate that passed on what is checked out, and built the program that is there; else a reason to refuse."""
+    """The record of a gate that passed on what is checked out, and built the program that is there; else a reason to
+    refuse.
+    """
     record = read(found)
     if record.tree != found.tree():
         raise Failed(f"the gate ran on commit {record.commit[:12]}, which has other files: {RUN_IT}")
     if record.status:
-        raise Failed(f"the gate ended with status {record.status}: {record.closing[-1] if record.closing else 'it said nothing'}")
+        raise Failed(f"the gate ended with status {record.status}: "
+                     f"{record.closing[-1] if record.closing else 'it said nothing'}")
     if record.kit is None or repository.kit() not in (None, record.kit):
         raise Failed(f"the gate ran with the kit {record.kit}, and {repository.kit()} is here: {RUN_IT}")
     if repository.sum_of(found.need_program()) != record.program:

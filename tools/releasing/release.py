@@ -1,4 +1,6 @@
-"""Makes a release: what is committed, with the program that the gate built, the page, the documents as HTML, the export, and PROOF."""
+"""Makes a release: what is committed, with the program that the gate built, the page, the documents as HTML, the
+export, and PROOF.
+"""
 
 from __future__ import annotations
 
@@ -20,6 +22,7 @@ from .repository import Checkout
 
 VERSION = re.compile(r"\d+(\.\d+)*(-[a-z0-9]+)?")
 MARK = "crates/pip/out/sources-seen"       # by which ./pip sees that the program is as new as the sources
+UNPROVED_MARK = "out/sources-seen"         # the same of what cargo built
 EXPORT = "rust"
 BESIDE = "pip-release"                     # beside the checkout
 
@@ -29,12 +32,21 @@ def main() -> None:
         prog="release", description="A folder and a tarball for a person without the kit and without cargo.",
         epilog="It refuses a checkout that isn't clean, and one on which 'release --gate' hasn't passed.")
     parser.add_argument("version", nargs="?", metavar="VERSION", help="as 1.2, or 1.2-rc1")
-    parser.add_argument("--gate", action="store_true", help="run .ci/run, and keep a record of it in out/; its status is the gate's")
-    parser.add_argument("--to", type=Path, metavar="FOLDER", help="where the folder and the tarball go, outside the checkout; without it pip-release beside it")
-    parser.add_argument("--again", type=Path, metavar="CHECKOUT", help="another checkout of the commit, in which ./pip has built, too: the programs have to be the same")
+    parser.add_argument("--gate", action="store_true",
+                        help="run .ci/run, and keep a record of it in out/; its status is the gate's")
+    parser.add_argument("--unproved", action="store_true",
+                        help="without a gate, of the program that ./pip --unproved has built: the folder, PROOF and "
+                             "./pip say so")
+    parser.add_argument("--to", type=Path, metavar="FOLDER",
+                        help="where the folder and the tarball go, outside the checkout; without it pip-release beside "
+                             "it")
+    parser.add_argument("--again", type=Path, metavar="CHECKOUT",
+                        help="another checkout of the commit, in which ./pip has built, too: the programs have to be "
+                             "the same")
     page = parser.add_mutually_exclusive_group()
     page.add_argument("--module", type=Path, metavar="FILE", help="the page's module, where make_module has made it")
-    page.add_argument("--debian", type=Path, metavar="FOLDER", help="where Debian's rustc-web and what it needs were unpacked")
+    page.add_argument("--debian", type=Path, metavar="FOLDER",
+                      help="where Debian's rustc-web and what it needs were unpacked")
     given = parser.parse_args()
     calling.guarded("release", lambda: work(given, Checkout(Path(calling.REPOSITORY))))
 
@@ -44,40 +56,50 @@ def work(given: argparse.Namespace, found: Checkout) -> int:
         if given.version:
             raise Failed("--gate needs no version: it runs the gate, and a release comes after it")
         return gate.run(found)
+    if given.unproved and given.again:
+        raise Failed("--again compares programs that were proved")
     if not given.version or not VERSION.fullmatch(given.version):
-        raise Failed(f"a version is numbers with points between them, as 1.2, and not {given.version!r}" if given.version else "which version?")
+        raise Failed(f"a version is numbers with points between them, as 1.2, and not {given.version!r}"
+                     if given.version else "which version?")
     print(made(given, found, place_of(given, found)))
     return 0
 
 
 def place_of(given: argparse.Namespace, found: Checkout) -> Path:
-    """Where a release goes: never into the checkout, since the gate refuses sources in other places than those of its crates."""
+    """Where a release goes: never into the checkout, since the gate refuses sources in other places than those of its
+    crates.
+    """
     to: Path = given.to or found.place.parent / BESIDE
     if found.place.resolve() in (to.resolve(), *to.resolve().parents):
-        raise Failed(f"{to} is inside the checkout, where the next gate would refuse the sources of a release: choose a folder outside it")
+        raise Failed(f"{to} is inside the checkout, where the next gate would refuse the sources of a release: choose "
+                     "a folder outside it")
     return to
 
 
 def made(given: argparse.Namespace, found: Checkout, to: Path) -> Path:
-    """Makes all in a folder of its own, and puts it where it belongs only when it is whole. Answers the tarball's path."""
-    name = f"pip-{given.version}"
+    """Makes all in a folder of its own, and puts it where it belongs only when it is whole. Answers the tarball's path.
+    """
+    name = f"pip-{given.version}{'-unproved' if given.unproved else ''}"
     folder, tarball = to / name, to / f"{name}.tar.gz"
     for path in (folder, tarball):
         if path.exists():
             raise Failed(f"{path} is there already: a version is made once")
     found.need_clean()
-    record = gate.passed(found)
+    record = None if given.unproved else gate.passed(found)
+    program = found.need_unproved() if record is None else found.program
     if given.again:
         need_same(found, Checkout(given.again))
     to.mkdir(parents=True, exist_ok=True)
     with tempfile.TemporaryDirectory(dir=to) as place:
         top = Path(place) / name
-        copied(found, top)
+        copied(found, top, program)
         make_page(given, found, top / proof.PAGE)
         documents(top)
         export(found, top / EXPORT)
+        run("the judge", found, "tools/judge/make_judge", "--to", str(top / "tools" / "judge" / "pip_judge"))
         page_sum = repository.sum_of(top / proof.PAGE)
-        told = proof.text(given.version, record, found, given.again is not None, page_sum)
+        told = proof.text(given.version, record, found, given.again is not None, page_sum) if record \
+            else proof.unproved(given.version, found, page_sum)
         (top / "PROOF").write_text(told, encoding="utf-8")
         packed(top, Path(place) / tarball.name, found.seconds())
         os.rename(top, folder)
@@ -98,21 +120,27 @@ def need_same(found: Checkout, other: Checkout) -> None:
 
 # The parts
 
-def copied(found: Checkout, top: Path) -> None:
-    """What is committed, and the program with its mark, so that ./pip runs it."""
+def copied(found: Checkout, top: Path, program: Path) -> None:
+    """What is committed, and the program with its mark, so that ./pip runs it. Of one that is unproved ./pip says so.
+    """
     for name in found.files():
         target = top / name
         target.parent.mkdir(parents=True, exist_ok=True)
         shutil.copy(found.place / name, target, follow_symlinks=False)
-    program = top / proof.PROGRAM
-    program.parent.mkdir(parents=True, exist_ok=True)
-    shutil.copy(found.program, program)
-    program.chmod(0o755)
-    (top / MARK).touch()
+    target = top / program.relative_to(found.place)
+    target.parent.mkdir(parents=True, exist_ok=True)
+    shutil.copy(program, target)
+    target.chmod(0o755)
+    if program == found.unproved:
+        (top / UNPROVED_MARK).touch()
+        (top / proof.MARK).write_text("Nothing is proved of the program of this release: see PROOF.\n")
+    else:
+        (top / MARK).touch()
 
 
 def make_page(given: argparse.Namespace, found: Checkout, path: Path) -> None:
-    words = ["--module", str(given.module.resolve())] if given.module else ["--debian", str(given.debian.resolve())] if given.debian else []
+    parts = {"--module": given.module, "--debian": None if given.module else given.debian}
+    words = [word for option, path in parts.items() if path for word in (option, str(path.resolve()))]
     run("the page", found, "tools/playground/make_page", "--to", str(path), *words)
     if not path.is_file():
         raise Failed(f"the page isn't there: tools/playground/make_page made no {path.name}")
@@ -130,13 +158,16 @@ def documents(top: Path) -> None:
 
 
 def run(what: str, found: Checkout, tool: str, *words: str) -> None:
-    done = subprocess.run([sys.executable, "-B", str(found.place / tool), *words], stdin=subprocess.DEVNULL, stdout=subprocess.PIPE, stderr=subprocess.STDOUT)
+    done = subprocess.run([sys.executable, "-B", str(found.place / tool), *words], stdin=subprocess.DEVNULL,
+                          stdout=subprocess.PIPE, stderr=subprocess.STDOUT)
     if done.returncode:
         raise Failed(f"{what} can't be made: {done.stdout.decode('utf-8', 'replace').strip()[-2000:]}")
 
 
 def packed(top: Path, to: Path, seconds: int) -> None:
-    """The tarball: each time the same bytes. All is as old as the commit, so that to ./pip no source is newer than the program."""
+    """The tarball: each time the same bytes. All is as old as the commit, so that to ./pip no source is newer than the
+    program.
+    """
     def plain(member: tarfile.TarInfo) -> tarfile.TarInfo:
         member.mtime, member.uid, member.gid, member.uname, member.gname = seconds, 0, 0, "", ""
         member.mode = 0o755 if member.isdir() or member.mode & 0o100 else 0o644

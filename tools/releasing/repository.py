@@ -10,6 +10,7 @@ from pathlib import Path
 
 from ..common.calling import Failed
 
+UNPROVED = "out/rust/target/release/pip"
 MOST_NAMED = 5           # files that aren't committed
 
 
@@ -25,6 +26,11 @@ class Checkout:
     @property
     def program(self) -> Path:
         return self.place / "crates" / "pip" / "out" / "pip"
+
+    @property
+    def unproved(self) -> Path:
+        """What `./pip --unproved` builds by cargo."""
+        return self.place / UNPROVED
 
     @property
     def record(self) -> Path:
@@ -63,10 +69,19 @@ class Checkout:
             raise Failed(f"there is no program at {self.program}")
         return self.program
 
+    def need_unproved(self) -> Path:
+        """The program that cargo built of what is checked out, as ./pip says."""
+        told = subprocess.run([str(self.place / "pip"), "--built"], stdout=subprocess.PIPE, text=True).stdout
+        if f"unproved {self.unproved}" not in told.splitlines():
+            raise Failed(f"there is no program at {self.unproved} that is as new as the sources: "
+                         "say ./pip --unproved script < examples/first.pip first")
+        return self.unproved
+
 
 def kit() -> str | None:
     """The line of `rt version`, or None where there is no kit."""
     if not shutil.which("rt"):
         return None
-    done = subprocess.run(["rt", "version"], stdin=subprocess.DEVNULL, stdout=subprocess.PIPE, stderr=subprocess.DEVNULL)
+    done = subprocess.run(["rt", "version"], stdin=subprocess.DEVNULL, stdout=subprocess.PIPE,
+                          stderr=subprocess.DEVNULL)
     return done.stdout.decode("utf-8", "replace").strip() if done.returncode == 0 else None

@@ -1,10 +1,11 @@
-"""Documents as HTML: small texts, and all documents of the repository."""
+"""All documents of the repository as HTML."""
 
 from __future__ import annotations
 
 import html.parser
 import os
 import re
+import shutil
 import unittest
 from pathlib import Path
 
@@ -13,7 +14,8 @@ from . import markdown
 REPOSITORY = Path(__file__).resolve().parent.parent.parent
 LEFT_OUT = {"out", ".git"}
 SINGLE = {"meta", "img"}
-NOT_SHOWN = re.compile(r"!\[[^\]]*\]\([^)]*\)|\]\([^)\s]*\)|^\s*\d+\. |^```.*$", re.MULTILINE)     # of a document's text
+# of a document's text
+NOT_SHOWN = re.compile(r"!\[[^\]]*\]\([^)]*\)|\]\([^)\s]*\)|^\s*\d+\. |^```.*$", re.MULTILINE)
 
 
 class Reader(html.parser.HTMLParser):
@@ -36,16 +38,15 @@ class Reader(html.parser.HTMLParser):
         if tag not in SINGLE:
             self.inside.append(tag)
 
+    def handle_startendtag(self, tag: str, attrs: list[tuple[str, str | None]]) -> None:
+        self.handle_starttag(tag, attrs)
+
     def handle_endtag(self, tag: str) -> None:
         assert self.inside.pop() == tag, f"{tag} is closed out of order"
 
     def handle_data(self, data: str) -> None:
         if "main" in self.inside:
             self.words += data.split()
-
-
-def body(text: str) -> str:
-    return "\n".join(markdown.blocks(text.split("\n")))
 
 
 def letters(text: str) -> list[str]:
@@ -57,33 +58,7 @@ def documents() -> list[Path]:
     return [path for path in sorted(REPOSITORY.rglob("*.md")) if not LEFT_OUT & set(path.relative_to(REPOSITORY).parts)]
 
 
-class SmallTexts(unittest.TestCase):
-    def test_paragraphs_and_stresses(self) -> None:
-        self.assertEqual(body("**one** `a*b*` 2 * 3\n*four* <x>"), "<p><b>one</b> <code>a*b*</code> 2 * 3\n<i>four</i> &lt;x&gt;</p>")
-
-    def test_headings_have_anchors(self) -> None:
-        self.assertEqual(body("## To see X, peek `F I`"), '<h2 id="to-see-x-peek-f-i">To see X, peek <code>F I</code></h2>')
-
-    def test_links_lead_to_pages(self) -> None:
-        self.assertEqual(body("[a](x/B.md#c) [b](d.s) [e](https://a.example/B.md) ![p](q.svg)"),
-                         '<p><a href="x/B.html#c">a</a> <a href="d.s">b</a> <a href="https://a.example/B.md">e</a> <img src="q.svg" alt="p"></p>')
-
-    def test_code_is_kept_as_it_is(self) -> None:
-        self.assertEqual(body("    a  *b*\n\n      <c>\n\nd"), '<pre tabindex="0">a  *b*\n\n  &lt;c&gt;</pre>\n<p>d</p>')
-        self.assertEqual(body("```\n# a\n```"), '<pre tabindex="0"># a</pre>')
-
-    def test_lists_in_lists(self) -> None:
-        self.assertEqual(body("1. one\n   more\n   - two\n2. three"), "<ol>\n<li>one\nmore\n<ul>\n<li>two</li>\n</ul></li>\n<li>three</li>\n</ol>")
-
-    def test_code_in_a_list(self) -> None:
-        self.assertEqual(body("- one:\n\n      a\n        b\n- two"), '<ul>\n<li>one:\n<pre tabindex="0">a\n  b</pre></li>\n<li>two</li>\n</ul>')
-
-    def test_tables(self) -> None:
-        self.assertEqual(body("| | a |\n|---|---|\n| `x \\| y` | z |"),
-                         '<div class="wide" tabindex="0"><table>\n<thead><tr><td></td><th scope="col">a</th></tr></thead>\n<tbody>\n'
-                         "<tr><td><code>x | y</code></td><td>z</td></tr>\n</tbody></table></div>")
-
-
+@unittest.skipUnless(shutil.which("cmark-gfm"), "no cmark-gfm")
 class Documents(unittest.TestCase):
     def test_elements_are_closed_and_no_word_is_lost(self) -> None:
         for path in documents():
@@ -92,7 +67,8 @@ class Documents(unittest.TestCase):
             self.assertEqual(letters(" ".join(read.words)), letters(NOT_SHOWN.sub("", text)), path)
 
     def test_links_lead_somewhere(self) -> None:
-        pages = {path.with_suffix(".html"): Reader(markdown.page(path.read_text(encoding="utf-8"), 0)) for path in documents()}
+        pages = {path.with_suffix(".html"): Reader(markdown.page(path.read_text(encoding="utf-8"), 0))
+                 for path in documents()}
         for path, read in pages.items():
             self.assertEqual(len(read.anchors), len(set(read.anchors)), path)
             for link in read.links:

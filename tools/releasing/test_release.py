@@ -7,6 +7,7 @@ import contextlib
 import io
 import json
 import os
+import shutil
 import subprocess
 import tempfile
 import unittest
@@ -18,18 +19,30 @@ from . import gate, release, repository
 from .repository import Checkout
 
 KIT = "kit-1"
-GATE = "#!/bin/sh\ncd \"$(dirname \"$0\")/..\"\nmkdir -p crates/pip/out\necho built > crates/pip/out/pip\n{more}\necho '3 passed, 0 failed'\necho 'check: 2 of 2 checks pass'\nexit {status}\n"
+GATE = """#!/bin/sh
+cd "$(dirname "$0")/.."
+mkdir -p crates/pip/out
+echo built > crates/pip/out/pip
+{more}
+echo '3 passed, 0 failed'
+echo 'check: 2 of 2 checks pass'
+exit {status}
+"""
 TOOL = "import os, sys\nto = sys.argv[sys.argv.index('--to') + 1]\n"
 FILES = {
     ".gitignore": "out/\n",
+    "pip": "#!/bin/sh\nhere=$(realpath \"$(dirname \"$0\")\")/out/rust/target/release/pip\n"
+           "[ ! -e \"$here\" ] || echo \"unproved $here\"\n",
     ".ci/run": GATE.format(more="", status=0),
     "README.md": "# A title\n\nSee [what is proved](docs/PROVED.md#trusted).\n",
     "docs/PROVED.md": "# Proved\n\n## Trusted\n\n- The kit.\n\n## More\n\nIt.\n",
     "tools/playground/make_page": TOOL + "open(to, 'w').write('a page')\n",
+    "tools/judge/make_judge": TOOL + "open(to, 'w').write('a judge')\n",
     "tools/export": TOOL + "os.makedirs(to)\nopen(os.path.join(to, 'Cargo.toml'), 'w').write('exported')\n",
 }
 
 
+@unittest.skipUnless(shutil.which("cmark-gfm"), "no cmark-gfm")
 class Releases(unittest.TestCase):
     def setUp(self) -> None:
         self.place = tempfile.TemporaryDirectory()
@@ -45,6 +58,7 @@ class Releases(unittest.TestCase):
         for path, text in FILES.items():
             self.write(found, path, text)
         (found.place / ".ci" / "run").chmod(0o755)
+        (found.place / "pip").chmod(0o755)
         found.git("init", "-q")
         self.commit(found)
         return found
@@ -56,19 +70,22 @@ class Releases(unittest.TestCase):
     def commit(self, found: Checkout) -> None:
         found.git("add", "-A")
         when = {"GIT_AUTHOR_DATE": "2026-01-01T00:00:00Z", "GIT_COMMITTER_DATE": "2026-01-01T00:00:00Z"}
-        subprocess.run(["git", "-C", str(found.place), "-c", "user.name=a", "-c", "user.email=a@b", "commit", "-qm", "all"], check=True, env={**os.environ, **when})
+        subprocess.run(["git", "-C", str(found.place), "-c", "user.name=a", "-c", "user.email=a@b", "commit", "-qm",
+                        "all"], check=True, env={**os.environ, **when})
 
     def pass_gate(self, found: Checkout | None = None) -> int:
         with contextlib.redirect_stdout(io.TextIOWrapper(io.BytesIO())):
             return gate.run(found or self.found)
 
-    def made(self, version: str = "1.2", again: Path | None = None, to: str | None = "to") -> Path:
+    def made(self, version: str = "1.2", again: Path | None = None, to: str | None = "to",
+             unproved: bool = False) -> Path:
         """Makes a release, and answers its folder; where `to` is None it goes beside the checkout."""
         place = Path(self.place.name)
-        given = argparse.Namespace(version=version, gate=False, again=again, module=None, debian=None, to=None if to is None else place / to)
+        given = argparse.Namespace(version=version, gate=False, unproved=unproved, again=again, module=None,
+                                   debian=None, to=None if to is None else place / to)
         with contextlib.redirect_stdout(io.StringIO()):
             release.work(given, self.found)
-        return place / (release.BESIDE if to is None else to) / f"pip-{version}"
+        return place / (release.BESIDE if to is None else to) / f"pip-{version}{'-unproved' if unproved else ''}"
 
     def refused(self, why: str, **given: Any) -> None:
         with self.assertRaisesRegex(Failed, why):
@@ -85,13 +102,33 @@ class Releases(unittest.TestCase):
         self.assertEqual(self.pass_gate(), 0)
         made = self.made()
         parts = {str(path.relative_to(made)) for path in made.rglob("*") if path.is_file()}
-        self.assertEqual(parts, {*FILES, "README.html", "docs/PROVED.html", "pip.html", "PROOF", "rust/Cargo.toml", release.MARK, "crates/pip/out/pip"})
+        self.assertEqual(parts, {*FILES, "README.html", "docs/PROVED.html", "pip.html", "PROOF", "rust/Cargo.toml",
+                                 release.MARK, "crates/pip/out/pip", "tools/judge/pip_judge"})
         told = (made / "PROOF").read_text()
-        for part in ("pip 1.2\n", self.found.commit(), KIT, "3 passed, 0 failed", "check: 2 of 2 checks pass", "- The kit.", "built once"):
+        for part in ("pip 1.2\n", self.found.commit(), KIT, "3 passed, 0 failed", "check: 2 of 2 checks pass",
+                     "- The kit.", "built once"):
             self.assertIn(part, told)
-        sums = subprocess.run("grep -E '^[0-9a-f]{64}  ' PROOF | sha256sum --check --quiet", shell=True, cwd=made, stdout=subprocess.PIPE)
+        sums = subprocess.run("grep -E '^[0-9a-f]{64}  ' PROOF | sha256sum --check --quiet", shell=True, cwd=made,
+                              stdout=subprocess.PIPE)
         self.assertEqual((sums.returncode, sums.stdout), (0, b""))
         self.assertIn('<a href="docs/PROVED.html#trusted">', (made / "README.html").read_text())
+
+    def test_an_unproved_one_needs_no_gate_and_says_so(self) -> None:
+        self.refused("say ./pip --unproved script", unproved=True)
+        self.refused("--again compares programs that were proved", unproved=True, again=self.found.place)
+        self.found.unproved.parent.mkdir(parents=True)
+        self.found.unproved.write_text("by cargo\n")
+        made = self.made(unproved=True)
+        parts = {str(path.relative_to(made)) for path in made.rglob("*") if path.is_file()}
+        self.assertLess({"UNPROVED", "PROOF", "out/rust/target/release/pip", "out/sources-seen"}, parts)
+        self.assertNotIn("crates/pip/out/pip", parts)
+        told = (made / "PROOF").read_text()
+        self.assertTrue(told.startswith("pip 1.2, unproved\n\nNothing is proved of the program "
+                                        "out/rust/target/release/pip"), told)
+        self.assertNotIn("passed", told)
+        sums = subprocess.run("grep -E '^[0-9a-f]{64}  ' PROOF | sha256sum --check --quiet", shell=True, cwd=made,
+                              stdout=subprocess.PIPE)
+        self.assertEqual((sums.returncode, sums.stdout), (0, b""))
 
     def test_is_the_same_each_time(self) -> None:
         self.pass_gate()
@@ -163,7 +200,8 @@ class Releases(unittest.TestCase):
         self.refused("there is no program")
 
     def test_refuses_a_missing_page(self) -> None:
-        for tool, why in (("import sys\nsys.exit('no compiler')\n", "the page can't be made: no compiler"), ("pass\n", "the page isn't there")):
+        for tool, why in (("import sys\nsys.exit('no compiler')\n", "the page can't be made: no compiler"),
+                          ("pass\n", "the page isn't there")):
             self.write(self.found, "tools/playground/make_page", tool)
             self.commit(self.found)
             self.pass_gate()

@@ -13,7 +13,6 @@ if TYPE_CHECKING:
 
 HANDLERS = 0xFFFFF000
 SAVED_IN = 63                    # the vector in whose block faults, traps and interrupt lines save
-YIELD = 8
 NOWHERE = 256                    # the vector of a yield that saves nothing
 
 Words = dict[int, int]           # of a frame, those that aren't 0, by index
@@ -59,8 +58,8 @@ def only(frame: int | None) -> set[int]:
 
 def after(asked: Asked, line: bytes, answer: str, ran: int, before: State | None, tree: list[walk.Partition],
           words: dict[int, Words]) -> tuple[dict[int, Words], int]:
-    """The words after a line: those of the configuration as they were seen, all others as they were before but where a line
-    can have changed them; and how many frames were looked at for that."""
+    """The words after a line: those of the configuration as they were seen, all others as they were before but where a
+    line can have changed them; and how many frames were looked at for that."""
     hidden = configuration(tree)
     if before is None:
         return words, 0
@@ -70,7 +69,8 @@ def after(asked: Asked, line: bytes, answer: str, ran: int, before: State | None
     kept = {frame: told for frame, told in before.words.items() if frame not in hidden}
     for frame in again - hidden:
         kept[frame] = {index: word for index, word in enumerate(asked.words(frame, range(walk.WORDS))) if word}
-    return {**{frame: told for frame, told in words.items() if frame in hidden}, **{frame: told for frame, told in kept.items() if told}}, len(again)
+    return {**{frame: told for frame, told in words.items() if frame in hidden},
+            **{frame: told for frame, told in kept.items() if told}}, len(again)
 
 
 def changes(before: State, now: State) -> list[str]:
@@ -81,7 +81,8 @@ def changes(before: State, now: State) -> list[str]:
         old, new = before.words.get(frame, {}), now.words.get(frame, {})
         if old is not new and old != new and (frame in old_hidden) == (frame in hidden):
             where = None if frame in hidden else owner(now.tree, frame)
-            told += [f"frame {frame}, word {index}{f' ({where(index)})' if where else ''}: 0x{old.get(index, 0):08x} \u2192 0x{new.get(index, 0):08x}"
+            told += [f"frame {frame}, word {index}{f' ({where(index)})' if where else ''}: 0x{old.get(index, 0):08x} "
+                     f"\u2192 0x{new.get(index, 0):08x}"
                      for index in sorted(set(old) | set(new)) if old.get(index, 0) != new.get(index, 0)]
     return told
 

@@ -43,7 +43,8 @@ class Frames:
         for frame in set(words) | set(self.last):
             told = words.get(frame, {})
             if told is not self.last.get(frame) and told != self.last.get(frame, {}):
-                self.found.setdefault(frame, []).append([at, self.contents.place({index: told[index] for index in sorted(told)})])
+                self.found.setdefault(frame, []).append([at, self.contents.place({index: told[index]
+                                                                                  for index in sorted(told)})])
         self.last = words
 
 
@@ -58,13 +59,15 @@ def data(title: str, found: list[states.State]) -> dict[str, Any]:
         if before is None or state.tree is not before.tree:
             places = {"tree": trees.place([partitions.place(told_partition(x)) for x in state.tree]),
                       "grid": grids.place(runs(walk.grid(state.frames, state.tree)))}
-        steps.append(dict(places, place=state.place, told=state.told, did=state.did, remarks=state.remarks, answer=state.answer,
+        steps.append(dict(places, place=state.place, told=state.told, did=state.did, remarks=state.remarks,
+                          answer=state.answer,
                           cpus=[[name, None if r is None else registers.place(r)] for name, r in state.cpus],
                           changed=states.changes(before, state) if before else []))
         before = state
     return {"title": title, "frames": found[0].frames, "partitions": partitions.values, "trees": trees.values,
             "grids": grids.values, "registers": registers.values, "steps": steps, "contents": frames.contents.values,
-            "words": frames.found, "calls": told_calls(), "statuses": [name for name, _ in meanings.statuses().values()]}
+            "words": frames.found, "calls": told_calls(),
+            "statuses": [name for name, _ in meanings.statuses().values()]}
 
 
 def told_calls() -> dict[int, list[Any]]:
@@ -90,7 +93,8 @@ def runs(kinds: list[tuple[str, int]]) -> list[list[int | str]]:
 
 def written(title: str, found: list[states.State]) -> str:
     """The page as a text."""
-    return filled("page.html", [HERE], {"TITLE": html.escape(title, quote=True), "/* data */": as_data(data(title, found))})
+    return filled("page.html", [HERE],
+                  {"TITLE": html.escape(title, quote=True), "/* data */": as_data(data(title, found))})
 
 
 def as_data(told: object) -> str:
@@ -99,7 +103,9 @@ def as_data(told: object) -> str:
 
 
 def filled(name: str, folders: list[str], told: dict[str, str]) -> str:
-    """A file of the first folder that has it, in which each mark is replaced: those of `told`, and the names of other files."""
+    """A file of the first folder that has it, in which each mark is replaced: those of `told`, and the names of other
+    files.
+    """
     def put(found: re.Match[str]) -> str:
         return told[found.group()] if found.group() in told else filled(found.group(1) or found.group(2), folders, told)
     marks = "|".join(map(re.escape, told))

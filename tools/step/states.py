@@ -3,11 +3,10 @@
 from __future__ import annotations
 
 import os
-import tempfile
 from collections.abc import Sequence
 from concurrent.futures import ThreadPoolExecutor
 from dataclasses import dataclass, field
-from typing import List, NamedTuple, Optional, Tuple
+from typing import NamedTuple, Optional
 
 from ..common.calling import Failed, text_of
 from ..draw import texts
@@ -15,9 +14,10 @@ from . import contents, walk, watching
 from .asking import Asked, BadLine
 
 # place: a line's number, or a step. told: the line, or the step. cpus: of each processor what runs, and its registers.
-# words: of each frame those that aren't 0; a frame without any isn't there. did: of a step, who made which instruction where
+# words: of each frame those that aren't 0; a frame without any isn't there. did: of a step, who made which instruction
+# where
 Registers = Optional[Sequence[int]]      # r0 to r15 and the pc, or None where nothing runs
-Cpus = List[Tuple[int, Registers]]       # what runs on each processor, a partition's name or 0, and its registers
+Cpus = list[tuple[int, Registers]]       # what runs on each processor, a partition's name or 0, and its registers
 
 
 class State(NamedTuple):
@@ -134,7 +134,8 @@ def script_state(asked: Asked, state: State, names: list[int], before: State | N
 
 
 def check_audit(program: str, state: State) -> None:
-    """The tree read off the words that were seen has to be the one that `audit` finds in them; others are users' words."""
+    """The tree read off the words that were seen has to be the one that `audit` finds in them; others are users' words.
+    """
     told = text_of(program, ["audit", str(state.frames)], walk.core_text(state.words).encode())
     if told != walk.tree_lines(state.tree) + ["yes"]:
         raise Failed(f"line {state.place}: the tree read off the frames isn't the one that 'audit' finds")
@@ -142,7 +143,8 @@ def check_audit(program: str, state: State) -> None:
 
 # An image
 
-def of_image(program: str, image: bytes, first: int, steps: int, seed: int, jobs: int | None = None, source: str | None = None) -> list[State]:
+def of_image(program: str, image: bytes, first: int, steps: int, seed: int, jobs: int | None = None,
+             source: str | None = None) -> list[State]:
     """A state at step `first`, and after each step from then on. `steps` is the last one."""
     if steps - first + 1 > MOST_STATES:
         raise Failed(f"{MANY}: begin later, with --from {steps - MOST_STATES + 1}")
@@ -155,7 +157,7 @@ def of_image(program: str, image: bytes, first: int, steps: int, seed: int, jobs
         runs_after_step(running, told.get(str(step)))
     states: list[State] = []
     kept = Kept()
-    with tempfile.TemporaryDirectory() as folder, ThreadPoolExecutor(jobs or os.cpu_count()) as pool:
+    with ThreadPoolExecutor(jobs or os.cpu_count()) as pool:
         for step, texts_of in zip(range(first, steps + 1), pool.map(lambda k: both(program, image, k, seed),
                                                                     range(first, steps + 1))):
             line = told.get(str(step - 1)) if step > first else None

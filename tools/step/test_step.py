@@ -1,4 +1,4 @@
-"""Tests of the pages to step through. The check `step-tests` runs them."""
+"""Tests of the pages to step through. The check `unit-tests` runs them."""
 
 from __future__ import annotations
 
@@ -79,7 +79,8 @@ class Contents(unittest.TestCase):
 
     def test_frames_that_become_configuration_are_no_change_of_words(self) -> None:
         before, now = state(self.tree[:1], {13: {0: 5}}), state(self.tree, {13: {0: 6}, 21: {1: 7}})
-        self.assertEqual(contents.changes(before, now), ["frame 21, word 1 (0x00409004 of partition 1): 0x00000000 \u2192 0x00000007"])
+        self.assertEqual(contents.changes(before, now),
+                         ["frame 21, word 1 (0x00409004 of partition 1): 0x00000000 \u2192 0x00000007"])
 
 
 class Pages(unittest.TestCase):

@@ -4,7 +4,7 @@ from __future__ import annotations
 
 from collections.abc import Callable, Sequence
 from dataclasses import dataclass
-from typing import Dict, NamedTuple
+from typing import NamedTuple
 
 ROOT = 1
 PAGE = 4096
@@ -12,7 +12,7 @@ WORDS = 1024
 SLOTS = 170
 LEVELS = ("page table", "first shadow table", "second shadow table")
 
-Words = Dict[int, Dict[int, int]]    # of each frame, those that aren't 0, by index
+Words = dict[int, dict[int, int]]    # of each frame, those that aren't 0, by index
 
 
 class Row(NamedTuple):

@@ -1,5 +1,5 @@
-"""Who made which instruction where, and all registers, step by step. The reference says it, of which nothing is proved; its
-lines have to be those of the program."""
+"""Who made which instruction where, and all registers, step by step. The reference says it, of which nothing is proved;
+its lines have to be those of the program."""
 
 from __future__ import annotations
 

@@ -17,19 +17,19 @@ use Rattle.pip_model.specs.Assembly.{with_name}
 use Rattle.pip_asm.specs.Names.{IsKept, address_at, first_there, found_in, has_free, has_room, home_of, in_map}
 use Rattle.pip_asm.specs.Names.{address_of_name, in_table, is_free, is_name_at, mark_of, hash_on}
 use Rattle.pip_asm.specs.declared.names.Addresses.{Addresses}
-use Rattle.pip_asm.specs.declared.names.Slot.{Slot}
+use Rattle.pip_asm.specs.declared.names.NameSlot.{NameSlot}
 
 -- ---- a place that changes
 
 not_true : false ≡ true → ⊥
 not_true e = none-some {A = ℕ} 0 (ap (λ b. if b then Some 0 else None) e)
 
-get-set_same : (xs : List Slot) (k : ℕ) (x : Slot) → k < length xs → slice_get (set xs k x) k ≡ Some x
+get-set_same : (xs : List NameSlot) (k : ℕ) (x : NameSlot) → k < length xs → slice_get (set xs k x) k ≡ Some x
 get-set_same [] k x h = absurd (omega (arith, h))
 get-set_same (y ∷ ys) zero x h = refl
 get-set_same (y ∷ ys) (suc k) x h = get-set_same ys k x (omega (arith, h))
 
-get-set_other : (xs : List Slot) (k i : ℕ) (x : Slot) → i ≢ k → slice_get (set xs k x) i ≡ slice_get xs i
+get-set_other : (xs : List NameSlot) (k i : ℕ) (x : NameSlot) → i ≢ k → slice_get (set xs k x) i ≡ slice_get xs i
 get-set_other [] k i x ne = refl
 get-set_other (y ∷ ys) zero zero x ne = absurd (ne refl)
 get-set_other (y ∷ ys) zero (suc i) x ne = refl
@@ -37,7 +37,7 @@ get-set_other (y ∷ ys) (suc k) zero x ne = refl
 get-set_other (y ∷ ys) (suc k) (suc i) x ne = get-set_other ys k i x (λ e. ne (ap suc e))
 
 -- another name stays where it is
-pub found-set : (xs : List Slot) (k : ℕ) (x : Slot) (mark : ℕ) (t : List ℕ) → k < length xs
+pub found-set : (xs : List NameSlot) (k : ℕ) (x : NameSlot) (mark : ℕ) (t : List ℕ) → k < length xs
     → address_at mark t (slice_get xs k) ≡ None → address_at mark t (Some x) ≡ None → (i n : ℕ)
     → found_in (set xs k x) mark t i n ≡ found_in xs mark t i n
 unfolding found_in
@@ -60,7 +60,7 @@ first_none None b e = (refl, e)
 first_none (Some x) b e = absurd (none-some x (sym e))
 
 -- the new name is found at its place
-pub found-new : (xs : List Slot) (k : ℕ) (x : Slot) (mark a : ℕ) (t : List ℕ) → k < length xs
+pub found-new : (xs : List NameSlot) (k : ℕ) (x : NameSlot) (mark a : ℕ) (t : List ℕ) → k < length xs
     → address_at mark t (Some x) ≡ Some a → (i n : ℕ) → i ≤ k → k < i + n → found_in xs mark t i n ≡ None
     → found_in (set xs k x) mark t i n ≡ Some a
 unfolding found_in
@@ -78,7 +78,7 @@ found-new xs k x mark a t h is i (suc n) low high none =
     ]
 
 -- a place that is taken makes no room
-pub free-set : (xs : List Slot) (k : ℕ) (x : Slot) → k < length xs → is_free (Some x) ≡ false → (i n : ℕ)
+pub free-set : (xs : List NameSlot) (k : ℕ) (x : NameSlot) → k < length xs → is_free (Some x) ≡ false → (i n : ℕ)
     → has_free (set xs k x) i n ≡ true → has_free xs i n ≡ true
 unfolding has_free
 free-set xs k x h taken i zero free = free
@@ -101,7 +101,7 @@ free-set xs k x h taken i (suc n) free =
     both false b c f e = f e
 
 -- there is room where one of the places is free
-pub free-here : (xs : List Slot) (k : ℕ) → is_free (slice_get xs k) ≡ true → (i n : ℕ) → i ≤ k → k < i + n
+pub free-here : (xs : List NameSlot) (k : ℕ) → is_free (slice_get xs k) ≡ true → (i n : ℕ) → i ≤ k → k < i + n
     → has_free xs i n ≡ true
 unfolding has_free
 free-here xs k free i zero low high = absurd (omega (arith, low, high))
@@ -117,14 +117,14 @@ free-here xs k free i (suc n) low high =
     later false b e = e
 
 -- a free place has no name
-pub free-none : (mark : ℕ) (t : List ℕ) (o : Option Slot) → mark ≢ 0 → is_free o ≡ true → address_at mark t o ≡ None
+pub free-none : (mark : ℕ) (t : List ℕ) (o : Option NameSlot) → mark ≢ 0 → is_free o ≡ true → address_at mark t o ≡ None
 free-none mark t None ne e = refl
 free-none mark t (Some s) ne e =
     ap (λ b. if b && bytes_eq s.name.now t then Some s.address
     else None) (ne_eqb s.mark mark (λ q. ne (sym q ∙ eqb-true s.mark 0 e)))
 
 -- another name isn't at a place
-pub other-none : (mark m a : ℕ) (name t : List ℕ) → bytes_eq name t ≡ false → (s : Slot) → s.name.now ≡ name
+pub other-none : (mark m a : ℕ) (name t : List ℕ) → bytes_eq name t ≡ false → (s : NameSlot) → s.name.now ≡ name
     → address_at mark t (Some s) ≡ None
 other-none mark m a name t ne s is =
     ap (λ b. if (s.mark == mark) && b then Some s.address else None) (ap (λ u. bytes_eq u t) is ∙ ne)
@@ -135,7 +135,7 @@ other-none mark m a name t ne s is =
     go false = refl
 
 -- the name of a place is there
-pub own-there : (mark : ℕ) (t : List ℕ) (s : Slot) → s.mark ≡ mark → s.name.now ≡ t
+pub own-there : (mark : ℕ) (t : List ℕ) (s : NameSlot) → s.mark ≡ mark → s.name.now ≡ t
     → address_at mark t (Some s) ≡ Some s.address
 own-there mark t s e is = ap (λ b. if b && bytes_eq s.name.now t then Some s.address else None) (eq-eqb s.mark mark e)
     ∙ ap (λ u. if bytes_eq u t then Some s.address else None) is
@@ -144,7 +144,7 @@ own-there mark t s e is = ap (λ b. if b && bytes_eq s.name.now t then Some s.ad
 -- ---- a table of free places
 
 -- no name is found where all places are free
-pub found-none : (size : ℕ) (s : Slot) (mark : ℕ) (t : List ℕ) → mark ≢ 0 → s.mark ≡ 0 → (i n : ℕ)
+pub found-none : (size : ℕ) (s : NameSlot) (mark : ℕ) (t : List ℕ) → mark ≢ 0 → s.mark ≡ 0 → (i n : ℕ)
     → found_in (replicate size s) mark t i n ≡ None
 unfolding found_in
 found-none size s mark t ne free i zero = refl
@@ -171,7 +171,7 @@ unfolding hash_on
 mixed-end hash i t h = ap (hash_on hash) (drop_all i t h)
 
 -- a place that has the name ends the search
-pub found-here : (xs : List Slot) (mark : ℕ) (t : List ℕ) (i n : ℕ) (d : Slot) → i < length xs → i < n
+pub found-here : (xs : List NameSlot) (mark : ℕ) (t : List ℕ) (i n : ℕ) (d : NameSlot) → i < length xs → i < n
     → is_name_at mark t (get_or xs i d) ≡ true → found_in xs mark t i (n - i) ≡ Some (get_or xs i d).address
 unfolding found_in
 found-here xs mark t i n d h low is =
@@ -182,7 +182,7 @@ found-here xs mark t i n d h low is =
     first_there (if b then Some (get_or xs i d).address else None) (found_in xs mark t (i + 1) (n - (i + 1)))) is
 
 -- another doesn't
-pub found-next : (xs : List Slot) (mark : ℕ) (t : List ℕ) (i n : ℕ) (d : Slot) → i < length xs → i < n
+pub found-next : (xs : List NameSlot) (mark : ℕ) (t : List ℕ) (i n : ℕ) (d : NameSlot) → i < length xs → i < n
     → is_name_at mark t (get_or xs i d) ≡ false → found_in xs mark t i (n - i) ≡ found_in xs mark t (i + 1)
     (n - (i + 1))
 unfolding found_in
@@ -193,12 +193,12 @@ found-next xs mark t i n d h low is =
     ∙ ap (λ b.
     first_there (if b then Some (get_or xs i d).address else None) (found_in xs mark t (i + 1) (n - (i + 1)))) is
 
-pub found-end : (xs : List Slot) (mark : ℕ) (t : List ℕ) (i n : ℕ) → n ≤ i → found_in xs mark t i (n - i) ≡ None
+pub found-end : (xs : List NameSlot) (mark : ℕ) (t : List ℕ) (i n : ℕ) → n ≤ i → found_in xs mark t i (n - i) ≡ None
 unfolding found_in
 found-end xs mark t i n h = let e : n - i ≡ 0 = omega arith in ap (found_in xs mark t i) e
 
 -- a place that isn't free
-pub free-next : (xs : List Slot) (i n : ℕ) (d : Slot) → i < length xs → i < n → (get_or xs i d).mark ≢ 0
+pub free-next : (xs : List NameSlot) (i n : ℕ) (d : NameSlot) → i < length xs → i < n → (get_or xs i d).mark ≢ 0
     → has_free xs i (n - i) ≡ has_free xs (i + 1) (n - (i + 1))
 unfolding has_free
 free-next xs i n d h low taken =
@@ -207,11 +207,11 @@ free-next xs i n d h low taken =
     ∙ ap (λ o. is_free o || has_free xs (i + 1) (n - (i + 1))) (slice_get-get_or xs i d h)
     ∙ ap (λ b. b || has_free xs (i + 1) (n - (i + 1))) (ne_eqb (get_or xs i d).mark 0 taken)
 
-pub free-end : (xs : List Slot) (i n : ℕ) → n ≤ i → has_free xs i (n - i) ≡ false
+pub free-end : (xs : List NameSlot) (i n : ℕ) → n ≤ i → has_free xs i (n - i) ≡ false
 unfolding has_free
 free-end xs i n h = let e : n - i ≡ 0 = omega arith in ap (has_free xs i) e
 
-pub free-there : (xs : List Slot) (i : ℕ) (d : Slot) → i < length xs → (get_or xs i d).mark ≡ 0
+pub free-there : (xs : List NameSlot) (i : ℕ) (d : NameSlot) → i < length xs → (get_or xs i d).mark ≡ 0
     → is_free (slice_get xs i) ≡ true
 free-there xs i d h free = ap is_free (slice_get-get_or xs i d h) ∙ eq-eqb (get_or xs i d).mark 0 free
 
@@ -221,12 +221,12 @@ mark-positive : (hash : ℕ) → mark_of hash ≢ 0
 unfolding mark_of
 mark-positive hash e = omega (arith, e)
 
-home-set : (xs : List Slot) (k : ℕ) (x : Slot) (hash : ℕ) → home_of (set xs k x) hash ≡ home_of xs hash
+home-set : (xs : List NameSlot) (k : ℕ) (x : NameSlot) (hash : ℕ) → home_of (set xs k x) hash ≡ home_of xs hash
 unfolding home_of
 home-set xs k x hash = ap (λ n. hash % (n - 8)) (length-set xs k x)
 
 -- what a look at the table answers
-pub table_found : (n : Addresses) (t : List ℕ) (xs ys : List Slot) (hash mark home : ℕ) (r : Option ℕ)
+pub table_found : (n : Addresses) (t : List ℕ) (xs ys : List NameSlot) (hash mark home : ℕ) (r : Option ℕ)
     → hash ≡ hash_on n.seed t → mark ≡ mark_of hash → xs ≡ n.slots.items → home ≡ home_of xs hash → ys ≡ n.slots.items
     → r ≡ found_in ys mark t home 8 → r ≡ in_table n t
 table_found n t xs ys hash mark home r h m x o y e =
@@ -236,14 +236,14 @@ table_found n t xs ys hash mark home r h m x o y e =
     (o ∙ ap (λ zs. home_of zs hash) x ∙ ap (home_of n.slots.items) h)
 
 -- and a look for a free place
-pub room_found : (n : Addresses) (t : List ℕ) (xs ys : List Slot) (hash home : ℕ) → hash ≡ hash_on n.seed t
+pub room_found : (n : Addresses) (t : List ℕ) (xs ys : List NameSlot) (hash home : ℕ) → hash ≡ hash_on n.seed t
     → xs ≡ n.slots.items → home ≡ home_of xs hash → ys ≡ n.slots.items → has_free ys home 8 ≡ has_room n t
 room_found n t xs ys hash home h x o y =
     ap (λ zs. has_free zs home 8) y
     ∙ ap (λ k. has_free n.slots.items k 8) (o ∙ ap (λ zs. home_of zs hash) x ∙ ap (home_of n.slots.items) h)
 
 -- no name has an address in a table of free places and an empty map
-pub none_named : (n : Addresses) (size : ℕ) (s : Slot) → n.slots.items ≡ replicate size s → s.mark ≡ 0
+pub none_named : (n : Addresses) (size : ℕ) (s : NameSlot) → n.slots.items ≡ replicate size s → s.mark ≡ 0
     → n.others.entries ≡ [] → address_of_name n ≡ (λ _. None)
 unfolding address_of_name
 none_named n size s e free empty = λ i t. at t i
@@ -289,10 +289,10 @@ pub record IsPlaced (n : Addresses) (t : Bor (List ℕ)) (i mark a : ℕ) : Type
   pub free : is_free (slice_get n.slots.items i) ≡ true
 
 module _ (n : Addresses) (t : Bor (List ℕ)) (i mark a : ℕ) (p : IsPlaced n t i mark a) where
-  slot : Slot
+  slot : NameSlot
   slot = record { mark = mark; address = a; name = t }
 
-  slots : List Slot
+  slots : List NameSlot
   slots = set n.slots.items i slot
 
   taken : is_free (Some slot) ≡ false
@@ -404,12 +404,13 @@ none_there None e = refl
 none_there (Some x) e = absurd (not_true (sym e))
 
 -- a vector that had no place is filled with one
-pub resized : (old new : List Slot) (n m : ℕ) (s : Slot) → old ≡ [] → m ≡ 0 → new ≡ take n old ++ replicate (n - m) s
+pub resized : (old new : List NameSlot) (n m : ℕ) (s : NameSlot) → old ≡ [] → m ≡ 0
+    → new ≡ take n old ++ replicate (n - m) s
     → new ≡ replicate n s
 resized old new n m s none zero_long e =
     e ∙ ap (λ xs. take n xs ++ replicate (n - m) s) none ∙ ap (λ k. take n [] ++ replicate (n - k) s) zero_long
     ∙ ap (λ xs. xs ++ replicate (n - 0) s) (take-nil n) ∙ ap (λ k. replicate k s) (omega arith)
   where
-    take-nil : (n : ℕ) → take {A = Slot} n [] ≡ []
+    take-nil : (n : ℕ) → take {A = NameSlot} n [] ≡ []
     take-nil zero = refl
     take-nil (suc n) = refl

@@ -10,8 +10,8 @@ use Rattle.pip_asm.specs.Names.{IsKept, address_of_name}
 use Rattle.pip_asm.specs.declared.reading.AsmError.{AsmError}
 use Rattle.pip_asm.specs.declared.reading.AsmError.TheVariants as E
 use Rattle.pip_asm.specs.declared.reading.Passed.{Passed}
-use Rattle.pip_asm.specs.declared.reading.Stop.{Stop}
-use Rattle.pip_asm.specs.declared.reading.Stop.TheVariants as S
+use Rattle.pip_asm.specs.declared.reading.AsmLineError.{AsmLineError}
+use Rattle.pip_asm.specs.declared.reading.AsmLineError.TheVariants as S
 
 -- the state that a program's stands for
 abbrev pub state_of : Passed → AssemblyState
@@ -40,7 +40,7 @@ pub record IsProperState (p : Passed) : Type 0 where
   pub front : StartsWith p.stage (first_head p.frames p.cpus p.plans.items) p.written
 
 -- a line is refused with the kind that it has
-abbrev pub StopIs : {A : Type 0} → Result A AsmKind → Stop → Type 0
+abbrev pub StopIs : {A : Type 0} → Result A AsmKind → AsmLineError → Type 0
 StopIs r (S.Kind k) = r ≡ Err k
 StopIs r S.Memory = Unit {0}
 

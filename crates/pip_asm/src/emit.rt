@@ -113,7 +113,7 @@ impl<'a> Written<'a> {
         Ok(())
     }
 
-    /// One word more.
+    /// Appends a word.
     pub fn word(&mut self, word: u32) -> Result<(), AllocError>
         requires { IsInBounds self.old }
         ensures { OnOk result (Adds self.old (words (word ∷ [])) self.new) }
@@ -121,7 +121,7 @@ impl<'a> Written<'a> {
         push_word(&mut self.bytes, word)
     }
 
-    /// That many zero words more.
+    /// Appends zero words.
     pub fn zeros(&mut self, count: u32) -> Result<(), AllocError>
         requires { IsInBounds self.old }
         ensures { OnOk result (Adds self.old (words (replicate count 0)) self.new) }
@@ -129,7 +129,7 @@ impl<'a> Written<'a> {
         push_zeros(&mut self.bytes, count)
     }
 
-    /// The word of a cell more, which a line says.
+    /// Appends the word of a cell that a line says.
     pub fn cell(&mut self, line: u64, next: u32, cell: Cell<'a>) -> Result<(), AllocError>
         requires whole { IsInBounds self.old }
         requires room { HasRoomFor cell.number cell.takes }

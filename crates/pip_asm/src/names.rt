@@ -10,7 +10,7 @@ ghost use Rattle.pip_model.specs.Assembly.{with_name};
 ghost use Rattle.pip_asm.specs.Names.{IsFreePlace, IsKept, IsTwice, address_of_name, found_in, has_room, home_of};
 ghost use Rattle.pip_asm.specs.Names.{in_table, is_name_at, mark_of, hash_on};
 
-use crate::reading::Stop;
+use crate::reading::AsmLineError;
 use byteorder::{ByteOrder, LittleEndian};
 use pip_model::AsmKind;
 use std::alloc::{AllocError, Global};
@@ -27,13 +27,13 @@ const LOW_BITS: u64 = 0x7f7f_7f7f_7f7f_7f7f;
 
 /// A place of the table: a name with its address and its mark; or none, where the mark is 0.
 #[derive(Clone, Copy)]
-pub struct Slot<'a> {
+pub struct NameSlot<'a> {
     mark: u32,
     address: u32,
     name: &'a [u8],
 }
 
-impl Slot<'_> {
+impl NameSlot<'_> {
     // Whether this name is here, which has this mark.
     fn is(&self, mark: u32, name: &[u8]) -> bool
         ensures { result ≡ is_name_at mark name.now self.now }
@@ -46,7 +46,7 @@ impl Slot<'_> {
 #[derive(Drop)]
 pub struct Addresses<'a> {
     seed: u64,
-    slots: Vec<Slot<'a>>,
+    slots: Vec<NameSlot<'a>>,
     others: BTreeMap<&'a [u8], u32>,
 }
 
@@ -109,7 +109,7 @@ fn mark_of(hash: u64) -> u32
 }
 
 // The address of a name where it is in a place of the table.
-fn found_in(slots: &[Slot<'_>], home: usize, mark: u32, name: &[u8]) -> Option<u32>
+fn found_in(slots: &[NameSlot<'_>], home: usize, mark: u32, name: &[u8]) -> Option<u32>
     requires { home + WINDOW ≤ length slots.now }
     ensures { result ≡ found_in slots.now mark name.now home WINDOW }
 {
@@ -123,7 +123,7 @@ fn found_in(slots: &[Slot<'_>], home: usize, mark: u32, name: &[u8]) -> Option<u
 }
 
 // A place that is free, of those from one on.
-fn free_in(slots: &[Slot<'_>], home: usize) -> Option<usize>
+fn free_in(slots: &[NameSlot<'_>], home: usize) -> Option<usize>
     requires { home + WINDOW ≤ length slots.now }
     ensures { IsFreePlace slots.now home result }
 {
@@ -136,7 +136,7 @@ fn free_in(slots: &[Slot<'_>], home: usize) -> Option<usize>
 }
 
 // Where the places of a name of this hash begin.
-fn home_of(slots: &[Slot<'_>], hash: u64) -> usize
+fn home_of(slots: &[NameSlot<'_>], hash: u64) -> usize
     requires { WINDOW < length slots.now }
     ensures home { result ≡ home_of slots.now hash }
     ensures room { result + WINDOW ≤ length slots.now }
@@ -151,7 +151,7 @@ impl<'a> Addresses<'a> {
         ensures none { IfOk result (λ n. address_of_name n ≡ (λ _. None)) }
         ensures kept { IfOk result IsKept }
     {
-        let free = Slot {
+        let free = NameSlot {
             mark: 0,
             address: 0,
             name: b"",
@@ -179,7 +179,7 @@ impl<'a> Addresses<'a> {
     }
 
     /// A name more, whose place is this address. `Twice` where it has one already.
-    pub fn add(&mut self, name: &'a [u8], address: u32) -> Result<(), Stop>
+    pub fn add(&mut self, name: &'a [u8], address: u32) -> Result<(), AsmLineError>
         requires { IsKept self.old }
         ensures kept { OnOk result (IsKept self.new) }
         ensures fresh { OnOk result (address_of_name self.old name.now ≡ None) }
@@ -190,11 +190,11 @@ impl<'a> Addresses<'a> {
         let home = home_of(&self.slots, hash);
         let mark = mark_of(hash);
         if found_in(&self.slots, home, mark, name).is_some() {
-            return Err(Stop::Kind(AsmKind::Twice));
+            return Err(AsmLineError::Kind(AsmKind::Twice));
         }
         match free_in(&self.slots, home) {
             Some(i) => {
-                self.slots[i] = Slot {
+                self.slots[i] = NameSlot {
                     mark,
                     address,
                     name,
@@ -206,7 +206,7 @@ impl<'a> Addresses<'a> {
     }
 
     // A name more, for which the table has no room.
-    fn add_other(&mut self, name: &'a [u8], address: u32) -> Result<(), Stop>
+    fn add_other(&mut self, name: &'a [u8], address: u32) -> Result<(), AsmLineError>
         requires kept { IsKept self.old }
         requires fresh { in_table self.old name.now ≡ None }
         requires full { has_room self.old name.now ≡ false }
@@ -217,8 +217,8 @@ impl<'a> Addresses<'a> {
     {
         match self.others.insert(name, address) {
             Ok(None) => Ok(()),
-            Ok(Some(_)) => Err(Stop::Kind(AsmKind::Twice)),
-            Err(_) => Err(Stop::Memory),
+            Ok(Some(_)) => Err(AsmLineError::Kind(AsmKind::Twice)),
+            Err(_) => Err(AsmLineError::Memory),
         }
     }
 }

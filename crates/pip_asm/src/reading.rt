@@ -36,7 +36,7 @@ pub enum AsmError {
 
 /// Why a line isn't taken.
 #[derive(Clone, Copy, Debug, PartialEq, Eq)]
-pub enum Stop {
+pub enum AsmLineError {
     Kind(AsmKind),
     Memory,
 }
@@ -84,7 +84,7 @@ impl<'a> Passed<'a> {
         })
     }
 
-    fn plan(&mut self, plan: Plan) -> Result<(), Stop>
+    fn plan(&mut self, plan: Plan) -> Result<(), AsmLineError>
         requires proper { IsProperState self.old }
         requires small { plan.line < 16 }
         requires stage { self.old.stage ≡ Header }
@@ -96,10 +96,10 @@ impl<'a> Passed<'a> {
         ensures written { OnOk result (self.new.written ≡ self.old.written) }
     {
         if plan.line < self.least {
-            return Err(Stop::Kind(AsmKind::Range));
+            return Err(AsmLineError::Kind(AsmKind::Range));
         }
         if self.plans.push(plan).is_err() {
-            return Err(Stop::Memory);
+            return Err(AsmLineError::Memory);
         }
         self.least = plan.line + 1;
         Ok(())
@@ -123,7 +123,7 @@ impl<'a> Passed<'a> {
         }
     }
 
-    fn begin(&mut self, page: u32) -> Result<(), Stop>
+    fn begin(&mut self, page: u32) -> Result<(), AsmLineError>
         requires proper { IsProperState self.old }
         requires small { page < 2 ^ 20 }
         ensures same { MatchResult result
@@ -135,14 +135,14 @@ impl<'a> Passed<'a> {
             (SaysMore self.old.written (words (padding self.old.stage self.old.size ++ page ∷ [])) self.new.written) }
     {
         if root_frame(self.frames, VPage::new(page)).is_none() {
-            return Err(Stop::Kind(AsmKind::Range));
+            return Err(AsmLineError::Kind(AsmKind::Range));
         }
         if is_marked(&self.marks, page) {
-            return Err(Stop::Kind(AsmKind::Twice));
+            return Err(AsmLineError::Kind(AsmKind::Twice));
         }
         match self.open(page) {
             Ok(()) => Ok(()),
-            Err(_) => Err(Stop::Memory),
+            Err(_) => Err(AsmLineError::Memory),
         }
     }
 
@@ -167,7 +167,7 @@ impl<'a> Passed<'a> {
         Ok(())
     }
 
-    fn hold(&mut self, number: u64, cell: Cell<'a>) -> Result<(), Stop>
+    fn hold(&mut self, number: u64, cell: Cell<'a>) -> Result<(), AsmLineError>
         requires proper { IsProperState self.old }
         requires room { HasRoomFor cell.number cell.takes }
         requires stage { self.old.stage ≡ InPage }
@@ -182,17 +182,17 @@ impl<'a> Passed<'a> {
             self.new.written) }
     {
         if self.size >= 1024 {
-            return Err(Stop::Kind(AsmKind::Size));
+            return Err(AsmLineError::Kind(AsmKind::Size));
         }
         let next = self.at.wrapping_add(4 * self.size + 4);
         if self.written.cell(number, next, cell).is_err() {
-            return Err(Stop::Memory);
+            return Err(AsmLineError::Memory);
         }
         self.size += 1;
         Ok(())
     }
 
-    fn zeros(&mut self, count: u32) -> Result<(), Stop>
+    fn zeros(&mut self, count: u32) -> Result<(), AsmLineError>
         requires proper { IsProperState self.old }
         requires small { count ≤ 1024 }
         requires stage { self.old.stage ≡ InPage }
@@ -204,16 +204,16 @@ impl<'a> Passed<'a> {
         ensures says { OnOk result (SaysMore self.old.written (words (replicate count 0)) self.new.written) }
     {
         if self.size + count > 1024 {
-            return Err(Stop::Kind(AsmKind::Size));
+            return Err(AsmLineError::Kind(AsmKind::Size));
         }
         if self.written.zeros(count).is_err() {
-            return Err(Stop::Memory);
+            return Err(AsmLineError::Memory);
         }
         self.size += count;
         Ok(())
     }
 
-    fn name(&mut self, text: &'a [u8]) -> Result<(), Stop>
+    fn name(&mut self, text: &'a [u8]) -> Result<(), AsmLineError>
         requires proper { IsProperState self.old }
         ensures same { MatchResult result
             (λ _. place_statement (state_of self.old) (Names text.now) ≡ Ok (state_of self.new))
@@ -227,7 +227,7 @@ impl<'a> Passed<'a> {
     }
 
     // Takes what a line says.
-    fn place(&mut self, number: u64, said: Statement<'a>) -> Result<(), Stop>
+    fn place(&mut self, number: u64, said: Statement<'a>) -> Result<(), AsmLineError>
         requires proper { IsProperState self.old }
         requires within { IsInRange said }
         requires stands { StandsAt self.old.stage (statement_of said) }
@@ -272,8 +272,8 @@ impl<'a> Passed<'a> {
             Err(kind) => Err(AsmError::Line(number, kind)),
             Ok(said) => match self.place(number, said) {
                 Ok(()) => Ok(()),
-                Err(Stop::Kind(kind)) => Err(AsmError::Line(number, kind)),
-                Err(Stop::Memory) => Err(AsmError::Memory),
+                Err(AsmLineError::Kind(kind)) => Err(AsmError::Line(number, kind)),
+                Err(AsmLineError::Memory) => Err(AsmError::Memory),
             },
         }
     }

@@ -9,7 +9,7 @@ use Rattle.pip_base.specs.declared.types.Pair.{Pair}
 use Rattle.pip_base.specs.Memory.{Memory, word_at}
 use Rattle.pip_model.specs.Boot.{boot_root, boot_table, first_user, own, rows_from, tables_from, tables_of_root}
 use Rattle.pip_model.specs.Lists.{Rising}
-use Rattle.pip_model.specs.Parts.{part_2, same_all, same_base, same_pair, same_row, same_table}
+use Rattle.pip_model.specs.Parts.{part_boot_root, same_all, same_base, same_pair, same_row, same_table}
 use Rattle.pip_model.specs.ReadOff.{base_read, values_from, more_read, node_read, row_read, table_from, table_read}
 use Rattle.pip_model.specs.Tree.{Row, Table, dir, lists, row_at, table_at}
 use Rattle.pip_model.proofs.Audit.Over.{gather_at, gather_none, gather_rises}
@@ -324,9 +324,9 @@ pub record IsBoot (m : Memory) : Type 0 where
   pub rows : (v : ℕ) → v < 2 ^ 20 → HasBootRow m (tables_in m 1) v
 
 module _ (m : Memory) (a : Auditor) (least : 16 ≤ length m) (most : length m ≤ 4096) where
-  pub part_2_holds : IsBoot m → (r : IsRead m a) → true ≡ part_2 (tree_read m r.others)
-  unfolding part_2
-  part_2_holds b = λ r.
+  pub part_boot_root_holds : IsBoot m → (r : IsRead m a) → true ≡ part_boot_root (tree_read m r.others)
+  unfolding part_boot_root
+  part_boot_root_holds b = λ r.
       let x = node_read m 1 in
       let y = boot_root (length m) in
       let few : tables_of_root (length m) ≤ 4 = omega (arith, most) in
@@ -339,9 +339,9 @@ module _ (m : Memory) (a : Auditor) (least : 16 ≤ length m) (most : length m �
       (both (more_none m (tables_of_root (length m)) (tables_few m (tables_of_root (length m)) refl b.tables) few)
       (ap (λ rs. same_all same_row rs y.rows) (rows_hold m least most b.rows) ∙ row_lists_same y.rows)))))))))
 
-  pub part_2_parts : (r : IsRead m a) → part_2 (tree_read m r.others) ≡ true → IsBoot m
-  unfolding part_2
-  part_2_parts r e =
+  pub part_boot_root_parts : (r : IsRead m a) → part_boot_root (tree_read m r.others) ≡ true → IsBoot m
+  unfolding part_boot_root
+  part_boot_root_parts r e =
       let x = node_read m 1 in
       let y = boot_root (length m) in
       let e1 = second (nat_le 16 (length m)) e in
@@ -359,14 +359,16 @@ module _ (m : Memory) (a : Auditor) (least : 16 ≤ length m) (most : length m �
         rows = rows_back m least most (same_row_lists x.rows y.rows e8);
       }
 
-  pub part_2_breaks : IsRead m a → (IsBoot m → ⊥) → false ≡ part_2 (tree_in m)
-  part_2_breaks r broken = sym (untrue (part_2 (tree_read m r.others)) (λ e. broken (part_2_parts r e)))
-      ∙ ap part_2 (sym (read_in m a r))
+  pub part_boot_root_breaks : IsRead m a → (IsBoot m → ⊥) → false ≡ part_boot_root (tree_in m)
+  part_boot_root_breaks r broken =
+      sym (untrue (part_boot_root (tree_read m r.others)) (λ e. broken (part_boot_root_parts r e)))
+      ∙ ap part_boot_root (sym (read_in m a r))
 
   -- the rows decide where all else is the boot's
-  pub part_2_says : IsRead m a → (z : Bool) → word_at m 1 11 ≡ 1 → same_base (base_read m 1) boot_base ≡ true
+  pub part_boot_root_says : IsRead m a → (z : Bool) → word_at m 1 11 ≡ 1 → same_base (base_read m 1) boot_base ≡ true
       → same_all same_table (tables_in m 1) (boot_root (length m)).tables ≡ true
-      → Says z ((v : ℕ) → v < 2 ^ 20 → HasBootRow m (tables_in m 1) v) → z ≡ part_2 (tree_in m)
-  part_2_says r true up base tables rows =
-      part_2_holds (record { up = up; base = base; tables = tables; rows = rows }) r ∙ ap part_2 (sym (read_in m a r))
-  part_2_says r false up base tables rows = part_2_breaks r (λ b. rows b.rows)
+      → Says z ((v : ℕ) → v < 2 ^ 20 → HasBootRow m (tables_in m 1) v) → z ≡ part_boot_root (tree_in m)
+  part_boot_root_says r true up base tables rows =
+      part_boot_root_holds (record { up = up; base = base; tables = tables; rows = rows }) r
+      ∙ ap part_boot_root (sym (read_in m a r))
+  part_boot_root_says r false up base tables rows = part_boot_root_breaks r (λ b. rows b.rows)

@@ -5,10 +5,10 @@ use Rattle.std.specs.Prelude.{slice_index}
 use Rattle.std.specs.List.{list_all}
 use Rattle.std.proofs.lemmas.Bool.{cases_eq}
 use Rattle.pip_base.specs.Memory.{Memory, word_at}
-use Rattle.pip_model.specs.Parts.{implies, part_1}
+use Rattle.pip_model.specs.Parts.{implies, part_parents_come_first}
 use Rattle.pip_model.specs.ReadOff.{node_read}
 use Rattle.pip_model.specs.Tree.{Node}
-use Rattle.pip_model.proofs.Audit.PartTests.{tests_1}
+use Rattle.pip_model.proofs.Audit.PartTests.{tests_parents_come_first}
 use Rattle.pip_audit.specs.declared.auditor.Auditor.{Auditor}
 use Rattle.pip_audit.specs.Comparing.{tree_in}
 use Rattle.pip_audit.specs.Judging.{TellsEach, parent_test}
@@ -20,12 +20,14 @@ use Rattle.pip_audit.proofs.TreeIn.{read_in}
 -- ---- the parent of a node
 
 -- it is a node that was read
-pub parent_place : (m : Memory) (a : Auditor) → IsRead m a → part_1 (tree_in m) ≡ true → (x : ℕ) → 1 ≤ x → x < a.count
+pub parent_place : (m : Memory) (a : Auditor) → IsRead m a → part_parents_come_first (tree_in m) ≡ true
+    → (x : ℕ) → 1 ≤ x → x < a.count
     → (k : ℕ) × (k < a.count) × (slice_index a.names.items k ≡ word_at m (slice_index a.names.items x) 11)
 parent_place m a r one x lo hi =
     let h = r.has_read in
     let names = a.names.items in
-    let rooted = (tests_1 (tree_read m r.others)).to (ap part_1 (sym (read_in m a r)) ∙ one) in
+    let rooted = (tests_parents_come_first (tree_read m r.others)).to
+    (ap part_parents_come_first (sym (read_in m a r)) ∙ one) in
     let p = parent_at m names a.count r.others h.names rooted (node_at m names x)
     (node_in m names a.count r.others h.names (nodes_are m a r.others h) x lo hi) in
     (p.0, p.1, p.2 ∙ up_is m (slice_index names x))
@@ -64,7 +66,7 @@ module _ (r : Node → Node → Bool) (m : Memory) (a : Auditor) where
   abbrev of_child : IsRead m a → Node → Bool
   of_child read x = list_all (with_child read x) (node_read m 1 ∷ read.others)
 
-  pub children_told : (read : IsRead m a) → part_1 (tree_in m) ≡ true → (z : Bool)
+  pub children_told : (read : IsRead m a) → part_parents_come_first (tree_in m) ≡ true → (z : Bool)
       → TellsEach (λ x b. b ≡ parent_test r m a.names.items x) 1 a.count z → list_all (of_child read) read.others ≡ z
   children_told read one true t = others_told m a read.others read.has_read (of_child read) true (λ x lo hi.
       sym (nodes_told m a read.others read.has_read (with_child read (node_at m a.names.items x)) true (λ y low high.

@@ -7,8 +7,8 @@ use Rattle.pip_base.specs.Memory.{Memory, word_at}
 use Rattle.pip_model.specs.declared.reading.Difference.{Difference}
 use Rattle.pip_model.specs.Audit.{difference, difference_between, difference_from, frame_difference}
 use Rattle.pip_model.specs.Layout.{layout}
-use Rattle.pip_model.specs.NodeWords.{DescriptorPage, DirectoryPage, ListPage, Mmu, Role as PageRole, Shadow1, Shadow2}
-use Rattle.pip_model.specs.NodeWords.{TablePage}
+use Rattle.pip_model.specs.NodeWords.{DescriptorPage, DirectoryPage, ListPage, Role as PageRole, TablePage}
+use Rattle.pip_model.specs.declared.level.Level.TheVariants.{Mmu, Shadow1, Shadow2}
 use Rattle.pip_model.specs.ReadOff.{first, or_first}
 use Rattle.pip_model.proofs.Audit.Over.{first_hit, first_none}
 use Rattle.pip_audit.specs.Comparing.{Covers, CoversPlain, CoversRole, CoversTables, GoesOn, IsDifference, differs_in}

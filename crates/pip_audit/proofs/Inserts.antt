@@ -9,7 +9,7 @@ use Rattle.pip_model.specs.ReadOff.{gather, row_read, with_first}
 use Rattle.pip_model.specs.Tree.{Row}
 use Rattle.pip_model.proofs.Audit.Over.{gather_append, gather_empty}
 use Rattle.pip_audit.specs.FrameSets.{are_fresh, with_all}
-use Rattle.pip_audit.specs.declared.tables.Row.{Row as Held}
+use Rattle.pip_audit.specs.declared.tables.FoundRow.{FoundRow}
 use Rattle.pip_audit.specs.Tables.{IsFirstRow, IsNextLeft, row_seen, tables_in}
 
 pub fresh_same : (a b : ℕ → Bool) (gs : List ℕ) → ((f : ℕ) → a f ≡ b f) → are_fresh a gs ≡ are_fresh b gs
@@ -76,7 +76,7 @@ rows_step f from at r lo hi none some =
     ∙ ap (λ o. with_first o (gather f (at + 1) (2 ^ 20 - (at + 1)))) some
 
 -- the next of them is the first row from there on
-pub next_is : (m : Memory) (part from : ℕ) (o : Option Held) → IsFirstRow m (tables_in m part) from (2 ^ 20) o
+pub next_is : (m : Memory) (part from : ℕ) (o : Option FoundRow) → IsFirstRow m (tables_in m part) from (2 ^ 20) o
     → IsNextLeft m part from o
 next_is m part from None none =
     gather_empty (row_read m (tables_in m part)) from (2 ^ 20 - from) (λ k lo hi. none k lo (omega (arith, lo, hi)))

@@ -8,8 +8,9 @@ use Rattle.pip_model.specs.declared.reading.Difference.{Difference}
 use Rattle.pip_model.specs.FullRows.{from_word, given_word, vpage_in_parent, vpage_of_page, place_word}
 use Rattle.pip_model.specs.Layout.{layout, owned_word}
 use Rattle.pip_model.specs.Lists.{In, has}
-use Rattle.pip_model.specs.NodeWords.{DescriptorPage, DirectoryPage, Level as TableLevel, ListPage, Mmu}
-use Rattle.pip_model.specs.NodeWords.{Role as PageRole, Shadow1, Shadow2, TablePage, role}
+use Rattle.pip_model.specs.NodeWords.{DescriptorPage, DirectoryPage, ListPage, Role as PageRole, TablePage, role}
+use Rattle.pip_model.specs.declared.level.Level.{Level}
+use Rattle.pip_model.specs.declared.level.Level.TheVariants.{Mmu, Shadow1, Shadow2}
 use Rattle.pip_model.specs.ReadOff.{node_read, bare_tree}
 use Rattle.pip_model.specs.Sound.{IsSound}
 use Rattle.pip_model.specs.Tree.{Node, Tree, config, find_node, hidden, nodes, row_pages, word_of}
@@ -235,7 +236,7 @@ module _ (m : Memory) (a : Auditor) (r : IsRead m a) (s : IsSound (tree_in m)) (
 
 -- ---- what was covered
 
-pub tables_stay : (m : Memory) (f g : Option Difference) (part : ℕ) (level : TableLevel) → GoesOn m f g
+pub tables_stay : (m : Memory) (f g : Option Difference) (part : ℕ) (level : Level) → GoesOn m f g
     → CoversTables m f part level → CoversTables m g part level
 tables_stay m f g part level goes c = λ d. role_stays m f g part (TablePage level d) goes (c d)
 

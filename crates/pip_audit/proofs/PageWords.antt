@@ -10,12 +10,14 @@ use Rattle.std.proofs.lemmas.List.Sums.{sum_by-cons}
 use Rattle.pip_base.specs.Memory.{Memory, word_at}
 use Rattle.pip_base.specs.declared.types.Pair.{Pair}
 use Rattle.pip_model.specs.Boot.{own}
-use Rattle.pip_model.specs.NodeWords.{DescriptorPage, DirectoryPage, Level, ListPage, Shadow1, Shadow2, TablePage}
-use Rattle.pip_model.specs.NodeWords.{descriptor_word, directory_entry, flag, role_word, list_word, next_list_page}
-use Rattle.pip_model.specs.NodeWords.{no_table, page_word, slot_words, slots}
+use Rattle.pip_model.specs.NodeWords.{DescriptorPage, DirectoryPage, ListPage, TablePage, descriptor_word}
+use Rattle.pip_model.specs.NodeWords.{directory_entry, flag, role_word, list_word, next_list_page, no_table, page_word}
+use Rattle.pip_model.specs.NodeWords.{slot_words, slots}
+use Rattle.pip_model.specs.declared.level.Level.{Level}
+use Rattle.pip_model.specs.declared.level.Level.TheVariants.{Shadow1, Shadow2}
 use Rattle.pip_model.specs.ReadOff.{base_read, lines_read, more_read, node_read, row_read, cell_read, slot_start}
 use Rattle.pip_model.specs.ReadOff.{table_from, table_read}
-use Rattle.pip_model.specs.NodeWords.{Mmu}
+use Rattle.pip_model.specs.declared.level.Level.TheVariants.{Mmu}
 use Rattle.pip_model.specs.Tree.{Node, Row, Table, lists, table_at}
 use Rattle.pip_audit.specs.Comparing.{entry_held}
 use Rattle.pip_audit.specs.Tables.{triple_of}

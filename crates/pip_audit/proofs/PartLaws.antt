@@ -9,7 +9,7 @@ use Rattle.std.proofs.lemmas.Bool.Decides.{nat_tests}
 use Rattle.pip_base.specs.Memory.{Memory, word_at}
 use Rattle.pip_model.specs.Lists.{has}
 use Rattle.pip_model.specs.Parts.{has_tables, indexes}
-use Rattle.pip_model.specs.NodeWords.{Mmu}
+use Rattle.pip_model.specs.declared.level.Level.TheVariants.{Mmu}
 use Rattle.pip_model.specs.ReadOff.{base_read, cell_in, cell_read, gather, values_from, more_read, node_read}
 use Rattle.pip_model.specs.ReadOff.{place_of_table, row_of_word, row_read, slot_page, slot_start, table_read}
 use Rattle.pip_model.specs.ReadOff.{tables_read, with_first}
@@ -18,7 +18,7 @@ use Rattle.pip_model.proofs.Audit.NodeBack.{rows_gathered}
 use Rattle.pip_audit.specs.declared.tables.Tables.{Tables}
 use Rattle.pip_audit.specs.Links.{list_read}
 use Rattle.pip_audit.specs.Tables.{IsOf, IsRowAt, tables_in, triple_of}
-use Rattle.pip_audit.specs.declared.tables.Row.{Row as Held}
+use Rattle.pip_audit.specs.declared.tables.FoundRow.{FoundRow}
 use Rattle.pip_audit.proofs.EachNode.{both, not_first, not_second}
 use Rattle.pip_audit.proofs.Loads.{has_index, place_small}
 use Rattle.pip_audit.proofs.TableWords.{listed_long}
@@ -140,14 +140,14 @@ tables_hold m t of once none =
     never : {r : Row} → None ≡ Some r → ⊥
     never q = cc
 
-tables_low : (m : Memory) (t : Tables) (r : Held) → IsOf m t → IsRowAt m (tables_in m t.part) 0 (Some r)
+tables_low : (m : Memory) (t : Tables) (r : FoundRow) → IsOf m t → IsRowAt m (tables_in m t.part) 0 (Some r)
     → has_tables (node_read m t.part) ≡ false
 tables_low m t r of some =
     not_first _ (ap (list_all (λ (r : Row). not (r.at == 0))) (rows_are m t.part)
     ∙ gather_false (λ (r : Row). not (r.at == 0)) (row_read m (tables_in m t.part)) 0 (2 ^ 20) 0 _ (omega arith)
     (omega arith) some.2 (ap not (eq-eqb r.at 0 some.0)))
 
-pub tables_told : (m : Memory) (t : Tables) (o : Option Held) (z : Bool) → IsOf m t → t.repeats ≡ false
+pub tables_told : (m : Memory) (t : Tables) (o : Option FoundRow) (z : Bool) → IsOf m t → t.repeats ≡ false
     → IsRowAt m (tables_in m t.part) 0 o → is_some o ≡ not z → z ≡ has_tables (node_read m t.part)
 tables_told m t None true of once none e = sym (tables_hold m t of once none)
 tables_told m t None false of once none e = cc

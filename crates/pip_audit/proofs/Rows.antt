@@ -5,13 +5,13 @@ use Rattle.std.specs.Prelude.{nat_le, nat_lt, option_map}
 use Rattle.std.proofs.lemmas.Bool.Decides.{nat_tests}
 use Rattle.std.proofs.lemmas.Bool.{cases_lt}
 use Rattle.pip_base.specs.Memory.{Memory, word_at}
-use Rattle.pip_model.specs.NodeWords.{Mmu}
+use Rattle.pip_model.specs.declared.level.Level.TheVariants.{Mmu}
 use Rattle.pip_model.specs.ReadOff.{cell_in, cell_read, is_leaf, leaf_is_read, leaf_stop, row_of_word, row_read}
 use Rattle.pip_model.specs.ReadOff.{stop_unless}
 use Rattle.pip_model.specs.Tree.{Table, dir, table_at}
-use Rattle.pip_audit.specs.declared.tables.Row.{Row}
+use Rattle.pip_audit.specs.declared.tables.FoundRow.{FoundRow}
 use Rattle.pip_audit.specs.declared.tables.Triple.{Triple}
-use Rattle.pip_audit.specs.declared.tables.Sought.{Sought}
+use Rattle.pip_audit.specs.declared.tables.SoughtRows.{SoughtRows}
 use Rattle.pip_audit.specs.Tables.{IsFirstSought, IsSoughtAt, row_seen, row_sought, triple_of}
 
 abbrev mmu_of : Option Triple → ℕ
@@ -66,7 +66,8 @@ row_inside m f i e ne = go (leaf_is_read (length m) (word_at m f i)) refl e
     go false q e = cc
 
 -- the first row that is sought, by the row at one vpage
-pub first_is : (s : Sought) (m : Memory) (ts : List Table) (from end v : ℕ) (r : Row) → IsSoughtAt s m ts v (Some r)
+pub first_is : (s : SoughtRows) (m : Memory) (ts : List Table) (from end v : ℕ) (r : FoundRow)
+    → IsSoughtAt s m ts v (Some r)
     → from ≤ v → v < end → ((u : ℕ) → from ≤ u → u < v → row_sought s m ts u ≡ None)
     → IsFirstSought s m ts from end (Some r)
 first_is s m ts from end v r k lo hi below =
@@ -79,7 +80,7 @@ first_is s m ts from end v r k lo hi below =
     )
 
 -- and by the first row of a table, where there is none before it
-pub first_later : (s : Sought) (m : Memory) (ts : List Table) (from v end last : ℕ) (r : Row)
+pub first_later : (s : SoughtRows) (m : Memory) (ts : List Table) (from v end last : ℕ) (r : FoundRow)
     → IsFirstSought s m ts v end (Some r) → from ≤ v → end ≤ last
     → ((u : ℕ) → from ≤ u → u < v → row_sought s m ts u ≡ None) → IsFirstSought s m ts from last (Some r)
 first_later s m ts from v end last r k lo hi below =

@@ -5,12 +5,13 @@ use Rattle.std.specs.Prelude.{if◌then◌else◌, slice_index}
 use Rattle.std.proofs.lemmas.Bool.{cases_eq, cases_lt}
 use Rattle.pip_base.specs.Memory.{Memory, word_at}
 use Rattle.pip_model.specs.Lists.{In, has, repeats}
-use Rattle.pip_model.specs.Parts.{part_1, part_3, part_5}
+use Rattle.pip_model.specs.Parts.{part_parents_come_first, part_pages_apart, part_siblings_apart}
 use Rattle.pip_model.specs.ReadOff.{node_read}
 use Rattle.pip_model.specs.Sound.{IsRooted}
 use Rattle.pip_model.specs.Tree.{Node, held_pages, names_of}
 use Rattle.pip_model.proofs.OnLists.Members.{in_has}
-use Rattle.pip_model.proofs.Audit.PartTests.{dec_distinct, tests_1, tests_3, tests_5}
+use Rattle.pip_model.proofs.Audit.PartTests.{dec_distinct, tests_parents_come_first, tests_pages_apart}
+use Rattle.pip_model.proofs.Audit.PartTests.{tests_siblings_apart}
 use Rattle.pip_audit.specs.declared.auditor.Auditor.{Auditor}
 use Rattle.pip_audit.specs.FrameSets.{are_fresh, with_all}
 use Rattle.pip_audit.specs.Judging.{TellsApart, held_at_place, held_by}
@@ -203,15 +204,18 @@ held_there m names x p k is name up =
     (sym (up_is m (slice_index names k)) ∙ sym (ap (λ (z : Node). z.up) there) ∙ sym up)
     ∙ ap held_pages (sym there)
 
-pub part_5_holds : (m : Memory) (a : Auditor) (r : IsRead m a) → part_1 (tree_read m r.others) ≡ true
-    → ((y : ℕ) → y < a.count → TellsApart m a.names.items a.count y true) → part_5 (tree_read m r.others) ≡ true
-part_5_holds m a r one t =
+pub part_siblings_apart_holds : (m : Memory) (a : Auditor) (r : IsRead m a)
+    → part_parents_come_first (tree_read m r.others) ≡ true
+    → ((y : ℕ) → y < a.count → TellsApart m a.names.items a.count y true)
+    → part_siblings_apart (tree_read m r.others) ≡ true
+part_siblings_apart_holds m a r one t =
     let h = r.has_read in
     let is = nodes_are m a r.others h in
-    (tests_5 (tree_read m r.others)).from (λ x y i j u ne g p q.
+    (tests_siblings_apart (tree_read m r.others)).from (λ x y i j u ne g p q.
     let k = place_of a.names.items a.count r.others h.names x i in
     let l = place_of a.names.items a.count r.others h.names y j in
-    let up = parent_at m a.names.items a.count r.others h.names ((tests_1 (tree_read m r.others)).to one) x i in
+    let up = parent_at m a.names.items a.count r.others h.names
+    ((tests_parents_come_first (tree_read m r.others)).to one) x i in
     let at_x = subst (In g) (sym (held_there m a.names.items x up.0 k.0 (is x i) k.3 up.2)) p in
     let at_y = subst (In g) (sym (held_there m a.names.items y up.0 l.0 (is y j) l.3 (up.2 ∙ u))) q in
     elim (cases_eq k.0 l.0) [
@@ -222,28 +226,29 @@ part_5_holds m a r one t =
       ]
     ])
 
-pub part_5_breaks : (m : Memory) (a : Auditor) (r : IsRead m a) → part_3 (tree_read m r.others) ≡ true → (y : ℕ)
-    → TellsApart m a.names.items a.count y false → part_5 (tree_read m r.others) ≡ false
-part_5_breaks m a r three y t =
+pub part_siblings_apart_breaks : (m : Memory) (a : Auditor) (r : IsRead m a)
+    → part_pages_apart (tree_read m r.others) ≡ true → (y : ℕ)
+    → TellsApart m a.names.items a.count y false → part_siblings_apart (tree_read m r.others) ≡ false
+part_siblings_apart_breaks m a r three y t =
     let h = r.has_read in
     let is = nodes_are m a r.others h in
     let names = a.names.items in
     let k = t.0 in
     let at_k = node_in m names a.count r.others h.names is k t.1 t.2 in
-    untrue (part_5 (tree_read m r.others)) (λ e. elim t.3 [
+    untrue (part_siblings_apart (tree_read m r.others)) (λ e. elim t.3 [
       | inl c ↦
           let less = c.3 in
           let far = t.2 in
           let at_j = node_in m names a.count r.others h.names is c.0 c.2 (omega (arith, less, far)) in
           let p = child_holds m (slice_index names y) (slice_index names c.0) c.1 c.4 in
           let q = child_holds m (slice_index names y) (slice_index names k) c.1 c.5 in
-          (tests_5 (tree_read m r.others)).to e (node_at m names c.0) (node_at m names k) at_j at_k
+          (tests_siblings_apart (tree_read m r.others)).to e (node_at m names c.0) (node_at m names k) at_j at_k
           (up_is m (slice_index names c.0) ∙ p.0 ∙ sym q.0 ∙ sym (up_is m (slice_index names k)))
           (λ s. apart_names m a r.others h c.0 k less far
           (sym (name_is m (slice_index names c.0)) ∙ s ∙ name_is m (slice_index names k)))
           c.1 p.1 q.1
       | inr c ↦
-          let d = ((tests_3 (tree_read m r.others)).to three (node_at m names k) (inr at_k)).pages in
+          let d = ((tests_pages_apart (tree_read m r.others)).to three (node_at m names k) (inr at_k)).pages in
           clash (repeats (held_pages (node_at m names k))) (child_repeats m (slice_index names y) (slice_index names k)
           c) ((dec_distinct (held_pages (node_at m names k))).from d)
     ])

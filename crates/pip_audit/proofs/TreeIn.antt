@@ -13,8 +13,10 @@ use Rattle.pip_model.specs.NodeIn.{directory_of, list_page}
 use Rattle.pip_audit.specs.declared.tables.Triple.{Triple}
 use Rattle.pip_audit.specs.Links.{page_after}
 use Rattle.pip_audit.proofs.Links.{after_list}
-use Rattle.pip_model.specs.NodeWords.{DescriptorPage, DirectoryPage, Level as TableLevel, ListPage, Mmu}
-use Rattle.pip_model.specs.NodeWords.{Role as PageRole, Shadow1, Shadow2, TablePage, role, role_word, table_page}
+use Rattle.pip_model.specs.NodeWords.{DescriptorPage, DirectoryPage, ListPage, Role as PageRole, TablePage, role}
+use Rattle.pip_model.specs.NodeWords.{role_word, table_page}
+use Rattle.pip_model.specs.declared.level.Level.{Level}
+use Rattle.pip_model.specs.declared.level.Level.TheVariants.{Mmu, Shadow1, Shadow2}
 use Rattle.pip_model.specs.ReadOff.{Complete, base_read, Reading, Stopped, node_read, node_stop, row_read, tree_of}
 use Rattle.pip_model.specs.ReadOff.{tree_of_reading, tree_unless, visits, walk}
 use Rattle.pip_model.specs.Sound.{IsSound}
@@ -90,7 +92,7 @@ module _ (m : Memory) (a : Auditor) (j : CanJudge m a) where
       let c : length node.more ≡ lists (word_at m part 12) - 1 = n ∙ ap (λ q. lists q - 1) (tables_long m part) in
       omega (arith, h, c)
 
-  pub table_fits : (f d : ℕ) (level : TableLevel) → role node f ≡ Some (TablePage level d) → d < 1024
+  pub table_fits : (f d : ℕ) (level : Level) → role node f ≡ Some (TablePage level d) → d < 1024
   table_fits f d level e =
       let b = table_role_back node level d f e in
       let small = (j.sound.tables node j.node).small b.0 b.1 in
@@ -108,12 +110,12 @@ module _ (m : Memory) (a : Auditor) (j : CanJudge m a) where
   row_is v small = ap (λ rs. row_at rs v) (rows_are m part) ∙ gather_at (row_read m (tables_in m part))
       (row_stands m (tables_in m part)) 0 (2 ^ 20) v (omega arith) (omega (arith, small))
 
-  cell_is : (level : TableLevel) (v : ℕ) → v < 2 ^ 20 → HoldsLevel m a level
+  cell_is : (level : Level) (v : ℕ) → v < 2 ^ 20 → HoldsLevel m a level
       → row_word level (rows_held m a v) ≡ row_word level (full_rows tree node v)
   cell_is level v small holds = go (row_read m (tables_in m part) v) refl
       ∙ sym (ap (row_word level) (full-at tree node v (row_read m (tables_in m part) v) (row_is v small)))
     where
-      of_row : (lv : TableLevel) (q : Row) → q.frame < length m → HoldsLevel m a lv
+      of_row : (lv : Level) (q : Row) → q.frame < length m → HoldsLevel m a lv
           → row_word lv (Some (row_held a q)) ≡ row_word lv (full_row tree node (Some q))
       of_row Mmu q below h = ap (λ b. leaf_word q.frame (not b) q.rights) (h q.frame below)
       of_row Shadow1 q below h = h q.frame below ∙ ap (λ p. given_word tree p q.frame) (sym (name_is m part))
@@ -156,11 +158,11 @@ module _ (m : Memory) (a : Auditor) (j : CanJudge m a) where
   descriptor_only p f e q =
       descriptor_role_back node f q ∙ sym (name-page tree j.sound node j.node) ∙ name_is m part ∙ sym e
 
-  pub plays_directory : (level : TableLevel) (p : ℕ) → p ≡ (directory_of level node.base).frame
+  pub plays_directory : (level : Level) (p : ℕ) → p ≡ (directory_of level node.base).frame
       → role node p ≡ Some (DirectoryPage level)
   plays_directory level p e = ap (role node) e ∙ role_of_directory node once level
 
-  pub directory_only : (level : TableLevel) (p f : ℕ) → p ≡ (directory_of level node.base).frame
+  pub directory_only : (level : Level) (p f : ℕ) → p ≡ (directory_of level node.base).frame
       → role node f ≡ Some (DirectoryPage level) → f ≡ p
   directory_only level p f e q = directory_role_back node level f q ∙ sym e
 
@@ -179,7 +181,7 @@ module _ (m : Memory) (a : Auditor) (j : CanJudge m a) where
   pub list_below : (k f : ℕ) → role node f ≡ Some (ListPage k) → k < lists (word_at m part 12)
   list_below k f q = list_fits k (list_role_back node k f q).0
 
-  page_is : (level : TableLevel) (o : Option Table) (t : Triple) → option_map triple_of o ≡ Some t
+  page_is : (level : Level) (o : Option Table) (t : Triple) → option_map triple_of o ≡ Some t
       → (b : Table) × (o ≡ Some b) × (page_in level t ≡ (table_page level b).frame)
   page_is level None t e = cc
   page_is level (Some b) t e = (b, refl, at level)
@@ -187,24 +189,24 @@ module _ (m : Memory) (a : Auditor) (j : CanJudge m a) where
       same : {u : Triple} → Some u ≡ Some t → t ≡ u
       same q = cc
 
-      at : (lv : TableLevel) → page_in lv t ≡ (table_page lv b).frame
+      at : (lv : Level) → page_in lv t ≡ (table_page lv b).frame
       at Mmu = ap (page_in Mmu) (same e)
       at Shadow1 = ap (page_in Shadow1) (same e)
       at Shadow2 = ap (page_in Shadow2) (same e)
 
-  pub plays_table : (level : TableLevel) (d p : ℕ) (t : Triple) → d < 1024 → held_at a.node d ≡ Some t
+  pub plays_table : (level : Level) (d p : ℕ) (t : Triple) → d < 1024 → held_at a.node d ≡ Some t
       → p ≡ page_in level t → role node p ≡ Some (TablePage level d)
   plays_table level d p t small e q =
       let b = page_is level (table_at node.tables d) t (sym (j.holds.of.of d small) ∙ e) in
       let found = table_found node.tables d b.0 b.1 in
       ap (role node) (q ∙ b.2) ∙ role_of_table node once level b.0 found.0 ∙ ap (λ k. Some (TablePage level k)) found.1
 
-  pub table_only : (level : TableLevel) (d p f : ℕ) (t : Triple) → d < 1024 → held_at a.node d ≡ Some t
+  pub table_only : (level : Level) (d p f : ℕ) (t : Triple) → d < 1024 → held_at a.node d ≡ Some t
       → p ≡ page_in level t → role node f ≡ Some (TablePage level d) → f ≡ p
   table_only level d p f t small e q r =
       one_table_page node (j.sound.tables node j.node).differ level d f p r (plays_table level d p t small e q)
 
-  pub no_table : (level : TableLevel) (d f : ℕ) → d < 1024 → held_at a.node d ≡ None
+  pub no_table : (level : Level) (d f : ℕ) → d < 1024 → held_at a.node d ≡ None
       → role node f ≡ Some (TablePage level d) → ⊥
   no_table level d f small e r =
       let b = table_role_back node level d f r in

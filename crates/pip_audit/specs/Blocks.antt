@@ -8,8 +8,8 @@ use Rattle.pip_audit.specs.declared.blocks.Blocks.{Blocks}
 use Rattle.pip_audit.specs.declared.blocks.Kind.{Kind}
 use Rattle.pip_audit.specs.declared.blocks.Kind.TheVariants as K
 use Rattle.pip_audit.specs.declared.blocks.Masks.{Masks}
-use Rattle.pip_audit.specs.declared.tables.Sought.{Sought}
-use Rattle.pip_audit.specs.declared.tables.Sought.TheVariants as S
+use Rattle.pip_audit.specs.declared.tables.SoughtRows.{SoughtRows}
+use Rattle.pip_audit.specs.declared.tables.SoughtRows.TheVariants as S
 use Rattle.pip_audit.specs.declared.tables.Triple.{Triple}
 
 -- a word is not of a kind
@@ -45,6 +45,6 @@ abbrev pub AreKnown : Memory → Blocks → Type 0
 AreKnown m s = AreMasks K.Filled m s.rows × AreMasks K.Descriptor m s.descriptors
 
 -- a block of the tables of a directory index has none of the rows that are sought, by what is held
-abbrev pub LacksSought : Sought → Blocks → Triple → ℕ → Type 0
+abbrev pub LacksSought : SoughtRows → Blocks → Triple → ℕ → Type 0
 LacksSought S.Any s t b = mask_in s.rows t.mmu b ≡ 0
 LacksSought S.Child s t b = bit_and (mask_in s.rows t.mmu b) (mask_in s.descriptors t.shadow1 b) ≡ 0

@@ -7,16 +7,16 @@ use Rattle.pip_model.specs.declared.reading.Difference.{Difference}
 use Rattle.pip_model.specs.Audit.{difference_between, frame_difference}
 use Rattle.pip_model.specs.FullRows.{FullRow, cells_of, from_word, given_word}
 use Rattle.pip_model.specs.Layout.{layout}
-use Rattle.pip_model.specs.NodeWords.{DescriptorPage, DirectoryPage, Level as TableLevel, ListPage, Mmu}
-use Rattle.pip_model.specs.NodeWords.{Role as PageRole, Shadow1, Shadow2, TablePage, role, role_word}
+use Rattle.pip_model.specs.NodeWords.{DescriptorPage, DirectoryPage, ListPage, Role as PageRole, TablePage, role}
+use Rattle.pip_model.specs.NodeWords.{role_word}
+use Rattle.pip_model.specs.declared.level.Level.{Level}
+use Rattle.pip_model.specs.declared.level.Level.TheVariants.{Mmu, Shadow1, Shadow2}
 use Rattle.pip_model.specs.ReadOff.{Halts, IsTree, TreeRead, bare_tree, node_read, row_read, tree_of}
 use Rattle.pip_model.specs.Lists.{In}
 use Rattle.pip_model.specs.Sound.{IsSound}
 use Rattle.pip_model.specs.Tree.{Row, Tree, hidden, lists, nodes}
 use Rattle.pip_audit.specs.declared.auditor.Auditor.{Auditor}
 use Rattle.pip_audit.specs.declared.tables.Triple.{Triple}
-use Rattle.pip_audit.specs.declared.wanted.Level.{Level}
-use Rattle.pip_audit.specs.declared.wanted.Level.TheVariants as L
 use Rattle.pip_audit.specs.declared.wanted.Role.{Role}
 use Rattle.pip_audit.specs.declared.wanted.Role.TheVariants as R
 use Rattle.pip_audit.specs.FrameWords.{AreFrameWords, word_held}
@@ -25,28 +25,22 @@ use Rattle.pip_audit.specs.Tables.{IsOf, tables_in}
 
 -- ---- the words that are wanted
 
--- the level that is meant
-abbrev pub level_of : Level → TableLevel
-level_of L.Mmu = Mmu
-level_of L.Shadow1 = Shadow1
-level_of L.Shadow2 = Shadow2
-
 -- what a page is meant to be; nothing where it is no configuration
 abbrev pub role_of : Role → Option PageRole
 role_of R.Nothing = None
 role_of R.Descriptor = Some DescriptorPage
-role_of (R.Directory level) = Some (DirectoryPage (level_of level))
-role_of (R.Table level d) = Some (TablePage (level_of level) d)
+role_of (R.Directory level) = Some (DirectoryPage level)
+role_of (R.Table level d) = Some (TablePage level d)
 role_of (R.List k) = Some (ListPage k)
 
 -- the table of a level
-abbrev pub page_in : TableLevel → Triple → ℕ
+abbrev pub page_in : Level → Triple → ℕ
 page_in Mmu b = b.mmu
 page_in Shadow1 b = b.shadow1
 page_in Shadow2 b = b.shadow2
 
 -- the word of a directory, by what is held of an index
-abbrev pub entry_held : TableLevel → Option Triple → ℕ
+abbrev pub entry_held : Level → Option Triple → ℕ
 entry_held level None = 0
 entry_held level (Some b) = directory_word (page_in level b)
 
@@ -139,7 +133,7 @@ pub record CanJudge (m : Memory) (a : Auditor) : Type 0 where
   pub node : In (node_read m a.node.part) (nodes (tree_in m))
 
 -- what is held for each page is what the node's tables of a level tell of it
-abbrev pub HoldsLevel : Memory → Auditor → TableLevel → Type 0
+abbrev pub HoldsLevel : Memory → Auditor → Level → Type 0
 HoldsLevel m a Mmu = (g : ℕ) → g < length m → contains a.sets.hidden g ≡ hidden (tree_in m) g
 HoldsLevel m a Shadow1 = (g : ℕ) → g < length m → word_held a.words.given g ≡ given_word (tree_in m) a.node.part g
 HoldsLevel m a Shadow2 =
@@ -160,7 +154,7 @@ abbrev pub CoversRole : Memory → Option Difference → ℕ → PageRole → Ty
 CoversRole m found part r = (f : ℕ) → role (node_read m part) f ≡ Some r → Covers m found f
 
 -- the frames of its tables of a level are
-abbrev pub CoversTables : Memory → Option Difference → ℕ → TableLevel → Type 0
+abbrev pub CoversTables : Memory → Option Difference → ℕ → Level → Type 0
 CoversTables m found part level = (d : ℕ) → CoversRole m found part (TablePage level d)
 
 -- all that tells of its own node alone, and of what is hidden: no table of a shadow

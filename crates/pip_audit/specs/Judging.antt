@@ -5,8 +5,9 @@ use Rattle.std.specs.List.{list_all}
 use Rattle.pip_base.specs.declared.types.Pair.{Pair}
 use Rattle.pip_base.specs.Memory.{Memory, word_at}
 use Rattle.pip_model.specs.Lists.{In, has, repeats}
-use Rattle.pip_model.specs.Parts.{are_among, implies, is_page, part_1, part_2, part_3, part_4, part_5, part_6, part_7}
-use Rattle.pip_model.specs.Parts.{part_8}
+use Rattle.pip_model.specs.Parts.{are_among, implies, is_page, part_parents_come_first, part_boot_root}
+use Rattle.pip_model.specs.Parts.{part_pages_apart, part_lent, part_siblings_apart, part_rights, part_tables_of_rows}
+use Rattle.pip_model.specs.Parts.{part_no_lines_but_the_root}
 use Rattle.pip_model.specs.ReadOff.{node_read}
 use Rattle.pip_model.specs.Tree.{Node, Row, Tree, held_pages, page_at, row_pages, vpage}
 use Rattle.pip_audit.specs.declared.auditor.Auditor.{Auditor}
@@ -22,7 +23,9 @@ Says false P = P → ⊥
 
 -- the parts of soundness that are tested, in turn
 abbrev pub parts : List (Tree → Bool)
-parts = part_1 ∷ part_2 ∷ part_3 ∷ part_4 ∷ part_5 ∷ part_6 ∷ part_7 ∷ part_8 ∷ []
+parts =
+    part_parents_come_first ∷ part_boot_root ∷ part_pages_apart ∷ part_lent ∷ part_siblings_apart ∷ part_rights
+    ∷ part_tables_of_rows ∷ part_no_lines_but_the_root ∷ []
 
 -- whether a tree keeps to one of them, by its number from 1 on
 abbrev pub keeps_to : ℕ → Tree → Bool
@@ -69,7 +72,7 @@ pub record Lends (m : Memory) (a : Auditor) : Type 0 where
 -- a node's parent can be loaded: parents come first, it isn't the root, and some node is loaded as a parent
 pub record HasParent (m : Memory) (a : Auditor) (x : ℕ) : Type 0 where
   pub other : 1 ≤ x
-  pub parents : part_1 (tree_in m) ≡ true
+  pub parents : part_parents_come_first (tree_in m) ≡ true
   pub lends : Lends m a
 
 -- whether a row's rights are among those that are held for its page

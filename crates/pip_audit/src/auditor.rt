@@ -1,4 +1,4 @@
-//! The judge of raw memories.
+//! The auditor of raw memories.
 ghost use Rattle.std.specs.Prelude.{◌≡◌, ◌≤◌, IfOk, length};
 ghost use Rattle.pip_model.specs.Audit.{HasWordsOnly, finding};
 ghost use Rattle.pip_audit.specs.Law.{LaysSome};
@@ -15,7 +15,7 @@ use pip_frames::Frames;
 use std::alloc::{AllocError, Global};
 use std::sync::ledger::Ledger;
 
-/// What an audit says of a memory.
+/// The verdict on a memory.
 #[derive(Clone, Copy, Debug, PartialEq, Eq)]
 pub enum Verdict {
     /// It is the layout of a sound tree.
@@ -25,11 +25,11 @@ pub enum Verdict {
         frame: u32,
         index: u32,
     },
-    /// The tree that is read breaks this part of soundness, 1 to 8, and none before.
+    /// The tree that was read breaks this part of soundness, 1 to 8, and none before it.
     Unsound {
         part: u32,
     },
-    /// The first word that isn't that of the tree's layout.
+    /// The first word that differs from the tree's layout.
     Differs {
         frame: u32,
         index: u32,
@@ -46,7 +46,7 @@ pub struct Auditor {
     pub(crate) names: Vec<Frame>,
     // Per frame, the place among the names of the node that was read there.
     pub(crate) order: Vec<Option<u32>>,
-    // The nodes whose children are being read, and from where on their rows are still to be gone through.
+    // The nodes whose children are being read, and the virtual page from which each one's rows are still to be read.
     pub(crate) depth: usize,
     pub(crate) standing: Vec<Frame>,
     pub(crate) from: Vec<u32>,
@@ -82,7 +82,7 @@ impl Auditor {
         })
     }
 
-    /// Judges a memory of as many frames as the auditor is for.
+    /// Judges a memory with as many frames as the auditor is for.
     pub fn audit<M: Frames, L: Ledger>(&mut self, mem: &M, steps: &mut Steps<L>) -> Verdict
         requires count { IsFor (length (M.memory mem.now)) self.old }
         ensures verdict { result ≡ verdict_of (finding (M.memory mem.now)) }

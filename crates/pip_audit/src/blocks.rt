@@ -1,23 +1,23 @@
 //! What is known of the words of frames, by blocks of 32.
-ghost use Rattle.std.specs.Prelude.{◌≡◌, ℕ, ◌+◌, ◌*◌, ◌<◌, ◌≤◌, false, true, None, length};
+ghost use Rattle.std.specs.Prelude.{◌≡◌, ℕ, ◌+◌, ◌*◌, ◌%◌, ◌<◌, ◌≤◌, ◌==◌, false, true, None, length};
 ghost use Rattle.std.specs.Int.{bit_at};
 ghost use Rattle.pip_base.specs.Memory.{word_at};
 ghost use Rattle.pip_audit.specs.Blocks.{AreKnown, AreMasks, AreMasksOf, IsNone, LacksSought, mask_in, place_in};
 
-use crate::tables::{Sought, Triple};
+use crate::tables::{SoughtRows, Triple};
 use pip_base::{Frame, Steps};
 use pip_frames::Frames;
 use std::alloc::{AllocError, Global};
 use std::sync::ledger::Ledger;
 
-/// What a word is looked for as: as one that isn't 0, or as one of a first shadow that tells of a child's descriptor.
+/// Which words are sought: those that aren't 0, or those of a first shadow that mark a child's descriptor.
 #[derive(Clone, Copy, Debug, PartialEq, Eq)]
 pub(crate) enum Kind {
     Filled,
     Descriptor,
 }
 
-/// For each block of 32 words of each frame, which of them may be of a kind: bit i for word i of the block.
+/// Per frame and block of 32 words, the words that may be of a kind: bit i for word i of the block.
 #[derive(Drop)]
 pub(crate) struct Masks {
     // The blocks of the frames that were read, in the order of reading.
@@ -33,13 +33,21 @@ pub(crate) struct Blocks {
     descriptors: Masks,
 }
 
+/// Whether a word of a first shadow marks its page as a child's descriptor. In a raw memory it may name vpage 0, so it
+/// isn't one for `unpack_sh1`.
+pub(crate) fn marks_descriptor(word: u32) -> bool
+    ensures { result ≡ (word % 4096 == 1) }
+{
+    word % 4096 == 1
+}
+
 // Whether a word is of a kind.
 fn is_of(kind: Kind, word: u32) -> bool
     ensures { result ≡ false → IsNone kind word }
 {
     match kind {
         Kind::Filled => word != 0,
-        Kind::Descriptor => word % 4096 == 1,
+        Kind::Descriptor => marks_descriptor(word),
     }
 }
 
@@ -71,7 +79,7 @@ fn masks_of<M: Frames, L: Ledger>(kind: Kind, mem: &M, f: Frame, steps: &mut Ste
 }
 
 impl Masks {
-    /// For a memory of `n` frames, 4096 at most. Nothing was read.
+    /// Nothing is known of a memory of `n` frames, 4096 at most.
     fn new(alloc: Global, n: usize) -> Result<Masks, AllocError>
         requires { n ≤ 4096 }
     {
@@ -107,7 +115,7 @@ impl Masks {
         }
     }
 
-    // Reads the blocks of a frame that wasn't read. Where there is no room for them they stay unread.
+    // Reads the blocks of a frame, unless it was read or there is no room for them.
     fn learn<M: Frames, L: Ledger>(&mut self, kind: Kind, mem: &M, f: Frame, steps: &mut Steps<L>)
         requires frame { f < length (M.memory mem.now) }
         requires masks { AreMasks kind (M.memory mem.now) self.old }
@@ -128,7 +136,7 @@ impl Masks {
 }
 
 impl Blocks {
-    /// For a memory of `n` frames, 4096 at most. Nothing was read.
+    /// Nothing is known of a memory of `n` frames, 4096 at most.
     pub(crate) fn new(alloc: Global, n: usize) -> Result<Blocks, AllocError>
         requires { n ≤ 4096 }
     {
@@ -147,8 +155,8 @@ impl Blocks {
         self.descriptors.forget();
     }
 
-    /// Whether block `b` of the tables of a directory index is known to have none of the rows that are sought.
-    pub(crate) fn lacks(&self, sought: Sought, tables: Triple, b: u32) -> bool
+    /// Whether block `b` of the tables of a directory index is known to lack the rows that are sought.
+    pub(crate) fn lacks(&self, sought: SoughtRows, tables: Triple, b: u32) -> bool
         requires mmu { tables.mmu < 4096 }
         requires shadow { tables.shadow1 < 4096 }
         requires block { b < 32 }
@@ -156,8 +164,8 @@ impl Blocks {
     {
         let rows = self.rows.at(tables.mmu, b);
         match sought {
-            Sought::Any => rows == 0,
-            Sought::Child => rows & self.descriptors.at(tables.shadow1, b) == 0,
+            SoughtRows::Any => rows == 0,
+            SoughtRows::Child => rows & self.descriptors.at(tables.shadow1, b) == 0,
         }
     }
 

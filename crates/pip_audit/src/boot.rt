@@ -13,11 +13,8 @@ use pip_base::{Frame, Steps, VIDT, VPage, WORDS};
 use pip_entry::descriptor::{LIST_VA, MMU_VA, SELF_VA, SHADOW1_VA, SHADOW2_VA, TABLES};
 use pip_entry::list_page::{FIRST_SLOT, SLOT_WORDS};
 use pip_frames::Frames;
-use pip_model::{root_frame, root_tables};
+use pip_model::{ROOT, root_frame, root_tables};
 use std::sync::ledger::Ledger;
-
-/// The frame of the root's descriptor, with which reading begins.
-pub(crate) const ROOT: u32 = 1;
 
 // The frame of its MMU directory at the boot.
 const MMU: u32 = 2;
@@ -34,7 +31,7 @@ const LIST: u32 = 5;
 // The frame of its first table. The others come after it, three for a directory index.
 const FIRST_TABLE: u32 = 6;
 
-// Whether two words name this page, and no address in a parent.
+// Whether the two words of a page name this frame, and no address in a parent.
 fn is_own<M: Frames, L: Ledger>(mem: &M, f: Frame, i: u32, frame: u32, steps: &mut Steps<L>) -> bool
     requires frame { f < length (M.memory mem.now) }
     requires index { i < 1023 }
@@ -55,7 +52,7 @@ pub(crate) fn has_boot_base<M: Frames, L: Ledger>(mem: &M, steps: &mut Steps<L>)
         && is_own(mem, root, LIST_VA, LIST, steps)
 }
 
-// Whether the first place of a table in a directory is this one, which isn't the first of all.
+// Whether a table's least place in a directory is `place`, which isn't 0.
 fn stands_at<M: Frames, L: Ledger>(
     mem: &M,
     directory: Frame,
@@ -107,7 +104,7 @@ pub(crate) fn has_boot_tables<M: Frames, L: Ledger>(mem: &M, steps: &mut Steps<L
     is_boot_slot(mem, count, VIDT / WORDS, steps)
 }
 
-// Whether the root has the boot's row at a virtual page, or none as the boot's.
+// Whether the root has the boot's row at a virtual page, or none if the boot's has none.
 fn has_boot_row<M: Frames, L: Ledger>(
     tables: &Tables,
     mem: &M,

@@ -1,26 +1,27 @@
-//! The pages of one node, compared with the words that the layout wants in them. What is kept is the difference in the
-//! lowest frame so far, so the order in which frames are judged doesn't matter.
+//! The pages of one node, compared with the words that the layout wants in them. The difference in the lowest frame so
+//! far is kept, so the order in which frames are judged doesn't matter.
 ghost use Rattle.std.specs.Prelude.{◌≡◌, ℕ, ◌<◌, None, length};
 ghost use Rattle.pip_base.specs.Memory.{word_at};
 ghost use Rattle.pip_model.specs.NodeIn.{directory_of};
-ghost use Rattle.pip_model.specs.NodeWords.{DescriptorPage, DirectoryPage, ListPage, Mmu, TablePage};
+ghost use Rattle.pip_model.specs.NodeWords.{DescriptorPage, DirectoryPage, ListPage, TablePage};
+ghost use Rattle.pip_model.specs.declared.level.Level.TheVariants.{Mmu};
 ghost use Rattle.pip_model.specs.ReadOff.{node_read, node_stop};
 ghost use Rattle.pip_model.specs.Sound.{IsSound};
 ghost use Rattle.pip_model.specs.Tree.{lists};
 ghost use Rattle.pip_audit.specs.Comparing.{CanJudge, Covers, CoversPlain, CoversRole, CoversTables, GoesOn};
 ghost use Rattle.pip_audit.specs.Comparing.{HoldsLevel, HoldsNode, HoldsRole, IsDifference, Plays, earlier_of};
-ghost use Rattle.pip_audit.specs.Comparing.{level_of, role_of, tree_in};
+ghost use Rattle.pip_audit.specs.Comparing.{role_of, tree_in};
 
 use crate::auditor::Auditor;
 use crate::nodes::list_page;
-use crate::wanted::{Level, Role, page_of};
+use crate::wanted::{Role, page_of};
 use pip_base::{Frame, Steps, WORDS};
 use pip_entry::descriptor::{MMU_FRAME, SHADOW1_FRAME, SHADOW2_FRAME, TABLES};
 use pip_frames::Frames;
-use pip_model::{Difference, lists};
+use pip_model::{Difference, Level, lists};
 use std::sync::ledger::Ledger;
 
-// The difference in the lower frame.
+// The one of two differences that is in the lower frame.
 fn earlier(found: Option<Difference>, here: Option<Difference>) -> Option<Difference>
     ensures { result ≡ earlier_of found here }
 {
@@ -42,7 +43,7 @@ fn directory<M: Frames, L: Ledger>(
 ) -> Frame
     requires part { part < length (M.memory mem.now) }
     requires passes { node_stop (M.memory mem.now) part ≡ None }
-    ensures { result ≡ (directory_of (level_of level) (node_read (M.memory mem.now) part).base).frame }
+    ensures { result ≡ (directory_of level (node_read (M.memory mem.now) part).base).frame }
 {
     match level {
         Level::Mmu => Frame::new(mem.word(part, MMU_FRAME, steps)),
@@ -73,7 +74,7 @@ impl Auditor {
         earlier(found, here)
     }
 
-    /// Judges frame 0, which is nobody's.
+    /// Judges frame 0, which belongs to no node.
     pub(crate) fn judge_zero<M: Frames, L: Ledger>(
         &self,
         mem: &M,
@@ -115,7 +116,7 @@ impl Auditor {
         requires judges { CanJudge (M.memory mem.now) self.now }
         requires is { IsDifference (M.memory mem.now) found }
         ensures goes { GoesOn (M.memory mem.now) found result }
-        ensures covers { CoversRole (M.memory mem.now) result self.now.node.part (DirectoryPage (level_of level)) }
+        ensures covers { CoversRole (M.memory mem.now) result self.now.node.part (DirectoryPage level) }
     {
         let directory = directory(mem, self.node.part(), level, steps);
         self.judge(mem, directory, &Role::Directory(level), found, steps)
@@ -171,10 +172,10 @@ impl Auditor {
     ) -> Option<Difference>
         requires judges { CanJudge (M.memory mem.now) self.now }
         requires index { d < 1024 }
-        requires holds { HoldsLevel (M.memory mem.now) self.now (level_of level) }
+        requires holds { HoldsLevel (M.memory mem.now) self.now level }
         requires is { IsDifference (M.memory mem.now) found }
         ensures goes { GoesOn (M.memory mem.now) found result }
-        ensures covers { CoversRole (M.memory mem.now) result self.now.node.part (TablePage (level_of level) d) }
+        ensures covers { CoversRole (M.memory mem.now) result self.now.node.part (TablePage level d) }
     {
         match self.node.at(d) {
             None => found,
@@ -198,10 +199,10 @@ impl Auditor {
         steps: &mut Steps<L>,
     ) -> Option<Difference>
         requires judges { CanJudge (M.memory mem.now) self.now }
-        requires holds { HoldsLevel (M.memory mem.now) self.now (level_of level) }
+        requires holds { HoldsLevel (M.memory mem.now) self.now level }
         requires is { IsDifference (M.memory mem.now) found }
         ensures goes { GoesOn (M.memory mem.now) found result }
-        ensures covers { CoversTables (M.memory mem.now) result self.now.node.part (level_of level) }
+        ensures covers { CoversTables (M.memory mem.now) result self.now.node.part level }
     {
         let mut first = found;
         for d in 0..WORDS {

@@ -13,7 +13,7 @@ use std::sync::ledger::Ledger;
 pub(crate) trait NodeTest {
     ghost use Rattle.pip_audit.specs.declared.auditor.Auditor.{Auditor};
 
-    /// What it needs at a place, where all before it passed.
+    /// What it needs at a place, once all before it passed.
     ghost needs: { Memory → Auditor → ℕ → Type 0 } = { λ _ _ _. Unit {0} };
 
     /// What it says of a place, by the names and by how many of them are nodes.
@@ -31,7 +31,7 @@ pub(crate) trait NodeTest {
 }
 
 impl Auditor {
-    /// Whether each node from a place on passes a test. It ends with the first that fails.
+    /// Whether each node from a place on passes a test. It ends at the first that fails.
     pub(crate) fn each_node<T: NodeTest, M: Frames, L: Ledger>(
         &mut self,
         mem: &M,

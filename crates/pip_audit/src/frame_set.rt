@@ -1,4 +1,4 @@
-//! Sets of frames, and what of a node is in them.
+//! Sets of frames, and the pages of a node put into them.
 ghost use Rattle.std.specs.Prelude.{◌≡◌, ℕ, ◌<◌, ◌==◌, ◌||◌, not, false, IfOk, None, length};
 ghost use Rattle.pip_model.specs.ReadOff.{node_read, node_stop};
 ghost use Rattle.pip_model.specs.Tree.{config, row_pages};
@@ -21,12 +21,12 @@ pub(crate) struct FrameSet {
     has: Vec<bool>,
 }
 
-/// The sets that an audit needs, one for each thing that is told of frames.
+/// The sets that an audit needs.
 #[derive(Drop)]
 pub(crate) struct Sets {
     /// The MMU tables that were read: no word of them stops the reading.
     pub read: FrameSet,
-    /// What a node, or the children of one, hold, as far as it was met.
+    /// The pages, met so far, that a node or the children of one hold.
     pub met: FrameSet,
     /// The pages of the rows of a parent.
     pub lent: FrameSet,

@@ -1,4 +1,4 @@
-//! Words that are held for frames.
+//! Arrays of a word per frame.
 ghost use Rattle.std.specs.Prelude.{◌≡◌, ℕ, ◌<◌, IfOk, length, slice_index_or};
 ghost use Rattle.pip_audit.specs.FrameWords.{AreFrameWords, HasWordEach, word_held};
 ghost use Rattle.pip_audit.specs.Given.{Holds, held_or};
@@ -11,16 +11,16 @@ pub(crate) struct FrameWords {
     pub words: Vec<u32>,
 }
 
-/// The words that an audit needs, one for each thing that is told of frames.
+/// The arrays that an audit needs.
 #[derive(Drop)]
 pub(crate) struct Words {
-    /// Of an MMU table one more than the first shadow that tells of no descriptor in a row of it.
+    /// Per MMU table: 1 + a first shadow known to mark no descriptor in a row of it; 0 if none is known.
     pub quiet: FrameWords,
-    /// The rights that all rows of a parent give to a page.
+    /// Per page: the rights that all rows of a parent give to it.
     pub rights: FrameWords,
-    /// The word of a page in the first shadows of a node.
+    /// Per page: its word in the first shadows of a node.
     pub given: FrameWords,
-    /// The word of a page in the second shadows of a node's children.
+    /// Per page: its word in the second shadows of a node's children.
     pub above: FrameWords,
 }
 
@@ -73,7 +73,7 @@ impl FrameWords {
         self.words[f as usize] = word;
     }
 
-    /// Holds a word for a frame that has none but 0.
+    /// Holds a word for a frame, unless it has one that isn't 0.
     pub(crate) fn hold_if_none(&mut self, f: u32, word: u32)
         requires { f < length self.old.words.items }
         ensures words { Holds f (held_or word (word_held self.old f)) self.old self.new }

@@ -14,8 +14,9 @@ use crate::blocks::Blocks;
 use crate::frame_words::FrameWords;
 use crate::pages::{count_pages, page};
 use crate::tables::Tables;
-use pip_base::{Frame, Steps};
+use pip_base::{Frame, Steps, VPage};
 use pip_entry::descriptor::{PARENT, SELF_VA};
+use pip_entry::{Sh2, pack_sh2};
 use pip_frames::Frames;
 use std::sync::ledger::Ledger;
 
@@ -71,7 +72,7 @@ impl FrameWords {
         }
     }
 
-    // Holds for each page where a node has it first, 0 where it doesn't.
+    // Holds for each page the second shadow's word that names the first row in which a node has it; 0 if no row does.
     #[tactic(auto, using(crate::proofs::PartLaws::rows_are))]
     fn place_rows<M: Frames, L: Ledger>(
         &mut self,
@@ -89,15 +90,15 @@ impl FrameWords {
         self.fill(0);
         let mut from = 0;
         while let Some(row) = tables.next_row(mem, blocks, from, steps) {
-            self.hold_if_none(row.frame, row.at * 4096 + 1);
+            self.hold_if_none(row.frame, pack_sh2(Sh2::Of(VPage::new(row.at))));
             from = row.at + 1;
         }
     }
 }
 
 impl Auditor {
-    // Holds the words of all that node `x` holds, if it is a child of this parent. What is configuration and stands in
-    // a row too is told as configuration.
+    // Holds the words of all that node `x` holds, if it is a child of this parent. A page that is both configuration
+    // and in a row counts as configuration.
     fn give_child<M: Frames, L: Ledger>(
         &mut self,
         mem: &M,

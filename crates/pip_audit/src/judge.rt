@@ -1,7 +1,7 @@
 //! The nodes that were read, judged one after the other.
 ghost use Rattle.std.specs.Prelude.{◌≡◌, ℕ, ◌<◌, ◌≤◌, slice_index};
 ghost use Rattle.pip_model.specs.Audit.{difference};
-ghost use Rattle.pip_model.specs.NodeWords.{Mmu, Shadow1, Shadow2};
+ghost use Rattle.pip_model.specs.declared.level.Level.TheVariants.{Mmu, Shadow1, Shadow2};
 ghost use Rattle.pip_model.specs.Sound.{IsSound};
 ghost use Rattle.pip_audit.specs.Comparing.{Covers, CoversNode, CoversPlain, CoversTables, GoesOn, HoldsLevel};
 ghost use Rattle.pip_audit.specs.Comparing.{IsDifference, LoadsOnly, tree_in};
@@ -9,11 +9,9 @@ ghost use Rattle.pip_audit.specs.Given.{PlacesRows};
 ghost use Rattle.pip_audit.specs.Reading.{IsRead};
 
 use crate::auditor::Auditor;
-use crate::boot::ROOT;
-use crate::wanted::Level;
 use pip_base::{Frame, Steps};
 use pip_frames::Frames;
-use pip_model::Difference;
+use pip_model::{Difference, Level, ROOT};
 use std::sync::ledger::Ledger;
 
 impl Auditor {

@@ -1,5 +1,14 @@
 //! Judges a raw memory: whether a tree can be read off its frames, whether this tree is sound, and whether the memory
-//! is its layout.
+//! is its layout. The words may come from anywhere.
+//!
+//! [`Auditor::new`] takes all the memory. `audit` answers by `finding` of pip_model (`verdict_of`): where reading a
+//! tree stops, which part of soundness the tree breaks first, which word is the first that differs from its layout, or
+//! yes. `law_yes` says that this is yes exactly on the layouts of sound trees. It keeps the pages of nodes, and of MMU
+//! tables, which nodes of a contrived memory may share, what needn't be read again: that a table was read without a
+//! stop, which of its words are rows, which words of a first shadow name a descriptor, and that a first shadow names
+//! none in the rows. Pages are judged node by node, by blocks of 32 words, and the difference in the lowest frame is
+//! kept (specs/Comparing), so no order of frames occurs in a proof. Frames in no configuration have the words that were
+//! read, so of them only frame 0 is compared.
 //!
 //! What it costs, whatever the words are, for a memory of F frames, 4096 at most, off which N < F nodes are read:
 //!
@@ -34,3 +43,4 @@ mod wanted;
 
 pub use auditor::{Auditor, Verdict};
 pub use laws::law_yes;
+pub use pip_core_text::{CoreError, read_core};

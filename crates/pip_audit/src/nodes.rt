@@ -22,7 +22,7 @@ use pip_frames::Frames;
 use pip_model::Stop;
 use std::sync::ledger::Ledger;
 
-/// Where a word is to name a frame: it stops there unless the word does.
+/// Tests a word that has to name a frame: the reading stops there unless it does.
 fn named_frame<M: Frames, L: Ledger>(
     mem: &M,
     f: Frame,
@@ -113,7 +113,8 @@ pub fn place_in_directory<M: Frames, L: Ledger>(
     None
 }
 
-/// The first of `count` links of a list that names no frame, from list page `f` on. The last page's isn't followed.
+/// The first of `count` links of a list that names no frame, from list page `f` on. The last page's link isn't
+/// followed.
 pub fn first_bad_link<M: Frames, L: Ledger>(
     mem: &M,
     f: Frame,
@@ -155,7 +156,7 @@ pub(crate) fn list_page<M: Frames, L: Ledger>(
     page
 }
 
-/// Where a slot, which begins at word `i` of list page `page`, stops.
+/// Where a slot, which begins at word `i` of list page `page`, stops the reading.
 #[tactic(auto)]
 fn bad_slot<M: Frames, L: Ledger>(
     tables: &Tables,
@@ -186,7 +187,7 @@ fn bad_slot<M: Frames, L: Ledger>(
     named_frame(mem, page, i + 5, steps)
 }
 
-/// The first slot of a descriptor that stops, of `count`. The places are those of its directory.
+/// The first of `count` slots of a descriptor that stops the reading. The places are those of its directory.
 fn first_bad_slot<M: Frames, L: Ledger>(
     tables: &Tables,
     mem: &M,

@@ -12,7 +12,7 @@ use pip_frames::Frames;
 use pip_model::lists;
 use std::sync::ledger::Ledger;
 
-/// A page, and the address at which the parent is said to map it.
+/// A page, and the address at which its node says that the parent maps it.
 #[derive(Clone, Copy, Debug, PartialEq, Eq)]
 pub(crate) struct Given {
     pub va: u32,

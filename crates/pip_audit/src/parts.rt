@@ -5,7 +5,8 @@ ghost use Rattle.pip_model.specs.ReadOff.{node_read, node_stop};
 ghost use Rattle.pip_model.specs.Tree.{held_pages, page_at, pairs, vpage};
 ghost use Rattle.std.specs.List.{list_all};
 ghost use Rattle.pip_model.specs.Parts.{broken_part, gives_no_more, has_no_lines, has_tables, is_lent_by};
-ghost use Rattle.pip_model.specs.Parts.{is_named_by_base, is_page, keeps_pages_apart, part_1, part_2};
+ghost use Rattle.pip_model.specs.Parts.{is_named_by_base, is_page, keeps_pages_apart, part_boot_root};
+ghost use Rattle.pip_model.specs.Parts.{part_parents_come_first};
 ghost use Rattle.pip_audit.specs.Comparing.{tree_in};
 ghost use Rattle.pip_audit.specs.Judging.{HasParent, IsReadLater, KeepsBefore, KeepsNodes, Lends, TellsApart, held_by};
 ghost use Rattle.pip_audit.specs.Judging.{is_placed, keeps_to, parent_test};
@@ -14,12 +15,13 @@ ghost use Rattle.pip_audit.specs.Tables.{IsOf};
 ghost use Rattle.pip_audit.specs.Reading.{IsRead};
 
 use crate::auditor::Auditor;
-use crate::boot::{ROOT, has_boot_base, has_boot_rows, has_boot_tables};
+use crate::boot::{has_boot_base, has_boot_rows, has_boot_tables};
 use crate::each_node::NodeTest;
 use crate::pages::{count_pages, page};
 use pip_base::{Frame, LINES, Steps};
 use pip_entry::descriptor::{PARENT, PENDING, SELF_FRAME};
 use pip_frames::Frames;
+use pip_model::ROOT;
 use std::sync::ledger::Ledger;
 
 // The parts of soundness, by their numbers in the answer `no unsound P`.
@@ -35,7 +37,7 @@ const SIBLINGS_APART: u32 = 5;
 
 const RIGHTS: u32 = 6;
 
-const TABLES: u32 = 7;
+const TABLES_OF_ROWS: u32 = 7;
 
 const NO_LINES_BUT_THE_ROOT: u32 = 8;
 
@@ -48,6 +50,7 @@ impl Auditor {
         ensures inside { result < length (M.memory mem.now) }
         ensures passes { node_stop (M.memory mem.now) result ≡ None }
     {
+        // Only the contract speaks of `mem`; the count uses it, and no proof needs it.
         let _count = mem.count();
         self.names[x]
     }
@@ -69,7 +72,7 @@ impl Auditor {
         steps: &mut Steps<L>,
     ) -> Frame
         requires read { IsRead (M.memory mem.now) self.now }
-        requires parents { part_1 (tree_in (M.memory mem.now)) ≡ true }
+        requires parents { part_parents_come_first (tree_in (M.memory mem.now)) ≡ true }
         requires other { 1 ≤ x }
         requires node { x < self.now.count }
         ensures parent { result ≡ word_at (M.memory mem.now) (slice_index self.now.names.items x) 11 }
@@ -82,7 +85,7 @@ impl Auditor {
     // Whether the root is that of the boot.
     fn has_boot_root<M: Frames, L: Ledger>(&mut self, mem: &M, steps: &mut Steps<L>) -> bool
         requires { IsRead (M.memory mem.now) self.old }
-        ensures tests { result ≡ part_2 (tree_in (M.memory mem.now)) }
+        ensures tests { result ≡ part_boot_root (tree_in (M.memory mem.now)) }
         ensures read { IsRead (M.memory mem.now) self.new }
     {
         let root = Frame::new(ROOT);
@@ -102,8 +105,8 @@ impl Auditor {
 
     // ---- no node holds a page twice
 
-    // Meets all pages that node `x` holds, and says whether none was met before and none comes twice. It ends after the
-    // pages of configuration if one of these was.
+    // Meets all pages that node `x` holds, and answers whether none was met before and none comes twice. It ends after
+    // the pages of configuration if one of these was.
     fn meet_held<M: Frames, L: Ledger>(&mut self, mem: &M, x: usize, steps: &mut Steps<L>) -> bool
         requires read { IsRead (M.memory mem.now) self.old }
         requires node { x < self.old.count }
@@ -127,7 +130,7 @@ impl Auditor {
 
     // ---- all comes from the parent
 
-    // Whether a page of a child's configuration stands in a row of the parent, at the address that the child names.
+    // Whether a page of a child's configuration is in a row of the parent, at the address that the child names.
     fn is_lent<M: Frames, L: Ledger>(
         &self,
         mem: &M,
@@ -148,7 +151,7 @@ impl Auditor {
         false
     }
 
-    // Whether all pages of a child's configuration do.
+    // Whether all pages of a child's configuration are in such rows.
     fn pages_are_lent<M: Frames, L: Ledger>(
         &self,
         mem: &M,
@@ -195,7 +198,7 @@ impl Auditor {
     // Loads the parent of node `x`, unless it is loaded.
     fn lend_to<M: Frames, L: Ledger>(&mut self, mem: &M, x: usize, steps: &mut Steps<L>)
         requires read { IsRead (M.memory mem.now) self.old }
-        requires parents { part_1 (tree_in (M.memory mem.now)) ≡ true }
+        requires parents { part_parents_come_first (tree_in (M.memory mem.now)) ≡ true }
         requires other { 1 ≤ x }
         requires node { x < self.old.count }
         requires lends { Lends (M.memory mem.now) self.old }
@@ -212,7 +215,7 @@ impl Auditor {
         self.load_parent(mem, parent, steps);
     }
 
-    // Whether all that node `x` holds stands in rows of the node that is loaded.
+    // Whether all that node `x` holds is in rows of the node that is loaded.
     fn is_lent_by<M: Frames, L: Ledger>(&mut self, mem: &M, x: usize, steps: &mut Steps<L>) -> bool
         requires read { IsRead (M.memory mem.now) self.old }
         requires node { x < self.old.count }
@@ -284,7 +287,7 @@ impl Auditor {
                 self.load_parent(mem, Frame::new(ROOT), steps);
                 self.each_node::<IsGranted, M, L>(mem, 1, steps)
             }
-            TABLES => self.each_node::<HasTables, M, L>(mem, 0, steps),
+            TABLES_OF_ROWS => self.each_node::<HasTables, M, L>(mem, 0, steps),
             _ => self.each_node::<HasNoLines, M, L>(mem, 1, steps),
         }
     }
@@ -340,7 +343,7 @@ impl NodeTest for IsApart {
     }
 }
 
-/// Whether all that it holds stands in rows of its parent.
+/// Whether all that it holds is in rows of its parent.
 pub(crate) struct IsLent;
 
 impl NodeTest for IsLent {

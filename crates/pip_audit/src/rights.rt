@@ -19,7 +19,7 @@ use std::sync::ledger::Ledger;
 const ALL: u32 = 7;
 
 impl FrameWords {
-    // Keeps of the rights that are held for a page those that are among others.
+    // Keeps those of the rights that are held for a page that are among `rights`.
     fn narrow(&mut self, f: u32, rights: u32)
         requires { f < length self.old.words.items }
         ensures rights { (g : ℕ) → rights_held self.new g ≡ (if g == f then bit_and
@@ -30,7 +30,7 @@ impl FrameWords {
         self.words[f as usize] = held & rights;
     }
 
-    /// Gathers for each page the rights that all rows of a node give it.
+    /// Holds for each page the rights that all rows of a node with it give.
     pub(crate) fn gather_rights<M: Frames, L: Ledger>(
         &mut self,
         tables: &Tables,

@@ -1,4 +1,4 @@
-//! What a memory is, whatever its frames hold.
+//! That a memory has frames of 1024 words, whatever they hold.
 ghost use Rattle.std.specs.Prelude.{◌≡◌, ℕ, ◌<◌, length, slice_index};
 ghost use Rattle.pip_base.specs.Memory.{IsMemory, frame_at, word_at};
 ghost use Rattle.pip_model.specs.Audit.{HasWordsOnly};
@@ -8,14 +8,14 @@ use pip_base::{Frame, Steps};
 use pip_frames::Frames;
 use std::sync::ledger::Ledger;
 
-// The type tells that each is below 2^32.
+// Shows a proof, by their type, that all of them are below 2^32.
 fn see_words(words: &[u32])
     ensures { (i : ℕ) → i < length words.now → IsWord (slice_index words.now i) }
 {
     let _words = words.len();
 }
 
-// The type tells that there are 1024 of them.
+// Shows a proof, by their type, that there are 1024 of them.
 fn see_page(words: &[u32; 1024])
     ensures shape { length words.now ≡ 1024 }
     ensures words { (i : ℕ) → i < 1024 → IsWord (slice_index words.now i) }
@@ -32,7 +32,7 @@ fn see_frame<M: Frames, L: Ledger>(mem: &M, f: Frame, steps: &mut Steps<L>)
     see_page(mem.frame(f, steps));
 }
 
-/// Borrows each frame once: no law of the trait tells how many words a frame has. No word is read.
+/// Borrows each frame once, since no law of the trait says how many words a frame has. No word is read.
 pub(crate) fn see_frames<M: Frames, L: Ledger>(mem: &M, steps: &mut Steps<L>)
     ensures shape { IsMemory (M.memory mem.now) }
     ensures words { HasWordsOnly (M.memory mem.now) }

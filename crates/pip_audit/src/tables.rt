@@ -11,7 +11,7 @@ ghost use Rattle.pip_model.specs.Walking.{visit_at};
 ghost use Rattle.pip_model.specs.ReadOff.{base_stop, node_read, node_stop, or_first, place_of_table};
 ghost use Rattle.pip_model.specs.ReadOff.{slot_stop_at, table_from};
 
-use crate::blocks::Blocks;
+use crate::blocks::{Blocks, marks_descriptor};
 use crate::nodes::list_page;
 use pip_base::{Frame, Steps, VPAGES, WORDS};
 use pip_entry::DirWord;
@@ -32,15 +32,15 @@ pub(crate) struct Triple {
 
 /// A row of a node: a page at a virtual page, with rights.
 #[derive(Clone, Copy, Debug, PartialEq, Eq)]
-pub(crate) struct Row {
+pub(crate) struct FoundRow {
     pub at: u32,
     pub frame: u32,
     pub rights: u32,
 }
 
-/// Which rows are sought: all, or those on whose page is a child's descriptor.
+/// Which rows are sought: all, or those whose page is a child's descriptor.
 #[derive(Clone, Copy, Debug, PartialEq, Eq)]
-pub(crate) enum Sought {
+pub(crate) enum SoughtRows {
     Any,
     Child,
 }
@@ -50,7 +50,7 @@ pub(crate) enum Sought {
 pub(crate) struct Tables {
     // The node.
     part: Frame,
-    // Per frame, the least place of the MMU directory that has a table there.
+    // Per frame, the least place in the MMU directory that names it as a table.
     place: Vec<Option<u32>>,
     // Per directory index, the tables of the first slot that has it.
     of: Vec<Option<Triple>>,
@@ -81,7 +81,7 @@ impl Tables {
         self.place.fill(None);
     }
 
-    // Takes word `i` of a directory: it may be the place of a table that has none so far.
+    // Takes word `i` of a directory: its table gets this place, unless it has one.
     fn hold_place(&mut self, word: u32, i: u32)
         ensures room { length self.new.place.items ≡ length self.old.place.items }
         ensures places { (g : ℕ) → g < length self.old.place.items →
@@ -164,7 +164,7 @@ impl Tables {
         self.of[index as usize] = Some(triple);
     }
 
-    // Takes a slot that begins at word `i` of a list page, where it doesn't stop.
+    // Takes a slot that begins at word `i` of a list page and doesn't stop the reading.
     fn take_slot<M: Frames, L: Ledger>(
         &mut self,
         mem: &M,
@@ -270,17 +270,17 @@ impl Tables {
         mem: &M,
         v: u32,
         steps: &mut Steps<L>,
-    ) -> Option<Row>
+    ) -> Option<FoundRow>
         requires of { IsOf (M.memory mem.now) self.now }
         requires small { v < 2 ^ 20 }
         ensures { IsRowAt (M.memory mem.now) (tables_in (M.memory mem.now) self.now.part) v result }
     {
-        let tables = self.at(v / 1024)?;
-        let word = mem.word(tables.mmu, v % 1024, steps);
+        let tables = self.at(v / WORDS)?;
+        let word = mem.word(tables.mmu, v % WORDS, steps);
         if word == 0 {
             return None;
         }
-        Some(Row {
+        Some(FoundRow {
             at: v,
             frame: word / 4096,
             rights: word / 4 % 8,
@@ -288,16 +288,16 @@ impl Tables {
     }
 
     // Whether a row's page is a child's descriptor, as the first shadow says.
-    fn is_child<M: Frames, L: Ledger>(&self, mem: &M, row: Row, steps: &mut Steps<L>) -> bool
+    fn is_child<M: Frames, L: Ledger>(&self, mem: &M, row: FoundRow, steps: &mut Steps<L>) -> bool
         requires of { IsOf (M.memory mem.now) self.now }
         requires small { row.at < 2 ^ 20 }
         requires row { IsRowAt (M.memory mem.now) (tables_in (M.memory mem.now) self.now.part) row.at (Some row) }
         ensures { result ≡ is_some (visit_at (M.memory mem.now) (tables_in (M.memory mem.now) self.now.part) row.at) }
     {
-        let Some(tables) = self.at(row.at / 1024) else {
+        let Some(tables) = self.at(row.at / WORDS) else {
             return false;
         };
-        mem.word(tables.shadow1, row.at % 1024, steps) % 4096 == 1
+        marks_descriptor(mem.word(tables.shadow1, row.at % WORDS, steps))
     }
 
     // Whether a row is one that is sought.
@@ -305,8 +305,8 @@ impl Tables {
     fn is_sought<M: Frames, L: Ledger>(
         &self,
         mem: &M,
-        sought: Sought,
-        row: Row,
+        sought: SoughtRows,
+        row: FoundRow,
         steps: &mut Steps<L>,
     ) -> bool
         requires of { IsOf (M.memory mem.now) self.now }
@@ -316,8 +316,8 @@ impl Tables {
             ≡ (if result then Some (row_seen row) else None) }
     {
         match sought {
-            Sought::Any => true,
-            Sought::Child => self.is_child(mem, row, steps),
+            SoughtRows::Any => true,
+            SoughtRows::Child => self.is_child(mem, row, steps),
         }
     }
 
@@ -326,10 +326,10 @@ impl Tables {
     fn sought_at<M: Frames, L: Ledger>(
         &self,
         mem: &M,
-        sought: Sought,
+        sought: SoughtRows,
         v: u32,
         steps: &mut Steps<L>,
-    ) -> Option<Row>
+    ) -> Option<FoundRow>
         requires of { IsOf (M.memory mem.now) self.now }
         requires small { v < 2 ^ 20 }
         ensures { IsSoughtAt sought (M.memory mem.now) (tables_in (M.memory mem.now) self.now.part) v result }
@@ -347,10 +347,10 @@ impl Tables {
     fn next_in_block<M: Frames, L: Ledger>(
         &self,
         mem: &M,
-        sought: Sought,
+        sought: SoughtRows,
         from: u32,
         steps: &mut Steps<L>,
-    ) -> Option<Row>
+    ) -> Option<FoundRow>
         requires of { IsOf (M.memory mem.now) self.now }
         requires small { from < 2 ^ 20 }
         ensures { IsFirstSought sought (M.memory mem.now) (tables_in (M.memory mem.now) self.now.part) from
@@ -370,10 +370,10 @@ impl Tables {
         &self,
         mem: &M,
         blocks: &Blocks,
-        sought: Sought,
+        sought: SoughtRows,
         from: u32,
         steps: &mut Steps<L>,
-    ) -> Option<Row>
+    ) -> Option<FoundRow>
         requires of { IsOf (M.memory mem.now) self.now }
         requires known { AreKnown (M.memory mem.now) blocks.now }
         requires small { from < 2 ^ 20 }
@@ -381,8 +381,8 @@ impl Tables {
             (32 * (from / 32) + 32) result }
     {
         let _count = mem.count();
-        let tables = self.at(from / 1024)?;
-        if blocks.lacks(sought, tables, from % 1024 / 32) {
+        let tables = self.at(from / WORDS)?;
+        if blocks.lacks(sought, tables, from % WORDS / 32) {
             return None;
         }
         self.next_in_block(mem, sought, from, steps)
@@ -394,17 +394,17 @@ impl Tables {
         &self,
         mem: &M,
         blocks: &Blocks,
-        sought: Sought,
+        sought: SoughtRows,
         from: u32,
         steps: &mut Steps<L>,
-    ) -> Option<Row>
+    ) -> Option<FoundRow>
         requires of { IsOf (M.memory mem.now) self.now }
         requires known { AreKnown (M.memory mem.now) blocks.now }
         requires small { from < 2 ^ 20 }
         ensures { IsFirstSought sought (M.memory mem.now) (tables_in (M.memory mem.now) self.now.part) from
             (1024 * (from / 1024) + 1024) result }
     {
-        let end = from / 1024 * 1024 + 1024;
+        let end = from / WORDS * WORDS + WORDS;
         let mut v = from;
         while v < end {
             if let Some(row) = self.next_of_block(mem, blocks, sought, v, steps) {
@@ -422,15 +422,15 @@ impl Tables {
         blocks: &Blocks,
         from: u32,
         steps: &mut Steps<L>,
-    ) -> Option<Row>
+    ) -> Option<FoundRow>
         requires of { IsOf (M.memory mem.now) self.now }
         requires known { AreKnown (M.memory mem.now) blocks.now }
         requires small { from < 2 ^ 20 }
         ensures { IsFirstRow (M.memory mem.now) (tables_in (M.memory mem.now) self.now.part) from
             (1024 * (from / 1024) + 1024) result }
     {
-        let _tables = self.at(from / 1024)?;
-        self.next_in_table(mem, blocks, Sought::Any, from, steps)
+        let _tables = self.at(from / WORDS)?;
+        self.next_in_table(mem, blocks, SoughtRows::Any, from, steps)
     }
 
     // The first directory index from one on that has tables, or 1024.
@@ -441,12 +441,12 @@ impl Tables {
         ensures index { result ≤ 1024 }
         ensures none { (d : ℕ) → from ≤ d → d < result → held_at self.now d ≡ None }
     {
-        for d in from..1024 {
+        for d in from..WORDS {
             if self.of[d as usize].is_some() {
                 return d;
             }
         }
-        1024
+        WORDS
     }
 
     // The first row from a virtual page on, which may be 2^20, table by table.
@@ -457,7 +457,7 @@ impl Tables {
         blocks: &Blocks,
         from: u32,
         steps: &mut Steps<L>,
-    ) -> Option<Row>
+    ) -> Option<FoundRow>
         requires of { IsOf (M.memory mem.now) self.now }
         requires known { AreKnown (M.memory mem.now) blocks.now }
         requires small { from ≤ 2 ^ 20 }
@@ -468,7 +468,7 @@ impl Tables {
             if let Some(row) = self.next_of_index(mem, blocks, v, steps) {
                 return Some(row);
             }
-            v = 1024 * self.next_index(v / 1024 + 1);
+            v = WORDS * self.next_index(v / WORDS + 1);
         }
         None
     }
@@ -481,7 +481,7 @@ impl Tables {
         blocks: &Blocks,
         from: u32,
         steps: &mut Steps<L>,
-    ) -> Option<Row>
+    ) -> Option<FoundRow>
         requires of { IsOf (M.memory mem.now) self.now }
         requires known { AreKnown (M.memory mem.now) blocks.now }
         requires small { from ≤ 2 ^ 20 }
@@ -495,9 +495,9 @@ impl Tables {
         self.later_row(mem, blocks, from, steps)
     }
 
-    /// Whether each row passes a test. It ends with the first that fails.
+    /// Whether each row passes a test. It ends at the first that fails.
     #[tactic(auto, using(crate::proofs::PartLaws::rows_are))]
-    pub(crate) fn all_rows<M: Frames, L: Ledger, F: Fn(Row) -> bool>(
+    pub(crate) fn all_rows<M: Frames, L: Ledger, F: Fn(FoundRow) -> bool>(
         &self,
         mem: &M,
         blocks: &Blocks,
@@ -506,7 +506,7 @@ impl Tables {
     ) -> bool
         requires of { IsOf (M.memory mem.now) self.now }
         requires known { AreKnown (M.memory mem.now) blocks.now }
-        requires can { (r : Row) → r.frame < length (M.memory mem.now) → F.pre passes r }
+        requires can { (r : FoundRow) → r.frame < length (M.memory mem.now) → F.pre passes r }
         ensures { TellsRows (F.post passes) (node_read (M.memory mem.now) self.now.part).rows result }
     {
         let mut from = 0;

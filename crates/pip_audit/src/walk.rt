@@ -11,14 +11,13 @@ ghost use Rattle.pip_model.specs.declared.reading.Stop.{Stop};
 ghost use Rattle.pip_model.specs.ReadOff.{Halts, tree_of};
 
 use crate::auditor::Auditor;
-use crate::boot::ROOT;
-use crate::tables::{Row, Sought, Triple};
-use pip_base::{Frame, Steps, VPAGES};
+use crate::tables::{FoundRow, SoughtRows, Triple};
+use pip_base::{Frame, Steps, VPAGES, WORDS};
 use pip_frames::Frames;
-use pip_model::Stop;
+use pip_model::{ROOT, Stop};
 use std::sync::ledger::Ledger;
 
-/// A page to be read as a node: the virtual page of its row, and the word of a first shadow that says so.
+/// A page to be read as a node: the virtual page of its row, and the place of the first shadow's word that says so.
 #[derive(Clone, Copy, Debug, PartialEq, Eq)]
 struct Child {
     at: u32,
@@ -27,7 +26,7 @@ struct Child {
 }
 
 // The page of a row, which this first shadow says is a child's descriptor.
-fn child_of(row: Row, shadow: Frame) -> Child
+fn child_of(row: FoundRow, shadow: Frame) -> Child
     ensures { result ≡ child_told row shadow }
 {
     Child {
@@ -35,13 +34,13 @@ fn child_of(row: Row, shadow: Frame) -> Child
         page: row.frame,
         told: Stop {
             frame: shadow.number(),
-            index: row.at % 1024,
+            index: row.at % WORDS,
         },
     }
 }
 
 impl Auditor {
-    // Nothing was read. So no word tells of a first shadow.
+    // Nothing was read, so no first shadow is known.
     fn forget(&mut self)
         ensures count { self.new.count ≡ 0 }
         ensures depth { self.new.depth ≡ 0 }
@@ -77,7 +76,7 @@ impl Auditor {
         self.depth += 1;
     }
 
-    // The rows of the newest node are gone through up to this one.
+    // The rows of the newest node were read up to this one.
     fn pass_row(&mut self, at: u32)
         requires deep { 0 < self.old.depth }
         requires room { self.old.depth ≤ length self.old.from.items }
@@ -87,7 +86,7 @@ impl Auditor {
         self.from[self.depth - 1] = at + 1;
     }
 
-    // Reads the node that a word told of, the first that is left of the newest node, or stops.
+    // Reads the node that a first shadow's word named, the next child of the newest node, or stops.
     fn visit<M: Frames, L: Ledger>(
         &mut self,
         mem: &M,
@@ -125,8 +124,7 @@ impl Auditor {
     }
 
     // The first row from a virtual page on, in these tables of its directory index, whose page is a child's descriptor.
-    // Where they have none from their first row on, that is remembered: tables that many nodes share are gone through
-    // once.
+    // If they have none from their first row on, that is remembered: tables that many nodes share are read once.
     fn child_in<M: Frames, L: Ledger>(
         &mut self,
         mem: &M,
@@ -155,11 +153,11 @@ impl Auditor {
         self.blocks.learn_descriptors(mem, tables.shadow1, steps);
         if let Some(row) = self
             .node
-            .next_in_table(mem, &self.blocks, Sought::Child, from, steps)
+            .next_in_table(mem, &self.blocks, SoughtRows::Child, from, steps)
         {
             return Some(child_of(row, tables.shadow1));
         }
-        if from % 1024 == 0 {
+        if from % WORDS == 0 {
             self.words.quiet.hold(tables.mmu.number(), shadow);
         }
         None
@@ -185,7 +183,7 @@ impl Auditor {
         ensures known { AreKnown (M.memory mem.now) self.new.blocks }
         ensures rest { self.new ≡ record self.old { words = self.new.words; blocks = self.new.blocks } }
     {
-        if let Some(tables) = self.node.at(from / 1024) {
+        if let Some(tables) = self.node.at(from / WORDS) {
             return self.child_in(mem, tables, from, steps);
         }
         None
@@ -214,7 +212,7 @@ impl Auditor {
             if let Some(told) = self.child_of_index(mem, v, steps) {
                 return Some(told);
             }
-            v = v / 1024 * 1024 + 1024;
+            v = v / WORDS * WORDS + WORDS;
         }
         None
     }

@@ -7,29 +7,21 @@ ghost use Rattle.pip_model.specs.FullRows.{row_word};
 ghost use Rattle.pip_model.specs.ReadOff.{node_read, node_stop};
 ghost use Rattle.pip_model.specs.Tree.{lists};
 ghost use Rattle.pip_audit.specs.Comparing.{FitsRole, HoldsNode, IsFirstIn, differs_at, differs_from, entry_held};
-ghost use Rattle.pip_audit.specs.Comparing.{level_of, page_in, role_of, rows_held, wanted_word};
+ghost use Rattle.pip_audit.specs.Comparing.{page_in, role_of, rows_held, wanted_word};
 ghost use Rattle.pip_audit.specs.FrameSets.{contains};
 ghost use Rattle.pip_audit.specs.Tables.{held_at};
 
 use crate::auditor::Auditor;
 use crate::nodes::list_page;
-use crate::tables::{Row, Triple};
+use crate::tables::{FoundRow, Triple};
 use pip_base::{Frame, LINES, Steps, WORDS};
 use pip_entry::descriptor::{FLAGS, LIST_FRAME, MASKED, PARENT, PENDING, TABLES};
 use pip_entry::list_page::{FIRST_SLOT, SLOT_WORDS, SLOTS};
 use pip_entry::{DirWord, pack_dir};
 use pip_frames::Frames;
-use pip_model::{Difference, lists};
+use pip_model::{Difference, Level, lists};
 use pip_table::are_zero;
 use std::sync::ledger::Ledger;
-
-/// Which of the three tables of a directory index.
-#[derive(Clone, Copy, Debug, PartialEq, Eq)]
-pub(crate) enum Level {
-    Mmu,
-    Shadow1,
-    Shadow2,
-}
 
 /// What a page is in its node.
 #[derive(Clone, Copy, Debug, PartialEq, Eq)]
@@ -46,7 +38,7 @@ pub(crate) enum Role {
 
 /// The table of a level.
 pub(crate) fn page_of(level: Level, tables: Triple) -> Frame
-    ensures { result ≡ page_in (level_of level) tables }
+    ensures { result ≡ page_in level tables }
 {
     match level {
         Level::Mmu => tables.mmu,
@@ -67,7 +59,7 @@ fn is_zero_block(words: &[u32; 1024], b: u32) -> bool
         & are_zero(words, first + 24)
 }
 
-// Word `i` of a descriptor. Two words have room for more than a node has: the flags and the pending lines.
+// Word `i` of a descriptor. Two of its words have bits that no node uses: the flags and the pending lines.
 fn descriptor_word<M: Frames, L: Ledger>(mem: &M, part: Frame, i: u32, steps: &mut Steps<L>) -> u32
     requires part { part < length (M.memory mem.now) }
     requires index { i < 1024 }
@@ -89,7 +81,7 @@ fn descriptor_word<M: Frames, L: Ledger>(mem: &M, part: Frame, i: u32, steps: &m
     }
 }
 
-// Word `i` of list page `k`. What comes after the last link and the last slot is 0.
+// Word `i` of list page `k`. Words after the last link and the last slot are 0.
 fn list_word<M: Frames, L: Ledger>(
     mem: &M,
     part: Frame,
@@ -124,8 +116,8 @@ impl Auditor {
     fn directory_word(&self, level: Level, i: u32) -> u32
         requires room { length self.now.node.of.items ≡ 1024 }
         requires index { i < 1024 }
-        requires small { (b : Triple) → held_at self.now.node i ≡ Some b → page_in (level_of level) b < 4096 }
-        ensures { result ≡ entry_held (level_of level) (held_at self.now.node i) }
+        requires small { (b : Triple) → held_at self.now.node i ≡ Some b → page_in level b < 4096 }
+        ensures { result ≡ entry_held level (held_at self.now.node i) }
     {
         match self.node.at(i) {
             None => 0,
@@ -134,7 +126,7 @@ impl Auditor {
     }
 
     // The word of a row in an MMU table: open to the user where its page isn't hidden.
-    fn leaf_word(&self, row: Row) -> u32
+    fn leaf_word(&self, row: FoundRow) -> u32
         requires frame { row.frame < length self.now.sets.hidden.has.items }
         requires few { length self.now.sets.hidden.has.items ≤ 4096 }
         requires rights { row.rights < 8 }
@@ -149,7 +141,7 @@ impl Auditor {
     fn cell<M: Frames, L: Ledger>(&self, mem: &M, level: Level, v: u32, steps: &mut Steps<L>) -> u32
         requires holds { HoldsNode (M.memory mem.now) self.now }
         requires small { v < 2 ^ 20 }
-        ensures { result ≡ row_word (level_of level) (rows_held (M.memory mem.now) self.now v) }
+        ensures { result ≡ row_word level (rows_held (M.memory mem.now) self.now v) }
     {
         match self.node.row(mem, v, steps) {
             None => 0,
@@ -236,7 +228,7 @@ impl Auditor {
         }
     }
 
-    // Whether block `b` of a page has the words that are wanted because these are zeros.
+    // Whether block `b` of a page has zeros where the node is known to want zeros.
     fn is_blank_block<M: Frames, L: Ledger>(
         &self,
         mem: &M,
@@ -282,7 +274,7 @@ impl Auditor {
         None
     }
 
-    /// The first word of a page that isn't the one that is wanted of this role in the node.
+    /// The first word of a page that isn't the one that its role in the node wants.
     #[inline(always)]
     pub(crate) fn difference_in<M: Frames, L: Ledger>(
         &self,

@@ -1,4 +1,9 @@
 //! Constants, plain types and the step counter that every crate of the kernel names.
+//!
+//! In a clause a frame or a virtual page is a number below 2^20. specs/Words says which number each packed word is, and
+//! specs/Memory what a memory is: a list of frames, each a list of words (`Memory`), with the laws of writing a word.
+//! The step counter counts reads of words and costs nothing at run time. `never!()` marks code that a proof shows to be
+//! unreachable, such as an arm of a match: LLVM drops the test that leads there.
 #![tactic(auto)]
 
 mod outcome;

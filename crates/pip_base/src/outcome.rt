@@ -2,8 +2,8 @@
 ghost use Rattle.std.specs.Prelude.{◌≡◌};
 ghost use Rattle.pip_base.specs.Status.{status_number};
 
-/// The status of a call, in the order of the numbers. A call tests for the refusals in this order, but for `BadVector`
-/// before `Running`.
+/// The status of a call, in the order of the numbers. A call tests for the refusals in this order, except that
+/// `BadVector` comes before `Running`.
 #[derive(Clone, Copy, Debug, PartialEq, Eq)]
 pub enum Status {
     /// The call did what it is for. Every other status is a refusal.
@@ -16,13 +16,13 @@ pub enum Status {
     NullPage,
     /// Two of the pages are the same.
     Repeated,
-    /// The address is no child's descriptor.
+    /// No child's descriptor is at the address.
     NotChild,
     /// The caller doesn't map the page.
     NotMapped,
     /// A child of the caller has the page already.
     NotFree,
-    /// The rights are none that can be given, or the caller's own don't suffice.
+    /// The rights can't be given, or the caller's own don't suffice.
     NoRight,
     /// The child has no table for the address.
     NoTable,
@@ -34,13 +34,13 @@ pub enum Status {
     LentOn,
     /// The child's table still maps a page.
     NotEmpty,
-    /// The partition runs, or at a deletion one below it does.
+    /// The partition runs; at a deletion, it or one below it.
     Running,
     /// The vector isn't below 256.
     BadVector,
     /// The target has no handler for the vector.
     NoHandler,
-    /// A number that no call answers.
+    /// No call answers it: the number is kept free.
     NoContext,
     /// The caller's block can't be saved to.
     BadSave,
@@ -80,7 +80,7 @@ impl Status {
 pub enum Outcome {
     /// The word or byte that was read.
     Word(u32),
-    /// The event was done and has nothing to tell.
+    /// The event was done and has no value.
     Done,
     /// A call's status, and its value, which is 0 at every refusal.
     Reply { status: Status, value: u32 },

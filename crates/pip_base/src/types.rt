@@ -41,7 +41,7 @@ impl VPage {
         self.0
     }
 
-    /// The place in a directory of the table that maps it, below 1024.
+    /// The directory index of the table that maps it, below 1024.
     pub fn directory(self) -> u32
         ensures place { result ≡ self / 1024 }
         ensures small { result < 1024 }
@@ -49,7 +49,7 @@ impl VPage {
         self.0 / 1024
     }
 
-    /// Its place in that table, below 1024.
+    /// Its index in that table, below 1024.
     pub fn index(self) -> u32
         ensures place { result ≡ self % 1024 }
         ensures small { result < 1024 }

@@ -1,5 +1,5 @@
-//! A child that ends with all below it. Each page that one of them holds is the child's, too, so the caller's first
-//! shadow names the child for it; and it is configuration of one of them exactly where it is hidden in the caller.
+//! A child that ends with all below it. The child has every page that one of them holds, so the caller's first shadow
+//! names the child at each; and the page is configuration of one of them exactly if it is hidden in the caller.
 ghost use Rattle.std.specs.Prelude.{◌≡◌, ◌≢◌, ◌↔◌, ◌+◌, ◌*◌, ◌<◌, ◌≤◌, true, length};
 ghost use Rattle.pip_model.specs.NodeIn.{HasNode, HasTableFor};
 ghost use Rattle.pip_model.specs.Tree.{base_pairs};
@@ -15,7 +15,8 @@ use pip_config::read_pair;
 use pip_entry::descriptor::{LIST_VA, MMU_VA, SELF_VA, SHADOW1_VA, SHADOW2_VA, TABLES};
 use pip_frames::Frames;
 use pip_kern::{take_page, take_pages};
-use pip_space::{Level, next_tables, table_for};
+use pip_model::Level;
+use pip_space::{next_tables, table_for};
 use pip_table::first_index;
 use std::sync::ledger::Ledger;
 
@@ -28,8 +29,8 @@ fn is_hidden(leaf: u32) -> bool
     leaf / 2 % 2 == 0
 }
 
-// From index `k` on, words of a first shadow that name the child born at `born` become 0, up to the first that is of a
-// hidden page. None where there is none. `leaves` are the words of the MMU's table.
+// From index `k` on, words of a first shadow that name the child born at `born` become 0, up to the first of a hidden
+// page, whose index is answered. None if there is none. `leaves` are the words of the MMU's table.
 fn free_open(leaves: &[u32; 1024], given: &mut [u32; 1024], born: VPage, k: u32) -> Option<u32>
     requires index { k ≤ 1024 }
     requires place { born ≢ 0 }
@@ -48,7 +49,7 @@ fn free_open(leaves: &[u32; 1024], given: &mut [u32; 1024], born: VPage, k: u32)
     None
 }
 
-// Frees the words of one frame of the memory by those of another.
+// Does what `free_open` does in the frames of the memory.
 #[tactic(auto, unfolding(pip_base::specs::Memory::frame_at))]
 fn free_between<M: Frames, L: Ledger>(
     mem: &mut M,

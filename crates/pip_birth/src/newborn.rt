@@ -22,7 +22,7 @@ pub(crate) fn zero_pages<M: Frames>(mem: &mut M, pages: &[Pair])
     }
 }
 
-// Writes what isn't 0 in the descriptor of a partition without tables.
+// Writes the words of a descriptor that aren't 0 in a partition without tables.
 fn set_descriptor<M: Frames>(mem: &mut M, part: Frame, base: &[Pair; 5], up: Frame)
     requires { part < length (M.memory mem.old) }
     ensures words { M.memory mem.new ≡ put_descriptor (M.memory mem.old) part base.now up }

@@ -1,11 +1,13 @@
 -- The numbers in the words of the command line are within their bounds.
-use Rattle.std.proofs.Common.{◌≡◌, ℕ, ◌≤◌, ◌&&◌, Bool, true, false, cond, refl, List, [], ◌∷◌, Option, None, Some}
+use Rattle.std.proofs.Common.{◌≡◌, ℕ, ◌≤◌, ◌<◌, ◌^◌, ◌&&◌, Bool, true, false, cond, refl, List, [], ◌∷◌, Option}
+use Rattle.std.proofs.Common.{None, Some, arith}
 use Rattle.std.specs.Prelude.{codes, nat_le}
 use Rattle.std.specs.Str.{bytes_eq}
 use Rattle.std.proofs.lemmas.Bool.{leb-true}
 use Rattle.pip_model.specs.Grammar.{number_of}
+use Rattle.pip_slots.specs.Images.{steps_in_turn}
 use Rattle.pip_commands.specs.Words.{audit_words, command_of, counted_command, every_words, four_words, is_depth}
-use Rattle.pip_commands.specs.Words.{native_words, single_word, three_words, two_words}
+use Rattle.pip_commands.specs.Words.{native_words, single_word, slots_words, three_words, two_words}
 use Rattle.pip_commands.specs.declared.words.Command.{Command}
 use Rattle.pip_commands.specs.declared.words.Command.TheVariants as C
 
@@ -15,6 +17,7 @@ IsWithin (C.Tree count seed) = 1 ≤ seed
 IsWithin (C.Core count seed) = 1 ≤ seed
 IsWithin (C.Soak count seed) = (count ≤ 1000000) × (1 ≤ seed)
 IsWithin (C.Native n count) = (1 ≤ n) × (n ≤ 8)
+IsWithin (C.Slots n turns rounds) = (1 ≤ n) × (n ≤ 8) × (steps_in_turn n turns rounds < 2 ^ 32)
 IsWithin (C.Audit frames) = (16 ≤ frames) × (frames ≤ 4096)
 IsWithin (C.Every states from depth) = 1 ≤ states
 IsWithin _ = Unit {0}
@@ -68,13 +71,13 @@ every_within : (a b depth : Option ℕ) → AreWithin (every_words a b depth)
 every_within None b depth = tt
 every_within (Some n) None depth = tt
 every_within (Some n) (Some from) depth =
-    go ((nat_le 1 n && nat_le n 10000000) && nat_le from 10000000) refl
+    go ((nat_le 1 n && nat_le n 100000000) && nat_le from 10000000) refl
   where
-    go : (b : Bool) → ((nat_le 1 n && nat_le n 10000000) && nat_le from 10000000) ≡ b
+    go : (b : Bool) → ((nat_le 1 n && nat_le n 100000000) && nat_le from 10000000) ≡ b
         → AreWithin (cond b (Some (C.Every n from depth)) None)
     go true e =
-        let (x, y) = both (nat_le 1 n && nat_le n 10000000) (nat_le from 10000000) e in
-        leb-true 1 n (both (nat_le 1 n) (nat_le n 10000000) x).0
+        let (x, y) = both (nat_le 1 n && nat_le n 100000000) (nat_le from 10000000) e in
+        leb-true 1 n (both (nat_le 1 n) (nat_le n 100000000) x).0
     go false e = tt
 
 three_within : (word : List ℕ) (a b : Option ℕ) → AreWithin (three_words word a b)
@@ -102,11 +105,38 @@ two_within word a =
     first_or (bytes_eq word (codes "audit")) (audit_words a) _ (audit_within a)
     (first_or (bytes_eq word (codes "every")) (every_words a (Some 0) None) None (every_within a (Some 0) None) tt)
 
+slots_within : (a b c : Option ℕ) → AreWithin (slots_words a b c)
+slots_within None b c = tt
+slots_within (Some n) None c = tt
+slots_within (Some n) (Some turns) None = tt
+slots_within (Some n) (Some turns) (Some rounds) = go (few && small) refl
+  where
+    few : Bool
+    few = nat_le 1 n && nat_le n 8
+
+    numbers : Bool
+    numbers = nat_le turns 10000000 && nat_le rounds 10000000
+
+    steps : Bool
+    steps = nat_le (steps_in_turn n turns rounds) 10000000
+
+    small : Bool
+    small = numbers && steps
+
+    go : (b : Bool) → (few && small) ≡ b → AreWithin (cond b (Some (C.Slots n turns rounds)) None)
+    go true e =
+        let (x, y) = both few small e in
+        let (least, most) = both (nat_le 1 n) (nat_le n 8) x in
+        let within = leb-true (steps_in_turn n turns rounds) 10000000 (both numbers steps y).1 in
+        (leb-true 1 n least, leb-true n 8 most, omega (arith, within))
+    go false e = tt
+
 four_within : (word : List ℕ) (a b c : Option ℕ) → AreWithin (four_words word a b c)
 four_within word a b None = tt
-four_within word a b (Some depth) =
-    first_or (bytes_eq word (codes "every") && is_depth depth) (every_words a b (Some depth)) None
-    (every_within a b (Some depth)) tt
+four_within word a b (Some third) =
+    first_or (bytes_eq word (codes "slots")) (slots_words a b (Some third)) _ (slots_within a b (Some third))
+    (first_or (bytes_eq word (codes "every") && is_depth third) (every_words a b (Some third)) None
+    (every_within a b (Some third)) tt)
 
 no_numbers : (a b c : Bool)
     → AreWithin (cond a (Some C.Script) (cond b (Some C.Assemble) (cond c (Some C.Disassemble) None)))
@@ -124,6 +154,6 @@ command_within [] = tt
 command_within (word ∷ []) = single_within word
 command_within (word ∷ number ∷ []) = two_within word (number_of number)
 command_within (word ∷ count ∷ seed ∷ []) = three_within word (number_of count) (number_of seed)
-command_within (word ∷ states ∷ from ∷ depth ∷ []) =
-    four_within word (number_of states) (number_of from) (number_of depth)
-command_within (word ∷ states ∷ from ∷ depth ∷ more ∷ words) = tt
+command_within (word ∷ first ∷ second ∷ third ∷ []) =
+    four_within word (number_of first) (number_of second) (number_of third)
+command_within (word ∷ first ∷ second ∷ third ∷ more ∷ words) = tt

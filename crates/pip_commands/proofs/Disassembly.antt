@@ -60,7 +60,7 @@ is_line parts bytes line left e named is = record {
 
 module _ (code : ℕ) (p : Option State) (a c : Streams) (none : p ≡ None) (settled : code ≢ 4 → c.written.held ≡ [])
   where
-    pub dis_done : code ≡ 0 → Disassembles a.left c.left a.written c.written → IsCalm code a c
+    pub dis_done : code ≡ 0 → Disassembles a c → IsCalm code a c
         → EndsBy dis_due code p a c
     dis_done is x calm = by_answer dis_due code p a c calm settled apart x.input x.read (inl (omega (arith, is)))
         (record {
@@ -72,7 +72,7 @@ module _ (code : ℕ) (p : Option State) (a c : Streams) (none : p ≡ None) (se
         })
 
     -- a write failed in the text of the last part
-    write_ends : code ≡ 4 → StopsWrite image_parts a.left c.left a.reads c.reads a.written c.written a.writes c.writes
+    write_ends : code ≡ 4 → StopsWrite image_parts a c
         → EndsBy dis_due code p a c
     write_ends is cut =
         let (done, last, are, past) = cut.up_to in
@@ -135,7 +135,7 @@ module _ (code : ℕ) (p : Option State) (a c : Streams) (none : p ≡ None) (se
           }) cut.rose
 
     image_ends : (mid : Taken) (half : ℕ) (e : ImageError)
-        → StopsImage image_parts a.left c.left a.reads c.reads a.written mid a.writes half e
+        → StopsImage image_parts a (record c { written = mid; writes = half }) e
         → (code ≢ 4 → c.writes ≡ half)
         → MatchOption (image_line e) ((code ≡ 3) × Keeps mid c.written) (λ line. EndsLine 2 line code mid c.written half
         c.writes) → EndsBy dis_due code p a c
@@ -154,14 +154,13 @@ module _ (code : ℕ) (p : Option State) (a c : Streams) (none : p ≡ None) (se
 
     -- as the disassembly stopped
     pub dis_image : (mid : Taken) (half : ℕ) (d : DisError) (e : ImageError) → d ≡ Image e
-        → Stops image_parts a.left c.left a.reads c.reads a.written mid a.writes half d → (code ≢ 4 → c.writes ≡ half)
+        → Stops image_parts a (record c { written = mid; writes = half }) d → (code ≢ 4 → c.writes ≡ half)
         → MatchOption (image_line e) ((code ≡ 3) × Keeps mid c.written) (λ line. EndsLine 2 line code mid c.written half
         c.writes) → EndsBy dis_due code p a c
-    dis_image mid half d e is stops = image_ends mid half e (subst (Stops image_parts a.left c.left a.reads c.reads
-        a.written mid a.writes half) is stops)
+    dis_image mid half d e is stops =
+        image_ends mid half e (subst (Stops image_parts a (record c { written = mid; writes = half })) is stops)
 
     pub dis_cut : (d : DisError) → d ≡ Write
-        → Stops image_parts a.left c.left a.reads c.reads a.written c.written a.writes c.writes d → code ≡ 4
+        → Stops image_parts a c d → code ≡ 4
         → EndsBy dis_due code p a c
-    dis_cut d is stops code4 = write_ends code4 (subst (Stops image_parts a.left c.left a.reads c.reads a.written
-        c.written a.writes c.writes) is stops)
+    dis_cut d is stops code4 = write_ends code4 (subst (Stops image_parts a c) is stops)

@@ -1,6 +1,6 @@
 -- The lines of `every` are those of runs: a turn's line at another step differs in the step alone.
-use Rattle.std.proofs.Common.{◌≡◌, ℕ, ◌+◌, ◌-◌, List, [], ◌∷◌, ◌++◌, length, take, inl, inr, Option, None, Some, refl}
-use Rattle.std.proofs.Common.{sym, ap, ◌∙◌, subst, arith, append-nil, append_assoc, length-append, decimal}
+use Rattle.std.proofs.Common.{◌≡◌, ◌≢◌, ℕ, ◌+◌, ◌-◌, List, [], ◌∷◌, ◌++◌, length, take, inl, inr, Option, None, Some}
+use Rattle.std.proofs.Common.{refl, sym, ap, ◌∙◌, subst, arith, append-nil, append_assoc, length-append, decimal}
 use Rattle.std.specs.Prelude.{codes}
 use Rattle.std.proofs.Math.Seq.{take-length}
 use Rattle.std.proofs.lemmas.Fmt.{decimal_digit}
@@ -34,7 +34,10 @@ at_step : (t : ℕ) (rest : List ℕ) → IsLineAt t (decimal 0 ++ (rest ++ 10 �
 at_step t rest =
     let body : inner (decimal 0 ++ (rest ++ 10 ∷ [])) ≡ rest =
     ap (λ z. inner (z ++ (rest ++ 10 ∷ []))) (decimal_digit 0 (omega arith)) ∙ inner_of 48 10 rest in
-    inr (sym (ap (λ b. decimal t ++ b ++ 10 ∷ []) body ∙ append_assoc (decimal t) rest (10 ∷ [])))
+    let zero_is : decimal 0 ≡ 48 ∷ [] = decimal_digit 0 (omega arith) in
+    let some : decimal 0 ++ (rest ++ 10 ∷ []) ≢ [] = λ e.
+    let none : 48 ∷ (rest ++ 10 ∷ []) ≡ [] = ap (λ z. z ++ (rest ++ 10 ∷ [])) (sym zero_is) ∙ e in absurd cc in
+    inr (some, sym (ap (λ b. decimal t ++ b ++ 10 ∷ []) body ∙ append_assoc (decimal t) rest (10 ∷ [])))
 
 -- a line of a processor, by what comes after the head
 line_form : (t cpu : ℕ) (x : List ℕ)
@@ -60,7 +63,7 @@ alone t a b is =
 
 -- ---- the lines
 
-moved_at : (t cpu : ℕ) (o : Outcome) → IsLineAt t (moved_line 0 cpu o) (moved_line t cpu o)
+pub moved_at : (t cpu : ℕ) (o : Outcome) → IsLineAt t (moved_line 0 cpu o) (moved_line t cpu o)
 moved_at t cpu (O.Switched from to k) =
     stepped t cpu (codes " switch " ++ decimal from ++ codes " " ++ decimal to ++ codes " " ++ decimal k)
 moved_at t cpu (O.Parked from k) = stepped t cpu (codes " park " ++ decimal from ++ codes " " ++ decimal k)
@@ -69,7 +72,7 @@ moved_at t cpu O.Done = inl (refl, refl)
 moved_at t cpu (O.Reply s v) = inl (refl, refl)
 moved_at t cpu O.Idle = inl (refl, refl)
 
-call_at : (t cpu n : ℕ) (o : Outcome) → IsLineAt t (call_line 0 cpu n o) (call_line t cpu n o)
+pub call_at : (t cpu n : ℕ) (o : Outcome) → IsLineAt t (call_line 0 cpu n o) (call_line t cpu n o)
 call_at t cpu n (O.Reply s v) =
     alike t cpu
     (codes " call " ++ decimal n ++ codes " reply " ++ decimal (status_number s) ++ codes " " ++ word_text v)

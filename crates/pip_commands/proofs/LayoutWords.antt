@@ -13,9 +13,11 @@ use Rattle.pip_model.specs.FullRows.{FullRow, cells_of, from_word, full_rows, gi
 use Rattle.pip_model.specs.FullRows.{place_word, row_word}
 use Rattle.pip_model.specs.Layout.{config_word, layout, owned_word}
 use Rattle.pip_model.specs.Lists.{In, has}
-use Rattle.pip_model.specs.NodeWords.{DescriptorPage, DirectoryPage, Level, ListPage, Mmu, Role, Shadow1, Shadow2}
-use Rattle.pip_model.specs.NodeWords.{TablePage, base_words, descriptor_word, directory_entry}
-use Rattle.pip_model.specs.NodeWords.{no_table, page_word, role, role_word, slot_words, slots, table_page}
+use Rattle.pip_model.specs.NodeWords.{DescriptorPage, DirectoryPage, ListPage, Role, TablePage, base_words}
+use Rattle.pip_model.specs.NodeWords.{descriptor_word, directory_entry, no_table, page_word, role, role_word}
+use Rattle.pip_model.specs.NodeWords.{slot_words, slots, table_page}
+use Rattle.pip_model.specs.declared.level.Level.{Level}
+use Rattle.pip_model.specs.declared.level.Level.TheVariants.{Mmu, Shadow1, Shadow2}
 use Rattle.pip_model.specs.Sound.{AreLines, IsSound, IsWord}
 use Rattle.pip_model.specs.Tree.{Node, Row, Table, Tree, base_pairs, children, config, find_node, holder, holds, nodes}
 use Rattle.pip_model.specs.Tree.{pairs, row_pages, table_at, table_pairs, vpage}

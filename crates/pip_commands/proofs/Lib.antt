@@ -9,6 +9,7 @@ pub mod Waiting
 -- the ways to end, and images with faults
 pub mod Endings
 pub mod Usage
+pub mod Asked
 pub mod Answered
 pub mod ImageFaults
 pub mod Refused
@@ -23,14 +24,20 @@ pub mod Running
 pub mod Searched
 pub mod EveryOnce
 pub mod EveryLines
+pub mod RunsChosen
+pub mod InTime
 -- `soak`
 pub mod Soaked
--- `native`
+-- `native` and `slots`
 pub mod Shortness
 pub mod Bounds
 pub mod Monitored
 pub mod Monitoring
+pub mod Rounds
 -- `audit`
 pub mod Audited
 pub mod LayoutWords
 pub mod CoreAudited
+-- the law on `slots`
+pub mod Accepted
+pub mod SlotsApart

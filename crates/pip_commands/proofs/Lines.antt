@@ -22,17 +22,18 @@ use Rattle.pip_script.specs.Replies.{RepliesBy, RepliesIn, RepliesTo}
 use Rattle.pip_switch.specs.Standing.{StandsAs, State}
 use Rattle.pip_commands.specs.Machines.{StandsIfAny}
 use Rattle.pip_commands.specs.Runs.{IsCutShort, LeadsBy, OfSome, Runs, RunsIn, Stopped}
-use Rattle.pip_commands.specs.declared.commands.script.line.Stop.{Stop}
-use Rattle.pip_commands.specs.declared.commands.script.line.Stop.TheVariants.{Bad, Write, Memory as NoMemory}
+use Rattle.pip_commands.specs.declared.commands.script.line.ScriptLineError.{ScriptLineError}
+use Rattle.pip_commands.specs.declared.commands.script.line.ScriptLineError.TheVariants.{Bad, Write, Memory as NoMemory}
 
 -- a failed write stops a line
-pub write_stops : {A : Type 0} (r : Result A Stop) (F : A → Type 0) (G : Stop → Type 0) → IsErrAnd r (λ e. e ≡ Write)
+pub write_stops : {A : Type 0} (r : Result A ScriptLineError) (F : A → Type 0) (G : ScriptLineError → Type 0)
+    → IsErrAnd r (λ e. e ≡ Write)
     → G Write → MatchResult r F G
 write_stops (Ok a) F G is h = absurd is
 write_stops (Err e) F G is h = subst G (sym is) h
 
 -- and so does want of memory
-pub memory_stops : {A : Type 0} (r : Result A Stop) (F : A → Type 0) (G : Stop → Type 0)
+pub memory_stops : {A : Type 0} (r : Result A ScriptLineError) (F : A → Type 0) (G : ScriptLineError → Type 0)
     → IsErrAnd r (λ e. e ≡ NoMemory) → G NoMemory → MatchResult r F G
 memory_stops (Ok a) F G is h = absurd is
 memory_stops (Err e) F G is h = subst G (sym is) h

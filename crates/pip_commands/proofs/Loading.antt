@@ -21,11 +21,12 @@ use Rattle.pip_model.specs.Worlds.{boot_world_with}
 use Rattle.pip_model.specs.declared.image.ImageError.{ImageError}
 use Rattle.pip_switch.specs.Standing.{StandsAs, State}
 use Rattle.pip_commands.specs.Loading.{LacksMemoryAfterHeader, LoadsFrames, LoadsImage, StoppedAfter, StoppedLoading}
-use Rattle.pip_commands.specs.declared.commands.run.loading.Stop.{Stop}
-use Rattle.pip_commands.specs.declared.commands.run.loading.Stop.TheVariants as T
+use Rattle.pip_commands.specs.declared.commands.run.loading.LoadError.{LoadError}
+use Rattle.pip_commands.specs.declared.commands.run.loading.LoadError.TheVariants as T
 
 -- a stop answers an error
-pub stops : {A : Type 0} (r : Result A Stop) (F : A → Type 0) (G : Stop → Type 0) (s : Stop) → IsErrAnd r (λ e. e ≡ s)
+pub stops : {A : Type 0} (r : Result A LoadError) (F : A → Type 0) (G : LoadError → Type 0) (s : LoadError)
+    → IsErrAnd r (λ e. e ≡ s)
     → G s → MatchResult r F G
 stops (Ok a) F G s is h = absurd is
 stops (Err e) F G s is h = subst G (sym is) h
@@ -98,12 +99,13 @@ module _ (h : Header) (p : Place) (a b : Option (List ℕ)) (is : IsAfter h p)
   )
 
 -- a stop after the header is one of the whole
-pub weaker : (h : Header) (a c : Option (List ℕ)) (i j k : ℕ) → j ≡ i → (s : Stop) → StoppedAfter h s a c j k
+pub weaker : (h : Header) (a c : Option (List ℕ)) (i j k : ℕ) → j ≡ i → (s : LoadError) → StoppedAfter h s a c j k
     → StoppedLoading s a c i k
 weaker h a c i j k same (T.Image e) x = (_, subst (λ n. Refuses image_parts (header_parts h ++ x.0) a c n k e) same x.1)
 weaker h a c i j k same T.Memory x = (x.0, x.2 ∙ same)
 
-pub stopped_after : {A : Type 0} (r : Result A Stop) (h : Header) (F : A → Type 0) (a c : Option (List ℕ)) (i j k : ℕ)
+pub stopped_after : {A : Type 0} (r : Result A LoadError) (h : Header) (F : A → Type 0) (a c : Option (List ℕ))
+    (i j k : ℕ)
     → j ≡ i → MatchResult r F (λ s. StoppedAfter h s a c j k) → MatchResult r F (λ s. StoppedLoading s a c i k)
 stopped_after (Ok v) h F a c i j k same x = x
 stopped_after (Err s) h F a c i j k same x = weaker h a c i j k same s x

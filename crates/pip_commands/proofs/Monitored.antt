@@ -1,4 +1,4 @@
--- How `native` ends. The streams go from a to c.
+-- How `native` and `slots` end. The streams go from a to c.
 use Rattle.std.proofs.Common.{◌≡◌, ◌≢◌, ℕ, inl, inr, Option, None, Some, List, [], refl, sym, ap, ◌∙◌, subst}
 use Rattle.std.proofs.Common.{arith}
 use Rattle.std.specs.Prelude.{MatchOption, option_map}
@@ -9,79 +9,83 @@ use Rattle.pip_io.specs.Taken.{Appends, Keeps, SendsPart}
 use Rattle.pip_model.specs.Images.{Part, image_parts}
 use Rattle.pip_model.specs.declared.image.ImageError.{ImageError}
 use Rattle.pip_switch.specs.Standing.{StandsAs, State}
-use Rattle.pip_watch.specs.Watching.{native_text, native_world, short_line}
+use Rattle.pip_watch.specs.Watching.{short_line}
+use Rattle.pip_commands.specs.Children.{children_text, children_world}
 use Rattle.pip_commands.specs.EndsBy.{Response, Due, EndsBy, IsAnswered, plainly}
 use Rattle.pip_commands.specs.Faults.{image_line}
-use Rattle.pip_commands.specs.Dues.{IsNativeAnswer, IsRoomy, IsShort, IsUnshort, native_due}
+use Rattle.pip_commands.specs.Dues.{IsChildrenAnswer, IsRoomy, IsShort, IsUnshort, children_due}
 use Rattle.pip_commands.specs.Machines.{StandsIfAny}
 use Rattle.pip_commands.specs.NativeLoading.{LoadsNative, RefusesUnshort, StoppedNative}
 use Rattle.pip_commands.specs.Streams.{EndsLine, IsCalm, Streams}
-use Rattle.pip_commands.specs.declared.commands.native.loading.Stop.{Stop}
-use Rattle.pip_commands.specs.declared.commands.native.loading.Stop.TheVariants as T
+use Rattle.pip_commands.specs.declared.commands.children.loading.ChildrenLoadError.{ChildrenLoadError}
+use Rattle.pip_commands.specs.declared.commands.children.loading.ChildrenLoadError.TheVariants as T
+use Rattle.pip_commands.specs.declared.commands.children.scheduling.Scheduling.{Scheduling}
 use Rattle.pip_commands.proofs.Endings.{apart, by_answer, by_memory, by_plain, by_write_fault, part_plain}
 use Rattle.pip_commands.proofs.ImageFaults.{is_faulty, no_image}
 use Rattle.pip_commands.proofs.Refused.{by_refusal}
 
-module _ (n count code : ℕ) (p : Option State) (a c : Streams) (settled : code ≢ 4 → c.written.held ≡ []) where
+module _ (s : Scheduling) (n code : ℕ) (p : Option State) (a c : Streams)
+    (settled : code ≢ 4 → c.written.held ≡ []) where
   abbrev due : Due
-  due = native_due n count
+  due = children_due s n
 
   -- the answer to an image with room
-  module _ {frames pages : ℕ} {plans : List Plan} {s : State} (l : LoadsNative n a.left c.left frames pages plans s)
+  module _ {frames pages : ℕ} {plans : List Plan} {m : State} (l : LoadsNative n a.left c.left frames pages plans m)
     where
       abbrev text : List ℕ
-      text = native_text l.loads.parsed n count
+      text = children_text s l.loads.parsed n
 
       abbrev good : Response
-      good = plainly 0 text (Some (native_world l.loads.parsed n count))
+      good = plainly 0 text (Some (children_world s l.loads.parsed n))
 
       is_good : IsAnswered due l.loads.input good c.left
       is_good = record {
-        is = inr (subst (λ t. IsNativeAnswer n count l.loads.input t good) (sym l.loads.good)
+        is = inr (subst (λ t. IsChildrenAnswer s n l.loads.input t good) (sym l.loads.good)
             (subst (IsRoomy n) l.loads.begins.frames l.roomy, refl));
         decided = inr (l.loads.whole, tt);
       }
 
       -- the text was written
-      pub native_shown : (q : State) → code ≡ 0 → p ≡ Some q
-          → Appends a.written c.written text × StandsAs q (native_world l.loads.parsed n count) → IsCalm code a c
+      pub children_shown : (q : State) → code ≡ 0 → p ≡ Some q
+          → Appends a.written c.written text × StandsAs q (children_world s l.loads.parsed n) → IsCalm code a c
           → EndsBy due code p a c
-      native_shown q is some did calm =
+      children_shown q is some did calm =
           by_answer due code p a c calm settled apart l.loads.input l.loads.read (inl (omega (arith, is))) (record {
             answer = good;
             due = is_good;
             status = is;
             wrote = did.0;
-            machine = subst (λ o. StandsIfAny o (Some (native_world l.loads.parsed n count))) (sym some) did.1;
+            machine = subst (λ o. StandsIfAny o (Some (children_world s l.loads.parsed n))) (sym some) did.1;
           })
 
       -- a write of it failed
-      pub native_cut : p ≡ None → a.written.held ≡ [] → code ≡ 4 → SendsPart a.written c.written text
+      pub children_cut : p ≡ None → a.written.held ≡ [] → code ≡ 4 → SendsPart a.written c.written text
           → RoseByOne a.writes c.writes → c.reads ≡ a.reads → EndsBy due code p a c
-      native_cut none start is part rose reads =
+      children_cut none start is part rose reads =
           by_write_fault due code p a c (record { reads = λ not. reads; writes = λ not. absurd (not is) }) settled apart
           l.loads.input l.loads.read none is (part_plain due a c l.loads.input text good is_good refl refl start part)
           rose
 
   module _ (none : p ≡ None) where
     -- there was no memory after the header
-    pub native_lacks : code ≡ 5 → {stop : Stop} → stop ≡ T.Memory → StoppedNative n stop a.left c.left a.reads c.reads
+    pub children_lacks : code ≡ 5 → {stop : ChildrenLoadError} → stop ≡ T.Memory
+        → StoppedNative n stop a.left c.left a.reads c.reads
         → Keeps a.written c.written → c.writes ≡ a.writes → EndsBy due code p a c
-    native_lacks is {stop} why stopped kept quiet =
+    children_lacks is {stop} why stopped kept quiet =
         let h : StoppedNative n T.Memory a.left c.left a.reads c.reads =
-        subst (λ s. StoppedNative n s a.left c.left a.reads c.reads) why stopped in
+        subst (λ x. StoppedNative n x a.left c.left a.reads c.reads) why stopped in
         let head = h.0.read in
         by_memory due code p a c (record { reads = λ not. h.1; writes = λ not. quiet }) settled apart head.bytes
         head.read none is (head.header, subst (IsRoomy n) (sym head.same) h.0.roomy) kept
 
     -- the header has too few frames
-    pub native_short : a.written.held ≡ [] → {stop : Stop} {frames : ℕ} → stop ≡ T.Short frames
+    pub children_short : a.written.held ≡ [] → {stop : ChildrenLoadError} {frames : ℕ} → stop ≡ T.Short frames
         → StoppedNative n stop a.left c.left a.reads c.reads → (code ≢ 4 → c.writes ≡ a.writes) → {line : List ℕ}
         → line ≡ short_line frames n → EndsLine 8 line code a.written c.written a.writes c.writes
         → EndsBy due code p a c
-    native_short start {stop} {frames} why stopped quiet {line} named told =
+    children_short start {stop} {frames} why stopped quiet {line} named told =
         let h : StoppedNative n (T.Short frames) a.left c.left a.reads c.reads =
-        subst (λ s. StoppedNative n s a.left c.left a.reads c.reads) why stopped in
+        subst (λ x. StoppedNative n x a.left c.left a.reads c.reads) why stopped in
         let head = h.0.read in
         let short : IsShort n head.bytes =
         record { header = head.header; few = let e = head.same in let l = h.0.few in omega (arith, e, l) } in
@@ -95,7 +99,7 @@ module _ (n count code : ℕ) (p : Option State) (a c : Streams) (settled : code
         → image_line e ≡ Some line → IsFault image_parts parts bytes c.left e
         → IsAnswered due bytes (plainly 2 line None) c.left
     is_refused parts bytes e unshort line named is = record {
-      is = inr (subst (λ t. IsNativeAnswer n count bytes t (plainly 2 line None))
+      is = inr (subst (λ t. IsChildrenAnswer s n bytes t (plainly 2 line None))
           (sym (no_image parts bytes c.left e is))
           (unshort, ap (option_map (λ line. plainly 2 line None)) named));
       decided = elim (is_faulty parts bytes c.left e is) [
@@ -105,13 +109,13 @@ module _ (n count code : ℕ) (p : Option State) (a c : Streams) (settled : code
     }
 
     -- the image has a fault, or its reading failed
-    pub native_faulted : a.written.held ≡ [] → {stop : Stop} {e : ImageError} → stop ≡ T.Image e
-        → StoppedNative n stop a.left c.left a.reads c.reads → (code ≢ 4 → c.writes ≡ a.writes)
-        → MatchOption (image_line e) ((code ≡ 3) × Keeps a.written c.written)
+    pub children_faulted : a.written.held ≡ [] → {stop : ChildrenLoadError} {e f : ImageError} → stop ≡ T.Image e
+        → StoppedNative n stop a.left c.left a.reads c.reads → (code ≢ 4 → c.writes ≡ a.writes) → f ≡ e
+        → MatchOption (image_line f) ((code ≡ 3) × Keeps a.written c.written)
         (λ line. EndsLine 2 line code a.written c.written a.writes c.writes) → EndsBy due code p a c
-    native_faulted start {stop} {e} why stopped quiet ends =
+    children_faulted start {stop} {e} {f} why stopped quiet same ends =
         let h : RefusesUnshort n a.left c.left a.reads c.reads e =
-        subst (λ s. StoppedNative n s a.left c.left a.reads c.reads) why stopped in
+        subst (λ x. StoppedNative n x a.left c.left a.reads c.reads) why stopped in
         by_refusal due code p a c start settled apart none quiet e h.parts h.refused tt
         (λ good. (good, h.unshort, refl))
-        (is_refused h.parts h.refused.bytes e h.unshort) refl ends
+        (is_refused h.parts h.refused.bytes e h.unshort) same ends

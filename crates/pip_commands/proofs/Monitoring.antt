@@ -1,26 +1,28 @@
--- What a native run shows, from how it was made.
+-- What a run of children shows, from how it was made.
 use Rattle.std.proofs.Common.{◌≡◌, ◌≢◌, ℕ, zero, suc, ◌≤◌, ◌<◌, List, [], ◌∷◌, ◌++◌, length, refl, ap, ◌∙◌, subst}
-use Rattle.std.proofs.Common.{arith, Option, Some, None, Bool, false, ◌==◌}
+use Rattle.std.proofs.Common.{sym, arith, Option, Some, None, Bool, false, ◌==◌}
 use Rattle.std.specs.Prelude.{Result, Ok, Err, IsErr, IsOk, OnErr, option_map}
 use Rattle.pip_base.specs.declared.types.Plan.{Plan}
 use Rattle.pip_cpu.specs.Made.{Cut, Made}
 use Rattle.pip_dis.proofs.Written.{part_after, part_of_more}
 use Rattle.pip_io.specs.Taken.{Taken, Appends, AppendsPart, Keeps, Wrote}
 use Rattle.pip_io.proofs.Taken.{Appends-trans, Appends-kept, cut_sent, part_sent}
-use Rattle.pip_model.specs.Acts.{Act, text_of}
+use Rattle.pip_model.specs.Acts.{Act, after_acts, text_of}
 use Rattle.pip_model.specs.Images.{Image, image_word}
 use Rattle.pip_model.specs.Run.{end_line, trace_image_line, image_world}
 use Rattle.pip_model.specs.Worlds.{World}
 use Rattle.pip_model.specs.declared.processors.Occupant.{Occupant}
 use Rattle.pip_switch.specs.Standing.{StandsAs, State}
 use Rattle.pip_watch.specs.Rooms.{HasRoomForChildren}
-use Rattle.pip_watch.specs.Watching.{addresses, built_from, is_root, native_steps, native_text, ready_world}
-use Rattle.pip_watch.specs.Watching.{with_handlers}
+use Rattle.pip_watch.specs.Watching.{addresses, built_from, is_root, ready_world, with_handlers}
 use Rattle.pip_watch.proofs.Beginning.{room_first}
 use Rattle.pip_watch.proofs.Entries.{handlers_as, room_kept}
 use Rattle.pip_commands.specs.Loading.{Begins}
+use Rattle.pip_commands.specs.Children.{children_steps, children_text, children_world, image_acts}
 use Rattle.pip_commands.specs.Dues.{IsRoomy}
-use Rattle.pip_commands.specs.NativeLoading.{ShowsNative, ShowsNativeOut}
+use Rattle.pip_commands.specs.NativeLoading.{ShowsChildren, ShowsChildrenOut}
+use Rattle.pip_commands.specs.declared.commands.children.scheduling.Scheduling.{Scheduling}
+use Rattle.pip_commands.specs.declared.commands.children.scheduling.Scheduling.TheVariants as S
 use Rattle.pip_commands.proofs.Reports.{cut_part}
 
 -- there is room for the children
@@ -53,11 +55,23 @@ is_one (Some k) = k == 1
 
 -- what the machine says of processor 0, whose root has the name 1
 pub root_there : (w : World) (o : Option Occupant) → w.tree.root.name ≡ 1
-    → is_root w o ≡ is_one (option_map (λ r. r.name) o)
+    → is_root w.tree o ≡ is_one (option_map (λ r. r.name) o)
 root_there w None is = refl
 root_there w (Some r) is = ap (λ k. r.name == k) is
 
-module _ (i : Image) (n count frames pages : ℕ) (plans : List Plan)
+-- the text of both ways to run children has the same parts
+text_parts : (s : Scheduling) (i : Image) (n : ℕ) → children_text s i n
+    ≡ trace_image_line i.frames i.cpus (length i.plans) (length i.pages)
+    ++ (built_from 0 (addresses n n) ++ (text_of (image_acts s i n) ++ end_line (children_steps s n)))
+text_parts (S.Monitor count) i n = refl
+text_parts (S.Slots turns c) i n = refl
+
+world_after : (s : Scheduling) (i : Image) (n : ℕ)
+    → children_world s i n ≡ after_acts (ready_world (image_world i) n) (image_acts s i n)
+world_after (S.Monitor count) i n = refl
+world_after (S.Slots turns c) i n = refl
+
+module _ (s : Scheduling) (i : Image) (n frames pages : ℕ) (plans : List Plan)
     (p : State) (b : Begins i frames pages plans p) where
   abbrev line : List ℕ
   line = trace_image_line i.frames i.cpus (length i.plans) (length i.pages)
@@ -66,7 +80,17 @@ module _ (i : Image) (n count frames pages : ℕ) (plans : List Plan)
   lines = built_from 0 (addresses n n)
 
   abbrev acts : List Act
-  acts = native_steps i n count
+  acts = image_acts s i n
+
+  abbrev last : List ℕ
+  last = end_line (children_steps s n)
+
+  abbrev text : List ℕ
+  text = children_text s i n
+
+  some_of : (old new : Taken) → AppendsPart old new (line ++ (lines ++ (text_of acts ++ last)))
+      → AppendsPart old new text
+  some_of old new = subst (AppendsPart old new) (sym (text_parts s i n))
 
   pub same_line : trace_image_line frames (length p.cpus) (length plans) pages ≡ line
   same_line =
@@ -77,9 +101,9 @@ module _ (i : Image) (n count frames pages : ℕ) (plans : List Plan)
 
   -- the first line wasn't taken whole
   pub cut_first : (old new : Taken) → AppendsPart old new (trace_image_line frames (length p.cpus) (length plans) pages)
-      → AppendsPart old new (native_text i n count)
-  cut_first old new x =
-      part_of_more old new line (lines ++ (text_of acts ++ end_line count)) (subst (AppendsPart old new) same_line x)
+      → AppendsPart old new text
+  cut_first old new x = some_of old new
+      (part_of_more old new line (lines ++ (text_of acts ++ last)) (subst (AppendsPart old new) same_line x))
 
   module _ (old one : Taken) (x : Appends old one (trace_image_line frames (length p.cpus) (length plans) pages)) where
     began : Appends old one line
@@ -87,10 +111,10 @@ module _ (i : Image) (n count frames pages : ℕ) (plans : List Plan)
 
     -- the lines of the children weren't
     pub cut_built : (new : Taken) (xs : List ℕ) → xs ≡ addresses n n → AppendsPart one new (built_from 0 xs)
-        → AppendsPart old new (native_text i n count)
-    cut_built new xs same y =
-        part_after old one new line (lines ++ (text_of acts ++ end_line count)) began (part_of_more one new lines
-        (text_of acts ++ end_line count) (subst (λ xs. AppendsPart one new (built_from 0 xs)) same y))
+        → AppendsPart old new text
+    cut_built new xs same y = some_of old new
+        (part_after old one new line (lines ++ (text_of acts ++ last)) began (part_of_more one new lines
+        (text_of acts ++ last) (subst (λ xs. AppendsPart one new (built_from 0 xs)) same y)))
 
     module _ (two : Taken) (xs : List ℕ) (same : xs ≡ addresses n n) (y : Appends one two (built_from 0 xs)) where
       told : Appends one two lines
@@ -98,41 +122,41 @@ module _ (i : Image) (n count frames pages : ℕ) (plans : List Plan)
 
       -- the steps were cut
       pub cut_steps : (S : World → Type 0) (new : Taken) → Cut S two new (ready_world (image_world i) n) acts
-          → AppendsPart old new (native_text i n count)
-      cut_steps S new z =
-          part_after old one new line (lines ++ (text_of acts ++ end_line count)) began
-          (part_after one two new lines (text_of acts ++ end_line count) told
-          (part_of_more two new (text_of acts) (end_line count)
-          (cut_part S two new (ready_world (image_world i) n) acts z)))
+          → AppendsPart old new text
+      cut_steps S new z = some_of old new
+          (part_after old one new line (lines ++ (text_of acts ++ last)) began
+          (part_after one two new lines (text_of acts ++ last) told
+          (part_of_more two new (text_of acts) last (cut_part S two new (ready_world (image_world i) n) acts z))))
 
       -- they were made
       pub made_steps : {T E : Type 0} (r : Result T E) (q : State) (three new : Taken) → Made (StandsAs q) two three
-          (ready_world (image_world i) n) acts → Wrote r three new (end_line count) → ShowsNative r i n count old
-          new q
+          (ready_world (image_world i) n) acts → Wrote r three new last → ShowsChildren r s i n old new q
       made_steps (Ok v) q three new z w = (
-        Appends-trans old one new line (lines ++ (text_of acts ++ end_line count)) began
-            (Appends-trans one two new lines (text_of acts ++ end_line count) told
-            (Appends-trans two three new (text_of acts) (end_line count) z.text w)),
-        z.world,
+        subst (Appends old new) (sym (text_parts s i n))
+            (Appends-trans old one new line (lines ++ (text_of acts ++ last)) began
+            (Appends-trans one two new lines (text_of acts ++ last) told
+            (Appends-trans two three new (text_of acts) last z.text w))),
+        subst (StandsAs q) (sym (world_after s i n)) z.world,
       )
-      made_steps (Err e) q three new z w =
-          part_after old one new line (lines ++ (text_of acts ++ end_line count)) began
-          (part_after one two new lines (text_of acts ++ end_line count) told
-          (part_after two three new (text_of acts) (end_line count) z.text w))
+      made_steps (Err e) q three new z w = some_of old new
+          (part_after old one new line (lines ++ (text_of acts ++ last)) began
+          (part_after one two new lines (text_of acts ++ last) told
+          (part_after two three new (text_of acts) last z.text w)))
 
 -- ---- a text that was taken, and then a settling
 
 -- it was not taken whole
-pub native_unsettled : {T E A B : Type 0} (r : Result T E) (r' : Result A B) (i : Image) (n count : ℕ) (old new :
-    Taken) (q : State) → IsErr r → IsErr r' → ShowsNative r i n count old new q → ShowsNativeOut r' i n count old new q
-native_unsettled (Ok v) r' i n count old new q err err' h = absurd (cc)
-native_unsettled (Err e) (Ok v) i n count old new q err err' h = absurd (cc)
-native_unsettled (Err e) (Err f) i n count old new q err err' h = part_sent _ _ _ h
+pub children_unsettled : {T E A B : Type 0} (r : Result T E) (r' : Result A B) (s : Scheduling) (i : Image) (n : ℕ)
+    (old new : Taken) (q : State) → IsErr r → IsErr r' → ShowsChildren r s i n old new q
+    → ShowsChildrenOut r' s i n old new q
+children_unsettled (Ok v) r' s i n old new q err err' h = absurd (cc)
+children_unsettled (Err e) (Ok v) s i n old new q err err' h = absurd (cc)
+children_unsettled (Err e) (Err f) s i n old new q err err' h = part_sent _ _ _ h
 
 -- it was
-pub native_settled : {T E A B : Type 0} (r : Result T E) (r' : Result A B) (i : Image) (n count : ℕ) (old mid
-    new : Taken) (q : State) → IsOk r → ShowsNative r i n count old mid q → Keeps mid new → OnErr r' (new.held ≢ [])
-    → ShowsNativeOut r' i n count old new q
-native_settled (Ok v) (Ok w) i n count old mid new q ok h kept some = (Appends-kept old mid new _ h.0 kept, h.1)
-native_settled (Ok v) (Err f) i n count old mid new q ok h kept some = cut_sent old mid new _ h.0 kept some
-native_settled (Err e) r' i n count old mid new q ok h kept some = absurd (cc)
+pub children_settled : {T E A B : Type 0} (r : Result T E) (r' : Result A B) (s : Scheduling) (i : Image) (n : ℕ)
+    (old mid new : Taken) (q : State) → IsOk r → ShowsChildren r s i n old mid q → Keeps mid new
+    → OnErr r' (new.held ≢ []) → ShowsChildrenOut r' s i n old new q
+children_settled (Ok v) (Ok w) s i n old mid new q ok h kept some = (Appends-kept old mid new _ h.0 kept, h.1)
+children_settled (Ok v) (Err f) s i n old mid new q ok h kept some = cut_sent old mid new _ h.0 kept some
+children_settled (Err e) r' s i n old mid new q ok h kept some = absurd (cc)

@@ -15,8 +15,8 @@ use Rattle.pip_commands.specs.Dues.{last_world, run_answer, run_due, shown}
 use Rattle.pip_commands.specs.Loading.{LoadsImage, StoppedLoading}
 use Rattle.pip_commands.specs.Machines.{StandsIfAny}
 use Rattle.pip_commands.specs.Streams.{EndsLine, IsCalm, Streams}
-use Rattle.pip_commands.specs.declared.commands.run.loading.Stop.{Stop}
-use Rattle.pip_commands.specs.declared.commands.run.loading.Stop.TheVariants as T
+use Rattle.pip_commands.specs.declared.commands.run.loading.LoadError.{LoadError}
+use Rattle.pip_commands.specs.declared.commands.run.loading.LoadError.TheVariants as T
 use Rattle.pip_commands.specs.declared.commands.run.report.Report.{Report}
 use Rattle.pip_commands.proofs.Endings.{apart, by_answer, by_memory, by_write_fault, part_plain}
 use Rattle.pip_commands.proofs.ImageFaults.{is_faulty, no_image}
@@ -63,7 +63,7 @@ module _ (r : Report) (count seed code : ℕ) (p : Option State) (a c : Streams)
 
   module _ (none : p ≡ None) where
     -- there was no memory after the header
-    pub run_lacks : code ≡ 5 → {stop : Stop} → stop ≡ T.Memory → StoppedLoading stop a.left c.left a.reads c.reads
+    pub run_lacks : code ≡ 5 → {stop : LoadError} → stop ≡ T.Memory → StoppedLoading stop a.left c.left a.reads c.reads
         → Keeps a.written c.written → c.writes ≡ a.writes → EndsBy due code p a c
     run_lacks is {stop} why stopped kept quiet =
         let h : StoppedLoading T.Memory a.left c.left a.reads c.reads =
@@ -83,7 +83,7 @@ module _ (r : Report) (count seed code : ℕ) (p : Option State) (a c : Streams)
         (is_good frames pages plans s l) refl refl start part) rose
 
     -- the image has a fault, or its reading failed
-    pub run_faulted : a.written.held ≡ [] → {stop : Stop} {e f : ImageError} → stop ≡ T.Image e
+    pub run_faulted : a.written.held ≡ [] → {stop : LoadError} {e f : ImageError} → stop ≡ T.Image e
         → StoppedLoading stop a.left c.left a.reads c.reads → (code ≢ 4 → c.writes ≡ a.writes) → f ≡ e
         → MatchOption (image_line f) ((code ≡ 3) × Keeps a.written c.written)
         (λ line. EndsLine 2 line code a.written c.written a.writes c.writes) → EndsBy due code p a c

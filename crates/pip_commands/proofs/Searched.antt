@@ -18,7 +18,7 @@ use Rattle.pip_model.specs.declared.image.ImageError.{ImageError}
 use Rattle.pip_search.specs.Summary.{IsShownOn, IsTold, Witness}
 use Rattle.pip_search.specs.Systems.{Model}
 use Rattle.pip_search.specs.Ways.{witnesses_of}
-use Rattle.pip_search.specs.declared.searching.Verdict.{Verdict}
+use Rattle.pip_search.specs.declared.searching.Extent.{Extent}
 use Rattle.pip_switch.specs.Standing.{State}
 use Rattle.pip_ways.specs.Texts.{search_text}
 use Rattle.pip_ways.specs.Told.{AreWaysOf}
@@ -30,8 +30,8 @@ use Rattle.pip_commands.specs.Loading.{BeginsFrames, LoadsFrames, StoppedLoading
 use Rattle.pip_commands.specs.Searches.{EndsSearch, IsToldFrom, told_text}
 use Rattle.pip_commands.specs.Streams.{EndsLine, IsCalm, Streams}
 use Rattle.pip_commands.specs.declared.commands.every.searching.Told.{Told}
-use Rattle.pip_commands.specs.declared.commands.run.loading.Stop.{Stop}
-use Rattle.pip_commands.specs.declared.commands.run.loading.Stop.TheVariants as T
+use Rattle.pip_commands.specs.declared.commands.run.loading.LoadError.{LoadError}
+use Rattle.pip_commands.specs.declared.commands.run.loading.LoadError.TheVariants as T
 use Rattle.pip_commands.proofs.Endings.{apart, by_memory, by_plain}
 use Rattle.pip_commands.proofs.ImageFaults.{is_faulty, no_image}
 use Rattle.pip_commands.proofs.Refused.{by_refusal}
@@ -51,7 +51,7 @@ shown_known m s label [] shown = absurd shown
 shown_known m s label (c ∷ cs) shown = shown.0
 
 -- the ways that a search tells make its choices
-pub ways_known : (m : Model) (s : m.State) (most limit : ℕ) (ws : List Witness) (count : ℕ) (v : Verdict)
+pub ways_known : (m : Model) (s : m.State) (most limit : ℕ) (ws : List Witness) (count : ℕ) (v : Extent)
     → IsTold m s most limit ws count v → (n : ℕ) → m.choices ≡ n → AreWaysOf n ws
 ways_known m s most limit ws count v told n same = subst (λ k. AreWaysOf k ws) same (record {
   each = λ k w at. shown_known m s w.label w.way (told.shown k w at).0;
@@ -145,7 +145,7 @@ module _ (states from : ℕ) (depth : Option ℕ) (code : ℕ) (p : Option State
       by_memory due code p a c calm settled apart l.input l.read none is (inr (l.whole, (l.parsed, l.good))) kept
 
   -- there was no memory after the header
-  pub every_lacks : code ≡ 5 → {stop : Stop} → stop ≡ T.Memory → StoppedLoading stop a.left c.left a.reads c.reads
+  pub every_lacks : code ≡ 5 → {stop : LoadError} → stop ≡ T.Memory → StoppedLoading stop a.left c.left a.reads c.reads
       → Keeps a.written c.written → c.writes ≡ a.writes → EndsBy due code p a c
   every_lacks is {stop} why stopped kept quiet =
       let h : StoppedLoading T.Memory a.left c.left a.reads c.reads =
@@ -154,7 +154,7 @@ module _ (states from : ℕ) (depth : Option ℕ) (code : ℕ) (p : Option State
       none is (inl h.0.header) kept
 
   -- the image has a fault, or its reading failed
-  pub every_faulted : {stop : Stop} {e f : ImageError} → stop ≡ T.Image e
+  pub every_faulted : {stop : LoadError} {e f : ImageError} → stop ≡ T.Image e
       → StoppedLoading stop a.left c.left a.reads c.reads → (code ≢ 4 → c.writes ≡ a.writes) → f ≡ e
       → MatchOption (image_line f) ((code ≡ 3) × Keeps a.written c.written)
       (λ line. EndsLine 2 line code a.written c.written a.writes c.writes) → EndsBy due code p a c

@@ -19,8 +19,8 @@ use Rattle.pip_commands.specs.Machines.{StandsIfAny}
 use Rattle.pip_commands.specs.Progress.{EndsTurn, HasNoLine, IsSettled, IsUnread, IsUnwritten, Names, Settles}
 use Rattle.pip_commands.specs.Progress.{TakesLast, TurnDoes, bytes_coming, status_of}
 use Rattle.pip_commands.specs.Streams.{Streams}
-use Rattle.pip_commands.specs.declared.commands.script.line.Stop.{Stop}
-use Rattle.pip_commands.specs.declared.commands.script.line.Stop.TheVariants.{Bad, Write, Memory}
+use Rattle.pip_commands.specs.declared.commands.script.line.ScriptLineError.{ScriptLineError}
+use Rattle.pip_commands.specs.declared.commands.script.line.ScriptLineError.TheVariants.{Bad, Write, Memory}
 use Rattle.pip_commands.specs.declared.commands.script.turn.End.{End}
 use Rattle.pip_commands.specs.declared.commands.script.turn.End.TheVariants.{Finished, BadLine, ReadFault, WriteFault}
 use Rattle.pip_commands.specs.declared.commands.script.turn.End.TheVariants.{NoMemory, Limit}
@@ -30,7 +30,7 @@ some_same : {x y : End} → ◌≡◌ {A = Option End} (Some x) (Some y) → x �
 some_same {x} {y} is = cc
 
 -- a line that wasn't run to its end is no failed read
-pub not_read : (stop : Stop) (e : End) (n : ℕ) (before after : Taken) (writes writes' : ℕ)
+pub not_read : (stop : ScriptLineError) (e : End) (n : ℕ) (before after : Taken) (writes writes' : ℕ)
     → Names stop n e before after writes writes' → ◌≡◌ {A = Option End} (Some e) (Some ReadFault) → ⊥
 not_read Bad e n before after writes writes' names is =
     absurd (subst (λ e. Names Bad n e before after writes writes') (some_same is) names)

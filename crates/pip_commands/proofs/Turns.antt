@@ -24,8 +24,8 @@ use Rattle.pip_commands.specs.Progress.{EndsHere, EndsTurn, HasFinished, IsUncut
 use Rattle.pip_commands.specs.Progress.{Names, Overruns, TakesLast, bytes_coming, status_of}
 use Rattle.pip_commands.specs.Runs.{IsCutShort, LeadsBy, Runs, Stopped}
 use Rattle.pip_commands.specs.Streams.{Streams}
-use Rattle.pip_commands.specs.declared.commands.script.line.Stop.{Stop}
-use Rattle.pip_commands.specs.declared.commands.script.line.Stop.TheVariants.{Bad, Write, Memory}
+use Rattle.pip_commands.specs.declared.commands.script.line.ScriptLineError.{ScriptLineError}
+use Rattle.pip_commands.specs.declared.commands.script.line.ScriptLineError.TheVariants.{Bad, Write, Memory}
 use Rattle.pip_commands.specs.declared.commands.script.turn.End.{End}
 use Rattle.pip_commands.specs.declared.commands.script.turn.End.TheVariants.{Finished, BadLine, ReadFault, WriteFault}
 use Rattle.pip_commands.specs.declared.commands.script.turn.End.TheVariants.{NoMemory, Limit}
@@ -37,7 +37,7 @@ use Rattle.pip_commands.proofs.Telling.{decided_told, last_told, line_goes}
 keeps_appends : (a b c : Taken) (bs : List ℕ) → Keeps a b → Appends b c bs → Appends a c bs
 keeps_appends a b c bs kept more = Appends-trans a b c [] bs kept more
 
-pub err_same : {A : Type 0} {x y : Stop} → ◌≡◌ {A = Result A Stop} (Err x) (Err y) → x ≡ y
+pub err_same : {A : Type 0} {x y : ScriptLineError} → ◌≡◌ {A = Result A ScriptLineError} (Err x) (Err y) → x ≡ y
 err_same {A} {x} {y} is = cc
 
 pub err_end : {x y : End} → ◌≡◌ {A = Result ℕ End} (Err x) (Err y) → x ≡ y
@@ -171,7 +171,7 @@ module _ (v : Option World) (n : ℕ) (i : Held) (a b : Streams) (machine : Opti
   part_kept : (x y z : Taken) (text : List ℕ) → AppendsPart x y text → Keeps y z → AppendsPart x z text
   part_kept x y z text part kept = (part.0, part.1, Appends-kept x y z part.0 part.2 kept, part.3, part.4)
 
-  pub ends_stopped : (stop : Stop) (e : End) → (stop ≢ Write → faults ≡ a.writes)
+  pub ends_stopped : (stop : ScriptLineError) (e : End) → (stop ≢ Write → faults ≡ a.writes)
       → (stop ≡ Write → RoseByOne a.writes faults) → Stopped stop v line a.written mid
       → Names stop n e mid b.written faults b.writes → EndsTurn e v n i a b machine
   ends_stopped Bad BadLine ran rose stopped names =
@@ -212,9 +212,9 @@ module _ (v : Option World) (n : ℕ) (i : Held) (a b : Streams) (machine : Opti
   ends_stopped Memory Limit ran rose stopped names = absurd names
 
 -- the count of failed writes, where the script doesn't end with a write that failed: x before the line, y when it was
--- stopped,
--- z at the end
-pub ended_calm : (stop : Stop) (e : End) (n : ℕ) (before after : Taken) (x y z : ℕ) → Names stop n e before after y z
+-- stopped, z at the end
+pub ended_calm : (stop : ScriptLineError) (e : End) (n : ℕ) (before after : Taken) (x y z : ℕ)
+    → Names stop n e before after y z
     → (stop ≢ Write → y ≡ x) → (e ≢ WriteFault → z ≡ y) → status_of e ≢ 4 → z ≡ x
 ended_calm Bad e n before after x y z names ran named other = named (λ is. other (ap status_of is)) ∙ ran (λ is. cc)
 ended_calm Memory e n before after x y z names ran named other = named (λ is. other (ap status_of is)) ∙ ran (λ is. cc)
@@ -228,7 +228,8 @@ ended_calm Write Limit n before after x y z names ran named other = absurd names
 -- a line with its newline, and one at the end of the input
 module _ (v : Option World) (n : ℕ) (i j : Held) (a b : Streams) (machine : Option State) (count : ℕ) (line : List ℕ)
     (is : line ≡ take count j.bytes) (kept : IO.Keeps (bytes_coming i a) (prepend_known j.bytes b.left))
-    (mid : Taken) (faults : ℕ) (stop : Stop) (e : End) (ran : stop ≢ Write → faults ≡ a.writes) (rose : stop ≡ Write
+    (mid : Taken) (faults : ℕ) (stop : ScriptLineError) (e : End) (ran : stop ≢ Write → faults ≡ a.writes)
+    (rose : stop ≡ Write
     → RoseByOne a.writes faults) (stopped : Stopped stop v line a.written mid)
     (names : Names stop n e mid b.written faults b.writes) where
   pub ends_newline : HoldsLine (still i) j b.left (Newline count) → EndsTurn e v n i a b machine

@@ -12,10 +12,11 @@ use Rattle.pip_io.proofs.Taken.{Appends-nil}
 use Rattle.pip_model.specs.DisText.{parts_lines, text_of_lines}
 use Rattle.pip_model.specs.Images.{fields_of, image_parts}
 use Rattle.pip_model.specs.declared.image.ImageError.TheVariants as F
-use Rattle.pip_commands.specs.Dues.{asm_due, audit_due, dis_due, every_due, native_due, run_due, script_due}
+use Rattle.pip_commands.specs.Dues.{asm_due, audit_due, children_due, dis_due, every_due, run_due, script_due}
 use Rattle.pip_commands.specs.EndsBy.{Due, IsWithin}
 use Rattle.pip_commands.specs.Pacing.{Waits}
 use Rattle.pip_commands.specs.Streams.{Streams}
+use Rattle.pip_commands.specs.declared.commands.children.scheduling.Scheduling.{Scheduling}
 use Rattle.pip_commands.specs.declared.commands.run.report.Report.{Report}
 use Rattle.pip_commands.proofs.Shortness.{unshort_lacking}
 
@@ -84,8 +85,8 @@ module _ (a : Streams) (none : a.written.held ≡ []) where
   pub every_waits : (states from : ℕ) (depth : Option ℕ) → Waits (every_due states from depth) a a
   every_waits states from depth = waits_first (every_due states from depth) (no_fault, refl) tt
 
-  pub native_waits : (n count : ℕ) → Waits (native_due n count) a a
-  native_waits n count = waits_first (native_due n count) (
+  pub children_waits : (s : Scheduling) (n : ℕ) → Waits (children_due s n) a a
+  children_waits s n = waits_first (children_due s n) (
     no_fault,
     unshort_lacking n [] (subst LacksHeader (sym (ap (λ t. t.parts) nothing_told)) tt),
     refl,

@@ -19,7 +19,9 @@ use Rattle.pip_commands.specs.EndsBy.{EndsBy, IsAnswered, IsDueLast, plainly}
 use Rattle.pip_commands.specs.Machines.{StandsIfAny}
 use Rattle.pip_commands.specs.Pacing.{Waits}
 use Rattle.pip_commands.specs.Progress.{EndsHere, EndsTurn, HasFinished, HasRun, IsUncut, IsUnread, IsUnwritten}
-use Rattle.pip_commands.specs.Progress.{LacksMemoryToBoot, NoneFailed, Overruns, TakesLast, TurnDoes, bytes_coming}
+use Rattle.pip_commands.specs.Progress.{LacksMemoryToBoot, Overruns, TakesLast, TurnDoes, bytes_coming}
+use Rattle.pip_io.specs.Moments.{NoneFailed}
+use Rattle.pip_io.proofs.Moments.{calm_both}
 use Rattle.pip_commands.specs.Progress.{status_of}
 use Rattle.pip_commands.specs.Streams.{IsCalm, Streams}
 use Rattle.pip_commands.specs.declared.commands.script.turn.End.{End}
@@ -47,9 +49,6 @@ begins_run i a nil room = record {
   number = omega arith;
   calm = record { reads = refl; writes = refl };
 }
-
-calm_both : (a b c : Streams) → NoneFailed a b → NoneFailed b c → NoneFailed a c
-calm_both a b c x y = record { reads = y.reads ∙ x.reads; writes = y.writes ∙ x.writes }
 
 pub runs_on : (a b c : Streams) (i j : Held) (machine machine' : Option State) (n : ℕ) → HasRun a b i machine n
     → TurnDoes None machine machine' n i j b c → HasRun a c j machine' (n + 1)

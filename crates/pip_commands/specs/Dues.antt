@@ -28,13 +28,16 @@ use Rattle.pip_model.specs.Worlds.{World}
 use Rattle.pip_model.specs.declared.image.ImageError.{ImageError}
 use Rattle.pip_model.specs.declared.script.ScriptLine.TheVariants.{Boot}
 use Rattle.pip_search.specs.Summary.{IsTold, Witness}
-use Rattle.pip_search.specs.declared.searching.Verdict.{Verdict}
-use Rattle.pip_watch.specs.Watching.{native_text, native_world, pages_taken, short_line}
+use Rattle.pip_search.specs.declared.searching.Extent.{Extent}
+use Rattle.pip_watch.specs.Watching.{pages_taken, short_line}
 use Rattle.pip_commands.specs.AuditTexts.{bad_line, differs_line, unread_line, unsound_line, yes_line}
+use Rattle.pip_commands.specs.Children.{children_text, children_world}
 use Rattle.pip_commands.specs.EndsBy.{Due, Response, plainly}
 use Rattle.pip_commands.specs.EveryText.{every_text, lines_planned}
 use Rattle.pip_commands.specs.Faults.{asm_line, image_line}
 use Rattle.pip_commands.specs.Words.{usage}
+use Rattle.pip_commands.specs.declared.commands.children.scheduling.Scheduling.{Scheduling}
+use Rattle.pip_commands.specs.declared.commands.children.scheduling.Scheduling.TheVariants as V
 use Rattle.pip_commands.specs.declared.commands.run.report.Report.{Report}
 use Rattle.pip_commands.specs.declared.commands.run.report.Report.TheVariants as R
 use Rattle.pip_commands.specs.declared.words.Command.{Command}
@@ -173,6 +176,18 @@ pub record IsFaulty (bytes : List ℕ) : Type 0 where
   pub first : (image_parts bytes).fault ≡ Some fault
   pub fixed : (rest : List ℕ) → image_parts (bytes ++ rest) ≡ image_parts bytes
 
+-- a command on an image stops at the first fault, and writes nothing before
+abbrev pub image_due : (List ℕ → Response → Type 0) → (List ℕ → Option (List ℕ) → Type 0) → Due
+image_due answer asks = record {
+  answer = answer;
+  enough = IsFaulty;
+  so_far = λ bytes text. EndsAtMost (image_parts bytes).fault × (text ≡ []);
+  midway = λ bytes front last. ⊥;
+  asks = asks;
+  limit = None;
+  unread = λ status. false;
+}
+
 -- what a command writes of an image after that many steps by the schedule of a seed
 abbrev pub shown : Report → Image → ℕ → ℕ → List ℕ
 shown R.Trace = run_text
@@ -190,17 +205,10 @@ abbrev pub run_answer : Report → ℕ → ℕ → Result Image ImageError → O
 run_answer r count seed (Ok i) = Some (plainly 0 (shown r i count seed) (Some (last_world r i count seed)))
 run_answer r count seed (Err e) = option_map (λ line. plainly 2 line None) (image_line e)
 
--- `run`, `tree` and `core` stop at the first fault, write nothing before, and ask for memory after the header
+-- `run`, `tree` and `core` ask for memory after the header
 abbrev pub run_due : Report → ℕ → ℕ → Due
-run_due r count seed = record {
-  answer = λ input v. run_answer r count seed (image input) ≡ Some v;
-  enough = IsFaulty;
-  so_far = λ bytes text. EndsAtMost (image_parts bytes).fault × (text ≡ []);
-  midway = λ bytes front last. ⊥;
-  asks = λ bytes left. IsHeaderText bytes;
-  limit = None;
-  unread = λ status. false;
-}
+run_due r count seed =
+    image_due (λ input v. run_answer r count seed (image input) ≡ Some v) (λ bytes left. IsHeaderText bytes)
 
 -- the text of the parts of an image, which is out before the end is read; after that of the parts before a fault, the
 -- line that names it
@@ -219,16 +227,11 @@ pub record IsAtPart (bytes front last : List ℕ) : Type 0 where
   pub before : front ≡ parts_text done
   pub own : last ≡ parts_text (part ∷ [])
 
--- `dis` stops at the first fault, writes the text of each part before it reads on, and takes no memory
+-- `dis` writes the text of each part before it reads on, and takes no memory
 abbrev pub dis_due : Due
-dis_due = record {
-  answer = λ input v. dis_answer (dis_text input) (image input) ≡ Some v;
-  enough = IsFaulty;
+dis_due = record (image_due (λ input v. dis_answer (dis_text input) (image input) ≡ Some v) (λ bytes left. ⊥)) {
   so_far = λ bytes text. EndsAtMost (image_parts bytes).fault × (text ≡ dis_text bytes);
   midway = IsAtPart;
-  asks = λ bytes left. ⊥;
-  limit = None;
-  unread = λ status. false;
 }
 
 -- this many frames have room for n children
@@ -244,30 +247,34 @@ pub record IsShort (n : ℕ) (bytes : List ℕ) : Type 0 where
 abbrev pub IsUnshort : ℕ → List ℕ → Type 0
 IsUnshort n bytes = (front back : List ℕ) → bytes ≡ front ++ back → IsShort n front → ⊥
 
--- the text of the native run of an image with room, and its last world; or the line that names the first fault, where
--- no header of too few frames stands before it
-abbrev pub IsNativeAnswer : ℕ → ℕ → List ℕ → Result Image ImageError → Response → Type 0
-IsNativeAnswer n count bytes (Ok i) v =
-    IsRoomy n i.frames × (v ≡ plainly 0 (native_text i n count) (Some (native_world i n count)))
-IsNativeAnswer n count bytes (Err e) v =
+-- the text of the run of an image's children, if it has room, and its last world; or the line that names the first
+-- fault, where no header of too few frames stands before it
+abbrev pub IsChildrenAnswer : Scheduling → ℕ → List ℕ → Result Image ImageError → Response → Type 0
+IsChildrenAnswer s n bytes (Ok i) v =
+    IsRoomy n i.frames × (v ≡ plainly 0 (children_text s i n) (Some (children_world s i n)))
+IsChildrenAnswer s n bytes (Err e) v =
     IsUnshort n bytes × (option_map (λ line. plainly 2 line None) (image_line e) ≡ Some v)
 
 -- the line of a header of too few frames
 abbrev pub IsShortAnswer : ℕ → List ℕ → Response → Type 0
 IsShortAnswer n bytes v = (s : IsShort n bytes) × (v ≡ plainly 8 (short_line s.header.fields.frames n) None)
 
--- `native` stops after a header of too few frames or at the first fault, and writes nothing before. It asks for memory
--- after a header with room
+-- `native` and `slots` stop after a header of too few frames, too. They ask for memory after a header with room
+abbrev pub children_due : Scheduling → ℕ → Due
+children_due s n = record (image_due
+    (λ input v. IsShortAnswer n input v ⊎ IsChildrenAnswer s n input (image input) v)
+    (λ bytes left. (h : IsHeaderText bytes) × IsRoomy n h.fields.frames)) {
+      enough = λ bytes. IsShort n bytes ⊎ IsFaulty bytes;
+      so_far = λ bytes text. EndsAtMost (image_parts bytes).fault × IsUnshort n bytes × (text ≡ []);
+    }
+
+-- `native`: a monitor runs n children for this many steps
 abbrev pub native_due : ℕ → ℕ → Due
-native_due n count = record {
-  answer = λ input v. IsShortAnswer n input v ⊎ IsNativeAnswer n count input (image input) v;
-  enough = λ bytes. IsShort n bytes ⊎ IsFaulty bytes;
-  so_far = λ bytes text. EndsAtMost (image_parts bytes).fault × IsUnshort n bytes × (text ≡ []);
-  midway = λ bytes front last. ⊥;
-  asks = λ bytes left. (h : IsHeaderText bytes) × IsRoomy n h.fields.frames;
-  limit = None;
-  unread = λ status. false;
-}
+native_due n count = children_due (V.Monitor count) n
+
+-- `slots`: each of n children has a slot of this many turns in turn, in this many rounds
+abbrev pub slots_due : ℕ → ℕ → ℕ → Due
+slots_due n turns rounds = children_due (V.Slots turns rounds) n
 
 -- what is searched of an image: no line comes before that many turns
 abbrev pub image_scope : Image → ℕ → Scope
@@ -283,7 +290,7 @@ pub record IsSearched (states from : ℕ) (depth : Option ℕ) (i : Image) (v : 
   pub booted : IsBooted i.frames (image_word i.frames i.pages) first
   pub found : List Witness
   pub count : ℕ
-  pub verdict : Verdict
+  pub verdict : Extent
   pub told : IsTold (model_of first (image_scope i from)) (first_moment (image_word i.frames i.pages) i.frames i.cpus)
       (most_choices depth) states found count verdict
   pub text : v ≡ plainly 0 (every_text i found count verdict) None
@@ -297,18 +304,11 @@ IsEveryAnswer states from depth (Err e) v = option_map (λ line. plainly 2 line 
 abbrev pub IsWholeImage : List ℕ → Option (List ℕ) → Type 0
 IsWholeImage bytes left = IsAtEnd left × ((i : Image) × (image bytes ≡ Ok i))
 
--- `every` stops at the first fault, and writes nothing before the search has ended. It asks for memory after the
--- header, and again when the whole image was read
+-- `every` writes nothing before the search has ended. It asks for memory after the header, and again when the whole
+-- image was read
 abbrev pub every_due : ℕ → ℕ → Option ℕ → Due
-every_due states from depth = record {
-  answer = λ input v. IsEveryAnswer states from depth (image input) v;
-  enough = IsFaulty;
-  so_far = λ bytes text. EndsAtMost (image_parts bytes).fault × (text ≡ []);
-  midway = λ bytes front last. ⊥;
-  asks = λ bytes left. IsHeaderText bytes ⊎ IsWholeImage bytes left;
-  limit = None;
-  unread = λ status. false;
-}
+every_due states from depth = image_due (λ input v. IsEveryAnswer states from depth (image input) v)
+    (λ bytes left. IsHeaderText bytes ⊎ IsWholeImage bytes left)
 
 -- the text of a tree, and `yes`
 abbrev pub yes_text : Tree → List ℕ
@@ -349,5 +349,6 @@ due_of (Some (C.Tree count seed)) = run_due R.Tree count seed
 due_of (Some (C.Core count seed)) = run_due R.Frames count seed
 due_of (Some (C.Soak count seed)) = soak_due count seed
 due_of (Some (C.Native n count)) = native_due n count
+due_of (Some (C.Slots n turns rounds)) = slots_due n turns rounds
 due_of (Some (C.Audit frames)) = audit_due frames
 due_of (Some (C.Every states from depth)) = every_due states from depth

@@ -1,5 +1,5 @@
 -- That `every` has one answer to an image, and that its lines are those of runs.
-use Rattle.std.specs.Prelude.{◌≡◌, ℕ, ◌⊎◌, List, [], ◌++◌, Option, codes, decimal}
+use Rattle.std.specs.Prelude.{◌≡◌, ◌≢◌, ℕ, ◌⊎◌, List, [], ◌++◌, Option, codes, decimal}
 use Rattle.pip_model.specs.Acts.{text_of}
 use Rattle.pip_model.specs.Images.{Image}
 use Rattle.pip_model.specs.Turn.{turn}
@@ -15,7 +15,8 @@ SearchesSayOnce = (states from : ℕ) (depth : Option ℕ) (i : Image) (v u : Re
 
 -- neither is a line; or the one is a line at step 0, and the other has the step t in its place
 abbrev pub IsLineAt : ℕ → List ℕ → List ℕ → Type 0
-IsLineAt t label line = ((label ≡ []) × (line ≡ [])) ⊎ (line ≡ decimal t ++ inner label ++ codes "\n")
+IsLineAt t label line = ((label ≡ []) × (line ≡ []))
+    ⊎ ((label ≢ []) × (line ≡ decimal t ++ inner label ++ codes "\n"))
 
 -- what is written of a label is the line that its turn has in a run at that step
 abbrev pub LinesAreOfRuns : Type 0

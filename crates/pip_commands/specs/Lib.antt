@@ -5,6 +5,7 @@ pub mod Runs
 pub mod Answered
 pub mod EndsBy
 pub mod EveryText
+pub mod Children
 pub mod Dues
 pub mod Progress
 pub mod Faults
@@ -14,4 +15,6 @@ pub mod NativeLoading
 pub mod AuditTexts
 pub mod AuditLaw
 pub mod EveryLaw
+pub mod RunLaw
+pub mod SlotsLaw
 pub mod Pacing

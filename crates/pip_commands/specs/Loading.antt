@@ -12,8 +12,8 @@ use Rattle.pip_model.specs.Images.{Image, Part, image, image_parts, image_word}
 use Rattle.pip_model.specs.Run.{image_world}
 use Rattle.pip_switch.specs.Standing.{StandsAs, State}
 use Rattle.pip_commands.specs.Dues.{IsHeaderText, last_world, shown}
-use Rattle.pip_commands.specs.declared.commands.run.loading.Stop.{Stop}
-use Rattle.pip_commands.specs.declared.commands.run.loading.Stop.TheVariants as T
+use Rattle.pip_commands.specs.declared.commands.run.loading.LoadError.{LoadError}
+use Rattle.pip_commands.specs.declared.commands.run.loading.LoadError.TheVariants as T
 use Rattle.pip_commands.specs.declared.commands.run.report.Report.{Report}
 
 -- these numbers and plans are the image's, and the machine stands for its first world
@@ -57,12 +57,12 @@ pub record LacksMemoryAfterHeader (left left' : Option (List ℕ)) : Type 0 wher
   pub header : IsHeaderText bytes
 
 -- the image has a fault, or its reading failed; or there was no memory. The numbers count failed reads
-abbrev pub StoppedLoading : Stop → Option (List ℕ) → Option (List ℕ) → ℕ → ℕ → Type 0
+abbrev pub StoppedLoading : LoadError → Option (List ℕ) → Option (List ℕ) → ℕ → ℕ → Type 0
 StoppedLoading (T.Image e) left left' reads reads' = RefusesAfter image_parts left left' reads reads' e
 StoppedLoading T.Memory left left' reads reads' = LacksMemoryAfterHeader left left' × (reads' ≡ reads)
 
 -- what stops after a header: its parts are the first, and its frames are that many
-abbrev pub StoppedAfter : Header → Stop → Option (List ℕ) → Option (List ℕ) → ℕ → ℕ → Type 0
+abbrev pub StoppedAfter : Header → LoadError → Option (List ℕ) → Option (List ℕ) → ℕ → ℕ → Type 0
 StoppedAfter h (T.Image e) left left' reads reads' =
     (parts : List Part) × Refuses image_parts (header_parts h ++ parts) left left' reads reads' e
 StoppedAfter h T.Memory left left' reads reads' =

@@ -1,4 +1,4 @@
--- What a native run begins with.
+-- What a run of children begins with.
 use Rattle.std.specs.Prelude.{◌≡◌, ℕ, ◌+◌, ◌<◌, List, Option, Result, MatchResult}
 use Rattle.std.specs.Io.KnownBytes.{Consumes}
 use Rattle.pip_base.specs.declared.types.Plan.{Plan}
@@ -7,11 +7,13 @@ use Rattle.pip_io.specs.Taken.{Taken, Appends, AppendsPart, SendsPart}
 use Rattle.pip_model.specs.Images.{Image, Part, image_parts}
 use Rattle.pip_model.specs.declared.image.ImageError.{ImageError}
 use Rattle.pip_switch.specs.Standing.{StandsAs, State}
-use Rattle.pip_watch.specs.Watching.{native_text, native_world, pages_taken}
+use Rattle.pip_watch.specs.Watching.{pages_taken}
+use Rattle.pip_commands.specs.Children.{children_text, children_world}
 use Rattle.pip_commands.specs.Loading.{LoadsImage}
 use Rattle.pip_commands.specs.Dues.{IsHeaderText, IsRoomy, IsUnshort}
-use Rattle.pip_commands.specs.declared.commands.native.loading.Stop.{Stop}
-use Rattle.pip_commands.specs.declared.commands.native.loading.Stop.TheVariants as T
+use Rattle.pip_commands.specs.declared.commands.children.loading.ChildrenLoadError.{ChildrenLoadError}
+use Rattle.pip_commands.specs.declared.commands.children.loading.ChildrenLoadError.TheVariants as T
+use Rattle.pip_commands.specs.declared.commands.children.scheduling.Scheduling.{Scheduling}
 
 -- the whole input was read, and it is an image with room
 pub record LoadsNative (n : ℕ) (left left' : Option (List ℕ)) (frames pages : ℕ) (plans : List Plan)
@@ -44,19 +46,19 @@ pub record RefusesUnshort (n : ℕ) (left left' : Option (List ℕ)) (reads read
   pub unshort : IsUnshort n refused.bytes
 
 -- the image has a fault, or its reading failed; there was no memory; or too few frames. The numbers count failed reads
-abbrev pub StoppedNative : ℕ → Stop → Option (List ℕ) → Option (List ℕ) → ℕ → ℕ → Type 0
+abbrev pub StoppedNative : ℕ → ChildrenLoadError → Option (List ℕ) → Option (List ℕ) → ℕ → ℕ → Type 0
 StoppedNative n (T.Image e) left left' reads reads' = RefusesUnshort n left left' reads reads' e
 StoppedNative n T.Memory left left' reads reads' = LacksMemoryNative n left left' × (reads' ≡ reads)
 StoppedNative n (T.Short frames) left left' reads reads' = IsFew n left left' frames × (reads' ≡ reads)
 
 -- at Ok the text was taken, and the machine stands for the last world; at Err a part of the text was taken
-abbrev pub ShowsNative : {T E : Type 0} → Result T E → Image → ℕ → ℕ → Taken → Taken → State → Type 0
-ShowsNative result i n count before after p = MatchResult result
-    (λ v. Appends before after (native_text i n count) × StandsAs p (native_world i n count))
-    (λ e. AppendsPart before after (native_text i n count))
+abbrev pub ShowsChildren : {T E : Type 0} → Result T E → Scheduling → Image → ℕ → Taken → Taken → State → Type 0
+ShowsChildren result s i n before after p = MatchResult result
+    (λ v. Appends before after (children_text s i n) × StandsAs p (children_world s i n))
+    (λ e. AppendsPart before after (children_text s i n))
 
 -- all of the text went out at Ok, and a part at Err
-abbrev pub ShowsNativeOut : {T E : Type 0} → Result T E → Image → ℕ → ℕ → Taken → Taken → State → Type 0
-ShowsNativeOut result i n count before after p = MatchResult result
-    (λ v. Appends before after (native_text i n count) × StandsAs p (native_world i n count))
-    (λ e. SendsPart before after (native_text i n count))
+abbrev pub ShowsChildrenOut : {T E : Type 0} → Result T E → Scheduling → Image → ℕ → Taken → Taken → State → Type 0
+ShowsChildrenOut result s i n before after p = MatchResult result
+    (λ v. Appends before after (children_text s i n) × StandsAs p (children_world s i n))
+    (λ e. SendsPart before after (children_text s i n))

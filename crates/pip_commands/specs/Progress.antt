@@ -8,6 +8,7 @@ use Rattle.pip_input.specs.Held.{Held}
 use Rattle.pip_input.specs.Lines.{HasNoNewline, HoldsLine, HoldsPart, still}
 use Rattle.pip_input.specs.declared.input.LineEnd.TheVariants.{Newline}
 use Rattle.pip_io.specs.Causes.{RoseByOne}
+use Rattle.pip_io.specs.Moments.{NoneFailed}
 use Rattle.pip_io.specs.Taken.{Taken, Appends, AppendsPart, Keeps, SendsPart}
 use Rattle.pip_model.specs.Grammar.{lines_of}
 use Rattle.pip_model.specs.Text.{Transcript, finished, bad_at, text_before, line_text, transcript_from}
@@ -17,8 +18,8 @@ use Rattle.pip_commands.specs.Machines.{StandsIfAny}
 use Rattle.pip_commands.specs.Runs.{Boots}
 use Rattle.pip_commands.specs.Dues.{IsJudged, max_input}
 use Rattle.pip_commands.specs.Streams.{IsCalm, Streams}
-use Rattle.pip_commands.specs.declared.commands.script.line.Stop.{Stop}
-use Rattle.pip_commands.specs.declared.commands.script.line.Stop.TheVariants.{Bad, Write, Memory}
+use Rattle.pip_commands.specs.declared.commands.script.line.ScriptLineError.{ScriptLineError}
+use Rattle.pip_commands.specs.declared.commands.script.line.ScriptLineError.TheVariants.{Bad, Write, Memory}
 use Rattle.pip_commands.specs.declared.commands.script.turn.End.{End}
 use Rattle.pip_commands.specs.declared.commands.script.turn.End.TheVariants.{Finished, BadLine, ReadFault, WriteFault}
 use Rattle.pip_commands.specs.declared.commands.script.turn.End.TheVariants.{NoMemory, Limit}
@@ -35,11 +36,6 @@ status_of Limit = 6
 -- the bytes that come next: those that are held, and those that the source has left
 abbrev pub bytes_coming : Held → Streams → Option (List ℕ)
 bytes_coming i a = prepend_known i.bytes a.left
-
--- no read and no write has failed
-pub record NoneFailed (a b : Streams) : Type 0 where
-  pub reads : b.reads ≡ a.reads
-  pub writes : b.writes ≡ a.writes
 
 -- Whole lines were run: from world v at line n to world v' at line n', with this text. Whatever follows the
 -- lines is told from there. As long as there is no world there is no text
@@ -163,7 +159,7 @@ TurnDoes (Some e) machine machine' n i j a b =
 
 -- the line that names a bad line, or a part of it; nothing else is written at the end. The last two are counts of
 -- faults
-abbrev pub Names : Stop → ℕ → End → Taken → Taken → ℕ → ℕ → Type 0
+abbrev pub Names : ScriptLineError → ℕ → End → Taken → Taken → ℕ → ℕ → Type 0
 Names Bad n BadLine before after writes writes' = Appends before after (line_text (codes "bad line " ++ decimal n))
 Names Bad n WriteFault before after writes writes' =
     AppendsPart before after (line_text (codes "bad line " ++ decimal n)) × RoseByOne writes writes'

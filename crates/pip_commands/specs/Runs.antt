@@ -9,8 +9,8 @@ use Rattle.pip_model.specs.declared.script.Said.{Said}
 use Rattle.pip_model.specs.declared.script.ScriptLine.TheVariants as L
 use Rattle.pip_switch.specs.Standing.{State}
 use Rattle.pip_commands.specs.Machines.{StandsIfAny}
-use Rattle.pip_commands.specs.declared.commands.script.line.Stop.{Stop}
-use Rattle.pip_commands.specs.declared.commands.script.line.Stop.TheVariants.{Bad, Write, Memory}
+use Rattle.pip_commands.specs.declared.commands.script.line.ScriptLineError.{ScriptLineError}
+use Rattle.pip_commands.specs.declared.commands.script.line.ScriptLineError.TheVariants.{Bad, Write, Memory}
 
 -- a line with this verdict leads from a world to another with this text
 abbrev pub LeadsBy : Verdict → Option World → List ℕ → Option World → Type 0
@@ -54,7 +54,7 @@ pub record IsCutShort (v : Option World) (line : List ℕ) (before after : Taken
   pub wrote : AppendsPart before after (line_text (said_text said))
 
 -- a line was not run to its end
-abbrev pub Stopped : Stop → Option World → List ℕ → Taken → Taken → Type 0
+abbrev pub Stopped : ScriptLineError → Option World → List ℕ → Taken → Taken → Type 0
 Stopped Bad v line before after = (judge v line ≡ bad) × Keeps before after
 Stopped Write v line before after = IsCutShort v line before after
 Stopped Memory v line before after = (v ≡ None) × Boots line × Keeps before after

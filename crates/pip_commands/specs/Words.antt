@@ -2,6 +2,7 @@
 use Rattle.std.specs.Prelude.{ℕ, Bool, ◌&&◌, nat_le, if◌then◌else◌, List, [], ◌∷◌, Option, None, Some, codes}
 use Rattle.std.specs.Str.{bytes_eq}
 use Rattle.pip_model.specs.Grammar.{number_of}
+use Rattle.pip_slots.specs.Images.{steps_in_turn}
 use Rattle.pip_commands.specs.declared.words.Command.{Command}
 use Rattle.pip_commands.specs.declared.words.Command.TheVariants as C
 
@@ -25,11 +26,11 @@ abbrev pub audit_words : Option ℕ → Option Command
 audit_words (Some frames) = if nat_le 16 frames && nat_le frames 4096 then Some (C.Audit frames) else None
 audit_words None = None
 
--- `every` takes how many states there is room for, 1 to 10,000,000, the turns before which no line comes, at most as
--- many, and how many choices are made at most, 1 to 10,000,000, if there is a bound
+-- `every` takes how many states there is room for, 1 to 100,000,000, the turns before which no line comes, at most
+-- 10,000,000, and how many choices are made at most, 1 to 10,000,000, if there is a bound
 abbrev pub every_words : Option ℕ → Option ℕ → Option ℕ → Option Command
 every_words (Some states) (Some from) depth =
-    if (nat_le 1 states && nat_le states 10000000) && nat_le from 10000000 then Some (C.Every states from depth)
+    if (nat_le 1 states && nat_le states 100000000) && nat_le from 10000000 then Some (C.Every states from depth)
     else None
 every_words _ _ depth = None
 
@@ -46,6 +47,14 @@ native_words (Some n) (Some count) = if (nat_le 1 n && nat_le n 8) && nat_le cou
     else None
 native_words _ _ = None
 
+-- `slots` takes a number of children, 1 to 8, the turns of a slot and the rounds, at most 10,000,000 each, and so many
+-- that there are at most 10,000,000 steps
+abbrev pub slots_words : Option ℕ → Option ℕ → Option ℕ → Option Command
+slots_words (Some n) (Some turns) (Some rounds) =
+    if (nat_le 1 n && nat_le n 8) && ((nat_le turns 10000000 && nat_le rounds 10000000)
+    && nat_le (steps_in_turn n turns rounds) 10000000) then Some (C.Slots n turns rounds) else None
+slots_words _ _ _ = None
+
 -- `run`, `tree` and `core` take the steps of a run, `soak` takes its events, `every` the turns before the first line
 abbrev pub three_words : List ℕ → Option ℕ → Option ℕ → Option Command
 three_words word count seed =
@@ -61,21 +70,22 @@ three_words word count seed =
 abbrev pub is_depth : ℕ → Bool
 is_depth depth = nat_le 1 depth && nat_le depth 10000000
 
--- `every` with a bound for choices
+-- children with their slots, or `every` with a bound for choices
 abbrev pub four_words : List ℕ → Option ℕ → Option ℕ → Option ℕ → Option Command
-four_words word states from (Some depth) =
-    if bytes_eq word (codes "every") && is_depth depth then every_words states from (Some depth) else None
-four_words word states from None = None
+four_words word first second (Some third) =
+    if bytes_eq word (codes "slots") then slots_words first second (Some third)
+    else if bytes_eq word (codes "every") && is_depth third then every_words first second (Some third) else None
+four_words word first second None = None
 
 -- the command that the words ask for, if they are of one of the forms
 abbrev pub command_of : List (List ℕ) → Option Command
 command_of (word ∷ []) = single_word word
 command_of (word ∷ number ∷ []) = two_words word (number_of number)
 command_of (word ∷ count ∷ seed ∷ []) = three_words word (number_of count) (number_of seed)
-command_of (word ∷ states ∷ from ∷ depth ∷ []) =
-    four_words word (number_of states) (number_of from) (number_of depth)
+command_of (word ∷ first ∷ second ∷ third ∷ []) =
+    four_words word (number_of first) (number_of second) (number_of third)
 command_of _ = None
 
 -- the usage line
 abbrev pub usage : List ℕ
-usage = codes "usage: pip script | run STEPS SEED | asm | dis | tree STEPS SEED | core STEPS SEED | soak COUNT SEED | native N STEPS | audit FRAMES | every STATES [FROM [DEPTH]]"
+usage = codes "usage: pip script | run STEPS SEED | asm | dis | tree STEPS SEED | core STEPS SEED | soak COUNT SEED | native N STEPS | slots N TURNS ROUNDS | audit FRAMES | every STATES [FROM [DEPTH]]"

@@ -13,6 +13,7 @@ use crate::commands::every::every;
 use crate::commands::native::native;
 use crate::commands::run::{core_dump, run, tree};
 use crate::commands::script::script;
+use crate::commands::slots::slots;
 use crate::commands::soak::soak;
 use crate::ended::{Ended, end_with};
 use crate::words::{Command, read_words};
@@ -20,12 +21,12 @@ use pip_io::{Sink, Source};
 use std::alloc::Global;
 
 const USAGE: &[u8] =
-    b"usage: pip script | run STEPS SEED | asm | dis | tree STEPS SEED | core STEPS SEED | soak COUNT SEED | native N STEPS | audit FRAMES | every STATES [FROM [DEPTH]]\n";
+    b"usage: pip script | run STEPS SEED | asm | dis | tree STEPS SEED | core STEPS SEED | soak COUNT SEED | native N STEPS | slots N TURNS ROUNDS | audit FRAMES | every STATES [FROM [DEPTH]]\n";
 
 /// Does what the words of the command line ask for. The words leave out the program's name (docs/FORMATS.md,
 /// "Statuses"). The sink holds nothing at first, and at each status but 4 it holds nothing at the end. Whatever the
 /// source asks for at a read, it is read nowhere but where what was read has no answer yet, and all that is due for it
-/// is out. It is read while it is open, so that its end is asked for once.
+/// is out. It is read only while it is open, so the end of the input is read once.
 pub fn pip<S: Source, K: Sink>(
     alloc: Global,
     words: &[String],
@@ -49,6 +50,13 @@ pub fn pip<S: Source, K: Sink>(
         Some(Command::Core { count, seed }) => core_dump(alloc, count, seed, source, sink),
         Some(Command::Soak { count, seed }) => soak(alloc, count, seed, source, sink),
         Some(Command::Native { children, count }) => native(alloc, children, count, source, sink),
+        Some(
+            Command::Slots {
+                children,
+                turns,
+                rounds,
+            },
+        ) => slots(alloc, children, turns, rounds, source, sink),
         Some(Command::Audit { frames }) => audit(alloc, frames, source, sink),
         Some(
             Command::Every {

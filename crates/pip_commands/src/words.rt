@@ -1,7 +1,7 @@
 //! The words of the command line.
 ghost use Rattle.std.specs.Prelude.{◌≡◌, map, string_bytes, Some};
 ghost use Rattle.pip_commands.specs.Words.{audit_words, command_of, every_words, four_words, native_words, single_word};
-ghost use Rattle.pip_commands.specs.Words.{three_words, two_words};
+ghost use Rattle.pip_commands.specs.Words.{slots_words, three_words, two_words};
 
 use pip_base::{MAX_FRAMES, MAX_STEPS, MIN_FRAMES};
 use pip_script::read_number;
@@ -32,6 +32,11 @@ pub enum Command {
         children: u32,
         count: u32,
     },
+    Slots {
+        children: u32,
+        turns: u32,
+        rounds: u32,
+    },
     Audit {
         frames: u32,
     },
@@ -42,14 +47,17 @@ pub enum Command {
     },
 }
 
-/// The most children of `native`.
+/// The most children of `native` and `slots`.
 const MAX_CHILDREN: u32 = 8;
 
 /// The most events of `soak`.
 const MAX_EVENTS: u32 = 1_000_000;
 
-/// The most states of `every`, turns before its first line, and choices.
-const MAX_STATES: u32 = 10_000_000;
+/// The most states of `every`.
+const MAX_STATES: u32 = 100_000_000;
+
+/// The most turns of `every` before its first line, and the most choices.
+const MAX_CHOICES: u32 = 10_000_000;
 
 /// The command, or `None` where the words are none of the forms.
 pub fn read_words(words: &[String]) -> Option<Command>
@@ -155,20 +163,38 @@ fn read_four(
 ) -> Option<Command>
     ensures { result ≡ four_words word.now first second third }
 {
-    let (Some(states), Some(from), Some(depth)) = (first, second, third) else {
+    let (Some(first), Some(second), Some(third)) = (first, second, third) else {
         return None;
     };
-    if word != b"every".as_slice() || depth < 1 || depth > MAX_STATES {
+    if word == b"slots".as_slice() {
+        return read_slots(first, second, third);
+    }
+    if word != b"every".as_slice() || third < 1 || third > MAX_CHOICES {
         return None;
     }
-    read_every(states, from, Some(depth))
+    read_every(first, second, Some(third))
 }
 
-// Room for 1 to 10,000,000 states, and a bound for choices, if there is one.
+// 1 to 8 children, the turns of a slot, and the rounds.
+fn read_slots(children: u32, turns: u32, rounds: u32) -> Option<Command>
+    ensures { result ≡ slots_words (Some children) (Some turns) (Some rounds) }
+{
+    if children < 1 || children > MAX_CHILDREN || turns > MAX_STEPS || rounds > MAX_STEPS {
+        return None;
+    }
+    let steps = rounds as u64 * (children as u64 * (turns as u64 + 2));
+    (steps <= MAX_STEPS as u64).then_some(Command::Slots {
+        children,
+        turns,
+        rounds,
+    })
+}
+
+// Room for 1 to 100,000,000 states, and a bound for choices, if there is one.
 fn read_every(states: u32, from: u32, depth: Option<u32>) -> Option<Command>
     ensures { result ≡ every_words (Some states) (Some from) depth }
 {
-    (states >= 1 && states <= MAX_STATES && from <= MAX_STATES).then_some(Command::Every {
+    (states >= 1 && states <= MAX_STATES && from <= MAX_CHOICES).then_some(Command::Every {
         states,
         from,
         depth,

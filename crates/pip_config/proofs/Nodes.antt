@@ -10,8 +10,9 @@ use Rattle.std.proofs.lemmas.List.Elements.{All-from_get_or}
 use Rattle.pip_base.specs.declared.types.Pair.{Pair}
 use Rattle.pip_base.specs.Memory.{Memory, word_at}
 use Rattle.pip_model.specs.Collect.{front_of, last_first, last_of, last_pair, swap_out}
-use Rattle.pip_model.specs.NodeWords.{Level, ListPage, Mmu, Role, Shadow1, Shadow2, TablePage, list_word, no_table}
-use Rattle.pip_model.specs.NodeWords.{role, role_word, slots}
+use Rattle.pip_model.specs.NodeWords.{ListPage, Role, TablePage, list_word, no_table, role, role_word, slots}
+use Rattle.pip_model.specs.declared.level.Level.{Level}
+use Rattle.pip_model.specs.declared.level.Level.TheVariants.{Mmu, Shadow1, Shadow2}
 use Rattle.pip_model.specs.Lists.{Distinct, In}
 use Rattle.pip_model.specs.NodeIn.{NodeIn, OthersStay, list_page}
 use Rattle.pip_model.specs.Tree.{Node, Table, config, lists}

@@ -29,7 +29,7 @@ pub(crate) fn page_at<M: Frames, L: Ledger>(
     page
 }
 
-// Writes which page comes after a page.
+// Writes which page comes after this one.
 fn set_link<M: Frames>(mem: &mut M, page: Frame, next: Pair)
     requires { page < length (M.memory mem.old) }
     ensures words { M.memory mem.new ≡ put_words (M.memory mem.old) page 0 (next.frame ∷ next.va ∷ []) }
@@ -39,8 +39,8 @@ fn set_link<M: Frames>(mem: &mut M, page: Frame, next: Pair)
     mem.set_word(page, NEXT_VA, next.va);
 }
 
-/// Adds the page `p` at the end of a list of `pages` pages. It is a further frame of the memory with all words 0. No
-/// frame changes but the page before it.
+/// Adds the page `p` at the end of a list of `pages` pages. Its frame isn't in the list, and its words are 0. No frame
+/// changes but the page before it.
 pub fn append_page<M: Frames, L: Ledger>(
     mem: &mut M,
     first: Frame,
@@ -59,8 +59,8 @@ pub fn append_page<M: Frames, L: Ledger>(
     set_link(mem, last, p);
 }
 
-/// Takes the last page off a list of `pages` pages, at least 2, where no slot is in it. No frame changes but the page
-/// before it, so the page that goes keeps its words.
+/// Takes the last page off a list of `pages` pages, at least 2. No slot is in it. No frame changes but the page before
+/// it, so the page that goes keeps its words.
 pub fn pop_page<M: Frames, L: Ledger>(
     mem: &mut M,
     first: Frame,

@@ -88,7 +88,7 @@ fn page_of_slot<M: Frames, L: Ledger>(mem: &M, page: Frame, k: u32, steps: &mut 
     }
 }
 
-/// The least place of a slot whose MMU table is in the frame `table`. None exactly where no slot's does.
+/// The least place of a slot whose MMU table is in the frame `table`. None exactly if there is no such slot.
 pub fn find<M: Frames, L: Ledger>(
     mem: &M,
     first: Frame,

@@ -4,19 +4,19 @@ use Rattle.std.specs.Io.KnownBytes.{Consumes, IsAtEnd}
 use Rattle.pip_input.specs.Lines.{HasNoNewline}
 use Rattle.pip_io.specs.Causes.{RoseByOne}
 use Rattle.pip_base.specs.Memory.{Memory}
-use Rattle.pip_core_text.specs.declared.place.Place.{Place}
-use Rattle.pip_core_text.specs.declared.place.Step.{Step}
-use Rattle.pip_core_text.specs.declared.place.Step.TheVariants as S
+use Rattle.pip_core_text.specs.declared.place.LastNamed.{LastNamed}
+use Rattle.pip_core_text.specs.declared.place.LineEffect.{LineEffect}
+use Rattle.pip_core_text.specs.declared.place.LineEffect.TheVariants as S
 use Rattle.pip_core_text.specs.declared.text.CoreError.{CoreError}
 use Rattle.pip_core_text.specs.declared.text.CoreError.TheVariants.{Line, Read}
 use Rattle.pip_core_text.specs.Core.{Bad, BadAt, CoreState, CoreStep, Ends, Goes, Whole, core_text}
 
 -- a place with the words read so far
-abbrev pub state_at : Place → Memory → CoreState
+abbrev pub state_at : LastNamed → Memory → CoreState
 state_at p m = record { frame = p.frame; group = p.group; memory = m }
 
 -- what a step of the program is, over this memory
-abbrev pub step_seen : Step → Memory → CoreStep
+abbrev pub step_seen : LineEffect → Memory → CoreStep
 step_seen S.Bad m = Bad
 step_seen (S.Goes p) m = Goes (state_at p m)
 step_seen S.Ends m = Ends m

@@ -12,23 +12,23 @@ use pip_frames::Frames;
 
 /// What was named last: a frame, and a group of it.
 #[derive(Clone, Copy, Debug, PartialEq, Eq)]
-pub struct Place {
+pub struct LastNamed {
     pub frame: Option<u32>,
     pub group: Option<u32>,
 }
 
 /// What a line does.
 #[derive(Clone, Copy, Debug, PartialEq, Eq)]
-pub enum Step {
+pub enum LineEffect {
     /// It may not stand here.
     Bad,
     /// Reading goes on, with this named last.
-    Goes(Place),
+    Goes(LastNamed),
     /// It is the last.
     Ends,
 }
 
-impl Place {
+impl LastNamed {
     // Whether the frame that was named last has a group, if one was named.
     fn is_closed(&self) -> bool
         ensures { result ≡ is_closed self.now.frame self.now.group }
@@ -86,7 +86,7 @@ fn put_words<M: Frames>(mem: &mut M, frame: Frame, index: u32, words: &[u32; 8])
 }
 
 // Takes a group, where one may stand.
-fn take_group<M: Frames>(mem: &mut M, place: Place, index: u32, words: &[u32; 8]) -> Step
+fn take_group<M: Frames>(mem: &mut M, place: LastNamed, index: u32, words: &[u32; 8]) -> LineEffect
     requires { IfSome place.frame (λ f. f < length (M.memory mem.old)) }
     ensures step { step_seen result (M.memory mem.new) ≡ on_group place.frame
         (state_at place (M.memory mem.old)) index words.now }
@@ -95,17 +95,17 @@ fn take_group<M: Frames>(mem: &mut M, place: Place, index: u32, words: &[u32; 8]
     match place.frame {
         Some(frame) if place.takes_group(index, words) => {
             put_words(mem, Frame::new(frame), index, words);
-            Step::Goes(Place {
+            LineEffect::Goes(LastNamed {
                 frame: Some(frame),
                 group: Some(index),
             })
         }
-        _ => Step::Bad,
+        _ => LineEffect::Bad,
     }
 }
 
 /// Takes a line, and writes its words into the memory.
-pub fn take_line<M: Frames>(mem: &mut M, place: Place, line: &[u8]) -> Step
+pub fn take_line<M: Frames>(mem: &mut M, place: LastNamed, line: &[u8]) -> LineEffect
     requires { IfSome place.frame (λ f. f < length (M.memory mem.old)) }
     ensures step { step_seen result (M.memory mem.new) ≡ core_step (length (M.memory mem.old))
         (state_at place (M.memory mem.old)) (core_line line.now) }
@@ -113,13 +113,14 @@ pub fn take_line<M: Frames>(mem: &mut M, place: Place, line: &[u8]) -> Step
 {
     match read_core_line(line) {
         Some(CoreLine::Frame { frame }) if place.takes_frame(frame, mem.count()) => {
-            Step::Goes(Place {
+            LineEffect::Goes(LastNamed {
                 frame: Some(frame),
                 group: None,
             })
         }
         Some(CoreLine::Group { index, words }) => take_group(mem, place, index, &words),
-        Some(CoreLine::End { steps }) if place.is_closed() && steps <= MAX_STEPS => Step::Ends,
-        _ => Step::Bad,
+        Some(CoreLine::End { steps }) if place.is_closed() && steps <= MAX_STEPS =>
+            LineEffect::Ends,
+        _ => LineEffect::Bad,
     }
 }

@@ -1,16 +1,18 @@
 //! The text of a raw memory, read from a source.
-ghost use Rattle.std.specs.Prelude.{◌≡◌, ◌≤◌, ℕ, [], IfOk, MatchResult, Ok, OnErr, length, replicate};
+ghost use Rattle.std.specs.Prelude.{◌≡◌, ◌≤◌, ℕ, [], IfOk, MatchResult, None, Ok, OnErr, length, replicate};
 ghost use Rattle.std.specs.Io.KnownBytes.{Keeps, prepend_known};
 ghost use Rattle.pip_base.specs.Memory.{zeros};
 ghost use Rattle.pip_input.specs.Lines.{HoldsLine, HoldsPart, IsLineless, still};
 ghost use Rattle.pip_io.specs.Causes.{HasCause};
-ghost use Rattle.pip_io.specs.Pacing.{MayRead};
+ghost use Rattle.pip_io.specs.Moments.{joined};
+ghost use Rattle.pip_io.specs.Pacing.{MayRead, MayReadOn};
+ghost use Rattle.pip_io.specs.Taken.{plain};
 ghost use Rattle.pip_core_text.specs.CoreRead.{BeginsLines, IsText, RefusesText};
 
-use crate::place::{Place, Step, take_line};
+use crate::place::{LastNamed, LineEffect, take_line};
 use pip_frames::Frames;
 use pip_input::{Input, LineEnd};
-use pip_io::{Failed, Joint, Sink, Source};
+use pip_io::{Discard, Failed, Joint, Sink, Source};
 
 /// Why no memory was read.
 #[derive(Clone, Copy, Debug, PartialEq, Eq)]
@@ -44,9 +46,7 @@ fn next_line<S: Source, K: Sink>(
 ) -> Result<LineEnd, Failed>
     requires is_open { S.is_open joint.old.source.now }
     requires settled { (K.written joint.old.sink.now).held ≡ [] }
-    requires paced { MayRead S.allows (IsLineless input.old) (S.left joint.old.source.now)
-        (S.faults joint.old.source.now)
-        (K.written joint.old.sink.now) (K.faults joint.old.sink.now) }
+    requires paced { MayReadOn S.allows (IsLineless input.old) (joined S.left S.faults K.written K.faults joint.old) }
     ensures same_source { joint.new.source.ghost_name ≡ joint.old.source.ghost_name }
     ensures sink { joint.new.sink ≡ joint.old.sink }
     ensures kept { Keeps (prepend_known input.old.bytes (S.left joint.old.source.now))
@@ -64,14 +64,33 @@ fn next_line<S: Source, K: Sink>(
 
 /// Reads the text that `core` writes into a memory of zeros, to the end of the source (docs/FORMATS.md). The memory has
 /// at most 4096 frames. After an error it may hold some of the words.
-pub fn read_core<S: Source, K: Sink, M: Frames>(
+pub fn read_core<S: Source, M: Frames>(source: &mut S, mem: &mut M) -> Result<(), CoreError>
+    requires is_open { S.is_open source.old }
+    requires paced { MayRead S.allows (BeginsLines (length (M.memory mem.old))) (S.left source.old)
+        (S.faults source.old) (plain None) 0 }
+    requires zeros { M.memory mem.old ≡ replicate (length (M.memory mem.old)) (zeros 1024) }
+    requires most { length (M.memory mem.old) ≤ 4096 }
+    ensures reads { MatchResult result
+        (λ _. IsText (length (M.memory mem.old)) (S.left source.old) (S.left source.new) (M.memory mem.new)
+        × (S.faults source.new ≡ S.faults source.old))
+        (RefusesText (length (M.memory mem.old)) (S.left source.old) (S.left source.new)
+        (S.faults source.old) (S.faults source.new)) }
+    ensures count { length (M.memory mem.new) ≡ length (M.memory mem.old) }
+{
+    let mut sink = Discard::new();
+    let mut joint = Joint::new(source, &mut sink);
+    read_core_from_joint(&mut joint, mem)
+}
+
+/// `read_core` over a source that is joined with a sink, which holds nothing.
+pub fn read_core_from_joint<S: Source, K: Sink, M: Frames>(
     joint: &mut Joint<'_, S, K>,
     mem: &mut M,
 ) -> Result<(), CoreError>
     requires is_open { S.is_open joint.old.source.now }
     requires settled { (K.written joint.old.sink.now).held ≡ [] }
-    requires paced { MayRead S.allows (BeginsLines (length (M.memory mem.old))) (S.left joint.old.source.now)
-        (S.faults joint.old.source.now) (K.written joint.old.sink.now) (K.faults joint.old.sink.now) }
+    requires paced { MayReadOn S.allows (BeginsLines (length (M.memory mem.old)))
+        (joined S.left S.faults K.written K.faults joint.old) }
     requires zeros { M.memory mem.old ≡ replicate (length (M.memory mem.old)) (zeros 1024) }
     requires most { length (M.memory mem.old) ≤ 4096 }
     ensures same_source { joint.new.source.ghost_name ≡ joint.old.source.ghost_name }
@@ -85,7 +104,7 @@ pub fn read_core<S: Source, K: Sink, M: Frames>(
     ensures count { length (M.memory mem.new) ≡ length (M.memory mem.old) }
 {
     let mut input = Input::with_room(MAX_BYTES);
-    let mut place = Place {
+    let mut place = LastNamed {
         frame: None,
         group: None,
     };
@@ -96,9 +115,9 @@ pub fn read_core<S: Source, K: Sink, M: Frames>(
         let step = take_line(mem, place, input.head(count));
         input.take(count + 1);
         match step {
-            Step::Bad => return Err(CoreError::Line(k)),
-            Step::Goes(next) => place = next,
-            Step::Ends => {
+            LineEffect::Bad => return Err(CoreError::Line(k)),
+            LineEffect::Goes(next) => place = next,
+            LineEffect::Ends => {
                 return match next_line(&mut input, joint)? {
                     LineEnd::End => Ok(()),
                     _ => Err(CoreError::Line(k + 1)),

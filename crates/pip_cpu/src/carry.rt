@@ -14,8 +14,8 @@ use pip_io::{Failed, Sink};
 use pip_model::{Effect, Port, Register};
 use std::sync::ledger::Ledger;
 
-/// Carries out an effect on a processor. The address of its next instruction is `next`. It fails only where the sink's
-/// count of faults is one more; all was done then up to the line that was not written whole.
+/// Carries out an effect on a processor. The address of its next instruction is `next`. Fails only if a write failed;
+/// all was done then up to the line that was not written whole.
 pub(crate) fn carry<W, P: Port, K: Sink, L: Ledger>(
     port: &mut P,
     cpu: u32,

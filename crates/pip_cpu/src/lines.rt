@@ -1,9 +1,8 @@
 //! Writes the lines of a trace.
 ghost use Rattle.std.specs.Prelude.{◌≡◌, ◌+◌, ◌≤◌, ◌++◌, []};
 ghost use Rattle.arrayvec.specs.ArrayString.{array_string_len};
-ghost use Rattle.pip_io.specs.Taken.{Wrote};
 ghost use Rattle.pip_base.specs.declared.outcome.Outcome.TheVariants as O;
-ghost use Rattle.pip_io.specs.Causes.{HasCause};
+ghost use Rattle.pip_io.specs.Writes.{Writes};
 ghost use Rattle.pip_model.specs.Turn.{call_line, head, moved_line, out_line, switch_text};
 
 use arrayvec::ArrayString;
@@ -15,14 +14,12 @@ use pip_script::{push_decimal, push_word};
 /// Room for a line of a trace: the longest has 88 bytes.
 const ROOM: usize = 96;
 
-/// Writes a line by one `write_all`. It fails only where the sink's count of faults is one more; a part of it was
-/// written then.
+/// Writes a line by one `write_all`. Fails only if a write failed; the sink then has a part of the line.
 pub fn write_line<K: Sink, const N: usize>(
     sink: &mut K,
     line: &ArrayString<N>,
 ) -> Result<(), Failed>
-    ensures wrote { Wrote result (K.written sink.old) (K.written sink.new) line.now.bytes }
-    ensures cause { HasCause (K.faults sink.old) (K.faults sink.new) result }
+    ensures { Writes K.written K.faults sink.old sink.new result line.now.bytes }
 {
     write_all(sink, line.as_bytes())
 }
@@ -30,8 +27,7 @@ pub fn write_line<K: Sink, const N: usize>(
 /// Writes the line of what moved control, if something did. For a sink that discards it no line is made.
 #[inline(always)]
 pub fn write_moved<K: Sink>(sink: &mut K, t: u64, cpu: u32, outcome: Outcome) -> Result<(), Failed>
-    ensures wrote { Wrote result (K.written sink.old) (K.written sink.new) (moved_line t cpu outcome) }
-    ensures cause { HasCause (K.faults sink.old) (K.faults sink.new) result }
+    ensures { Writes K.written K.faults sink.old sink.new result (moved_line t cpu outcome) }
 {
     if sink.discards() {
         return Ok(());
@@ -53,9 +49,7 @@ fn write_switch<K: Sink>(
     to: u32,
     vector: u32,
 ) -> Result<(), Failed>
-    ensures wrote { Wrote result (K.written sink.old) (K.written sink.new)
-        (moved_line t cpu (O.Switched from to vector)) }
-    ensures cause { HasCause (K.faults sink.old) (K.faults sink.new) result }
+    ensures { Writes K.written K.faults sink.old sink.new result (moved_line t cpu (O.Switched from to vector)) }
 {
     let mut line: ArrayString<ROOM> = ArrayString::new();
     push_head(&mut line, t, cpu);
@@ -66,8 +60,7 @@ fn write_switch<K: Sink>(
 // Writes the line of a processor that parked.
 #[inline(never)]
 fn write_park<K: Sink>(sink: &mut K, t: u64, cpu: u32, from: u32, vector: u32) -> Result<(), Failed>
-    ensures wrote { Wrote result (K.written sink.old) (K.written sink.new) (moved_line t cpu (O.Parked from vector)) }
-    ensures cause { HasCause (K.faults sink.old) (K.faults sink.new) result }
+    ensures { Writes K.written K.faults sink.old sink.new result (moved_line t cpu (O.Parked from vector)) }
 {
     let mut line: ArrayString<ROOM> = ArrayString::new();
     push_head(&mut line, t, cpu);
@@ -88,8 +81,7 @@ pub fn write_call<K: Sink>(
     number: u32,
     outcome: Outcome,
 ) -> Result<(), Failed>
-    ensures wrote { Wrote result (K.written sink.old) (K.written sink.new) (call_line t cpu number outcome) }
-    ensures cause { HasCause (K.faults sink.old) (K.faults sink.new) result }
+    ensures { Writes K.written K.faults sink.old sink.new result (call_line t cpu number outcome) }
 {
     if sink.discards() {
         return Ok(());
@@ -106,8 +98,7 @@ fn write_told<K: Sink>(
     number: u32,
     outcome: &Outcome,
 ) -> Result<(), Failed>
-    ensures wrote { Wrote result (K.written sink.old) (K.written sink.new) (call_line t cpu number outcome.now) }
-    ensures cause { HasCause (K.faults sink.old) (K.faults sink.new) result }
+    ensures { Writes K.written K.faults sink.old sink.new result (call_line t cpu number outcome.now) }
 {
     let mut line = ArrayString::new();
     push_call(&mut line, t, cpu, number, outcome);
@@ -117,8 +108,7 @@ fn write_told<K: Sink>(
 /// Writes the line of a word that is shown. For a sink that discards it no line is made.
 #[inline(always)]
 pub fn write_out<K: Sink>(sink: &mut K, t: u64, cpu: u32, word: u32) -> Result<(), Failed>
-    ensures wrote { Wrote result (K.written sink.old) (K.written sink.new) (out_line t cpu word) }
-    ensures cause { HasCause (K.faults sink.old) (K.faults sink.new) result }
+    ensures { Writes K.written K.faults sink.old sink.new result (out_line t cpu word) }
 {
     if sink.discards() {
         return Ok(());
@@ -129,8 +119,7 @@ pub fn write_out<K: Sink>(sink: &mut K, t: u64, cpu: u32, word: u32) -> Result<(
 // Writes the line of a word.
 #[inline(never)]
 fn write_shown<K: Sink>(sink: &mut K, t: u64, cpu: u32, word: u32) -> Result<(), Failed>
-    ensures wrote { Wrote result (K.written sink.old) (K.written sink.new) (out_line t cpu word) }
-    ensures cause { HasCause (K.faults sink.old) (K.faults sink.new) result }
+    ensures { Writes K.written K.faults sink.old sink.new result (out_line t cpu word) }
 {
     let mut line = ArrayString::new();
     push_head(&mut line, t, cpu);

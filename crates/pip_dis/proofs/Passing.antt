@@ -1,9 +1,10 @@
 -- Parts that are taken and written, one after another.
-use Rattle.std.specs.Prelude.{◌≡◌, refl, ℕ, List, [], ◌∷◌, ◌++◌, Option, Some, None, Result, Ok, Err, IsOk, OnOk, OnErr}
-use Rattle.std.specs.Prelude.{is_err, true, false, MatchOption}
+use Rattle.std.specs.Prelude.{◌≡◌, refl, ℕ, List, [], ◌∷◌, ◌++◌, Option, Some, None, Result, Ok, Err, IsOk}
+use Rattle.std.specs.Prelude.{IsErrAnd, MatchOption, MatchResult}
 use Rattle.std.proofs.Common.{ap, sym, subst, ◌∙◌, append-nil, append_assoc}
 use Rattle.std.proofs.KnownBytes.{Consumes-trans}
 use Rattle.pip_io.specs.Causes.{RoseByOne}
+use Rattle.pip_io.specs.Moments.{NoneFailed, Streams}
 use Rattle.pip_io.specs.Pacing.{MayRead}
 use Rattle.pip_io.specs.Taken.{Taken, Appends, SendsPart, SendsPast}
 use Rattle.pip_io.proofs.Taken.{Appends-nil, Appends-trans, SendsPart-after, SendsPast-after, past_sent}
@@ -20,141 +21,159 @@ use Rattle.pip_dis.specs.declared.disassembler.DisError.{DisError}
 use Rattle.pip_dis.specs.declared.disassembler.DisError.TheVariants.{Image, Write}
 use Rattle.pip_dis.proofs.Written.{parts_append}
 
-pub passes_none : (t : List ℕ → PartsRead) (a : Option (List ℕ)) (x : Taken) → x.held ≡ [] → Passes t t a a x x
-passes_none t a x none = record { parts = []; took = takes_none t a; wrote = Appends-nil x; none = none }
+pub passes_none : (t : List ℕ → PartsRead) (a : Streams) → a.written.held ≡ [] → Passes t t a a
+passes_none t a none =
+    record { parts = []; took = takes_none t a.left; wrote = Appends-nil a.written; none = none }
 
-pub passes_then : (t u v : List ℕ → PartsRead) (a b c : Option (List ℕ)) (x y z : Taken) → Passes t u a b x y
-    → Passes u v b c y z → Passes t v a c x z
-passes_then t u v a b c x y z p q = record {
-  parts = p.parts ++ q.parts;
-  took = takes_then t u v p.parts q.parts a b c p.took q.took;
-  wrote = subst (Appends x z) (sym (parts_append p.parts q.parts))
-      (Appends-trans x y z (parts_text p.parts) (parts_text q.parts) p.wrote q.wrote);
-  none = q.none;
-}
+-- some parts were passed from a to b
+module _ (t u : List ℕ → PartsRead) (a b : Streams) (p : Passes t u a b) where
+  pub passes_then : (v : List ℕ → PartsRead) (c : Streams) → Passes u v b c → Passes t v a c
+  passes_then v c q = record {
+    parts = p.parts ++ q.parts;
+    took = takes_then t u v p.parts q.parts a.left b.left c.left p.took q.took;
+    wrote = subst (Appends a.written c.written) (sym (parts_append p.parts q.parts))
+        (Appends-trans a.written b.written c.written (parts_text p.parts) (parts_text q.parts) p.wrote q.wrote);
+    none = q.none;
+  }
 
-up_to_after : (ps qs : List Part) (x y z : Taken) → Appends x y (parts_text ps) → IsUpToLast qs y z
-    → IsUpToLast (ps ++ qs) x z
-up_to_after ps qs x y z w u = (
-  ps ++ u.0,
-  u.1,
-  ap (λ qs. ps ++ qs) u.2 ∙ sym (append_assoc ps u.0 (u.1 ∷ [])),
-  subst (SendsPast x z) (sym (parts_append ps u.0)) (SendsPast-after x y z (parts_text ps) (parts_text u.0) w u.3),
-)
+  up_to_after : (qs : List Part) (z : Taken) → IsUpToLast qs b.written z → IsUpToLast (p.parts ++ qs) a.written z
+  up_to_after qs z u = (
+    p.parts ++ u.0,
+    u.1,
+    ap (λ qs. p.parts ++ qs) u.2 ∙ sym (append_assoc p.parts u.0 (u.1 ∷ [])),
+    subst (SendsPast a.written z) (sym (parts_append p.parts u.0))
+        (SendsPast-after a.written b.written z (parts_text p.parts) (parts_text u.0) p.wrote u.3),
+  )
 
-pub passes_stops : (t u : List ℕ → PartsRead) (a b c : Option (List ℕ)) (x y z : Taken) (m n k i j l : ℕ) (e : DisError)
-    → n ≡ m → j ≡ i → Passes t u a b x y → Stops u b c n k y z j l e → Stops t a c m k x z i l e
-passes_stops t u a b c x y z m n k i j l (Image e) h g p s = record {
-  parts = p.parts ++ s.parts;
-  refused = takes_refused t u p.parts s.parts a b c m n k e h p.took s.refused;
-  wrote = subst (Appends x z) (sym (parts_append p.parts s.parts))
-      (Appends-trans x y z (parts_text p.parts) (parts_text s.parts) p.wrote s.wrote);
-  none = s.none;
-  calm = s.calm ∙ g;
-}
-passes_stops t u a b c x y z m n k i j l Write h g p s = record {
-  parts = p.parts ++ s.parts;
-  tell' = s.tell';
-  took = takes_then t u s.tell' p.parts s.parts a b c p.took s.took;
-  rose = subst (λ k. RoseByOne k l) g s.rose;
-  calm = s.calm ∙ h;
-  wrote = subst (SendsPart x z) (sym (parts_append p.parts s.parts))
-      (SendsPart-after x y z (parts_text p.parts) (parts_text s.parts) p.wrote s.wrote);
-  up_to = up_to_after p.parts s.parts x y z p.wrote s.up_to;
-}
+  pub passes_stops : (c : Streams) (e : DisError) → NoneFailed a b → Stops u b c e → Stops t a c e
+  passes_stops c (Image e) calm s = record {
+    parts = p.parts ++ s.parts;
+    refused = takes_refused t u p.parts s.parts a.left b.left c.left a.reads b.reads c.reads e calm.reads p.took
+        s.refused;
+    wrote = subst (Appends a.written c.written) (sym (parts_append p.parts s.parts))
+        (Appends-trans a.written b.written c.written (parts_text p.parts) (parts_text s.parts) p.wrote s.wrote);
+    none = s.none;
+    calm = s.calm ∙ calm.writes;
+  }
+  passes_stops c Write calm s = record {
+    parts = p.parts ++ s.parts;
+    tell' = s.tell';
+    took = takes_then t u s.tell' p.parts s.parts a.left b.left c.left p.took s.took;
+    rose = subst (λ k. RoseByOne k c.writes) calm.writes s.rose;
+    calm = s.calm ∙ calm.reads;
+    wrote = subst (SendsPart a.written c.written) (sym (parts_append p.parts s.parts))
+        (SendsPart-after a.written b.written c.written (parts_text p.parts) (parts_text s.parts) p.wrote s.wrote);
+    up_to = up_to_after s.parts c.written s.up_to;
+  }
 
-pub passes_all : (t u : List ℕ → PartsRead) (a b c : Option (List ℕ)) (x y z : Taken) → Passes t u a b x y
-    → PassesAll u b c y z → PassesAll t a c x z
-passes_all t u a b c x y z p q = record {
-  parts = p.parts ++ q.parts;
-  bytes = p.took.bytes ++ q.bytes;
-  read = Consumes-trans _ _ _ _ _ p.took.taken q.read;
-  whole = q.whole;
-  is = p.took.is q.bytes ∙ ap (parts_then p.parts) q.is ∙ sym (after_append p.parts q.parts no_more_parts);
-  wrote = subst (Appends x z) (sym (parts_append p.parts q.parts))
-      (Appends-trans x y z (parts_text p.parts) (parts_text q.parts) p.wrote q.wrote);
-  none = q.none;
-}
+  pub passes_all : (c : Streams) → PassesAll u b c → PassesAll t a c
+  passes_all c q = record {
+    parts = p.parts ++ q.parts;
+    bytes = p.took.bytes ++ q.bytes;
+    read = Consumes-trans _ _ _ _ _ p.took.taken q.read;
+    whole = q.whole;
+    is = p.took.is q.bytes ∙ ap (parts_then p.parts) q.is ∙ sym (after_append p.parts q.parts no_more_parts);
+    wrote = subst (Appends a.written c.written) (sym (parts_append p.parts q.parts))
+        (Appends-trans a.written b.written c.written (parts_text p.parts) (parts_text q.parts) p.wrote q.wrote);
+    none = q.none;
+  }
 
 -- what may be read of the next part, and after parts whose text is out
 module _ (allows : Option (List ℕ) → ℕ → Taken → ℕ → Type 0) where
-  pub part_may_read : (t : List ℕ → PartsRead) (a : Option (List ℕ)) (m : ℕ) (x : Taken) (i : ℕ) → x.held ≡ []
-      → MayGoOn allows t a m x i → MayRead allows (IsPartless t) a m x i
-  part_may_read t a m x i none paced = λ bytes left taken is.
-      paced bytes left x taken is.1 (subst (λ ps. Appends x x (parts_text ps)) (sym is.0) (Appends-nil x)) none
+  pub part_may_read : (t : List ℕ → PartsRead) (a : Streams) → a.written.held ≡ [] → MayGoOn allows t a
+      → MayRead allows (IsPartless t) a.left a.reads a.written a.writes
+  part_may_read t a none paced = λ bytes left taken is.
+      paced bytes left a.written taken is.1
+      (subst (λ ps. Appends a.written a.written (parts_text ps)) (sym is.0) (Appends-nil a.written)) none
 
-  pub goes_on_after : (t u : List ℕ → PartsRead) (a b : Option (List ℕ)) (m n : ℕ) (x y : Taken) (i j : ℕ) → n ≡ m
-      → j ≡ i → Passes t u a b x y → MayGoOn allows t a m x i → MayGoOn allows u b n y j
-  goes_on_after t u a b m n x y i j h g p paced = λ bytes left written taken is wrote none.
+  pub goes_on_after : (t u : List ℕ → PartsRead) (a b : Streams) → NoneFailed a b → Passes t u a b
+      → MayGoOn allows t a → MayGoOn allows u b
+  goes_on_after t u a b calm p paced = λ bytes left written taken is wrote none.
       let text = sym (parts_append p.parts (u bytes).parts)
       ∙ ap parts_text (sym (ap (λ t. t.parts) (p.took.is bytes) ∙ after_parts p.parts (u bytes))) in
-      subst (λ n. allows left n written j) (sym h) (subst (λ j. allows left m written j) (sym g)
+      subst (λ n. allows left n written b.writes) (sym calm.reads)
+      (subst (λ j. allows left a.reads written j) (sym calm.writes)
       (paced (p.took.bytes ++ bytes) left written (Consumes-trans _ _ _ _ _ p.took.taken taken)
-      (faultless_after t u p.parts a b p.took bytes is)
-      (subst (Appends x written) text
-      (Appends-trans x y written (parts_text p.parts) (parts_text (u bytes).parts) p.wrote wrote)) none))
+      (faultless_after t u p.parts a.left b.left p.took bytes is)
+      (subst (Appends a.written written) text (Appends-trans a.written b.written written (parts_text p.parts)
+      (parts_text (u bytes).parts) p.wrote wrote)) none))
 
-pub ends_all : (t : List ℕ → PartsRead) (a b : Option (List ℕ)) (x : Taken) → x.held ≡ [] → EndsInput t a b
-    → PassesAll t a b x x
-ends_all t a b x none e =
-    record { parts = []; bytes = []; read = e.taken; whole = e.over; is = e.is; wrote = Appends-nil x; none = none }
+pub ends_all : (t : List ℕ → PartsRead) (a b : Streams) → b.written ≡ a.written → a.written.held ≡ []
+    → EndsInput t a.left b.left → PassesAll t a b
+ends_all t a b same none e = record {
+  parts = [];
+  bytes = [];
+  read = e.taken;
+  whole = e.over;
+  is = e.is;
+  wrote = subst (λ y. Appends a.written y []) (sym same) (Appends-nil a.written);
+  none = ap (λ w. w.held) same ∙ none;
+}
 
--- ---- one part, whose reading left the sink as it was
+-- ---- one part, whose reading from a to b left the sink as it was; then z was taken in all, and k writes failed in all
 
-module _ (t u : List ℕ → PartsRead) (a b : Option (List ℕ)) (x y : Taken) (same : y ≡ x) where
-  pub passes_one : (p : Part) (z : Taken) → TakesParts t u (p ∷ []) a b → Appends y z (parts_text (p ∷ [])) → z.held ≡
-      []
-      → Passes t u a b x z
-  passes_one p z h k none =
-      record { parts = p ∷ []; took = h; wrote = subst (λ x. Appends x z (parts_text (p ∷ []))) same k; none = none }
+module _ (t u : List ℕ → PartsRead) (a b : Streams) (same : b.written ≡ a.written) where
+  pub passes_one : (p : Part) (z : Taken) (k : ℕ) → TakesParts t u (p ∷ []) a.left b.left
+      → Appends b.written z (parts_text (p ∷ [])) → z.held ≡ []
+      → Passes t u a (record b { written = z; writes = k })
+  passes_one p z k h wrote none = record {
+    parts = p ∷ [];
+    took = h;
+    wrote = subst (λ x. Appends x z (parts_text (p ∷ []))) same wrote;
+    none = none;
+  }
 
-  pub stops_image : (m n i j : ℕ) (e : ImageError) → j ≡ i → x.held ≡ [] → Refuses t [] a b m n e
-      → Stops t a b m n x y i j (Image e)
-  stops_image m n i j e kept none r = record {
+  pub stops_image : (e : ImageError) → b.writes ≡ a.writes → a.written.held ≡ []
+      → Refuses t [] a.left b.left a.reads b.reads e → Stops t a b (Image e)
+  stops_image e kept none r = record {
     parts = [];
     refused = r;
-    wrote = subst (λ y. Appends x y []) (sym same) (Appends-nil x);
+    wrote = subst (λ y. Appends a.written y []) (sym same) (Appends-nil a.written);
     none = ap (λ w. w.held) same ∙ none;
     calm = kept;
   }
 
-  pub stops_write : (p : Part) (z : Taken) (m n i j k : ℕ) → j ≡ i → x.held ≡ [] → TakesParts t u (p ∷ []) a b → n ≡ m
-      → RoseByOne j k → SendsPart y z (parts_text (p ∷ [])) → Stops t a b m n x z i k Write
-  stops_write p z m n i j k kept none h s r w =
+  pub stops_write : (p : Part) (z : Taken) (k : ℕ) → NoneFailed a b → a.written.held ≡ []
+      → TakesParts t u (p ∷ []) a.left b.left → RoseByOne b.writes k
+      → SendsPart b.written z (parts_text (p ∷ [])) → Stops t a (record b { written = z; writes = k }) Write
+  stops_write p z k calm none h r w =
       let part = subst (λ x. SendsPart x z (parts_text (p ∷ []))) same w in
       record {
         parts = p ∷ [];
         tell' = u;
         took = h;
-        rose = subst (λ i. RoseByOne i k) kept r;
-        calm = s;
+        rose = subst (λ i. RoseByOne i k) calm.writes r;
+        calm = calm.reads;
         wrote = part;
-        up_to = ([], p, refl, past_sent x x z [] (parts_text (p ∷ [])) (Appends-nil x) none part);
+        up_to = (
+          [],
+          p,
+          refl,
+          past_sent a.written a.written z [] (parts_text (p ∷ [])) (Appends-nil a.written) none part,
+        );
       }
 
 imaged_ok : (ps : List Part) (f : Option ImageError) → f ≡ None → IsOk (image_or_fault ps f)
 imaged_ok ps None h = refl
 imaged_ok ps (Some e) h = absurd (cc)
 
-pub all_disassembled : (a b : Option (List ℕ)) (x y : Taken) → PassesAll image_parts a b x y → Disassembles a b x y
-all_disassembled a b x y p = record {
+pub all_disassembled : (a b : Streams) → PassesAll image_parts a b → Disassembles a b
+all_disassembled a b p = record {
   input = p.bytes;
   read = p.read;
   whole = p.whole;
   good = imaged_ok (image_parts p.bytes).parts (image_parts p.bytes).fault
       (ap (λ t. t.fault) p.is ∙ after_fault p.parts no_more_parts);
-  text = subst (λ ps. Appends x y (parts_text ps))
+  text = subst (λ ps. Appends a.written b.written (parts_text ps))
       (sym (ap (λ t. t.parts) p.is ∙ after_parts p.parts no_more_parts ∙ append-nil p.parts)) p.wrote;
   none = p.none;
 }
 
-pub err_is : {T E : Type 0} (r : Result T E) (P : Type 0) → is_err r ≡ true → OnErr r P → P
-err_is (Ok x) P e h = absurd (cc)
-err_is (Err x) P e h = h
-
-pub ok_is : {T E : Type 0} (r : Result T E) (P : Type 0) → is_err r ≡ false → OnOk r P → P
-ok_is (Ok x) P e h = h
-ok_is (Err x) P e h = absurd (cc)
+-- what is answered is that the disassembly stopped so
+pub stopped : {A : Type 0} (r : Result A DisError) (F : A → Type 0) (G : DisError → Type 0) (why : DisError)
+    → IsErrAnd r (λ e. e ≡ why) → G why → MatchResult r F G
+stopped (Ok a) F G why is h = absurd is
+stopped (Err e) F G why is h = subst G (sym is) h
 
 pub some_is : {T : Type 0} (o : Option T) (A : Type 0) (P : T → Type 0) (v : T) → o ≡ Some v → MatchOption o A P → P v
 some_is o A P v e h = subst (λ o. MatchOption o A P) e h

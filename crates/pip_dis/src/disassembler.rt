@@ -1,5 +1,6 @@
 //! The disassembler.
 ghost use Rattle.std.specs.Prelude.{◌≡◌, ◌≤◌, [], MatchResult, OnOk};
+ghost use Rattle.pip_io.specs.Moments.{NoneFailed, joined, streams};
 ghost use Rattle.pip_image.specs.Coming.{coming, IsNew};
 ghost use Rattle.pip_model.specs.Images.{image_parts};
 ghost use Rattle.pip_dis.specs.Pacing.{MayGoOn};
@@ -7,8 +8,8 @@ ghost use Rattle.pip_dis.specs.Stopping.{Stops};
 ghost use Rattle.pip_dis.specs.Writing.{Disassembles, Passes, PassesAll};
 
 use crate::output::{write_fields, write_page, write_plan};
-use pip_image::{ImageError, ImageReader};
-use pip_io::{Joint, Sink, Source};
+use pip_image::{ImageError, JointReader};
+use pip_io::{Failed, Joint, Sink, Source};
 use thiserror::Error;
 
 /// Why a disassembly stopped.
@@ -22,6 +23,26 @@ pub enum DisError {
     Write,
 }
 
+impl From<ImageError> for DisError {
+    ghost use Rattle.pip_dis.specs.declared.disassembler.DisError.TheVariants.{Image};
+
+    ghost from_gives = { λ fault e. e ≡ Image fault };
+
+    fn from(fault: ImageError) -> DisError {
+        DisError::Image(fault)
+    }
+}
+
+impl From<Failed> for DisError {
+    ghost use Rattle.pip_dis.specs.declared.disassembler.DisError.TheVariants.{Write};
+
+    ghost from_gives = { λ _ e. e ≡ Write };
+
+    fn from(_: Failed) -> DisError {
+        DisError::Write
+    }
+}
+
 /// Writes the image that the source holds as an assembly text, part by part (docs/FORMATS.md, "Assembly"). At Ok the
 /// source was read to its end and the whole text was written. At `Image` the text of what was accepted before the fault
 /// was written; at `Write` all of it up to some place in the text of the last part that was read. The sink is settled
@@ -31,42 +52,36 @@ pub enum DisError {
 pub fn disassemble<S: Source, K: Sink>(source: &mut S, sink: &mut K) -> Result<(), DisError>
     requires is_open { S.is_open source.old }
     requires none { (K.written sink.old).held ≡ [] }
-    requires paced { MayGoOn S.allows image_parts (S.left source.old) (S.faults source.old) (K.written sink.old)
-        (K.faults sink.old) }
-    ensures told { MatchResult result
-        (λ _. Disassembles (S.left source.old) (S.left source.new) (K.written sink.old) (K.written sink.new))
-        (Stops image_parts (S.left source.old) (S.left source.new) (S.faults source.old) (S.faults source.new)
-        (K.written sink.old) (K.written sink.new) (K.faults sink.old) (K.faults sink.new)) }
-    ensures calm { OnOk result ((S.faults source.new ≡ S.faults source.old) × (K.faults sink.new ≡ K.faults sink.old)) }
+    requires paced { MayGoOn S.allows image_parts (streams S.left S.faults K.written K.faults source.old sink.old) }
+    ensures told { let a = streams S.left S.faults K.written K.faults source.old sink.old in
+        let b = streams S.left S.faults K.written K.faults source.new sink.new in
+        MatchResult result (λ _. Disassembles a b) (Stops image_parts a b) }
+    ensures calm { OnOk result (NoneFailed (streams S.left S.faults K.written K.faults source.old sink.old)
+        (streams S.left S.faults K.written K.faults source.new sink.new)) }
     ensures source { S.faults source.old ≤ S.faults source.new }
     ensures sink { K.faults sink.old ≤ K.faults sink.new }
 {
     let mut joint = Joint::new(source, sink);
-    pass_all(&mut ImageReader::new(), &mut joint)?;
+    pass_all(&mut JointReader::new(), &mut joint)?;
     Ok(())
 }
 
 // All parts.
 fn pass_all<S: Source, K: Sink>(
-    reader: &mut ImageReader,
+    reader: &mut JointReader,
     joint: &mut Joint<'_, S, K>,
 ) -> Result<(), DisError>
     requires new { IsNew reader.old.place }
     requires is_open { S.is_open joint.old.source.now }
     requires none { (K.written joint.old.sink.now).held ≡ [] }
-    requires paced { MayGoOn S.allows image_parts (S.left joint.old.source.now) (S.faults joint.old.source.now)
-        (K.written joint.old.sink.now) (K.faults joint.old.sink.now) }
+    requires paced { MayGoOn S.allows image_parts (joined S.left S.faults K.written K.faults joint.old) }
     ensures same_source { joint.new.source.ghost_name ≡ joint.old.source.ghost_name }
     ensures same_sink { joint.new.sink.ghost_name ≡ joint.old.sink.ghost_name }
-    ensures told { MatchResult result
-        (λ _. PassesAll image_parts (S.left joint.old.source.now) (S.left joint.new.source.now)
-        (K.written joint.old.sink.now) (K.written joint.new.sink.now))
-        (Stops image_parts (S.left joint.old.source.now) (S.left joint.new.source.now) (S.faults joint.old.source.now)
-        (S.faults joint.new.source.now)
-        (K.written joint.old.sink.now) (K.written joint.new.sink.now) (K.faults joint.old.sink.now)
-        (K.faults joint.new.sink.now)) }
-    ensures calm { OnOk result ((S.faults joint.new.source.now ≡ S.faults joint.old.source.now)
-        × (K.faults joint.new.sink.now ≡ K.faults joint.old.sink.now)) }
+    ensures told { let a = joined S.left S.faults K.written K.faults joint.old in
+        let b = joined S.left S.faults K.written K.faults joint.new in
+        MatchResult result (λ _. PassesAll image_parts a b) (Stops image_parts a b) }
+    ensures calm { OnOk result (NoneFailed (joined S.left S.faults K.written K.faults joint.old)
+        (joined S.left S.faults K.written K.faults joint.new)) }
     ensures source { S.faults joint.old.source.now ≤ S.faults joint.new.source.now }
     ensures sink { K.faults joint.old.sink.now ≤ K.faults joint.new.sink.now }
 {
@@ -78,112 +93,84 @@ fn pass_all<S: Source, K: Sink>(
 
 // The fields.
 fn pass_fields<S: Source, K: Sink>(
-    reader: &mut ImageReader,
+    reader: &mut JointReader,
     joint: &mut Joint<'_, S, K>,
 ) -> Result<(), DisError>
     requires new { IsNew reader.old.place }
     requires is_open { S.is_open joint.old.source.now }
     requires none { (K.written joint.old.sink.now).held ≡ [] }
-    requires paced { MayGoOn S.allows image_parts (S.left joint.old.source.now) (S.faults joint.old.source.now)
-        (K.written joint.old.sink.now) (K.faults joint.old.sink.now) }
+    requires paced { MayGoOn S.allows image_parts (joined S.left S.faults K.written K.faults joint.old) }
     ensures same_source { joint.new.source.ghost_name ≡ joint.old.source.ghost_name }
     ensures same_sink { joint.new.sink.ghost_name ≡ joint.old.sink.ghost_name }
-    ensures told { MatchResult result
-        (λ _. Passes image_parts (coming reader.new.place) (S.left joint.old.source.now) (S.left joint.new.source.now)
-        (K.written joint.old.sink.now) (K.written joint.new.sink.now))
-        (Stops image_parts (S.left joint.old.source.now) (S.left joint.new.source.now) (S.faults joint.old.source.now)
-        (S.faults joint.new.source.now)
-        (K.written joint.old.sink.now) (K.written joint.new.sink.now) (K.faults joint.old.sink.now)
-        (K.faults joint.new.sink.now)) }
+    ensures told { let a = joined S.left S.faults K.written K.faults joint.old in
+        let b = joined S.left S.faults K.written K.faults joint.new in
+        MatchResult result (λ _. Passes image_parts (coming reader.new.place) a b) (Stops image_parts a b) }
     ensures is_open { OnOk result (S.is_open joint.new.source.now) }
-    ensures calm { OnOk result ((S.faults joint.new.source.now ≡ S.faults joint.old.source.now)
-        × (K.faults joint.new.sink.now ≡ K.faults joint.old.sink.now)) }
+    ensures calm { OnOk result (NoneFailed (joined S.left S.faults K.written K.faults joint.old)
+        (joined S.left S.faults K.written K.faults joint.new)) }
     ensures source { S.faults joint.old.source.now ≤ S.faults joint.new.source.now }
     ensures sink { K.faults joint.old.sink.now ≤ K.faults joint.new.sink.now }
 {
-    let fields = match reader.fields(joint) {
-        Ok(fields) => fields,
-        Err(error) => return Err(DisError::Image(error)),
-    };
-    if write_fields(&mut *joint.sink, &fields).is_err() {
-        return Err(DisError::Write);
-    }
+    let fields = reader.fields(joint)?;
+    write_fields(&mut *joint.sink, &fields)?;
     Ok(())
 }
 
 // All plans.
 fn pass_plans<S: Source, K: Sink>(
-    reader: &mut ImageReader,
+    reader: &mut JointReader,
     joint: &mut Joint<'_, S, K>,
 ) -> Result<(), DisError>
     requires is_open { S.is_open joint.old.source.now }
     requires none { (K.written joint.old.sink.now).held ≡ [] }
-    requires paced { MayGoOn S.allows (coming reader.old.place) (S.left joint.old.source.now)
-        (S.faults joint.old.source.now)
-        (K.written joint.old.sink.now) (K.faults joint.old.sink.now) }
+    requires paced { MayGoOn S.allows (coming reader.old.place)
+        (joined S.left S.faults K.written K.faults joint.old) }
     ensures same_source { joint.new.source.ghost_name ≡ joint.old.source.ghost_name }
     ensures same_sink { joint.new.sink.ghost_name ≡ joint.old.sink.ghost_name }
-    ensures told { MatchResult result
-        (λ _. Passes (coming reader.old.place) (coming reader.new.place) (S.left joint.old.source.now)
-        (S.left joint.new.source.now) (K.written joint.old.sink.now) (K.written joint.new.sink.now))
-        (Stops (coming reader.old.place) (S.left joint.old.source.now) (S.left joint.new.source.now)
-        (S.faults joint.old.source.now) (S.faults joint.new.source.now)
-        (K.written joint.old.sink.now) (K.written joint.new.sink.now) (K.faults joint.old.sink.now)
-        (K.faults joint.new.sink.now)) }
+    ensures told { let a = joined S.left S.faults K.written K.faults joint.old in
+        let b = joined S.left S.faults K.written K.faults joint.new in
+        MatchResult result (λ _. Passes (coming reader.old.place) (coming reader.new.place) a b)
+        (Stops (coming reader.old.place) a b) }
     ensures plans { OnOk result (reader.new.place.plans ≡ 0) }
     ensures is_open { OnOk result (S.is_open joint.new.source.now) }
-    ensures calm { OnOk result ((S.faults joint.new.source.now ≡ S.faults joint.old.source.now)
-        × (K.faults joint.new.sink.now ≡ K.faults joint.old.sink.now)) }
+    ensures calm { OnOk result (NoneFailed (joined S.left S.faults K.written K.faults joint.old)
+        (joined S.left S.faults K.written K.faults joint.new)) }
     ensures source { S.faults joint.old.source.now ≤ S.faults joint.new.source.now }
     ensures sink { K.faults joint.old.sink.now ≤ K.faults joint.new.sink.now }
 {
     while reader.has_plan() {
-        let plan = match reader.plan(joint) {
-            Ok(plan) => plan,
-            Err(error) => return Err(DisError::Image(error)),
-        };
-        if write_plan(&mut *joint.sink, &plan).is_err() {
-            return Err(DisError::Write);
-        }
+        let plan = reader.plan(joint)?;
+        write_plan(&mut *joint.sink, &plan)?;
     }
     Ok(())
 }
 
 // All pages, and the end.
 fn pass_pages<S: Source, K: Sink>(
-    reader: &mut ImageReader,
+    reader: &mut JointReader,
     joint: &mut Joint<'_, S, K>,
 ) -> Result<(), DisError>
     requires plans { reader.old.place.plans ≡ 0 }
     requires is_open { S.is_open joint.old.source.now }
     requires none { (K.written joint.old.sink.now).held ≡ [] }
-    requires paced { MayGoOn S.allows (coming reader.old.place) (S.left joint.old.source.now)
-        (S.faults joint.old.source.now)
-        (K.written joint.old.sink.now) (K.faults joint.old.sink.now) }
+    requires paced { MayGoOn S.allows (coming reader.old.place)
+        (joined S.left S.faults K.written K.faults joint.old) }
     ensures same_source { joint.new.source.ghost_name ≡ joint.old.source.ghost_name }
     ensures same_sink { joint.new.sink.ghost_name ≡ joint.old.sink.ghost_name }
-    ensures told { MatchResult result
-        (λ _. PassesAll (coming reader.old.place) (S.left joint.old.source.now) (S.left joint.new.source.now)
-        (K.written joint.old.sink.now) (K.written joint.new.sink.now))
-        (Stops (coming reader.old.place) (S.left joint.old.source.now) (S.left joint.new.source.now)
-        (S.faults joint.old.source.now) (S.faults joint.new.source.now)
-        (K.written joint.old.sink.now) (K.written joint.new.sink.now) (K.faults joint.old.sink.now)
-        (K.faults joint.new.sink.now)) }
-    ensures calm { OnOk result ((S.faults joint.new.source.now ≡ S.faults joint.old.source.now)
-        × (K.faults joint.new.sink.now ≡ K.faults joint.old.sink.now)) }
+    ensures told { let a = joined S.left S.faults K.written K.faults joint.old in
+        let b = joined S.left S.faults K.written K.faults joint.new in
+        MatchResult result (λ _. PassesAll (coming reader.old.place) a b)
+        (Stops (coming reader.old.place) a b) }
+    ensures calm { OnOk result (NoneFailed (joined S.left S.faults K.written K.faults joint.old)
+        (joined S.left S.faults K.written K.faults joint.new)) }
     ensures source { S.faults joint.old.source.now ≤ S.faults joint.new.source.now }
     ensures sink { K.faults joint.old.sink.now ≤ K.faults joint.new.sink.now }
 {
     let mut words = [0; 1024];
     loop {
-        match reader.page(joint, &mut words) {
-            Ok(Some(vpage)) => {
-                if write_page(&mut *joint.sink, vpage, &words).is_err() {
-                    return Err(DisError::Write);
-                }
-            }
-            Ok(None) => return Ok(()),
-            Err(error) => return Err(DisError::Image(error)),
+        match reader.page(joint, &mut words)? {
+            Some(vpage) => write_page(&mut *joint.sink, vpage, &words)?,
+            None => return Ok(()),
         }
     }
 }

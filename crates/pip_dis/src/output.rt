@@ -1,8 +1,7 @@
 //! Lines and parts that are written.
-ghost use Rattle.std.specs.Prelude.{◌≡◌, ◌≤◌, ◌∷◌, [], map, OnOk, OnErr};
+ghost use Rattle.std.specs.Prelude.{◌≤◌, ◌∷◌, [], map};
 ghost use Rattle.arrayvec.specs.ArrayString.{array_string_len};
-ghost use Rattle.pip_io.specs.Causes.{HasCause};
-ghost use Rattle.pip_io.specs.Taken.{Appends, AppendsPart, SendsPart};
+ghost use Rattle.pip_io.specs.Writes.{Writes, WritesOut};
 ghost use Rattle.pip_image.specs.Taking.{fields_seen};
 ghost use Rattle.pip_model.specs.DisText.{text_of_lines};
 ghost use Rattle.pip_model.specs.InstrText.{word_said};
@@ -19,9 +18,7 @@ use pip_io::{Failed, Sink, write_all, write_out};
 // A line, to which its newline is put.
 fn write_line<K: Sink>(sink: &mut K, line: &mut ArrayString<64>) -> Result<(), Failed>
     requires { array_string_len line.old ≤ 60 }
-    ensures whole { OnOk result (Appends (K.written sink.old) (K.written sink.new) (line_text line.old.bytes)) }
-    ensures prefix { OnErr result (AppendsPart (K.written sink.old) (K.written sink.new) (line_text line.old.bytes)) }
-    ensures cause { HasCause (K.faults sink.old) (K.faults sink.new) result }
+    ensures { Writes K.written K.faults sink.old sink.new result (line_text line.old.bytes) }
 {
     line.push_str("\n");
     write_all(sink, line.as_str().as_bytes())
@@ -29,9 +26,7 @@ fn write_line<K: Sink>(sink: &mut K, line: &mut ArrayString<64>) -> Result<(), F
 
 // The line of a word.
 fn write_word<K: Sink>(sink: &mut K, word: u32) -> Result<(), Failed>
-    ensures whole { OnOk result (Appends (K.written sink.old) (K.written sink.new) (line_text (word_said word))) }
-    ensures prefix { OnErr result (AppendsPart (K.written sink.old) (K.written sink.new) (line_text (word_said word))) }
-    ensures cause { HasCause (K.faults sink.old) (K.faults sink.new) result }
+    ensures { Writes K.written K.faults sink.old sink.new result (line_text (word_said word)) }
 {
     let mut line = ArrayString::new();
     push_word_line(&mut line, word);
@@ -41,10 +36,7 @@ fn write_word<K: Sink>(sink: &mut K, word: u32) -> Result<(), Failed>
 // Lines with their last newline, and settles.
 fn write_part<K: Sink>(sink: &mut K, mut lines: ArrayString<64>) -> Result<(), Failed>
     requires { array_string_len lines ≤ 60 }
-    ensures whole { OnOk result (Appends (K.written sink.old) (K.written sink.new) (line_text lines.bytes)) }
-    ensures part { OnErr result (SendsPart (K.written sink.old) (K.written sink.new) (line_text lines.bytes)) }
-    ensures none { OnOk result ((K.written sink.new).held ≡ []) }
-    ensures cause { HasCause (K.faults sink.old) (K.faults sink.new) result }
+    ensures { WritesOut K.written K.faults sink.old sink.new result (line_text lines.bytes) }
 {
     lines.push_str("\n");
     write_out(sink, lines.as_str().as_bytes())
@@ -52,12 +44,7 @@ fn write_part<K: Sink>(sink: &mut K, mut lines: ArrayString<64>) -> Result<(), F
 
 /// Writes the lines of the fields at once, and settles.
 pub fn write_fields<K: Sink>(sink: &mut K, fields: &Fields) -> Result<(), Failed>
-    ensures whole { OnOk result (Appends (K.written sink.old) (K.written sink.new)
-        (parts_text (Head (fields_seen fields.now) ∷ []))) }
-    ensures part { OnErr result (SendsPart (K.written sink.old) (K.written sink.new)
-        (parts_text (Head (fields_seen fields.now) ∷ []))) }
-    ensures none { OnOk result ((K.written sink.new).held ≡ []) }
-    ensures cause { HasCause (K.faults sink.old) (K.faults sink.new) result }
+    ensures { WritesOut K.written K.faults sink.old sink.new result (parts_text (Head (fields_seen fields.now) ∷ [])) }
 {
     write_part(sink, fields_lines(fields))?;
     Ok(())
@@ -65,11 +52,7 @@ pub fn write_fields<K: Sink>(sink: &mut K, fields: &Fields) -> Result<(), Failed
 
 /// Writes the line of a plan, and settles.
 pub fn write_plan<K: Sink>(sink: &mut K, plan: &Plan) -> Result<(), Failed>
-    ensures whole { OnOk result (Appends (K.written sink.old) (K.written sink.new) (parts_text (Line plan.now ∷ []))) }
-    ensures part { OnErr result (SendsPart (K.written sink.old) (K.written sink.new)
-        (parts_text (Line plan.now ∷ []))) }
-    ensures none { OnOk result ((K.written sink.new).held ≡ []) }
-    ensures cause { HasCause (K.faults sink.old) (K.faults sink.new) result }
+    ensures { WritesOut K.written K.faults sink.old sink.new result (parts_text (Line plan.now ∷ [])) }
 {
     write_part(sink, plan_line(plan))?;
     Ok(())
@@ -77,12 +60,8 @@ pub fn write_plan<K: Sink>(sink: &mut K, plan: &Plan) -> Result<(), Failed>
 
 /// Writes the lines of a page, each by a write of its own, and settles.
 pub fn write_page<K: Sink>(sink: &mut K, vpage: VPage, words: &[u32; 1024]) -> Result<(), Failed>
-    ensures whole { OnOk result (Appends (K.written sink.old) (K.written sink.new)
-        (parts_text (Holds (record { vpage = vpage; words = words.now }) ∷ []))) }
-    ensures part { OnErr result (SendsPart (K.written sink.old) (K.written sink.new)
-        (parts_text (Holds (record { vpage = vpage; words = words.now }) ∷ []))) }
-    ensures none { OnOk result ((K.written sink.new).held ≡ []) }
-    ensures cause { HasCause (K.faults sink.old) (K.faults sink.new) result }
+    ensures { WritesOut K.written K.faults sink.old sink.new result
+        (parts_text (Holds (record { vpage = vpage; words = words.now }) ∷ [])) }
 {
     write_page_lines(sink, vpage, words)?;
     sink.settle()
@@ -90,11 +69,8 @@ pub fn write_page<K: Sink>(sink: &mut K, vpage: VPage, words: &[u32; 1024]) -> R
 
 // The lines of a page.
 fn write_page_lines<K: Sink>(sink: &mut K, vpage: VPage, words: &[u32; 1024]) -> Result<(), Failed>
-    ensures whole { OnOk result (Appends (K.written sink.old) (K.written sink.new)
-        (parts_text (Holds (record { vpage = vpage; words = words.now }) ∷ []))) }
-    ensures prefix { OnErr result (AppendsPart (K.written sink.old) (K.written sink.new)
-        (parts_text (Holds (record { vpage = vpage; words = words.now }) ∷ []))) }
-    ensures cause { HasCause (K.faults sink.old) (K.faults sink.new) result }
+    ensures { Writes K.written K.faults sink.old sink.new result
+        (parts_text (Holds (record { vpage = vpage; words = words.now }) ∷ [])) }
 {
     let mut line = page_line(vpage);
     write_line(sink, &mut line)?;
@@ -104,11 +80,7 @@ fn write_page_lines<K: Sink>(sink: &mut K, vpage: VPage, words: &[u32; 1024]) ->
 
 // A line for each word.
 fn write_words<K: Sink>(sink: &mut K, words: &[u32]) -> Result<(), Failed>
-    ensures whole { OnOk result (Appends (K.written sink.old) (K.written sink.new)
-        (text_of_lines (map word_said words.now))) }
-    ensures prefix { OnErr result (AppendsPart (K.written sink.old) (K.written sink.new)
-        (text_of_lines (map word_said words.now))) }
-    ensures cause { HasCause (K.faults sink.old) (K.faults sink.new) result }
+    ensures { Writes K.written K.faults sink.old sink.new result (text_of_lines (map word_said words.now)) }
 {
     for word in words {
         write_word(sink, *word)?;

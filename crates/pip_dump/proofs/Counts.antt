@@ -7,7 +7,7 @@ use Rattle.pip_model.specs.Sound.{IsSound}
 use Rattle.pip_model.specs.Tree.{Node, Tree, config, find_node}
 use Rattle.pip_model.proofs.Trees.Walks.{walk_short}
 use Rattle.pip_dump.specs.Walk.{IsAt, IsCounted, IsNextPlace}
-use Rattle.pip_dump.specs.declared.place.Place.{Place}
+use Rattle.pip_dump.specs.declared.place.WalkPlace.{WalkPlace}
 use Rattle.pip_dump.proofs.Tales.{first_next}
 use Rattle.pip_dump.proofs.Whole.{pages_most, rows_most, sum_cons, walk_long, walk_sum}
 
@@ -18,7 +18,7 @@ abbrev page_count : Node → ℕ
 page_count x = length (config x)
 
 module _ (t : Tree) (s : IsSound t) where
-  pub counted_first : (p : Place) → p.part ≡ 1 → p.depth ≡ 0 → IsCounted t (Some p) 0 0 0
+  pub counted_first : (p : WalkPlace) → p.part ≡ 1 → p.depth ≡ 0 → IsCounted t (Some p) 0 0 0
   counted_first p one root = record {
     rest = nodes_depth_first t;
     place = first_next t s p one root;
@@ -28,7 +28,7 @@ module _ (t : Tree) (s : IsSound t) where
   }
 
   -- a partition more
-  pub counted_more : (p : Place) (next : Option Place) (parts rows hidden r g : ℕ)
+  pub counted_more : (p : WalkPlace) (next : Option WalkPlace) (parts rows hidden r g : ℕ)
       → IsCounted t (Some p) parts rows hidden
       → ((y : Node) → find_node t p.part ≡ Some y → r ≡ row_count y)
       → ((y : Node) → find_node t p.part ≡ Some y → g ≡ page_count y)
@@ -53,7 +53,7 @@ module _ (t : Tree) (s : IsSound t) where
       }
 
   -- it fits
-  pub counted_fits : (p : Place) (parts rows hidden : ℕ) → IsCounted t (Some p) parts rows hidden
+  pub counted_fits : (p : WalkPlace) (parts rows hidden : ℕ) → IsCounted t (Some p) parts rows hidden
       → ((r : ℕ) → ((y : Node) → find_node t p.part ≡ Some y → r ≡ row_count y) → rows + r ≤ 4096 * 4096)
       × ((g : ℕ) → ((y : Node) → find_node t p.part ≡ Some y → g ≡ page_count y) → hidden + g ≤ 4096 * 4096)
   counted_fits p parts rows hidden h =
@@ -69,7 +69,7 @@ module _ (t : Tree) (s : IsSound t) where
       )
 
   -- all are counted where none is left
-  over : (next : Option Place) (parts rows hidden : ℕ) (h : IsCounted t next parts rows hidden) → h.rest ≡ []
+  over : (next : Option WalkPlace) (parts rows hidden : ℕ) (h : IsCounted t next parts rows hidden) → h.rest ≡ []
       → (parts ≡ parts_of t) × (rows ≡ rows_of t) × (hidden ≡ hidden_of t)
   over next parts rows hidden h none =
       let a = h.parts_are in
@@ -88,7 +88,7 @@ module _ (t : Tree) (s : IsSound t) where
   unfolding over
   counted_all parts rows hidden h = over None parts rows hidden h h.place
 
-  pub counted_end : (next : Option Place) (parts rows hidden seen : ℕ) → IsCounted t next parts rows hidden
+  pub counted_end : (next : Option WalkPlace) (parts rows hidden seen : ℕ) → IsCounted t next parts rows hidden
       → parts ≡ seen → t.frames ≤ seen → (parts ≡ parts_of t) × (rows ≡ rows_of t) × (hidden ≡ hidden_of t)
   unfolding over
   counted_end next parts rows hidden seen h same full =
@@ -101,12 +101,13 @@ module _ (t : Tree) (s : IsSound t) where
       none (y ∷ ys) e = absurd (omega (arith, e))
 
 -- where the walk stands
-pub counted_place : (t : Tree) (p : Place) (parts rows hidden : ℕ) → IsCounted t (Some p) parts rows hidden
+pub counted_place : (t : Tree) (p : WalkPlace) (parts rows hidden : ℕ) → IsCounted t (Some p) parts rows hidden
     → (rest : List Node) × IsAt t p.part p.depth 0 rest
 counted_place t p parts rows hidden h = let (y, further, rest, found, place) = h.place in (further, place)
 
 -- and so, said otherwise
-pub counted_same : (t : Tree) (a b : Option Place) (parts rows hidden parts2 rows2 hidden2 : ℕ) → b ≡ a → parts2 ≡ parts
+pub counted_same : (t : Tree) (a b : Option WalkPlace) (parts rows hidden parts2 rows2 hidden2 : ℕ) → b ≡ a
+    → parts2 ≡ parts
     → rows2 ≡ rows → hidden2 ≡ hidden → IsCounted t a parts rows hidden → IsCounted t b parts2 rows2 hidden2
 counted_same t a b parts rows hidden parts2 rows2 hidden2 e p r h k =
     subst (λ o. IsCounted t o parts2 rows2 hidden2) (sym e) (subst (λ q. IsCounted t a q rows2 hidden2) (sym p)

@@ -13,7 +13,7 @@ use Rattle.pip_model.proofs.Trees.Lookup.{found_name, other_found, other_in, oth
 use Rattle.pip_model.proofs.Trees.Lookup.{up_found}
 use Rattle.pip_model.proofs.Trees.Walks.{root_line}
 use Rattle.pip_dump.specs.Walk.{IsAt, IsNextChild, IsNextPlace, children_above, left_of, under, vpage_after}
-use Rattle.pip_dump.specs.declared.place.Place.{Place}
+use Rattle.pip_dump.specs.declared.place.WalkPlace.{WalkPlace}
 use Rattle.pip_dump.proofs.Nexts.{all_rows}
 
 pub chain_short : (t : Tree) (p : ℕ) → length (chain t p) ≤ suc (length t.others)
@@ -80,7 +80,7 @@ module _ (t : Tree) (s : IsSound t) where
       )
 
   -- from a node to its next child
-  pub at_child : (part depth low : ℕ) (child : Place) (rest : List Node) (h : IsAt t part depth low rest)
+  pub at_child : (part depth low : ℕ) (child : WalkPlace) (rest : List Node) (h : IsAt t part depth low rest)
       → IsNextChild t h.node low (Some child.part) → child.depth ≡ depth + 1 → IsNextPlace t rest (Some child)
   unfolding own_line down_left
   at_child part deep low child rest h (y, other, up, next) lower =

@@ -7,6 +7,7 @@ use Rattle.std.proofs.lemmas.List.{append-nil}
 use Rattle.pip_io.specs.Taken.{Taken, Appends, AppendsPart, Wrote}
 use Rattle.pip_io.proofs.Pieces.{left_more as rest_more}
 use Rattle.pip_dump.specs.Written.{IsLeft}
+pub use Rattle.pip_io.proofs.Taken.{wrote_err}
 
 pub left_start : (old : Taken) (whole : List ℕ) → IsLeft old old whole whole
 left_start old whole = record { front = []; written = Appends-nil old; same = refl }
@@ -56,11 +57,6 @@ wrote_after old mid new a b (Err e) h k = part_after old mid new a b h k
 pub part_longer : (old new : Taken) (a b : List ℕ) → AppendsPart old new a → AppendsPart old new (a ++ b)
 part_longer old new a b (front, more, k, same, some) =
     (front, more ++ b, k, sym (append_assoc front more b) ∙ ap (λ l. l ++ b) same, rest_more more b some)
-
-pub wrote_err : {T E : Type 0} (old new : Taken) (text : List ℕ) (r : Result T E) → IsErr r → AppendsPart old new text
-    → Wrote r old new text
-wrote_err old new text (Ok u) bad h = cc
-wrote_err old new text (Err e) so h = h
 
 pub wrote_of : {T E : Type 0} (old new : Taken) (text said : List ℕ) (r : Result T E) → text ≡ said
     → OnOk r (Appends old new text) → OnErr r (AppendsPart old new text) → Wrote r old new said

@@ -7,7 +7,8 @@ use Rattle.pip_model.specs.Dump.{child_of_row}
 use Rattle.pip_model.specs.FullRows.{FullRow, cells_of, full_rows, row_word}
 use Rattle.pip_model.specs.Layout.{LaysOut}
 use Rattle.pip_model.specs.NodeIn.{IsFullRow, NodeIn, Space}
-use Rattle.pip_model.specs.NodeWords.{Level, Mmu, Shadow1}
+use Rattle.pip_model.specs.declared.level.Level.{Level}
+use Rattle.pip_model.specs.declared.level.Level.TheVariants.{Mmu, Shadow1}
 use Rattle.pip_model.specs.Partitions.{HasPartition}
 use Rattle.pip_model.specs.Sound.{IsSound}
 use Rattle.pip_model.specs.Tree.{Node, Row, Tree, find_node, table_at}

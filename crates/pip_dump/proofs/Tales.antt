@@ -7,17 +7,17 @@ use Rattle.pip_model.specs.Sound.{IsSound}
 use Rattle.pip_model.specs.Tree.{Node, Tree, find_node}
 use Rattle.pip_model.proofs.Trees.Walks.{walk_short}
 use Rattle.pip_dump.specs.Walk.{IsAt, IsNextPlace, IsWalkedTo}
-use Rattle.pip_dump.specs.declared.place.Place.{Place}
+use Rattle.pip_dump.specs.declared.place.WalkPlace.{WalkPlace}
 use Rattle.pip_dump.proofs.Moves.{at_depth, at_first}
 use Rattle.pip_dump.proofs.Pieces.{left_more, left_none, left_part, left_same, left_start}
 
 module _ (t : Tree) (s : IsSound t) where
   -- the walk begins at the root
-  pub first_next : (p : Place) → p.part ≡ 1 → p.depth ≡ 0 → IsNextPlace t (nodes_depth_first t) (Some p)
+  pub first_next : (p : WalkPlace) → p.part ≡ 1 → p.depth ≡ 0 → IsNextPlace t (nodes_depth_first t) (Some p)
   first_next p one root = let (rest, all, found, place) = at_first t s p.part p.depth one root in
       (t.root, rest, all, found, place)
 
-  pub told_first : (p : Place) (old : Taken) → p.part ≡ 1 → p.depth ≡ 0 → IsWalkedTo t 0 (Some p) old old
+  pub told_first : (p : WalkPlace) (old : Taken) → p.part ≡ 1 → p.depth ≡ 0 → IsWalkedTo t 0 (Some p) old old
   unfolding first_next
   told_first p old one root = record {
     rest = nodes_depth_first t;
@@ -27,12 +27,13 @@ module _ (t : Tree) (s : IsSound t) where
   }
 
   -- where the walk stands
-  pub told_place : (seen : ℕ) (p : Place) (old now : Taken) → IsWalkedTo t seen (Some p) old now
+  pub told_place : (seen : ℕ) (p : WalkPlace) (old now : Taken) → IsWalkedTo t seen (Some p) old now
       → (rest : List Node) × IsAt t p.part p.depth 0 rest
   told_place seen p old now h = let (y, further, rest, found, place) = h.place in (further, place)
 
   -- its text is written
-  pub told_more : (seen : ℕ) (p : Place) (next : Option Place) (old now new : Taken) → IsWalkedTo t seen (Some p) old
+  pub told_more : (seen : ℕ) (p : WalkPlace) (next : Option WalkPlace) (old now new : Taken)
+      → IsWalkedTo t seen (Some p) old
       now
       → ((y : Node) → find_node t p.part ≡ Some y → p.depth ≡ depth_of t y → Appends now new (part_text t y))
       → ((rest : List Node) → IsAt t p.part p.depth 0 rest → IsNextPlace t rest next) → IsWalkedTo t (seen + 1) next
@@ -51,7 +52,7 @@ module _ (t : Tree) (s : IsSound t) where
       }
 
   -- or a prefix of it
-  pub told_part : (seen : ℕ) (p : Place) (old now new : Taken) → IsWalkedTo t seen (Some p) old now
+  pub told_part : (seen : ℕ) (p : WalkPlace) (old now new : Taken) → IsWalkedTo t seen (Some p) old now
       → ((y : Node) → find_node t p.part ≡ Some y → p.depth ≡ depth_of t y → AppendsPart now new (part_text t y))
       → AppendsPart old new (tree_text t)
   told_part seen p old now new h writes =
@@ -61,7 +62,8 @@ module _ (t : Tree) (s : IsSound t) where
       (writes y found (at_depth t s p.part p.depth 0 further y place found))
 
   -- after as many steps as there are frames it is over
-  pub told_end : (seen : ℕ) (next : Option Place) (old now : Taken) → IsWalkedTo t seen next old now → t.frames ≤ seen
+  pub told_end : (seen : ℕ) (next : Option WalkPlace) (old now : Taken) → IsWalkedTo t seen next old now
+      → t.frames ≤ seen
       → Appends old now (tree_text t)
   told_end seen next old now h full =
       let seen_are = h.seen_are in
@@ -74,7 +76,8 @@ module _ (t : Tree) (s : IsSound t) where
       none (y ∷ ys) e = absurd (omega (arith, e))
 
 -- and so, said otherwise
-pub told_same : (t : Tree) (seen : ℕ) (a b : Option Place) (old m n : Taken) → b ≡ a → n ≡ m → IsWalkedTo t seen a old m
+pub told_same : (t : Tree) (seen : ℕ) (a b : Option WalkPlace) (old m n : Taken) → b ≡ a → n ≡ m
+    → IsWalkedTo t seen a old m
     → IsWalkedTo t seen b old n
 told_same t seen a b old m n e f h =
     subst (λ o. IsWalkedTo t seen o old n) (sym e) (subst (λ k. IsWalkedTo t seen a old k) (sym f) h)

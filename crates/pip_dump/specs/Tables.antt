@@ -4,7 +4,8 @@ use Rattle.pip_io.specs.Taken.{Taken}
 use Rattle.pip_model.specs.Dump.{row_text}
 use Rattle.pip_model.specs.FullRows.{FullRow, full_rows, row_word}
 use Rattle.pip_model.specs.NodeIn.{IsFullRow}
-use Rattle.pip_model.specs.NodeWords.{Level, Mmu, Shadow1}
+use Rattle.pip_model.specs.declared.level.Level.{Level}
+use Rattle.pip_model.specs.declared.level.Level.TheVariants.{Mmu, Shadow1}
 use Rattle.pip_model.specs.Sound.{IsSound}
 use Rattle.pip_model.specs.Tree.{Node, Tree, find_node}
 use Rattle.pip_dump.specs.Walk.{IsNextChild, children_above, rows_above}

@@ -5,7 +5,7 @@ use Rattle.pip_model.specs.Dump.{child_of_row, part_text, tree_text, nodes_depth
 use Rattle.pip_model.specs.Midway.{find_other}
 use Rattle.pip_model.specs.Tree.{Node, Row, Tree, chain, config, find_node}
 use Rattle.pip_dump.specs.Written.{IsLeft}
-use Rattle.pip_dump.specs.declared.place.Place.{Place}
+use Rattle.pip_dump.specs.declared.place.WalkPlace.{WalkPlace}
 use Rattle.pip_io.specs.Taken.{Taken}
 
 -- ---- children
@@ -51,7 +51,7 @@ pub record IsAt (t : Tree) (part depth low : ℕ) (rest : List Node) : Type 0 wh
   pub is : left_of levels t (chain t part) low ≡ rest
 
 -- the place is where the walk comes next; it is None where the walk is over
-abbrev pub IsNextPlace : Tree → List Node → Option Place → Type 0
+abbrev pub IsNextPlace : Tree → List Node → Option WalkPlace → Type 0
 IsNextPlace t rest None = rest ≡ []
 IsNextPlace t rest (Some p) = (y : Node) × (further : List Node) × (rest ≡ y ∷ further) × (find_node t p.part ≡ Some y)
     × IsAt t p.part p.depth 0 further
@@ -60,7 +60,7 @@ IsNextPlace t rest (Some p) = (y : Node) × (further : List Node) × (rest ≡ y
 
 -- after that many partitions the walk comes next to this place, and the texts of the nodes that are left are what is
 -- left of the tree's
-pub record IsWalkedTo (t : Tree) (seen : ℕ) (next : Option Place) (old now : Taken) : Type 0 where
+pub record IsWalkedTo (t : Tree) (seen : ℕ) (next : Option WalkPlace) (old now : Taken) : Type 0 where
   pub rest : List Node
   pub place : IsNextPlace t rest next
   pub seen_are : seen + length rest ≡ length (nodes_depth_first t)
@@ -68,7 +68,7 @@ pub record IsWalkedTo (t : Tree) (seen : ℕ) (next : Option Place) (old now : T
 
 -- that many partitions, rows and pages of configuration were counted, and those of the nodes that are left are still to
 -- come
-pub record IsCounted (t : Tree) (next : Option Place) (parts rows hidden : ℕ) : Type 0 where
+pub record IsCounted (t : Tree) (next : Option WalkPlace) (parts rows hidden : ℕ) : Type 0 where
   pub rest : List Node
   pub place : IsNextPlace t rest next
   pub parts_are : parts + length rest ≡ length (nodes_depth_first t)

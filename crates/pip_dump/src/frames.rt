@@ -108,8 +108,8 @@ fn words_text<K: Sink>(f: Frame, words: &[u32; 1024], sink: &mut K) -> Result<()
 }
 
 /// Writes the lines of frame `f`, none where all its words are 0 (docs/FORMATS.md, "core"). `f` is below the number of
-/// frames. Fails only where the sink's count of faults is one more; a prefix of the lines was written then. The frame
-/// is read at once, in 32 steps.
+/// frames. Fails only if a write failed; a prefix of the lines was written then. The frame is read at once, in 32
+/// steps.
 pub fn frame_text<M: Frames, K: Sink, L: Ledger>(
     mem: &M,
     f: Frame,
@@ -125,8 +125,8 @@ pub fn frame_text<M: Frames, K: Sink, L: Ledger>(
     words_text(f, mem.frame(f, steps), sink)
 }
 
-/// Writes the lines of all frames in their order, without a last line (docs/FORMATS.md, "core"). Fails only where the
-/// sink's count of faults is one more; a prefix of the lines was written then. Takes no memory.
+/// Writes the lines of all frames in their order, without a last line (docs/FORMATS.md, "core"). Fails only if a write
+/// failed; a prefix of the lines was written then. Takes no memory.
 pub fn frames_text<M: Frames, K: Sink, L: Ledger>(
     mem: &M,
     sink: &mut K,

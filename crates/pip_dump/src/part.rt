@@ -8,7 +8,7 @@ ghost use Rattle.pip_model.specs.Tree.{Node, Tree};
 ghost use Rattle.pip_dump.specs.Tables.{AreGiven, AreLeaves, RowsLeft};
 
 use crate::line::{Head, part_line, push_row};
-use crate::place::Place;
+use crate::place::WalkPlace;
 use crate::tables::{count_words, table_words};
 use arrayvec::ArrayString;
 use pip_base::{Frame, Steps, VPage};
@@ -16,7 +16,8 @@ use pip_entry::descriptor::{SELF_VA, TABLES};
 use pip_frames::Frames;
 use pip_io::{Failed, Sink, write_all};
 use pip_kern::parent_of;
-use pip_space::{Level, next_tables};
+use pip_model::Level;
+use pip_space::next_tables;
 use pip_table::first_index;
 use std::sync::ledger::Ledger;
 
@@ -35,7 +36,11 @@ pub(crate) fn count_rows<M: Frames, L: Ledger>(mem: &M, part: Frame, steps: &mut
 }
 
 // The line of a partition.
-fn head_line<M: Frames, L: Ledger>(mem: &M, place: &Place, steps: &mut Steps<L>) -> ArrayString<128>
+fn head_line<M: Frames, L: Ledger>(
+    mem: &M,
+    place: &WalkPlace,
+    steps: &mut Steps<L>,
+) -> ArrayString<128>
     requires { HasPartition (M.memory mem.now) place.now.part }
     ensures { InEach (M.memory mem.now) place.now.part (λ t x. place.now.depth ≡ depth_of t x →
         result.bytes ≡ head_text t x) }
@@ -113,7 +118,7 @@ fn rows_text<M: Frames, K: Sink, L: Ledger>(
 /// Writes the line of a partition and those of its rows.
 pub(crate) fn part_text<M: Frames, K: Sink, L: Ledger>(
     mem: &M,
-    place: &Place,
+    place: &WalkPlace,
     sink: &mut K,
     steps: &mut Steps<L>,
 ) -> Result<(), Failed>

@@ -9,22 +9,23 @@ use pip_base::{Frame, Steps, VPage};
 use pip_entry::descriptor::SELF_VA;
 use pip_frames::Frames;
 use pip_kern::parent_of;
-use pip_space::{Level, ROOT, next_tables};
+use pip_model::{Level, ROOT};
+use pip_space::next_tables;
 use std::sync::ledger::Ledger;
 
 /// Where the walk stands: at a partition with `depth` ancestors.
 #[derive(Clone, Copy, Debug)]
-pub(crate) struct Place {
+pub(crate) struct WalkPlace {
     pub part: Frame,
     pub depth: u32,
 }
 
 /// Where the walk begins.
-pub(crate) fn first_place() -> Place
+pub(crate) fn first_place() -> WalkPlace
     ensures part { result.part ≡ 1 }
     ensures depth { result.depth ≡ 0 }
 {
-    Place {
+    WalkPlace {
         part: Frame::new(ROOT),
         depth: 0,
     }
@@ -67,9 +68,9 @@ fn birthplace<M: Frames, L: Ledger>(mem: &M, part: Frame, steps: &mut Steps<L>) 
 /// child begins where the last one stands.
 pub(crate) fn next_place<M: Frames, L: Ledger>(
     mem: &M,
-    place: &Place,
+    place: &WalkPlace,
     steps: &mut Steps<L>,
-) -> Option<Place>
+) -> Option<WalkPlace>
     requires part { HasPartition (M.memory mem.now) place.now.part }
     requires depth { place.now.depth ≤ 4096 }
     ensures { (t : Tree) (rest : List Node) → IsHeld t (M.memory mem.now) →
@@ -80,7 +81,7 @@ pub(crate) fn next_place<M: Frames, L: Ledger>(
     let mut after = 0;
     loop {
         if let Some(child) = next_child(mem, part, after, steps) {
-            return Some(Place {
+            return Some(WalkPlace {
                 part: child,
                 depth: depth + 1,
             });

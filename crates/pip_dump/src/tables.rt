@@ -1,7 +1,6 @@
 //! A partition's tables for one directory index, gone through as lent words.
 ghost use Rattle.std.specs.Prelude.{◌≡◌, ℕ, ◌+◌, ◌*◌, ◌<◌, ◌≤◌, length};
 ghost use Rattle.pip_model.specs.Tree.{Node, Tree};
-ghost use Rattle.pip_space.specs.Levels.{table_level};
 ghost use Rattle.pip_space.specs.Nodes.{InEachSpace};
 ghost use Rattle.pip_space.specs.Tables.{HasTables};
 ghost use Rattle.pip_dump.specs.Tables.{AreGiven, AreLeaves, AreRowWords, IsChildIn};
@@ -9,7 +8,8 @@ ghost use Rattle.pip_dump.specs.Walk.{rows_above};
 
 use pip_base::{Frame, Steps, VPage};
 use pip_frames::Frames;
-use pip_space::{Level, table_for};
+use pip_model::Level;
+use pip_space::table_for;
 use pip_table::first_index;
 use std::sync::ledger::Ledger;
 
@@ -23,7 +23,7 @@ pub(crate) fn table_words<'a, M: Frames, L: Ledger>(
 ) -> &'a [u32; 1024]
     requires tables { HasTables (M.memory mem.now) part i }
     requires index { i < 1024 }
-    ensures { InEachSpace (M.memory mem.now) part (λ x rows. AreRowWords (table_level level) i result.now rows) }
+    ensures { InEachSpace (M.memory mem.now) part (λ x rows. AreRowWords level i result.now rows) }
 {
     let table = table_for(mem, part, level, VPage::new(1024 * i), steps);
     mem.frame(table, steps)

@@ -12,8 +12,8 @@ use pip_frames::Frames;
 use pip_io::{Failed, Sink};
 use std::sync::ledger::Ledger;
 
-/// Writes the text of the tree that the frames lay out, without a last line (docs/FORMATS.md, "tree"). Fails only where
-/// the sink's count of faults is one more; a prefix of the text was written then. Takes no memory.
+/// Writes the text of the tree that the frames lay out, without a last line (docs/FORMATS.md, "tree"). Fails only if a
+/// write failed; a prefix of the text was written then. Takes no memory.
 pub fn tree_text<M: Frames, K: Sink, L: Ledger>(
     mem: &M,
     sink: &mut K,

@@ -1,4 +1,8 @@
 //! Packed words, one for each value, and the places of fields in descriptors and list pages. docs/FORMATS.md has both.
+//!
+//! Each directory entry, row, use of a page and place in the parent has exactly one word. Packing gives that number.
+//! Unpacking a word gives the one value that packs to it, and None exactly if no value does: a word with a stray bit, a
+//! page without READ and a child at virtual page 0 have no value.
 #![tactic(auto)]
 
 pub mod descriptor;

@@ -25,7 +25,7 @@ but_stands : (n : Memory) (cs : List (Option Occupant)) (v w : World) → IsBut 
 but_stands n cs v w b s = subst (StandsFor n cs) (other w v (record { tree = sym b.tree; cpus = sym b.cpus }))
     (bare_with n cs w v.caches s)
 
-turn_chosen : (g : Scope) (m : Moment) (k : ℕ) → k < g.cpus → choice_acts g m k ≡ turn m.world k 0
+pub turn_chosen : (g : Scope) (m : Moment) (k : ℕ) → k < g.cpus → choice_acts g m k ≡ turn m.world k 0
 turn_chosen g m k lt = ap (λ b. if b then turn m.world k 0
     else if nat_lt m.turns g.from then []
     else Makes (E.Raise (slice_index g.lines (k - g.cpus))) ∷ []) (lt-ltb k g.cpus lt)
@@ -36,7 +36,7 @@ line_chosen g m k le = ap (λ b. if b then turn m.world k 0
     else if nat_lt m.turns g.from then []
     else Makes (E.Raise (slice_index g.lines (k - g.cpus))) ∷ []) (le-ltb k g.cpus le)
 
-raise_chosen : (g : Scope) (m : Moment) (k : ℕ) → g.cpus ≤ k → g.from ≤ m.turns
+pub raise_chosen : (g : Scope) (m : Moment) (k : ℕ) → g.cpus ≤ k → g.from ≤ m.turns
     → choice_acts g m k ≡ Makes (E.Raise (slice_index g.lines (k - g.cpus))) ∷ []
 raise_chosen g m k le open_now = line_chosen g m k le ∙
     ap (λ b. if b then [] else Makes (E.Raise (slice_index g.lines (k - g.cpus))) ∷ []) (le-ltb m.turns g.from open_now)
@@ -45,11 +45,11 @@ none_chosen : (g : Scope) (m : Moment) (k : ℕ) → g.cpus ≤ k → m.turns < 
 none_chosen g m k le early = line_chosen g m k le ∙
     ap (λ b. if b then [] else Makes (E.Raise (slice_index g.lines (k - g.cpus))) ∷ []) (lt-ltb m.turns g.from early)
 
-same_turns : (g : Scope) (m : Moment) (k : ℕ) → g.cpus ≤ k → turns_chosen g m k ≡ m.turns
+pub same_turns : (g : Scope) (m : Moment) (k : ℕ) → g.cpus ≤ k → turns_chosen g m k ≡ m.turns
 same_turns g m k le = ap (λ b. if b then turns_after g.from m.turns (turn_end m.world k) else m.turns)
     (le-ltb k g.cpus le)
 
-more_turns : (g : Scope) (m : Moment) (k : ℕ) → k < g.cpus
+pub more_turns : (g : Scope) (m : Moment) (k : ℕ) → k < g.cpus
     → turns_chosen g m k ≡ turns_after g.from m.turns (turn_end m.world k)
 more_turns g m k lt = ap (λ b. if b then turns_after g.from m.turns (turn_end m.world k) else m.turns)
     (lt-ltb k g.cpus lt)

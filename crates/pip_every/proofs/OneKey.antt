@@ -10,7 +10,7 @@ use Rattle.pip_model.specs.declared.processors.Occupant.{Occupant}
 use Rattle.pip_switch.specs.Rewinding.{rewritten}
 use Rattle.pip_model.proofs.Frames.Same.{frames-same}
 use Rattle.pip_search.specs.Summary.{HasOneKey, IsTold, Witness}
-use Rattle.pip_search.specs.declared.searching.Verdict.{Verdict}
+use Rattle.pip_search.specs.declared.searching.Extent.{Extent}
 use Rattle.pip_every.specs.Keys.{key_words, model_of, processor_words, running_words}
 use Rattle.pip_every.specs.Moments.{Moment, Scope}
 use Rattle.pip_every.specs.Laws.{KeysTellMoments, MomentsHaveOneKey}
@@ -90,7 +90,7 @@ one_key first g key other m k l =
     moments_have_one_key first g m m key other refl refl (record { frames = refl; word = λ f i fi ii. refl }) k l
 
 -- what is said of the same words and the same scope is said
-pub told_at : (a b : Memory) (s t : Scope) (m : Moment) (most limit : ℕ) (ws : List Witness) (count : ℕ) (v : Verdict)
+pub told_at : (a b : Memory) (s t : Scope) (m : Moment) (most limit : ℕ) (ws : List Witness) (count : ℕ) (v : Extent)
     → a ≡ b → s ≡ t → IsTold (model_of a s) m most limit ws count v → IsTold (model_of b t) m most limit ws count v
 told_at a b s t m most limit ws count v words scope h =
     subst (λ x. IsTold (model_of b x) m most limit ws count v) scope

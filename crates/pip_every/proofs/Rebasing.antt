@@ -7,8 +7,8 @@ use Rattle.pip_switch.specs.Rewinding.{rewritten}
 use Rattle.pip_search.specs.Naming.{AreDistinct}
 use Rattle.pip_search.specs.Summary.{AreCounted, HasAway, HasOneMore, IsAmong, IsAway, IsEnd, IsTold, Witness}
 use Rattle.pip_search.specs.Systems.{after_choices}
-use Rattle.pip_search.specs.declared.searching.Verdict.{Verdict}
-use Rattle.pip_search.specs.declared.searching.Verdict.TheVariants.{Closed, Stopped, Within}
+use Rattle.pip_search.specs.declared.searching.Extent.{Extent}
+use Rattle.pip_search.specs.declared.searching.Extent.TheVariants.{Closed, Stopped, Within}
 use Rattle.pip_every.specs.Keys.{IsKeyOf, key_words, model_of}
 use Rattle.pip_every.specs.Moments.{Moment, Scope}
 use Rattle.pip_every.proofs.Keying.{HasParts, parts}
@@ -179,7 +179,7 @@ module _ (a b : Memory) (g : Scope) (s : Moment) (ks os : List (List ℕ)) (of_a
     none = λ x. h.none (among_back (after_choices (model_of b g) s h.choices) x);
   }
 
-  counted : (v : Verdict) → AreCounted (model_of a g) s ks v → AreCounted (model_of b g) s os v
+  counted : (v : Extent) → AreCounted (model_of a g) s ks v → AreCounted (model_of b g) s os v
   counted v h = record {
     distinct = still_distinct a b g ks os of_b (sym count) paired h.distinct;
     reached = λ j other at.
@@ -189,7 +189,7 @@ module _ (a b : Memory) (g : Scope) (s : Moment) (ks os : List (List ℕ)) (of_a
     all = λ cs can covered. among (after_choices (model_of a g) s cs) (h.all cs can covered);
   }
 
-  ends : (most limit : ℕ) (v : Verdict) → IsEnd (model_of a g) s ks most limit v
+  ends : (most limit : ℕ) (v : Extent) → IsEnd (model_of a g) s ks most limit v
       → IsEnd (model_of b g) s os most limit v
   ends most limit (Closed depth) h =
       (h.0, (subst (λ n. n ≤ limit) (sym (as_many a b g ks os paired)) h.1.0, has_away depth h.1.1))
@@ -198,7 +198,7 @@ module _ (a b : Memory) (g : Scope) (s : Moment) (ks os : List (List ℕ)) (of_a
   ends most limit (Stopped depth) h = (h.0, (as_many a b g ks os paired ∙ h.1.0, one_more (depth + 1) h.1.1))
 
 -- what is told where the keys compare with one memory is told where they compare with another
-pub rebased : (a b : Memory) (g : Scope) (s : Moment) (most limit : ℕ) (ws : List Witness) (count : ℕ) (v : Verdict)
+pub rebased : (a b : Memory) (g : Scope) (s : Moment) (most limit : ℕ) (ws : List Witness) (count : ℕ) (v : Extent)
     → IsMemory a → IsMemory b → length a ≡ length b → IsTold (model_of a g) s most limit ws count v
     → IsTold (model_of b g) s most limit ws count v
 rebased a b g s most limit ws count v of_a of_b same h =

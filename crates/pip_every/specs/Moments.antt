@@ -8,7 +8,8 @@ use Rattle.pip_model.specs.Worlds.{World, boot_world_with}
 use Rattle.pip_model.specs.declared.turn_end.TurnEnd.{TurnEnd}
 use Rattle.pip_model.specs.declared.turn_end.TurnEnd.TheVariants as N
 
--- a world, and how many turns were made so far, counted no further than a search has to know
+-- a world, and how many turns were made so far, counted no further than a search has to know. Every step of a run is a
+-- turn, also that of a processor that runs nothing
 pub record Moment : Type 0 where
   pub world : World
   pub turns : ℕ
@@ -26,9 +27,10 @@ choice_acts g m k = if nat_lt k g.cpus then turn m.world k 0
     else if nat_lt m.turns g.from then []
     else Makes (E.Raise (slice_index g.lines (k - g.cpus))) ∷ []
 
--- how many turns were made after one that ended so. A turn of a processor that runs nothing isn't counted
+-- how many turns were made after one that ended so. One of a processor that runs nothing changes nothing else, and may
+-- be made again as often as one likes: so it stands for as many as have to be counted
 abbrev pub turns_after : ℕ → ℕ → TurnEnd → ℕ
-turns_after from n (N.Polled O.Idle) = n
+turns_after from n (N.Polled O.Idle) = from
 turns_after from n _ = if nat_lt n from then suc n else n
 
 -- how many turns were made after a choice

@@ -19,9 +19,6 @@ use pip_switch::Machine;
 use std::alloc::{AllocError, Global};
 use std::sync::ledger::Ledger;
 
-// Names the caller of a turn.
-struct Choosing;
-
 /// A machine that goes from moment to moment of a search. Its lines may be raised once `from` turns were made.
 #[derive(Drop)]
 pub(crate) struct Explorer<F: First, L: Ledger> {
@@ -35,12 +32,13 @@ pub(crate) struct Explorer<F: First, L: Ledger> {
     ghost few: { length lines.items ≤ 16 },
 }
 
-// How many turns were made after one that ended so, counted up to `from`. That of an idle processor isn't counted.
+// How many turns were made, up to `from`, after one more that ended like this. A processor that is idle can have its
+// turn again and again, so its turn stands for all that are left.
 fn turns_after(from: u32, turns: u32, end: TurnEnd) -> u32
     ensures { result ≡ moments.turns_after from turns end }
 {
     match end {
-        TurnEnd::Polled(Outcome::Idle) => turns,
+        TurnEnd::Polled(Outcome::Idle) => from,
         _ => { if turns < from { turns + 1 } else { turns } }
     }
 }
@@ -70,8 +68,7 @@ impl<F: First, L: Ledger> Explorer<F, L> {
         }
     }
 
-    /// Adds the key of the moments at which the machine is now, where that many turns were made. The only error is that
-    /// memory is out.
+    /// Adds the key of the moment that the machine is at, after `turns` turns. The only error is that memory is out.
     pub(crate) fn add_key(&mut self, turns: u32, to: &mut Vec<u32>) -> Result<(), AllocError>
         ensures key { IfOk result (λ _. to.new.items
             ≡ to.old.items ++ key_words F.words turns self.old.machine.cpus self.old.machine.memory) }
@@ -85,7 +82,7 @@ impl<F: First, L: Ledger> Explorer<F, L> {
         self.machine.mem().add_changes(to, &mut self.steps)
     }
 
-    // Takes the machine to the moments that have a key, and answers how many turns were made.
+    // Takes the machine to the moment of a key, and answers how many turns were made.
     fn go_to(&mut self, key: &[u32]) -> u32
         requires { IsKey (model_of F.words (machine_scope self.old.machine self.old.lines.items self.old.from))
             key.now }
@@ -102,8 +99,8 @@ impl<F: First, L: Ledger> Explorer<F, L> {
         key[0]
     }
 
-    // Makes a choice where that many turns were made, and answers how many were made then. What it shows is in the
-    // label. The only error is that memory is out.
+    // Makes a choice after `turns` turns, and answers how many were made then. What it shows is in the label. The only
+    // error is that memory is out.
     fn choose(&mut self, choice: u32, turns: u32) -> Result<u32, AllocError>
         requires choice { choice < length self.old.machine.cpus + length self.old.lines.items }
         requires opened { length self.old.machine.cpus ≤ choice → self.old.from ≤ turns }
@@ -122,7 +119,7 @@ impl<F: First, L: Ledger> Explorer<F, L> {
             return Ok(turns);
         }
         let machine = &mut self.machine;
-        match turn::<Choosing, Machine<Journal<F>>, Label, L>(
+        match turn::<(), Machine<Journal<F>>, Label, L>(
             machine,
             choice,
             0,

@@ -5,16 +5,16 @@ ghost use Rattle.pip_io.specs.Taken.{plain};
 use pip_io::{Failed, Sink};
 use std::alloc::Global;
 
-/// A sink that keeps all that is written. It fails only where memory is out.
+/// A sink that keeps all that is written. It fails only if memory is out.
 #[derive(Drop)]
-pub(crate) struct Label {
+pub struct Label {
     bytes: Vec<u8>,
     failed: u64,
 }
 
 impl Label {
     /// An empty one.
-    pub(crate) fn new(alloc: Global) -> Label
+    pub fn new(alloc: Global) -> Label
         ensures { result.bytes.items ≡ [] }
     {
         Label {
@@ -24,14 +24,14 @@ impl Label {
     }
 
     /// What was written.
-    pub(crate) fn bytes(&self) -> &[u8]
+    pub fn bytes(&self) -> &[u8]
         ensures { result.now ≡ self.now.bytes.items }
     {
         self.bytes.as_slice()
     }
 
     /// Forgets what was written, and keeps the room for it.
-    pub(crate) fn clear(&mut self)
+    pub fn clear(&mut self)
         ensures { self.new.bytes.items ≡ [] }
     {
         self.bytes.clear();

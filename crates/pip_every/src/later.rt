@@ -1,4 +1,4 @@
-//! Words that frames come to hold.
+//! Words that frames will hold later.
 ghost use Rattle.std.specs.Prelude.{◌≡◌, ◌<◌, ◌≤◌, IfOk, length};
 ghost use Rattle.pip_base.specs.Memory.{IsMemory};
 ghost use Rattle.pip_base.specs.Opening.{CanOpen};
@@ -14,13 +14,10 @@ use pip_switch::Machine;
 use std::alloc::{AllocError, Global};
 use std::sync::ledger::{Blank, Ledger};
 
-// Names the caller of a turn.
-struct Advancing;
-
 /// How many turns each processor has before words are noted.
-const TURNS: u32 = 125;
+const TURNS: u32 = 1000;
 
-/// How often words are noted.
+/// How many times words are noted.
 const TIMES: u32 = 4;
 
 // Has each processor take its turn. The only error is that memory is out.
@@ -31,7 +28,7 @@ fn advance<L: Ledger>(
 ) -> Result<(), AllocError> {
     for cpu in 0..machine.cpus() {
         label.clear();
-        match turn::<Advancing, Machine<RawFrames>, Label, L>(machine, cpu, 0, label, steps) {
+        match turn::<(), Machine<RawFrames>, Label, L>(machine, cpu, 0, label, steps) {
             Ok(_) => {}
             Err(_) => return Err(AllocError),
         }
@@ -78,9 +75,9 @@ fn note_words<L: Ledger>(from: &RawFrames, to: &mut RawFrames, steps: &mut Steps
     }
 }
 
-/// As many frames with words that these, which have booted, come to hold: of each word the last one that was noted. The
-/// keys of a search are short where they compare with these: tables that a root has built stay, and so do those that it
-/// takes down again. The only error is that memory is out.
+/// As many frames with words that this machine, which has booted, will hold later: of each word the last that isn't 0
+/// of those noted. Keys that compare with these are short: a root's tables stay once built, even those that it takes
+/// down again. The only error is that memory is out.
 pub(crate) fn words_later<L: Ledger>(
     alloc: Global,
     mem: &RawFrames,

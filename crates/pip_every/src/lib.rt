@@ -1,12 +1,23 @@
 //! The kernel as a system of states, and the search of all interleavings of its processors and lines.
+//!
+//! A state is a `Moment` (specs/Moments): a world, and a count up to FROM; `moment_after` is the choice of a
+//! processor's turn or of a line. A key (specs/Keys) has this count, the processors, and the words that differ from
+//! those of a later time. To make a choice, [`search`] takes its one machine to the key's moments, has it make its
+//! turn, and writes its next key; what it shows goes to a sink that grows. A machine represents every world that its
+//! frames lay out, so one run of the kernel is a step of each moment that has the key (`HasChosen` of specs/Choosing).
+//! [`part`] checks a part of a search in the same way, for a certificate.
 #![tactic(auto)]
 
 mod explorer;
 mod label;
 mod later;
 mod laws;
+mod parts;
 mod processors;
 mod searching;
 
+pub use label::Label;
 pub use laws::law_keys;
+pub use parts::part;
+pub use processors::{add_processors, read_processors};
 pub use searching::search;

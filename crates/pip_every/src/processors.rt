@@ -7,12 +7,10 @@ ghost use Rattle.pip_every.specs.Reading.{StartsWithOne, StartsWithAll};
 use arrayvec::ArrayVec;
 use pip_base::{Ctx, Frame};
 use pip_model::Occupant;
+use pip_switch::Processors;
 use std::alloc::AllocError;
 
-/// 1 to 4 processors, each with what it runs.
-pub(crate) type Processors = ArrayVec<Option<Occupant>, 4>;
-
-/// How many words a processor has where a partition runs on it: its name, its pc and its registers.
+/// How many words a processor has if a partition runs on it: its name, its pc and its registers.
 const RUNNING: usize = 18;
 
 // Adds the words of what runs on a processor. The only error is that memory is out.
@@ -33,7 +31,7 @@ fn add_running(runs: &Option<Occupant>, to: &mut Vec<u32>) -> Result<(), AllocEr
 }
 
 /// Adds the words of what runs on processors. The only error is that memory is out.
-pub(crate) fn add_processors(cpus: &[Option<Occupant>], to: &mut Vec<u32>) -> Result<(), AllocError>
+pub fn add_processors(cpus: &[Option<Occupant>], to: &mut Vec<u32>) -> Result<(), AllocError>
     ensures { IfOk result (λ _. to.new.items ≡ to.old.items ++ processor_words cpus.now) }
 {
     for runs in cpus {
@@ -72,7 +70,7 @@ fn read_running(words: &[u32]) -> (Option<Occupant>, &[u32])
 }
 
 /// What runs on `count` processors, by words that begin with theirs, and the words after them.
-pub(crate) fn read_processors(words: &[u32], count: u32) -> (Processors, &[u32])
+pub fn read_processors(words: &[u32], count: u32) -> (Processors, &[u32])
     requires begins { (os : List (Option Occupant)) × ((rest : List ℕ) × StartsWithAll words.now count os rest) }
     requires most { count ≤ 4 }
     ensures { (os : List (Option Occupant)) (rest : List ℕ) → StartsWithAll words.now count os rest

@@ -13,14 +13,14 @@ use crate::later::words_later;
 use pip_base::Steps;
 use pip_frames::{Frames, RawFrames};
 use pip_journal::{First, Journal};
-use pip_search::{Search, Verdict, explore};
+use pip_search::{Extent, Search, explore};
 use pip_switch::Machine;
 use std::alloc::{AllocError, Global};
 use std::marker::Brand;
 use std::sync::ledger::{Blank, Ledger};
 
-// `search` over a journal that compares with the words of the frames `later`, as many as those of the machine. The type
-// `F` stands for these words, and `L` for the ledger that counts the steps.
+// `search` over a journal whose first words are those of the frames `later`, as many as the machine's. The type `F`
+// stands for these words, and `L` for the ledger that counts the steps.
 fn search_from<F: First, L: Ledger>(
     alloc: Global,
     mem: RawFrames,
@@ -31,7 +31,7 @@ fn search_from<F: First, L: Ledger>(
     most: u32,
     limit: u32,
     blank: Blank,
-) -> Result<(Search, Verdict), AllocError>
+) -> Result<(Search, Extent), AllocError>
     requires first { ⟦<RawFrames as Frames>⟧.memory later ≡ F.words }
     requires shape { IsMemory F.words }
     requires count { length (⟦<RawFrames as Frames>⟧.memory mem) ≡ length F.words }
@@ -62,8 +62,8 @@ fn search_from<F: First, L: Ledger>(
 
 /// Searches what can happen to a machine over these frames, which have booted, with 1 to 4 processors. At each moment
 /// each processor may have its turn, and once `from` turns were made each of the lines may be raised, of which there
-/// are 16 at most, each below 16. The search ends where nothing new is found, with all moments to which `most` choices
-/// lead, or where there are more moments than `limit`, which isn't 0. The only error is that memory is out.
+/// are 16 at most, each below 16. The search ends if nothing new is found, after all moments that `most` choices lead
+/// to, or if there are more moments than `limit`, which isn't 0. The only error is that memory is out.
 pub fn search(
     alloc: Global,
     mem: RawFrames,
@@ -72,7 +72,7 @@ pub fn search(
     from: u32,
     most: u32,
     limit: u32,
-) -> Result<(Search, Verdict), AllocError>
+) -> Result<(Search, Extent), AllocError>
     requires booted { HasBooted (⟦<RawFrames as Frames>⟧.memory mem) }
     requires least { 1 ≤ cpus }
     requires most { cpus ≤ 4 }

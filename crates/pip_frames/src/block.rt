@@ -7,7 +7,7 @@ ghost use Rattle.pip_frames.specs.Ownership.{block_lent, block_owns, room_owns};
 use std::alloc::{AllocError, Allocator, Global};
 use std::marker::Model;
 
-/// `count` frames from `at` on, from 16 to 4096, in one block that the allocator gave.
+/// `count` frames, 16 to 4096, from `at` on, in one block that the allocator gave.
 pub(crate) struct Block {
     at: *mut [u32; 1024],
     count: usize,
@@ -23,7 +23,7 @@ impl Model for Block {
     ghost also_shares = { λ b _ κ. block_lent b.at b.count b.frames κ };
 }
 
-/// Room for `count` frames from `at` on, from 16 to 4096, of which nothing is written yet.
+/// Room for `count` frames, 16 to 4096, from `at` on, with nothing written yet.
 struct Room {
     at: *mut [u32; 1024],
     count: usize,
@@ -36,7 +36,7 @@ impl Model for Room {
 }
 
 /// Room for `count` frames, from 16 to 4096. The only error is that memory is out.
-// It promises that the room is as large as asked and ours alone, with the right to give it back.
+// It promises that the room is as large as asked and nobody else's, with the right to give it back.
 fn take(alloc: &Global, count: usize) -> Result<Room, AllocError>
     requires { (16 ≤ count) × (count ≤ 4096) }
     ensures { IfOk result (λ r. r.count ≡ count) }
@@ -51,7 +51,7 @@ fn take(alloc: &Global, count: usize) -> Result<Room, AllocError>
 }
 
 /// The block in that room, with these words in each frame.
-// It promises that every frame was written, so that none shows what lay in the room before.
+// It promises that every frame was written, so that none exposes old memory.
 fn fill(room: Room, words: [u32; 1024]) -> Block
     ensures { (result.count ≡ room.count) × (result.frames ≡ replicate room.count words) }
 {

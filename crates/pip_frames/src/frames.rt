@@ -46,6 +46,14 @@ pub trait Frames {
         ensures words { result.now ≡ frame_at (memory self.now) f }
         ensures steps { steps.new ≡ steps.old + 32 };
 
+    /// The words of frame `f`, lent for writing. `f` is below the number of frames. It then has what was left in them;
+    /// the other frames stay. That is 32 steps.
+    fn frame_mut<L: Ledger>(&mut self, f: Frame, steps: &mut Steps<L>) -> &mut [u32; 1024]
+        requires { f < length (memory self.old) }
+        ensures* writes_back { sem 𝓛 (Lends Self.row (Array u32 1024) self.entry result (put self.old f)) }
+        ensures words { result.now ≡ frame_at (memory self.old) f }
+        ensures steps { steps.new ≡ steps.old + 32 };
+
     /// The words of frame `read`, lent for reading, and those of frame `write`, lent for writing. The two are different
     /// frames below the number of frames. `write` then has what was written through the second; the other frames stay.
     /// That is 64 steps.

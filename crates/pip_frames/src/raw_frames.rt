@@ -73,6 +73,11 @@ impl Frames for RawFrames {
         self.block.frame(f.number() as usize)
     }
 
+    fn frame_mut<L: Ledger>(&mut self, f: Frame, steps: &mut Steps<L>) -> &mut [u32; 1024] {
+        steps.ticks(32);
+        self.block.frame_mut(f.number() as usize)
+    }
+
     fn pair<L: Ledger>(
         &mut self,
         read: Frame,

@@ -70,6 +70,11 @@ impl Frames for VecFrames {
         &self.frames[f.number() as usize]
     }
 
+    fn frame_mut<L: Ledger>(&mut self, f: Frame, steps: &mut Steps<L>) -> &mut [u32; 1024] {
+        steps.ticks(32);
+        &mut self.frames[f.number() as usize]
+    }
+
     fn pair<L: Ledger>(
         &mut self,
         read: Frame,

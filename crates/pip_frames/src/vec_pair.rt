@@ -7,8 +7,8 @@ use std::alloc::Allocator;
 
 /// The item at `read` to read, and the one at `write` to write, of a vector whose items lie from `at` on.
 // Proved by hand: the check follows a returned borrow back to a field or to one call's result, and an item from each
-// half of `split_at_mut` is neither. It promises that each shows what the vector held there, and that the vector ends
-// with what is left in the second.
+// half of `split_at_mut` is neither. It promises that each loan has what the vector held there, and that the vector
+// ends with what is left in the second.
 fn item_pair_at<T, B: Allocator>(
     items: &mut Vec<T, B>,
     at: *mut T,

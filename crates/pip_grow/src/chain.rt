@@ -13,7 +13,7 @@ use pip_kern::{is_free, is_writable, row_at};
 use pip_space::Row;
 use std::sync::ledger::Ledger;
 
-/// The pages of a table, of the MMU and of both shadows, and a further list page where the child needs one.
+/// The pages of the three tables of a directory index, and a further list page if the child needs one.
 #[derive(Clone, Copy, Debug, PartialEq, Eq)]
 pub(crate) struct TablePages {
     pub(crate) mmu: Pair,
@@ -51,8 +51,8 @@ fn check_row(row: &Row) -> Result<(), Status>
     Ok(())
 }
 
-// The page that the caller has at an address where it may be the next of a chain, or the status of the first test that
-// isn't passed. `seen` are the addresses before it, the last first.
+// The page that the caller has at an address, if it may be the next of a chain, else the status of the first test that
+// fails. `seen` are the addresses before it, the last first.
 fn check_page<M: Frames, L: Ledger>(
     mem: &M,
     caller: Frame,
@@ -74,8 +74,8 @@ fn check_page<M: Frames, L: Ledger>(
     })
 }
 
-/// The pages of the chain from the address `first` on, or the status of the first test that isn't passed. There are
-/// `count` of them, 3 or 4. Word 0 of the last isn't read.
+/// The pages of the chain from the address `first` on, or the status of the first test that fails. There are `count` of
+/// them, 3 or 4. Word 0 of the last isn't read.
 pub(crate) fn check_chain<M: Frames, L: Ledger>(
     mem: &M,
     caller: Frame,

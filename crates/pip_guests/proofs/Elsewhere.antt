@@ -129,7 +129,7 @@ pub name_after : (p : ℕ) (t u : Tree) → IsSound t → IsSound u → IsName t
 name_after p t u s r n a = line_name u p p (line_alike t u p s r a p (own_line t s p n))
 
 -- what runs, where one processor changes from what is not of the guest to what isn't either
-kept_by : (p cpu : ℕ) (w v : World) → IsSoundWorld w → IsSoundWorld v → IsName w.tree p → AgreeTrees p w.tree v.tree
+pub kept_by : (p cpu : ℕ) (w v : World) → IsSoundWorld w → IsSoundWorld v → IsName w.tree p → AgreeTrees p w.tree v.tree
     → ((i : ℕ) → i ≢ cpu → runs_on v i ≡ runs_on w i)
     → ((z : Occupant) → runs_on w cpu ≡ Some z → In p (ancestry w.tree z.name) → ⊥)
     → ((z : Occupant) → runs_on v cpu ≡ Some z → In p (ancestry w.tree z.name) → ⊥) → Kept p w v

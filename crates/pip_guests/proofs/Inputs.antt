@@ -111,7 +111,7 @@ guests_depend_on_inputs w v p es fs s s' n m g all all' r = let h = run_alike p 
 -- ---- entries
 
 -- an event of a partition that is not of the guest is none of the guest's
-not_guests : (w : World) (p : ℕ) (e : Event) → (In p (ancestry w.tree (actor w e)) → ⊥)
+pub not_guests : (w : World) (p : ℕ) (e : Event) → (In p (ancestry w.tree (actor w e)) → ⊥)
     → (is_own e && has (ancestry w.tree (actor w e)) p) ≡ false
 not_guests w p e h = go (is_own e)
   where
@@ -120,7 +120,7 @@ not_guests w p e h = go (is_own e)
     go false = refl
 
 -- a save to no page of the guest leaves its words
-saved_apart : (t : Tree) (c : Ctx) (q : Reached) (g j : ℕ) → ((h i : ℕ) → q ≡ Place h i → h ≢ g)
+pub saved_apart : (t : Tree) (c : Ctx) (q : Reached) (g j : ℕ) → ((h i : ℕ) → q ≡ Place h i → h ≢ g)
     → word_of ((saved_to t c q).words g) j ≡ word_of (t.words g) j
 saved_apart t c q g j d = go (t.words g) q d
   where
@@ -132,7 +132,7 @@ saved_apart t c q g j d = go (t.words g) q d
         ap (λ b. cond (b && (nat_le i j && nat_lt j (i + 17))) (context_word c (j - i)) (w j)) (ne_eqb h g (d h i refl))
 
 -- nor does the mask of the root matter
-yielded_agrees : (t : Tree) (p s : ℕ) (r : Occupant) → IsSound t → p ≢ t.root.name → ((g i : ℕ)
+pub yielded_agrees : (t : Tree) (p s : ℕ) (r : Occupant) → IsSound t → p ≢ t.root.name → ((g i : ℕ)
     → yield_place t r.name s ≡ Place g i → In g (row_pages (node t p)) → ⊥) → AgreeTrees p t (yielded_tree t r s)
 yielded_agrees t p s r sound m apart =
     let u = saved_to t (with_zeros r.ctx) (yield_place t r.name s) in

@@ -59,11 +59,11 @@ module _ (w : World) (p cpu : ℕ) (r : Occupant) (x a b : ℕ) (k : runs_on w c
       let d : q ≡ z = cc in
       h (subst (λ c. In p (ancestry w.tree c)) (ap (λ z. z.name) (sym d)) i)
 
-record Left (p cpu : ℕ) (u : Tree) (a b : Happened) : Type 0 where
-  trees : AgreeTrees p a.world.tree b.world.tree
-  leaves : Leaves u p b.outcome
-  off : (z : Occupant) → runs_on a.world cpu ≡ Some z → In p (ancestry a.world.tree z.name) → ⊥
-  off_there : (z : Occupant) → runs_on b.world cpu ≡ Some z → In p (ancestry b.world.tree z.name) → ⊥
+pub record Left (p cpu : ℕ) (u : Tree) (a b : Happened) : Type 0 where
+  pub trees : AgreeTrees p a.world.tree b.world.tree
+  pub leaves : Leaves u p b.outcome
+  pub off : (z : Occupant) → runs_on a.world cpu ≡ Some z → In p (ancestry a.world.tree z.name) → ⊥
+  pub off_there : (z : Occupant) → runs_on b.world cpu ≡ Some z → In p (ancestry b.world.tree z.name) → ⊥
 
 module _ (w v : World) (p cpu : ℕ) (r : Occupant) (s : IsSoundWorld w) (s' : IsSoundWorld v) (g : IsSameGuest p w v)
     (m : p ≢ w.tree.root.name) (k : runs_on w cpu ≡ Some r) (h : In p (ancestry w.tree r.name)) where
@@ -130,7 +130,7 @@ module _ (w v : World) (p cpu : ℕ) (r : Occupant) (s : IsSoundWorld w) (s' : I
 
 module _ (w v : World) (p : ℕ) (s : IsSoundWorld w) (s' : IsSoundWorld v) (g : IsSameGuest p w v)
     (m : p ≢ w.tree.root.name) where
-  event_left : (e : Event) (r : Occupant) → can_fault e ≡ true → runs_on w (cpu_of e) ≡ Some r → In p
+  pub event_left : (e : Event) (r : Occupant) → can_fault e ≡ true → runs_on w (cpu_of e) ≡ Some r → In p
       (ancestry w.tree r.name) → Leaves w.tree p (event w e).outcome → Left p (cpu_of e) v.tree (event w e) (event v e)
   event_left (E.Load cpu va z) r o k h lv = of_event w v p cpu r s s' g m k h (E.Load cpu va z) _ _ (load_by w r cpu va
       z k) (load_by v r cpu va z (g.runs cpu r h k)) (loaded_left w v p cpu r s s' g m k h va Load z) lv

@@ -134,7 +134,7 @@ module _ (cpu t r : ℕ) where
   fetched_bare w (O.Parked from k) = moved_bare (O.Parked from k)
   fetched_bare w O.Idle = moved_bare O.Idle
 
-  fetch_bare : (w : World)
+  pub fetch_bare : (w : World)
       → map (without_head here) (fetch_acts w t cpu) ≡ map (without_head there) (fetch_acts w r cpu)
   fetch_bare w =
       ap (λ l. Makes (E.Fetch cpu) ∷ l) (fetched_bare (world_of w (E.Fetch cpu)) (outcome_of w (E.Fetch cpu)))
@@ -148,16 +148,16 @@ module _ (cpu t r : ℕ) where
   polled_bare w (O.Reply s u) = fetch_bare w
   polled_bare w (O.Parked from k) = fetch_bare w
 
-  turn_bare : (w : World) → map (without_head here) (turn w cpu t) ≡ map (without_head there) (turn w cpu r)
+  pub turn_bare : (w : World) → map (without_head here) (turn w cpu t) ≡ map (without_head there) (turn w cpu r)
   turn_bare w = ap (λ l. Makes (E.Poll cpu) ∷ l) (polled_bare (world_of w (E.Poll cpu)) (outcome_of w (E.Poll cpu)))
 
 -- without their heads the events are the same
-bare_events : (s : Slot) (acts : List Act) → events_made (map (without_head s) acts) ≡ events_made acts
+pub bare_events : (s : Slot) (acts : List Act) → events_made (map (without_head s) acts) ≡ events_made acts
 bare_events s [] = refl
 bare_events s (Makes e ∷ acts) = ap (λ es. e ∷ es) (bare_events s acts)
 bare_events s (Writes line ∷ acts) = bare_events s acts
 
-turn_after : (w : World) (cpu t r : ℕ) → after_acts w (turn w cpu t) ≡ after_acts w (turn w cpu r)
+pub turn_after : (w : World) (cpu t r : ℕ) → after_acts w (turn w cpu t) ≡ after_acts w (turn w cpu r)
 turn_after w cpu t r =
     after-events w (turn w cpu t)
     ∙ ap (after w) (sym (bare_events (record { step = t; cpu = cpu }) (turn w cpu t))

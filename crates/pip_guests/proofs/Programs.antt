@@ -38,7 +38,7 @@ use Rattle.pip_guests.proofs.Together.{Both, guest_elsewhere, name_there, next, 
 -- ---- two guests side by side
 
 -- events of the first that stay inside
-both_after : (p q : ℕ) (es : List Event) (w u v : World) → Both p q w u v → AllByRecursion IsEvent es
+pub both_after : (p q : ℕ) (es : List Event) (w u v : World) → Both p q w u v → AllByRecursion IsEvent es
     → AllStayInside p u es → Both p q (after w es) (after u es) v
 both_after p q [] w u v b all i = b
 both_after p q (e ∷ es) w u v b all i =
@@ -124,12 +124,12 @@ runs_both p q s w u v b i = let (r, k, h) = turn_runs u p s.cpu s.step b.left_so
 -- ---- a guest's turns among others, and alone
 
 module _ (plans : List Plan) where
-  record RunAlone (p : ℕ) (w u : World) (ss xs : List Slot) : Type 0 where
-    acts : own_turns plans p w ss ≡ turns u xs
-    guest : IsSameGuest p (after_acts w (all_steps plans w ss)) (after_acts u (turns u xs))
+  pub record RunAlone (p : ℕ) (w u : World) (ss xs : List Slot) : Type 0 where
+    pub acts : own_turns plans p w ss ≡ turns u xs
+    pub guest : IsSameGuest p (after_acts w (all_steps plans w ss)) (after_acts u (turns u xs))
 
   -- the world after a step and further ones
-  after_step : (w : World) (s : Slot) (ss : List Slot) → after_acts w (all_steps plans w (s ∷ ss))
+  pub after_step : (w : World) (s : Slot) (ss : List Slot) → after_acts w (all_steps plans w (s ∷ ss))
       ≡ after_acts (next_world plans w s) (all_steps plans (next_world plans w s) ss)
   after_step w s ss =
       let rest = all_steps plans (next_world plans w s) ss in
@@ -137,7 +137,7 @@ module _ (plans : List Plan) where
       ∙ ap (λ v. after_acts v rest) (after-append w (raises plans s.step) (turn_of (ready plans w s) s))
 
   -- a turn of the guest, and one of another
-  own_turn : (p : ℕ) (s : Slot) (ss xs : List Slot) (w u : World)
+  pub own_turn : (p : ℕ) (s : Slot) (ss xs : List Slot) (w u : World)
       → has (ancestry (ready plans w s).tree (actor (ready plans w s) (E.Poll s.cpu))) p ≡ true
       → turn_of (ready plans w s) s ≡ turn_of u s → RunAlone p (next_world plans w s) (after_acts u (turn_of u s)) ss xs
       → RunAlone p w u (s ∷ ss) (s ∷ xs)
@@ -149,7 +149,7 @@ module _ (plans : List Plan) where
         (sym (after-append u (turn_of u s) (turns (after_acts u (turn_of u s)) xs))) h.guest);
   }
 
-  other_turn : (p : ℕ) (s : Slot) (ss xs : List Slot) (w u : World)
+  pub other_turn : (p : ℕ) (s : Slot) (ss xs : List Slot) (w u : World)
       → has (ancestry (ready plans w s).tree (actor (ready plans w s) (E.Poll s.cpu))) p ≡ false
       → RunAlone p (next_world plans w s) u ss xs → RunAlone p w u (s ∷ ss) xs
   other_turn p s ss xs w u others h = record {
@@ -273,11 +273,11 @@ programs_run_as_alone plans p q w ss xs ys g due =
 -- ---- others left out
 
 -- events that leave a guest the same
-record KeptList (p : ℕ) (w v : World) : Type 0 where
-  sound : IsSoundWorld v
-  name : IsName v.tree p
-  not_root : p ≢ v.tree.root.name
-  guest : IsSameGuest p w v
+pub record KeptList (p : ℕ) (w v : World) : Type 0 where
+  pub sound : IsSoundWorld v
+  pub name : IsName v.tree p
+  pub not_root : p ≢ v.tree.root.name
+  pub guest : IsSameGuest p w v
 
 apart_list : (p : ℕ) (es : List Event) (w : World) → IsSoundWorld w → IsName w.tree p → p ≢ w.tree.root.name
     → AllStayApart p w es → KeptList p w (after w es)
@@ -294,12 +294,13 @@ apart_list p (e ∷ es) w s n m h =
     }
 
 -- acts of others
-apart_acts : (p : ℕ) (acts : List Act) (w : World) → IsSoundWorld w → IsName w.tree p → p ≢ w.tree.root.name
+pub apart_acts : (p : ℕ) (acts : List Act) (w : World) → IsSoundWorld w → IsName w.tree p → p ≢ w.tree.root.name
     → AllStayApart p w (events_made acts) → KeptList p w (after_acts w acts)
 apart_acts p acts w s n m h =
     subst (KeptList p w) (sym (after-events w acts)) (apart_list p (events_made acts) w s n m h)
 
-raises_apart : (p : ℕ) (plans : List Plan) (t : ℕ) (w : World) → IsSoundWorld w → IsName w.tree p → p ≢ w.tree.root.name
+pub raises_apart : (p : ℕ) (plans : List Plan) (t : ℕ) (w : World) → IsSoundWorld w → IsName w.tree p
+    → p ≢ w.tree.root.name
     → AllByRecursion (λ x. x.line < 16) plans → AllStayApart p w (events_made (raises plans t))
 raises_apart p [] t w s n m all = tt
 raises_apart p (x ∷ xs) t w s n m all = go (is_due x t) (λ z sz nz mz. raises_apart p xs t z sz nz mz all.1)
@@ -403,7 +404,7 @@ other_turns_do_not_matter plans p w ss s n m quiet lines fit =
 -- ---- lines that are not taken
 
 -- lines below 16 are raised by events
-raises_are : (plans : List Plan) (t : ℕ) → AllByRecursion (λ x. x.line < 16) plans
+pub raises_are : (plans : List Plan) (t : ℕ) → AllByRecursion (λ x. x.line < 16) plans
     → AllByRecursion IsEvent (events_made (raises plans t))
 raises_are [] t all = tt
 raises_are (x ∷ xs) t all = go (is_due x t) (raises_are xs t all.1)

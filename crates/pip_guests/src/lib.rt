@@ -1,6 +1,8 @@
-//! The laws of whole guests: docs/GUARANTEES.md, "Whole guests". They compute nothing: what each says is its contract.
+//! The laws of whole guests, in the model and for machines: docs/GUARANTEES.md, "Whole guests". They compute nothing:
+//! what each says is its contract.
 #![tactic(auto)]
 
+ghost use Rattle.pip_guests.specs.Ancestors.{AncestorsLeaveGuestsAlone, AncestorsOnMachines};
 ghost use Rattle.pip_guests.specs.Guests.{EventsAreKnown, GuestsAreLeftAlike, GuestsDependOnThemselves};
 ghost use Rattle.pip_guests.specs.Guests.{GuestsLeaveOthersAlone, GuestsRunAsAlone, IsInside};
 ghost use Rattle.pip_guests.specs.Guests.{OthersDoNotMatterToGuests, OthersLeaveGuestsAlone};
@@ -34,6 +36,14 @@ pub fn law_inputs()
     ensures interrupts { InterruptsAreInputs }
 {}
 
+/// What partitions above do that is no matter of a guest: loads, stores to pages that it doesn't have, calls that
+/// concern another child, yields elsewhere, and faults, traps and lines by which their context goes to none of its
+/// pages.
+pub fn law_ancestors()
+    ensures model { AncestorsLeaveGuestsAlone }
+    ensures machines { AncestorsOnMachines }
+{}
+
 /// Guests that run programs, as long as no interrupt line is taken.
 pub fn law_programs()
     ensures turns { TurnsDependOnGuests }
@@ -59,7 +69,7 @@ pub fn law_guests_of_machines()
     ensures inputs { MachinesDependOnInputs }
 {}
 
-/// What stays inside is no more than it is: one thing more let in, and a law is false.
+/// 'Inside' can't be widened: admit one more case, and a law is false.
 pub fn law_limits()
     ensures inside { OutcomesDepend IsInside }
     ensures parked { ParkedIsNotInside }

@@ -122,7 +122,7 @@ count_coming h p b none bs ps is =
     (ap (λ t. t.fault) all_parts ∙ after_fault (map Holds ps) no_more_parts)
     ∙ b.pages
 
--- what `header` and then `load_image` took is an image, and its pages are in memory
+-- what `header` and then `load_from_joint` took is an image, and its pages are in memory
 pub record Holding (a c : Option (List ℕ)) (h : Header) (m : List (List ℕ)) : Type 0 where
   pub input : List ℕ
   pub read : Consumes a c input

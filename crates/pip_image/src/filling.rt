@@ -1,6 +1,7 @@
 //! Buffers that are filled from a source.
 ghost use Rattle.std.specs.Prelude.{◌≡◌, ◌≤◌, [], length};
-ghost use Rattle.pip_io.specs.Pacing.{MayRead};
+ghost use Rattle.pip_io.specs.Moments.{joined};
+ghost use Rattle.pip_io.specs.Pacing.{MayReadOn};
 ghost use Rattle.pip_image.specs.Filling.{IsFilled};
 ghost use Rattle.pip_image.specs.Pacing.{IsUnfilled};
 ghost use Rattle.pip_image.specs.Reading.{fault_of};
@@ -67,8 +68,8 @@ pub fn fill<S: Source, K: Sink>(
     requires sought { IsSought sought.now }
     requires is_open { S.is_open joint.old.source.now }
     requires settled { (K.written joint.old.sink.now).held ≡ [] }
-    requires paced { MayRead S.allows (IsUnfilled (length buf.old) sought.now) (S.left joint.old.source.now)
-        (S.faults joint.old.source.now) (K.written joint.old.sink.now) (K.faults joint.old.sink.now) }
+    requires paced { MayReadOn S.allows (IsUnfilled (length buf.old) sought.now)
+        (joined S.left S.faults K.written K.faults joint.old) }
     ensures same_source { joint.new.source.ghost_name ≡ joint.old.source.ghost_name }
     ensures sink { joint.new.sink ≡ joint.old.sink }
     ensures filled { IsFilled (is_wrong sought.now) result buf.new (S.left joint.old.source.now)

@@ -4,23 +4,22 @@ ghost use Rattle.pip_model.specs.Boot.{boot_tree, frame_of_root};
 ghost use Rattle.pip_model.specs.Images.{has_row};
 ghost use Rattle.pip_model.specs.Layout.{LaysOut};
 ghost use Rattle.pip_model.specs.Tree.{Tree};
-ghost use Rattle.pip_io.specs.Pacing.{MayRead};
+ghost use Rattle.pip_io.specs.Moments.{joined};
+ghost use Rattle.pip_io.specs.Pacing.{MayReadOn};
 ghost use Rattle.pip_image.specs.Coming.{coming, IsAfter};
 ghost use Rattle.pip_image.specs.Loading.{AreWords, LoadsAll, LoadsUpTo, with_page};
 ghost use Rattle.pip_image.specs.Pacing.{IsFaultless};
 
 use crate::header::Header;
-use crate::reader::ImageReader;
+use crate::reader::JointReader;
 use pip_base::{Frame, VPage, WORDS};
 use pip_frames::Frames;
 use pip_io::{Joint, Sink, Source};
 use pip_model::{ImageError, root_frame};
 
-/// Reads the pages of an image into the frames that the root has at their vpages. The memory is that of a machine that
-/// has just begun; the reader's `header` answered `head`, and no page was read yet. After an error the pages before it
-/// are loaded.
-pub fn load_image<S: Source, K: Sink, M: Frames>(
-    reader: &mut ImageReader,
+/// `load_image` over a source that is joined with a sink.
+pub fn load_from_joint<S: Source, K: Sink, M: Frames>(
+    reader: &mut JointReader,
     joint: &mut Joint<'_, S, K>,
     head: &Header,
     mem: &mut M,
@@ -30,15 +29,14 @@ pub fn load_image<S: Source, K: Sink, M: Frames>(
     requires boot { LaysOut (boot_tree head.now.frames) (M.memory mem.old) }
     requires is_open { S.is_open joint.old.source.now }
     requires settled { (K.written joint.old.sink.now).held ≡ [] }
-    requires paced { MayRead S.allows (IsFaultless (coming reader.old.place)) (S.left joint.old.source.now)
-        (S.faults joint.old.source.now) (K.written joint.old.sink.now) (K.faults joint.old.sink.now) }
+    requires paced { MayReadOn S.allows (IsFaultless (coming reader.old.place))
+        (joined S.left S.faults K.written K.faults joint.old) }
     ensures same_source { joint.new.source.ghost_name ≡ joint.old.source.ghost_name }
     ensures sink { joint.new.sink ≡ joint.old.sink }
-    ensures loaded { MatchResult result
-        (λ _. LoadsAll head.now.frames (coming reader.old.place) (S.left joint.old.source.now)
-        (S.left joint.new.source.now) (M.memory mem.new))
-        (LoadsUpTo head.now.frames (coming reader.old.place) (S.left joint.old.source.now) (S.left joint.new.source.now)
-        (S.faults joint.old.source.now) (S.faults joint.new.source.now) (M.memory mem.new)) }
+    ensures loaded { let a = joined S.left S.faults K.written K.faults joint.old in
+        let b = joined S.left S.faults K.written K.faults joint.new in
+        MatchResult result (λ _. LoadsAll head.now.frames (coming reader.old.place) a.left b.left (M.memory mem.new))
+        (LoadsUpTo head.now.frames (coming reader.old.place) a.left b.left a.reads b.reads (M.memory mem.new)) }
     ensures later { S.faults joint.old.source.now ≤ S.faults joint.new.source.now }
     ensures calm { OnOk result (S.faults joint.new.source.now ≡ S.faults joint.old.source.now) }
     ensures count { length (M.memory mem.new) ≡ length (M.memory mem.old) }

@@ -1,7 +1,8 @@
 //! A reader of images.
 ghost use Rattle.std.specs.Prelude.{◌≡◌, ◌+◌, ◌≤◌, ◌<◌, ◌∷◌, [], MatchResult, MatchOption, IfOk, IfSome, OnOk, nat_lt};
 ghost use Rattle.pip_model.specs.Images.{Head, Line, Holds, image_parts};
-ghost use Rattle.pip_io.specs.Pacing.{MayRead};
+ghost use Rattle.pip_io.specs.Moments.{joined};
+ghost use Rattle.pip_io.specs.Pacing.{MayReadOn};
 ghost use Rattle.pip_image.specs.Coming.{coming, IsNew, IsAfter, IsHeader, IsNextPage, header_parts};
 ghost use Rattle.pip_image.specs.Pacing.{IsHeaderless, IsPartless};
 ghost use Rattle.pip_image.specs.Reading.{TakesParts, EndsInput, Refuses, RefusesHeader};
@@ -17,19 +18,19 @@ use pip_base::{Plan, VPage};
 use pip_io::{Joint, Sink, Source};
 use pip_model::ImageError;
 
-/// Reads an image: first the fields, then the plans, then the pages. Each call is given the source, with a sink that
-/// holds nothing, and reads no further than its part needs.
+/// Reads an image: first the fields, then the plans, then the pages. Each call is given the source, joined with a sink
+/// that holds nothing, and reads no further than its part needs.
 #[derive(Drop)]
-pub struct ImageReader {
+pub struct JointReader {
     place: Place,
 }
 
-impl ImageReader {
+impl JointReader {
     /// A reader that has read nothing.
-    pub fn new() -> ImageReader
+    pub fn new() -> JointReader
         ensures { IsNew result.place }
     {
-        ImageReader {
+        JointReader {
             place: Place::new(),
         }
     }
@@ -43,15 +44,13 @@ impl ImageReader {
         requires new { IsNew self.old.place }
         requires is_open { S.is_open joint.old.source.now }
         requires settled { (K.written joint.old.sink.now).held ≡ [] }
-        requires paced { MayRead S.allows IsHeaderless (S.left joint.old.source.now) (S.faults joint.old.source.now)
-            (K.written joint.old.sink.now) (K.faults joint.old.sink.now) }
+        requires paced { MayReadOn S.allows IsHeaderless (joined S.left S.faults K.written K.faults joint.old) }
         ensures same_source { joint.new.source.ghost_name ≡ joint.old.source.ghost_name }
         ensures sink { joint.new.sink ≡ joint.old.sink }
-        ensures reads { MatchResult result
-            (λ h. TakesParts image_parts (coming self.new.place) (header_parts h)
-            (S.left joint.old.source.now) (S.left joint.new.source.now))
-            (RefusesHeader image_parts (S.left joint.old.source.now) (S.left joint.new.source.now)
-            (S.faults joint.old.source.now) (S.faults joint.new.source.now)) }
+        ensures reads { let a = joined S.left S.faults K.written K.faults joint.old in
+            let b = joined S.left S.faults K.written K.faults joint.new in
+            MatchResult result (λ h. TakesParts image_parts (coming self.new.place) (header_parts h) a.left b.left)
+            (RefusesHeader image_parts a.left b.left a.reads b.reads) }
         ensures plans { IfOk result (λ _. self.new.place.plans ≡ 0) }
         ensures place { IfOk result (λ h. IsAfter h self.new.place) }
         ensures limits { IfOk result IsHeader }
@@ -88,16 +87,15 @@ impl ImageReader {
         requires new { IsNew self.old.place }
         requires is_open { S.is_open joint.old.source.now }
         requires settled { (K.written joint.old.sink.now).held ≡ [] }
-        requires paced { MayRead S.allows (IsPartless image_parts) (S.left joint.old.source.now)
-            (S.faults joint.old.source.now)
-            (K.written joint.old.sink.now) (K.faults joint.old.sink.now) }
+        requires paced { MayReadOn S.allows (IsPartless image_parts)
+            (joined S.left S.faults K.written K.faults joint.old) }
         ensures same_source { joint.new.source.ghost_name ≡ joint.old.source.ghost_name }
         ensures sink { joint.new.sink ≡ joint.old.sink }
-        ensures reads { MatchResult result
-            (λ f. TakesParts image_parts (coming self.new.place) (Head (fields_seen f) ∷ [])
-            (S.left joint.old.source.now) (S.left joint.new.source.now))
-            (Refuses image_parts [] (S.left joint.old.source.now) (S.left joint.new.source.now)
-            (S.faults joint.old.source.now) (S.faults joint.new.source.now)) }
+        ensures reads { let a = joined S.left S.faults K.written K.faults joint.old in
+            let b = joined S.left S.faults K.written K.faults joint.new in
+            MatchResult result
+            (λ f. TakesParts image_parts (coming self.new.place) (Head (fields_seen f) ∷ []) a.left b.left)
+            (Refuses image_parts [] a.left b.left a.reads b.reads) }
         ensures plans { IfOk result (λ f. self.new.place.plans ≡ f.plans) }
         ensures limits { IfOk result HasFieldsWithin }
         ensures line { OnOk result (self.new.place.line ≡ 0) }
@@ -126,16 +124,15 @@ impl ImageReader {
         requires plans { 0 < self.old.place.plans }
         requires is_open { S.is_open joint.old.source.now }
         requires settled { (K.written joint.old.sink.now).held ≡ [] }
-        requires paced { MayRead S.allows (IsPartless (coming self.old.place)) (S.left joint.old.source.now)
-            (S.faults joint.old.source.now)
-            (K.written joint.old.sink.now) (K.faults joint.old.sink.now) }
+        requires paced { MayReadOn S.allows (IsPartless (coming self.old.place))
+            (joined S.left S.faults K.written K.faults joint.old) }
         ensures same_source { joint.new.source.ghost_name ≡ joint.old.source.ghost_name }
         ensures sink { joint.new.sink ≡ joint.old.sink }
-        ensures reads { MatchResult result
-            (λ p. TakesParts (coming self.old.place) (coming self.new.place) (Line p ∷ [])
-            (S.left joint.old.source.now) (S.left joint.new.source.now))
-            (Refuses (coming self.old.place) [] (S.left joint.old.source.now) (S.left joint.new.source.now)
-            (S.faults joint.old.source.now) (S.faults joint.new.source.now)) }
+        ensures reads { let a = joined S.left S.faults K.written K.faults joint.old in
+            let b = joined S.left S.faults K.written K.faults joint.new in
+            MatchResult result
+            (λ p. TakesParts (coming self.old.place) (coming self.new.place) (Line p ∷ []) a.left b.left)
+            (Refuses (coming self.old.place) [] a.left b.left a.reads b.reads) }
         ensures plans { IfOk result (λ _. self.new.place.plans + 1 ≡ self.old.place.plans) }
         ensures line { IfOk result (λ p. (self.old.place.line ≤ p.line) × (p.line < 16)
             × (self.new.place.line ≡ p.line + 1)) }
@@ -169,19 +166,16 @@ impl ImageReader {
         requires plans { self.old.place.plans ≡ 0 }
         requires is_open { S.is_open joint.old.source.now }
         requires settled { (K.written joint.old.sink.now).held ≡ [] }
-        requires paced { MayRead S.allows (IsPartless (coming self.old.place)) (S.left joint.old.source.now)
-            (S.faults joint.old.source.now)
-            (K.written joint.old.sink.now) (K.faults joint.old.sink.now) }
+        requires paced { MayReadOn S.allows (IsPartless (coming self.old.place))
+            (joined S.left S.faults K.written K.faults joint.old) }
         ensures same_source { joint.new.source.ghost_name ≡ joint.old.source.ghost_name }
         ensures sink { joint.new.sink ≡ joint.old.sink }
-        ensures reads { MatchResult result
-            (λ r. MatchOption r
-            (EndsInput (coming self.old.place) (S.left joint.old.source.now) (S.left joint.new.source.now))
+        ensures reads { let a = joined S.left S.faults K.written K.faults joint.old in
+            let b = joined S.left S.faults K.written K.faults joint.new in
+            MatchResult result (λ r. MatchOption r (EndsInput (coming self.old.place) a.left b.left)
             (λ v. TakesParts (coming self.old.place) (coming self.new.place)
-            (Holds (record { vpage = v; words = words.new }) ∷ [])
-            (S.left joint.old.source.now) (S.left joint.new.source.now)))
-            (Refuses (coming self.old.place) [] (S.left joint.old.source.now) (S.left joint.new.source.now)
-            (S.faults joint.old.source.now) (S.faults joint.new.source.now)) }
+            (Holds (record { vpage = v; words = words.new }) ∷ []) a.left b.left))
+            (Refuses (coming self.old.place) [] a.left b.left a.reads b.reads) }
         ensures plans { self.new.place.plans ≡ 0 }
         ensures frames { self.new.place.frames ≡ self.old.place.frames }
         ensures pages { IfOk result (λ r. IfSome r (λ _. self.new.place.pages + 1 ≡ self.old.place.pages)) }
@@ -204,16 +198,15 @@ impl ImageReader {
         requires pages { self.old.place.pages ≡ 0 }
         requires is_open { S.is_open joint.old.source.now }
         requires settled { (K.written joint.old.sink.now).held ≡ [] }
-        requires paced { MayRead S.allows (IsPartless (coming self.old.place)) (S.left joint.old.source.now)
-            (S.faults joint.old.source.now)
-            (K.written joint.old.sink.now) (K.faults joint.old.sink.now) }
+        requires paced { MayReadOn S.allows (IsPartless (coming self.old.place))
+            (joined S.left S.faults K.written K.faults joint.old) }
         ensures same_source { joint.new.source.ghost_name ≡ joint.old.source.ghost_name }
         ensures sink { joint.new.sink ≡ joint.old.sink }
         ensures place { self.new.place ≡ self.old.place }
-        ensures reads { MatchResult result
-            (λ _. EndsInput (coming self.old.place) (S.left joint.old.source.now) (S.left joint.new.source.now))
-            (Refuses (coming self.old.place) [] (S.left joint.old.source.now) (S.left joint.new.source.now)
-            (S.faults joint.old.source.now) (S.faults joint.new.source.now)) }
+        ensures reads { let a = joined S.left S.faults K.written K.faults joint.old in
+            let b = joined S.left S.faults K.written K.faults joint.new in
+            MatchResult result (λ _. EndsInput (coming self.old.place) a.left b.left)
+            (Refuses (coming self.old.place) [] a.left b.left a.reads b.reads) }
         ensures later { S.faults joint.old.source.now ≤ S.faults joint.new.source.now }
         ensures calm { OnOk result (S.faults joint.new.source.now ≡ S.faults joint.old.source.now) }
     {
@@ -235,17 +228,15 @@ impl ImageReader {
         requires pages { 0 < self.old.place.pages }
         requires is_open { S.is_open joint.old.source.now }
         requires settled { (K.written joint.old.sink.now).held ≡ [] }
-        requires paced { MayRead S.allows (IsPartless (coming self.old.place)) (S.left joint.old.source.now)
-            (S.faults joint.old.source.now)
-            (K.written joint.old.sink.now) (K.faults joint.old.sink.now) }
+        requires paced { MayReadOn S.allows (IsPartless (coming self.old.place))
+            (joined S.left S.faults K.written K.faults joint.old) }
         ensures same_source { joint.new.source.ghost_name ≡ joint.old.source.ghost_name }
         ensures sink { joint.new.sink ≡ joint.old.sink }
-        ensures reads { MatchResult result
-            (λ v. TakesParts (coming self.old.place) (coming self.new.place)
-            (Holds (record { vpage = v; words = words.new }) ∷ [])
-            (S.left joint.old.source.now) (S.left joint.new.source.now))
-            (Refuses (coming self.old.place) [] (S.left joint.old.source.now) (S.left joint.new.source.now)
-            (S.faults joint.old.source.now) (S.faults joint.new.source.now)) }
+        ensures reads { let a = joined S.left S.faults K.written K.faults joint.old in
+            let b = joined S.left S.faults K.written K.faults joint.new in
+            MatchResult result (λ v. TakesParts (coming self.old.place) (coming self.new.place)
+            (Holds (record { vpage = v; words = words.new }) ∷ []) a.left b.left)
+            (Refuses (coming self.old.place) [] a.left b.left a.reads b.reads) }
         ensures plans { self.new.place.plans ≡ 0 }
         ensures frames { self.new.place.frames ≡ self.old.place.frames }
         ensures pages { IfOk result (λ _. self.new.place.pages + 1 ≡ self.old.place.pages) }

@@ -3,7 +3,8 @@ ghost use Rattle.std.specs.Prelude.{◌≡◌, ◌≤◌, ◌<◌, ℕ, List, []
 ghost use Rattle.std.specs.declared.option.Option.{Option};
 ghost use Rattle.std.specs.Io.KnownBytes.{Keeps, prepend_known};
 ghost use Rattle.pip_io.specs.Causes.{HasCause};
-ghost use Rattle.pip_io.specs.Pacing.{MayRead};
+ghost use Rattle.pip_io.specs.Moments.{joined};
+ghost use Rattle.pip_io.specs.Pacing.{MayReadOn};
 ghost use Rattle.pip_input.specs.Lines.{BeginsLine, HasNoNewline, HoldsLine, HoldsPart, IsLineless, ReadsOn, still};
 
 use pip_base::{MAX_INPUT, MAX_LINE};
@@ -11,13 +12,13 @@ use pip_io::{Failed, Joint, Sink, Source, find_newline};
 use std::marker::Model;
 
 /// How many bytes are held at most. A line with its newline fits.
-const HELD: usize = 16384;
+const MAX_HELD: usize = 16384;
 
 /// What was read of a source and not yet taken, in order, and how many bytes may still be read. All that was taken,
 /// what is held and what may still be read are together as many bytes as the input may have.
 #[derive(Drop)]
 pub struct Input {
-    bytes: [u8; HELD],
+    bytes: [u8; MAX_HELD],
     start: usize,
     end: usize,
     room: u32,
@@ -26,13 +27,13 @@ pub struct Input {
 impl Model for Input {
     ghost use Rattle.std.specs.Prelude.{◌≤◌, ◌-◌, take, drop};
     ghost use Rattle.pip_input.specs.Held.{Held};
-    ghost use Rattle.pip_input.specs.declared.input.TheConstants.{HELD};
+    ghost use Rattle.pip_input.specs.declared.input.TheConstants.{MAX_HELD};
 
     ghost Value = { Held };
 
     ghost view = { λ i. record { bytes = take (i.end - i.start) (drop i.start i.bytes); room = i.room } };
 
-    ghost invariant = { λ i. (i.start ≤ i.end) × (i.end ≤ HELD) };
+    ghost invariant = { λ i. (i.start ≤ i.end) × (i.end ≤ MAX_HELD) };
 }
 
 /// What stands at the head of the bytes that are held.
@@ -65,7 +66,7 @@ impl Input {
         ensures room { result.room ≡ room }
     {
         Input {
-            bytes: [0; HELD],
+            bytes: [0; MAX_HELD],
             start: 0,
             end: 0,
             room,
@@ -93,9 +94,8 @@ impl Input {
         requires part { HoldsPart (still self.old) self.old }
         requires is_open { S.is_open joint.old.source.now }
         requires settled { (K.written joint.old.sink.now).held ≡ [] }
-        requires paced { MayRead S.allows (IsLineless self.old) (S.left joint.old.source.now)
-            (S.faults joint.old.source.now)
-            (K.written joint.old.sink.now) (K.faults joint.old.sink.now) }
+        requires paced { MayReadOn S.allows (IsLineless self.old)
+            (joined S.left S.faults K.written K.faults joint.old) }
         ensures same_source { joint.new.source.ghost_name ≡ joint.old.source.ghost_name }
         ensures sink { joint.new.sink ≡ joint.old.sink }
         ensures kept { Keeps (prepend_known self.old.bytes (S.left joint.old.source.now))
@@ -166,7 +166,7 @@ impl Input {
 
     // Reads further bytes, and answers how many; none at the end of the input. At the limit it asks for one byte more.
     fn read_on<S: Source, K: Sink>(&mut self, joint: &mut Joint<'_, S, K>) -> Result<usize, Failed>
-        requires short { length self.old.bytes < HELD }
+        requires short { length self.old.bytes < MAX_HELD }
         requires is_open { S.is_open joint.old.source.now }
         requires settled { (K.written joint.old.sink.now).held ≡ [] }
         requires allowed { S.allows (S.left joint.old.source.now) (S.faults joint.old.source.now)
@@ -184,7 +184,7 @@ impl Input {
         self.bytes.copy_within(self.start..self.end, 0);
         self.end -= self.start;
         self.start = 0;
-        let most = (self.room.max(1) as usize).min(HELD - self.end);
+        let most = (self.room.max(1) as usize).min(MAX_HELD - self.end);
         let count = joint.read(&mut self.bytes[self.end..self.end + most])?;
         self.end += count;
         self.room = self.room.saturating_sub(count as u32);

@@ -1,6 +1,7 @@
 //! A whole source, as one vector.
 ghost use Rattle.std.specs.Prelude.{◌≡◌, ◌≢◌, ◌≤◌, [], Err, MatchResult};
-ghost use Rattle.pip_io.specs.Pacing.{MayRead};
+ghost use Rattle.pip_io.specs.Moments.{joined};
+ghost use Rattle.pip_io.specs.Pacing.{MayReadOn};
 ghost use Rattle.pip_input.specs.Whole.{IsWithinLimit, StopsReading, TakesWhole};
 
 use pip_base::MAX_INPUT;
@@ -25,8 +26,7 @@ pub fn read_whole<S: Source, K: Sink>(
 ) -> Result<Vec<u8>, ReadError>
     requires is_open { S.is_open joint.old.source.now }
     requires settled { (K.written joint.old.sink.now).held ≡ [] }
-    requires paced { MayRead S.allows IsWithinLimit (S.left joint.old.source.now) (S.faults joint.old.source.now)
-        (K.written joint.old.sink.now) (K.faults joint.old.sink.now) }
+    requires paced { MayReadOn S.allows IsWithinLimit (joined S.left S.faults K.written K.faults joint.old) }
     ensures same_source { joint.new.source.ghost_name ≡ joint.old.source.ghost_name }
     ensures sink { joint.new.sink ≡ joint.old.sink }
     ensures read { MatchResult result

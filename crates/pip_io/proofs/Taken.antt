@@ -1,9 +1,9 @@
 -- How texts are taken, sent and held, one after another.
-use Rattle.std.specs.Prelude.{Result, Ok, Err, OnErr, OnOk}
+use Rattle.std.specs.Prelude.{Result, Ok, Err, IsErr, OnErr, OnOk}
 use Rattle.std.proofs.Common.{◌≡◌, ◌≢◌, ℕ, List, [], ◌∷◌, ◌++◌, Option, None, Some, sym, ap, subst, ◌∙◌, append_assoc}
 use Rattle.std.proofs.Common.{append-nil}
 use Rattle.pip_io.specs.Taken.{Taken, Appends, AppendsPart, GrowsInPart, GrowsPast, Keeps, Sends, SendsPart, SendsPast}
-use Rattle.pip_io.specs.Taken.{over}
+use Rattle.pip_io.specs.Taken.{Wrote, over}
 use Rattle.pip_io.proofs.Pieces.{left_more}
 
 more_left : (held rest : List ℕ) → rest ≢ [] → held ++ rest ≢ []
@@ -139,6 +139,12 @@ SendsPast-after a b c t u p q = record { grows = past_after a.out b.out c.out a.
 pub on_err : {T E : Type 0} (r : Result T E) (P : Type 0) → P → OnErr r P
 on_err (Ok x) P p = tt
 on_err (Err e) P p = p
+
+-- what was written where a call failed
+pub wrote_err : {T E : Type 0} (old new : Taken) (text : List ℕ) (r : Result T E) → IsErr r → AppendsPart old new text
+    → Wrote r old new text
+wrote_err old new text (Ok u) bad h = cc
+wrote_err old new text (Err e) so h = h
 
 -- a text that was taken, and then a settling
 module _ {T E : Type 0} (r : Result T E) (a b c : Taken) (t : List ℕ) (p : Appends a b t) (kept : Keeps b c) where

@@ -5,3 +5,5 @@ pub mod Memory
 pub mod Streams
 pub mod Pacing
 pub mod Newlines
+pub mod Moments
+pub mod Writes

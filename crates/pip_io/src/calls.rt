@@ -4,8 +4,8 @@ ghost use Rattle.pip_io.specs.Causes.{next_count, is_listed};
 
 use crate::Failed;
 
-/// The calls made so far and those that failed; the counts stand still at 2^64 - 1. Call k, the first being 1, fails
-/// where `failing` has k.
+/// How many calls were made and how many failed; the counts stop at 2^64 - 1. Call k, counted from 1, fails if k is in
+/// `failing`.
 #[derive(Debug, Drop)]
 pub struct Calls<'a> {
     failing: &'a [u32],
@@ -27,7 +27,7 @@ impl<'a> Calls<'a> {
         }
     }
 
-    /// Counts one more call, and tells whether its number is listed.
+    /// Counts one more call, and answers whether its number is listed.
     pub fn make(&mut self) -> bool
         ensures made { self.new ≡ record self.old { made = next_count self.old.made } }
         ensures listed { result ≡ is_listed self.old.failing.now self.new.made }

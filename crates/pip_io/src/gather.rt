@@ -1,4 +1,4 @@
-//! A sink that gathers what it is given, and hands it on in few writes.
+//! A sink that gathers what it is given, and writes it in large pieces.
 ghost use Rattle.std.specs.Prelude.{◌≡◌, ◌≢◌, ◌+◌, ◌≤◌, ◌<◌, ◌++◌, [], length, IfOk, OnOk, OnErr};
 ghost use Rattle.std.specs.Io.{WritesAtMost};
 ghost use Rattle.pip_io.specs.Causes.{HasCause};
@@ -11,8 +11,8 @@ use crate::{Failed, Sink};
 /// How many bytes are held at most.
 const HELD: usize = 16384;
 
-/// A sink over another one. It holds up to 16384 bytes, and writes them where no more fit or it is told to. What it
-/// holds when it is given up is lost.
+/// A sink over another one. It holds up to 16384 bytes, and writes them when it is full or is settled. Bytes that it
+/// still holds when it is dropped are lost.
 #[derive(Drop)]
 pub struct Gatherer<K> {
     sink: K,
@@ -44,7 +44,8 @@ impl<K: Sink> Gatherer<K> {
         &self.sink
     }
 
-    // Writes all that is held, and leaves the places in the buffer as they are. After an error the rest is held.
+    // Writes all that is held, and doesn't move what is left to the front of the buffer. After an error the rest is
+    // held.
     #[inline(never)]
     fn hand_on(&mut self) -> Result<(), Failed>
         ensures kept { Keeps (over (K.written self.old.sink) (between self.old.bytes self.old.start self.old.end))
@@ -76,8 +77,8 @@ impl<K: Sink> Sink for Gatherer<K> {
 
     ghost faults = { λ g. K.faults g.sink };
 
-    /// Holds as much of the piece as fits. What is held is written first where the piece doesn't fit, and only then
-    /// does it fail.
+    /// Holds as much of the piece as fits. If not all of it fits, what is held is written first, and only that can
+    /// fail.
     fn write(&mut self, piece: &[u8]) -> Result<usize, Failed>
         requires { 0 < length piece.now }
         ensures bound { WritesAtMost result piece.now }
@@ -106,7 +107,7 @@ impl<K: Sink> Sink for Gatherer<K> {
             self.new.end ≢ []) }
         ensures cause { HasCause (K.faults self.old.sink) (K.faults self.new.sink) result }
 
-        // There is room for as much as it ever holds.
+        // The buffer is empty, so a piece of up to 16384 bytes fits.
         ensures room { OnOk result (self.new.end ≡ 0) }
     {
         self.hand_on()?;
@@ -116,7 +117,7 @@ impl<K: Sink> Sink for Gatherer<K> {
     }
 }
 
-// Writes the bytes of a buffer from one place to another, until a write fails. It answers to which place it came too.
+// Writes the bytes of a buffer from one place to another, until a write fails. Answers the place that it reached, too.
 fn write_between<K: Sink>(
     sink: &mut K,
     bytes: &[u8; HELD],

@@ -6,7 +6,7 @@ ghost use Rattle.pip_io.specs.Causes.{HasCause};
 
 use crate::{Failed, Sink, Source};
 
-/// A source, which is read by `read` alone, and a sink, which anyone may write to.
+/// A source, which only `read` reads, and a sink, which anyone may write to.
 #[derive(Drop)]
 pub struct Joint<'a, S: Source, K: Sink> {
     source: &'a mut S,
@@ -14,7 +14,7 @@ pub struct Joint<'a, S: Source, K: Sink> {
 }
 
 impl<'a, S: Source, K: Sink> Joint<'a, S, K> {
-    /// Both.
+    /// Joins a source and a sink.
     pub fn new(source: &'a mut S, sink: &'a mut K) -> Joint<'a, S, K>
         ensures same_source { result.source.ghost_name ≡ source.entry.ghost_name }
         ensures same_sink { result.sink.ghost_name ≡ sink.entry.ghost_name }
@@ -24,7 +24,7 @@ impl<'a, S: Source, K: Sink> Joint<'a, S, K> {
         Joint { source, sink }
     }
 
-    /// Reads as the source does, where it may be read, the sink holds nothing and the source allows it.
+    /// Reads as the source does. It has to be open, the sink has to hold nothing, and the source has to allow the read.
     pub fn read(&mut self, buf: &mut [u8]) -> Result<usize, Failed>
         requires some { 0 < length buf.old }
         requires is_open { S.is_open self.old.source.now }

@@ -35,7 +35,7 @@ impl Source for SureSource<'_> {
 
     ghost faults = { λ _. 0 };
 
-    /// Gives all that is left and fits.
+    /// Reads all that is left, or as much of it as fits.
     fn read(&mut self, buf: &mut [u8]) -> Result<usize, Failed>
         requires { 0 < length buf.old }
         ensures bound { ReadsAtMost result buf.new }
@@ -51,7 +51,7 @@ impl Source for SureSource<'_> {
     }
 }
 
-/// A source of bytes in memory that fails at the calls whose numbers are listed.
+/// A source of bytes in memory whose listed calls fail.
 #[derive(Debug, Drop)]
 pub struct MemSource<'a> {
     bytes: SureSource<'a>,
@@ -83,7 +83,7 @@ impl Source for MemSource<'_> {
 
     ghost faults = { λ s. source_faults s };
 
-    /// Fails where the call's number is listed; else it gives all that is left and fits.
+    /// Fails if the call's number is listed; else it reads all that is left, or as much of it as fits.
     fn read(&mut self, buf: &mut [u8]) -> Result<usize, Failed>
         requires { 0 < length buf.old }
         ensures bound { ReadsAtMost result buf.new }
@@ -107,8 +107,8 @@ impl Source for MemSource<'_> {
     }
 }
 
-/// A sink in memory with a fixed room. It fails at the calls whose numbers are listed, and where a
-/// piece is longer than the room that is left.
+/// A sink in memory of a fixed size. Its listed calls fail, and so does a call with a piece longer than the room that
+/// is left.
 #[derive(Debug, Drop)]
 pub struct MemSink<'a> {
     bytes: Vec<u8>,
@@ -121,8 +121,8 @@ impl<'a> MemSink<'a> {
     ghost use Rattle.pip_io.specs.Memory.{sink_bytes, sink_room, sink_calls, sink_faults};
     ghost use Rattle.pip_io.specs.Memory.{sink_failing};
 
-    /// An empty sink with room for that many bytes, for all of which it takes the memory. `failing`
-    /// lists the numbers of the calls that fail, counted from 1.
+    /// An empty sink with room for `room` bytes, allocated at once. `failing` lists the numbers of the calls that fail,
+    /// counted from 1.
     pub fn new(alloc: Global, room: u32, failing: &'a [u32]) -> Result<MemSink<'a>, AllocError>
         ensures bytes { IfOk result (λ s. sink_bytes s ≡ []) }
         ensures room { IfOk result (λ s. sink_room s ≡ room) }
@@ -154,8 +154,8 @@ impl Sink for MemSink<'_> {
 
     ghost faults = { λ s. sink_faults s };
 
-    /// Fails where the call's number is listed or the piece is longer than the room that is left;
-    /// else it takes the whole piece.
+    /// Fails if the call's number is listed or the piece is longer than the room that is left; else it takes the whole
+    /// piece.
     fn write(&mut self, piece: &[u8]) -> Result<usize, Failed>
         requires { 0 < length piece.now }
         ensures bound { WritesAtMost result piece.now }
@@ -188,7 +188,7 @@ impl Sink for MemSink<'_> {
     }
 }
 
-/// A sink that takes everything, never fails and tells nothing.
+/// A sink that takes everything, keeps nothing and never fails. It doesn't say what it took.
 #[derive(Clone, Copy, Debug, Default)]
 pub struct Discard;
 

@@ -6,8 +6,8 @@ ghost use Rattle.pip_io.specs.Newlines.{IsFirstNewline};
 use memchr::memchr;
 use std::simd::prelude::*;
 
-/// The place of the first newline, or None where there is none. Most lines end within 32 bytes, which are looked at in
-/// one step.
+/// The place of the first newline; None if there is none. Most lines end within 32 bytes, which are searched in one
+/// step.
 #[inline(always)]
 pub fn find_newline(bytes: &[u8]) -> Option<usize>
     ensures { IsFirstNewline bytes.now result }
@@ -22,7 +22,7 @@ pub fn find_newline(bytes: &[u8]) -> Option<usize>
     find_beyond(bytes)
 }
 
-// Finds it where none of the first 32 bytes is one: further steps, and a search of the bytes that are left.
+// Finds it after the first 32 bytes: 32 bytes a step, and then the bytes that are left.
 #[inline(never)]
 fn find_beyond(bytes: &[u8]) -> Option<usize>
     requires long { 32 ≤ length bytes.now }

@@ -1,4 +1,4 @@
-//! The streams of the outside world. They tell no bytes, since nobody can know what a device took.
+//! The streams of the outside world. No contract says which bytes they had, since nobody can know what a device took.
 ghost use Rattle.std.specs.Prelude.{◌≡◌, ◌<◌, ℕ, List, Option, None, length, false, IfOk, IsTrue};
 ghost use Rattle.std.specs.Io.{ReadsAtMost, WritesAtMost};
 ghost use Rattle.std.specs.Io.KnownBytes.{ReadConsumes, WriteAppends};
@@ -8,7 +8,7 @@ ghost use Rattle.pip_io.specs.Taken.{WriteTakes, plain};
 use crate::{Failed, Sink, Source};
 use std::io::{Read, Write};
 
-/// Any reader of std, with a count of its errors, which stands still at 2^64 - 1.
+/// Any reader of std, with a count of its errors, which stops at 2^64 - 1.
 #[derive(Debug, Drop)]
 pub struct StdSource<R> {
     inner: R,
@@ -34,14 +34,14 @@ impl<R: Read> Source for StdSource<R> {
 
     ghost faults = { λ s. reader_faults s };
 
-    /// Makes one read of the reader, and fails where that fails.
+    /// Makes one read of the reader, and fails if that fails.
     fn read(&mut self, buf: &mut [u8]) -> Result<usize, Failed>
         requires { 0 < length buf.old }
         ensures bound { ReadsAtMost result buf.new }
         ensures bytes { ReadConsumes None None result buf.new }
         ensures cause { HasCause (reader_faults self.old) (reader_faults self.new) result }
 
-        // What the reader itself tells of this read.
+        // What the reader's own contract says of this read.
         ensures inner { ReadConsumes (R.remaining (reader_of self.old))
             (R.remaining (reader_of self.new)) result buf.new }
         ensures faults { reader_faults self.new ≡ faults_after result (reader_faults self.old) }
@@ -56,8 +56,8 @@ impl<R: Read> Source for StdSource<R> {
     }
 }
 
-/// Any writer of std, with a count of its errors, which stands still at 2^64 - 1. A write that takes
-/// no byte is an error too. The writer is never flushed.
+/// Any writer of std, with a count of its errors, which stops at 2^64 - 1. A write that takes no byte is an error too.
+/// The writer is never flushed.
 #[derive(Debug, Drop)]
 pub struct StdSink<W> {
     inner: W,
@@ -83,7 +83,7 @@ impl<W: Write> Sink for StdSink<W> {
 
     ghost faults = { λ s. writer_faults s };
 
-    /// Makes one write to the writer, and fails where that fails or takes nothing.
+    /// Makes one write to the writer, and fails if that fails or takes nothing.
     fn write(&mut self, piece: &[u8]) -> Result<usize, Failed>
         requires { 0 < length piece.now }
         ensures bound { WritesAtMost result piece.now }
@@ -91,7 +91,7 @@ impl<W: Write> Sink for StdSink<W> {
         ensures bytes { WriteTakes (plain None) (plain None) result piece.now }
         ensures cause { HasCause (writer_faults self.old) (writer_faults self.new) result }
 
-        // What the writer itself tells of this write.
+        // What the writer's own contract says of this write.
         ensures inner { WriteAppends (W.contents (writer_of self.old))
             (W.contents (writer_of self.new)) result piece.now }
         ensures faults { writer_faults self.new ≡ faults_after result (writer_faults self.old) }
@@ -110,7 +110,7 @@ impl<W: Write> Sink for StdSink<W> {
         Ok(())
     }
 
-    /// It hands all on.
+    /// It discards nothing.
     fn discards(&self) -> bool
         ensures untold { IsTrue result → ◌≡◌ {A = Option (List ℕ)} None None }
         ensures never { result ≡ false }

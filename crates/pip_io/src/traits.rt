@@ -14,23 +14,24 @@ pub struct Failed;
 
 /// Where bytes come from.
 pub trait Source {
-    /// The bytes that are left, where the source tells them.
+    /// The bytes that are left; None if the source doesn't say.
     ghost left: { Self → Option (List ℕ) };
 
     /// How many faults it has counted. The count never falls.
     ghost faults: { Self → ℕ };
 
-    /// Whether a `Joint` with a sink may read more where these bytes are left, that many reads failed, this was
-    /// written, and that many writes failed. It asks for nothing unless a source says so: what reads through a `Joint`
-    /// proves it of any source, and so can't read at another moment than those that its own contract allows.
+    /// Whether a `Joint` with a sink may read more, by the bytes that are left, the reads that failed, what was
+    /// written, and the writes that failed. It always may, unless a source says otherwise. Code that reads through a
+    /// `Joint` is proved for any source, so it reads only when its own contract lets it.
     ghost allows: { Option (List ℕ) → ℕ → Taken → ℕ → Type 0 } = { λ _ _ _ _. Unit {0} };
 
-    /// Whether it may be read. A read that gave bytes leaves it so. Of one that answered 0 or failed nothing is known,
-    /// unless a source says so: what is written for any source asks for the end once, and reads nothing after a fault.
+    /// Whether it may be read. It still may after a read that gave bytes. After one that answered 0 or failed nothing
+    /// is known, unless a source says so. So code for any source reads the end once, and nothing after a fault.
     ghost is_open: { Self → Type 0 } = { λ _. Unit {0} };
 
-    /// Reads into the front of a buffer that isn't empty, and answers how many bytes it read, 0 only
-    /// at the end of the input. It fails only where the count of faults is one more, and then read nothing.
+    /// Reads into the front of a buffer that isn't empty, and answers how many bytes it read, 0 only at the end of the
+    /// input. It fails only if it counted one more fault, and then it read nothing. Above this crate that is called: a
+    /// read failed.
     fn read(&mut self, buf: &mut [u8]) -> Result<usize, Failed>
         requires some { 0 < length buf.old }
         requires is_open { is_open self.old }
@@ -42,14 +43,14 @@ pub trait Source {
 
 /// Where bytes go. A sink may hold bytes that it took, to write them later.
 pub trait Sink {
-    /// What it took: the bytes that went out, where it tells them, and those that it still holds.
+    /// What it took: the bytes that went out, if it says which, and those that it still holds.
     ghost written: { Self → Taken };
 
     /// How many faults it has counted. The count never falls.
     ghost faults: { Self → ℕ };
 
-    /// Takes the front of a piece that isn't empty, and answers how many bytes it took, at least one.
-    /// It fails only where the count of faults is one more, and then took nothing.
+    /// Takes the front of a piece that isn't empty, and answers how many bytes it took, at least one. It fails only if
+    /// it counted one more fault, and then it took nothing. Above this crate that is called: a write failed.
     fn write(&mut self, piece: &[u8]) -> Result<usize, Failed>
         requires { 0 < length piece.now }
         ensures bound { WritesAtMost result piece.now }
@@ -57,14 +58,14 @@ pub trait Sink {
         ensures bytes { WriteTakes (written self.old) (written self.new) result piece.now }
         ensures cause { HasCause (faults self.old) (faults self.new) result };
 
-    /// Writes all that it holds. It fails only where the count of faults is one more, and then still holds something.
+    /// Writes all that it holds. It fails only if it counted one more fault, and then it still holds something.
     fn settle(&mut self) -> Result<(), Failed>
         ensures kept { Keeps (written self.old) (written self.new) }
         ensures none { OnOk result ((written self.new).held ≡ []) }
         ensures some { OnErr result ((written self.new).held ≢ []) }
         ensures cause { HasCause (faults self.old) (faults self.new) result };
 
-    /// Whether nothing that is written is kept, so that a text need not be made for it. A sink that tells what went out
+    /// Whether nothing that is written is kept, so that no text need be made for it. A sink that says what went out
     /// doesn't discard.
     fn discards(&self) -> bool
         ensures untold { IsTrue result → (written self.now).out ≡ None }
@@ -73,8 +74,8 @@ pub trait Sink {
     }
 }
 
-/// Writes a whole text, by as many writes as the sink needs; an empty one by none. After a fault the sink took a
-/// prefix of the text.
+/// Writes a whole text, by as many writes as the sink needs; none for an empty one. After a fault the sink has a prefix
+/// of it.
 #[inline(always)]
 pub fn write_all<K: Sink>(sink: &mut K, text: &[u8]) -> Result<(), Failed>
     ensures whole { OnOk result (Appends (K.written sink.old) (K.written sink.new) text.now) }

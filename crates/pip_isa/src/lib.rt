@@ -1,4 +1,8 @@
 //! The words of instructions, and the table of their opcodes (docs/FORMATS.md, "Instructions").
+//!
+//! `opcode_row` and `opcode_named` read the table, and `encode` and `decode` are exact both ways. An instruction is one
+//! row of the macro `instructions!`, from which all four are written. `row_passes` (proofs/Rows) is the one way to say
+//! something about all rows: the row of each opcode passes a test that the whole table passes.
 #![tactic(auto)]
 
 mod fields;

@@ -1,4 +1,4 @@
-//! The words of a frame that are others than at first.
+//! The words of a frame that differ from its first ones.
 ghost use Rattle.std.specs.Prelude.{◌≡◌, ◌+◌, ◌*◌, ◌≤◌, ◌<◌, IfOk, length};
 ghost use Rattle.pip_base.specs.Memory.{Memory, frame_at};
 ghost use Rattle.pip_journal.specs.Changes.{AddsChanges};
@@ -7,7 +7,7 @@ ghost use Rattle.pip_journal.specs.Tracks.{TracksWords};
 use crate::opened::{PART, Parts, next_opened};
 use std::alloc::AllocError;
 
-// Adds the words of a part that are others than at first, each after its place.
+// Adds the words of a part that differ from its first ones, each after its place.
 fn add_part(
     now: &[u32; 1024],
     first: &[u32; 1024],
@@ -29,7 +29,7 @@ fn add_part(
     Ok(())
 }
 
-/// Adds the words of a frame that are others than at first, each after its place. Only opened parts have such words.
+/// Adds the words of a frame that differ from its first ones, each after its place. Only opened parts have such words.
 pub(crate) fn add_frame(
     now: &[u32; 1024],
     first: &[u32; 1024],

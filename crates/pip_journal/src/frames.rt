@@ -1,5 +1,5 @@
 //! One frame's words over another's.
-ghost use Rattle.std.specs.Prelude.{◌≡◌, ◌≢◌, ◌<◌, ◌≤◌, IfOk, length, slice_set};
+ghost use Rattle.std.specs.Prelude.{◌≡◌, ◌<◌, IfOk, length, slice_set};
 ghost use Rattle.pip_base.specs.Memory.{frame_at};
 ghost use Rattle.pip_journal.specs.Tracks.{TracksWords};
 
@@ -9,18 +9,7 @@ use pip_frames::{Frames, RawFrames};
 use std::alloc::{AllocError, Global};
 use std::sync::ledger::Ledger;
 
-// A frame that isn't this one.
-fn another(frame: Frame) -> Frame
-    ensures apart { result ≢ frame }
-    ensures small { result ≤ 1 }
-{
-    if frame.number() == 0 {
-        return Frame::new(1);
-    }
-    Frame::new(0)
-}
-
-// Writes the words of the parts that were opened over others.
+// Writes the words of the opened parts over another frame's.
 fn restore_parts(from: &[u32; 1024], to: &mut [u32; 1024], parts: &Parts)
     requires { TracksWords from.now to.old parts.now }
     ensures { to.new ≡ from.now }
@@ -33,7 +22,7 @@ fn restore_parts(from: &[u32; 1024], to: &mut [u32; 1024], parts: &Parts)
     }
 }
 
-/// Writes the words of a frame over the same frame of other frames, of which only opened parts have other words.
+/// Writes the words of a frame over those of the same frame of `to`, which differ in opened parts only.
 pub(crate) fn restore_frame<L: Ledger>(
     from: &RawFrames,
     to: &mut RawFrames,
@@ -47,9 +36,7 @@ pub(crate) fn restore_frame<L: Ledger>(
     ensures { to.new.block.frames ≡ slice_set to.old.block.frames frame (frame_at from.now.block.frames frame) }
 {
     let words = from.frame(frame, steps);
-    // A frame is lent for writing beside another one only.
-    let (_, place) = to.pair(another(frame), frame, steps);
-    restore_parts(words, place, parts);
+    restore_parts(words, to.frame_mut(frame, steps), parts);
 }
 
 /// Frames with the words of others. The only error is that memory is out.

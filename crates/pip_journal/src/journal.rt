@@ -16,8 +16,8 @@ use std::alloc::{AllocError, Global};
 use std::marker::PhantomData;
 use std::sync::ledger::Ledger;
 
-/// Frames beside their first words. A frame that was not opened since they were last rewound has its first words, and
-/// so has each part of a frame that was not opened. Of new frames all are opened.
+/// Frames beside their first words. A frame, or a part of one, that wasn't opened since the last rewinding has its
+/// first words. In a new journal all are opened.
 #[derive(Drop)]
 pub struct Journal<F: First> {
     frames: RawFrames,
@@ -82,6 +82,12 @@ impl<F: First> Frames for Journal<F> {
         self.frames.frame(f, steps)
     }
 
+    fn frame_mut<L: Ledger>(&mut self, f: Frame, steps: &mut Steps<L>) -> &mut [u32; 1024] {
+        self.opened[f.number() as usize] = true;
+        self.parts[f.number() as usize] = all_parts(true);
+        self.frames.frame_mut(f, steps)
+    }
+
     fn pair<L: Ledger>(
         &mut self,
         read: Frame,
@@ -117,7 +123,7 @@ impl<F: First> Journal<F> {
         }
     }
 
-    // Writes words, each of which follows its place.
+    // Writes words, each of which comes after its place.
     fn write(&mut self, words: &[u32])
         requires { ArePlaces (length F.words) words.now }
         ensures { self.new.frames.block.frames ≡ rewritten self.old.frames.block.frames words.now }
@@ -131,7 +137,7 @@ impl<F: First> Journal<F> {
         }
     }
 
-    /// Frames beside others, of which there are as many, whose words count as the first ones. The only error is that
+    /// A journal of `frames`, whose first words are those of `first`, which has as many frames. The only error is that
     /// memory is out.
     pub fn new(alloc: Global, frames: RawFrames, first: RawFrames) -> Result<Journal<F>, AllocError>
         requires first { ⟦<RawFrames as Frames>⟧.memory first ≡ F.words }
@@ -150,8 +156,8 @@ impl<F: First> Journal<F> {
         })
     }
 
-    /// Adds the words that are others than at first, each after its place: 1024 times its frame and its index there,
-    /// together. The places rise. The only error is that memory is out.
+    /// Adds the words that differ from the first ones, each after its place, which is 1024 times its frame plus its
+    /// index there. The places rise. The only error is that memory is out.
     pub fn add_changes<L: Ledger>(
         &self,
         to: &mut Vec<u32>,

@@ -27,10 +27,10 @@ pub(crate) fn all_frames(alloc: Global, count: usize) -> Result<Vec<Parts>, Allo
     Ok(frames)
 }
 
-/// How many places are looked at together.
+/// How many places are tested together.
 const TOGETHER: usize = 16;
 
-// Whether none of that many places was opened.
+// Whether none of these places, `TOGETHER` of them, was opened.
 fn are_shut(opened: &[bool]) -> bool
     requires { length opened.now ≡ 16 }
     ensures { IsTrue result → opened.now ≡ replicate 16 false }
@@ -39,7 +39,7 @@ fn are_shut(opened: &[bool]) -> bool
     opened == shut.as_slice()
 }
 
-// A place from `from` on before which none was opened: places are passed many at a time.
+// A place from `from` on before which none was opened. It passes `TOGETHER` places at a time.
 fn pass_shut(opened: &[bool], from: usize) -> usize
     requires { from ≤ length opened.now }
     ensures from { from ≤ result }

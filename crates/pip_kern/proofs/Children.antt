@@ -2,7 +2,7 @@
 use Rattle.std.proofs.Common.{◌≡◌, ◌≢◌, ℕ, ◌*◌, ◌+◌, ◌/◌, ◌%◌, inl, inr, sym, ap, ◌∙◌, arith, Option, Some, None}
 use Rattle.std.specs.Prelude.{option_map}
 use Rattle.pip_model.specs.FullRows.{FullRow, full_rows, given_word, row_word}
-use Rattle.pip_model.specs.NodeWords.{Shadow1}
+use Rattle.pip_model.specs.declared.level.Level.TheVariants.{Shadow1}
 use Rattle.pip_model.specs.Sound.{IsSound}
 use Rattle.pip_model.specs.Tree.{Node, Tree, child_at, find_node}
 use Rattle.pip_model.proofs.Frames.Laid.{filled, full_back}

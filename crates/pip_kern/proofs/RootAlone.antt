@@ -8,8 +8,10 @@ use Rattle.pip_base.specs.Memory.{IsMemory, Memory, frame_at, put_word, word_at,
 use Rattle.pip_base.proofs.Memory.{IsMemory-put, IsMemory-replicate_zeros, length-put_word, length-replicate_zeros}
 use Rattle.pip_base.proofs.Memory.{word_at-put, word_at-put_frame, word_at-replicate_zeros}
 use Rattle.pip_config.proofs.PageWords.{word_none}
-use Rattle.pip_model.specs.NodeWords.{DescriptorPage, DirectoryPage, Level, ListPage, Mmu, Role, Shadow1, Shadow2}
-use Rattle.pip_model.specs.NodeWords.{TablePage, descriptor_word, no_table, role, role_word, slots}
+use Rattle.pip_model.specs.NodeWords.{DescriptorPage, DirectoryPage, ListPage, Role, TablePage, descriptor_word}
+use Rattle.pip_model.specs.NodeWords.{no_table, role, role_word, slots}
+use Rattle.pip_model.specs.declared.level.Level.{Level}
+use Rattle.pip_model.specs.declared.level.Level.TheVariants.{Mmu, Shadow1, Shadow2}
 use Rattle.pip_model.specs.FullRows.{cells_of}
 use Rattle.pip_model.specs.Lists.{Distinct, In}
 use Rattle.pip_model.specs.NodeIn.{directory_of, list_page}

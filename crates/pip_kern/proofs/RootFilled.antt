@@ -11,7 +11,7 @@ use Rattle.pip_model.specs.Boot.{boot_root, boot_table, boot_tree, first_user, f
 use Rattle.pip_model.specs.Booting.{user_row}
 use Rattle.pip_model.specs.Layout.{LaysOut}
 use Rattle.pip_model.specs.FullRows.{FullRow, cells_of, full_rows}
-use Rattle.pip_model.specs.NodeWords.{Level}
+use Rattle.pip_model.specs.declared.level.Level.{Level}
 use Rattle.pip_model.specs.Lists.{In}
 use Rattle.pip_model.specs.Partitions.{HasPartition}
 use Rattle.pip_model.specs.NodeIn.{HasTableFor, NodeIn, OthersStay, Space, put_row}

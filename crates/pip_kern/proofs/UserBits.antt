@@ -24,7 +24,7 @@ use Rattle.pip_model.proofs.Nodes.Writes.{Space-same, Space-stays}
 use Rattle.pip_model.proofs.Trees.Numbers.{page_small}
 use Rattle.pip_model.proofs.Frames.ReadBack.{full-at}
 use Rattle.pip_entry.specs.declared.shadows.Sh2.{Sh2}
-use Rattle.pip_model.specs.NodeWords.{Shadow2}
+use Rattle.pip_model.specs.declared.level.Level.TheVariants.{Shadow2}
 use Rattle.pip_space.specs.Rows.{HasRow, HasRows}
 use Rattle.pip_kern.specs.Hiding.{CanSetUser, IsAbove, UserSet, UserSetIn}
 use Rattle.pip_kern.specs.declared.hiding.Above.{Above}
@@ -105,8 +105,7 @@ row_rows m part v h = record { node = h.node; rows = h.rows; is_in = h.is_in; na
 -- ---- the climb
 
 -- a number of steps up from the caller, at a partition that has the page at vpage v: those passed are written, and it
--- and those
--- above it aren't yet
+-- and those above it aren't yet
 pub record Setting (t : Tree) (rows : ℕ → ℕ → Option FullRow)
     (caller g : ℕ) (b : Bool) (old m : Memory) (at v steps : ℕ) : Type 0 where
   pub x : Node

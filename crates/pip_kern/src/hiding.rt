@@ -1,5 +1,6 @@
-//! Pages hidden from the user, and opened again. All is asked in the middle of a call: the memory holds the caller and
-//! its ancestors, with rows that are the tree's but for user bits and for whom a page is given to.
+//! Pages hidden from the user, and opened again. Each function here is called in the middle of a call: the memory holds
+//! the caller and its ancestors, with rows that are the tree's but for user bits and for which child a page is given
+//! to.
 ghost use Rattle.std.specs.Prelude.{◌≡◌, ◌<◌, ◌^◌, true, false, Option, Some, length};
 ghost use Rattle.pip_base.specs.Memory.{word_at};
 ghost use Rattle.pip_entry.specs.Sh2.{packed_sh2};
@@ -14,7 +15,7 @@ use pip_frames::Frames;
 use pip_space::{place_above, set_user};
 use std::sync::ledger::Ledger;
 
-// Where a page is one level up.
+// Where the page is one level up.
 #[derive(Clone, Copy, Debug, PartialEq, Eq)]
 struct Above {
     // The parent.
@@ -43,7 +44,7 @@ fn one_up<M: Frames, L: Ledger>(
     }
 }
 
-// Opens a page to the user in one partition, or hides it. Answers where the parent maps the page; None is for the root.
+// Opens a page to the user in one partition, or hides it. Answers where the parent maps the page; None in the root.
 fn set_user_in<M: Frames, L: Ledger>(
     mem: &mut M,
     part: Frame,

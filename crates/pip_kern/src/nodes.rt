@@ -1,7 +1,7 @@
 //! Parents, children and chains of partitions.
 ghost use Rattle.std.specs.Prelude.{◌≡◌, ◌+◌, ◌%◌, ◌≤◌, ◌↔◌, Option, Some, option_map, true};
 ghost use Rattle.pip_model.specs.FullRows.{FullRow, row_word};
-ghost use Rattle.pip_model.specs.NodeWords.{Mmu};
+ghost use Rattle.pip_model.specs.declared.level.Level.TheVariants.{Mmu};
 ghost use Rattle.pip_model.specs.Midway.{OnChain};
 ghost use Rattle.pip_model.specs.Partitions.{HasPartition, InEach};
 ghost use Rattle.pip_model.specs.Tree.{child_at as tree_child_at};
@@ -33,7 +33,7 @@ pub fn born_of<M: Frames, L: Ledger>(mem: &M, part: Frame, steps: &mut Steps<L>)
     mem.word(part, SELF_VA, steps)
 }
 
-// The page for which a word of an MMU table stands. None where it stands for none.
+// The page that a word of an MMU table names. None if it names none.
 fn page_of(word: u32) -> Option<Frame>
     ensures { (r : Option FullRow) → IsPacked r → word ≡ row_word Mmu r → result ≡ option_map (λ q. q.frame) r }
 {

@@ -1,6 +1,6 @@
-//! Pages that the caller gives to a child as configuration, and takes back. All is asked in the middle of a call: each
-//! node of the tree has rows that are its own but for user bits and for whom a page is given to. No child of the caller
-//! has a page that is given or taken back.
+//! Pages that the caller gives to a child as configuration, and takes back. Each function here is called in the middle
+//! of a call: each node of the tree has rows that are its own but for user bits and for which child a page is given to.
+//! No child of the caller has a page that is given or taken back.
 ghost use Rattle.std.specs.Prelude.{◌≡◌, ◌≢◌, length};
 ghost use Rattle.pip_model.specs.Answers.{pair_frames};
 ghost use Rattle.pip_entry.specs.Sh1.{IsSh1, packed_sh1};
@@ -15,7 +15,7 @@ use pip_space::set_given;
 use std::sync::ledger::Ledger;
 
 /// Gives the page that the caller has at a virtual page to a child: it is hidden in the caller and all its ancestors,
-/// and the caller's first shadow says to which child it is given. Where `given` isn't `Free` its vpage isn't 0.
+/// and the caller's first shadow says to which child it is given. The vpage of `given`, unless that is `Free`, isn't 0.
 pub fn give_page<M: Frames, L: Ledger>(
     mem: &mut M,
     caller: Frame,

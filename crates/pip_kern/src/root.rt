@@ -17,8 +17,8 @@ use pip_entry::descriptor::{
 };
 use pip_entry::{Sh1, Sh2};
 use pip_frames::Frames;
-use pip_model::root_tables;
-use pip_space::{ROOT, Row, install_table, map};
+use pip_model::{ROOT, root_tables};
+use pip_space::{Row, install_table, map};
 use std::sync::ledger::Ledger;
 
 // Zeroes every frame.
@@ -31,7 +31,8 @@ fn zero_all<M: Frames>(mem: &mut M)
     }
 }
 
-// Writes what isn't 0 in the descriptor of a root without tables: its base in the frames 1 to 5, and itself as parent.
+// Writes the words of a root's descriptor that aren't 0 while it has no tables: its base in the frames 1 to 5, and
+// itself as parent.
 fn write_root<M: Frames>(mem: &mut M)
     requires { 1 < length (M.memory mem.old) }
     ensures words { M.memory mem.new ≡ with_root (M.memory mem.old) }
@@ -66,7 +67,8 @@ fn slot_at(g: u32) -> Slot
     [own(g), own(g + 1), own(g + 2)]
 }
 
-// Gives the root its tables, in the frames from 6 on: a number from directory index 1 on, and the one of the handlers.
+// Gives the root its tables, in the frames from 6 on: `tables` of them from directory index 1 on, and the handlers'
+// one.
 fn add_tables<M: Frames, L: Ledger>(mem: &mut M, tables: u32, steps: &mut Steps<L>)
     requires number { tables ≡ tables_of_root (length (M.memory mem.old)) }
     requires root { HoldsRoot (length (M.memory mem.old)) 1 6 [] no_rows (M.memory mem.old) }
@@ -123,8 +125,7 @@ fn add_pages<M: Frames, L: Ledger>(mem: &mut M, first: u32, n: u32, steps: &mut 
     map(mem, root, VPage::new(VIDT), &user_row(n - 1), steps);
 }
 
-/// Makes frames that hold zeros alone, as new memory does, those of the boot tree: docs/FORMATS.md, "Boot with n
-/// frames".
+/// Lays out the boot tree in frames that hold only zeros, as new memory does: docs/FORMATS.md, "Boot with n frames".
 pub fn boot_zeros<M: Frames, L: Ledger>(mem: &mut M, steps: &mut Steps<L>)
     requires { M.memory mem.old ≡ replicate (length (M.memory mem.old)) (zeros 1024) }
     ensures layout { LaysOut (boot_tree (length (M.memory mem.old))) (M.memory mem.new) }
@@ -137,7 +138,7 @@ pub fn boot_zeros<M: Frames, L: Ledger>(mem: &mut M, steps: &mut Steps<L>)
     add_pages(mem, 9 + 3 * tables, n, steps);
 }
 
-/// Makes the frames those of the boot tree, whatever they held: docs/FORMATS.md, "Boot with n frames".
+/// Lays out the boot tree in the frames, whatever they held: docs/FORMATS.md, "Boot with n frames".
 pub fn boot<M: Frames, L: Ledger>(mem: &mut M, steps: &mut Steps<L>)
     ensures layout { LaysOut (boot_tree (length (M.memory mem.old))) (M.memory mem.new) }
     ensures count { length (M.memory mem.new) ≡ length (M.memory mem.old) }

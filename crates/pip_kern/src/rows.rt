@@ -1,5 +1,5 @@
 //! What the tests of calls ask: addresses, the child and the rows at them, and what a row says of its page. Nothing
-//! here writes. What reads is asked of frames that lay out some sound tree which has the partition named.
+//! here writes. What reads needs frames that lay out some sound tree with the partition that it is given.
 ghost use Rattle.std.specs.Prelude.{IfOk, ◌≡◌, ◌≢◌, ◌≤◌, ◌+◌, ◌==◌, Some, not, option_map, ⊤};
 ghost use Rattle.std.specs.List.{list_any};
 ghost use Rattle.pip_base.specs.Words.{shadow2_word};
@@ -39,8 +39,8 @@ pub fn check_places(places: &[u32]) -> Result<(), Status>
     Ok(())
 }
 
-/// The child whose descriptor the caller has at the address `d`, which is one of these places, or the status of the
-/// first test that isn't passed: those of the addresses, and that a child's descriptor is there.
+/// The child whose descriptor the caller has at the address `d`, one of `places`, or the status of the first test that
+/// fails: those of the addresses, and that a child's descriptor is there.
 pub fn check_child<M: Frames, L: Ledger>(
     mem: &M,
     caller: Frame,

@@ -2,7 +2,7 @@
 
 use pip_base::{Frame, Rights, VPage};
 
-/// A page of the caller, and where a child of it is to have it.
+/// A page of the caller, and where a child is to map it.
 #[derive(Clone, Copy, Debug, PartialEq, Eq)]
 pub(crate) struct Loan {
     /// Where the caller maps the page.

@@ -2,7 +2,7 @@
 
 use pip_base::{Frame, VPage};
 
-/// Where both map the page.
+/// The child, and where it and the caller map the page.
 #[derive(Clone, Copy, Debug, PartialEq, Eq)]
 pub(crate) struct Recall {
     /// The child.

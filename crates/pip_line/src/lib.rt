@@ -1,4 +1,7 @@
 //! What one line of an assembly text says (docs/FORMATS.md, "Assembly").
+//!
+//! `cut_line` cuts the first line off a text, and `statement` says what a line says at a stage of the text. A word into
+//! which half of an address or a distance goes has room for it (`HasRoomFor`).
 #![tactic(auto)]
 
 mod cell;

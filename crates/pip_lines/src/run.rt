@@ -16,8 +16,8 @@ use pip_model::Port;
 use std::sync::ledger::Ledger;
 
 /// Makes the steps 0 to `count` - 1 of a run: at each the lines that are due are raised, and the processor that the
-/// generator draws takes its turn. The generator begins at `seed`, which is not 0. It fails only where the sink's count
-/// of faults is one more; all was done then up to the line that was not written whole.
+/// generator draws takes its turn. The generator begins at `seed`, which is not 0. Fails only if a write failed; all
+/// was done then up to the line that was not written whole.
 pub fn run_lines<P: Port, K: Sink, F: Callback, L: Ledger>(
     port: &mut P,
     lines: &[Line<F>],

@@ -1,9 +1,9 @@
 //! The trace of a run: the line of the image, the lines of the steps, the last line.
 ghost use Rattle.std.specs.Prelude.{◌≡◌, ◌≢◌, ◌<◌, length};
 ghost use Rattle.std.specs.List.{AllByRecursion};
-ghost use Rattle.pip_io.specs.Taken.{Wrote};
 ghost use Rattle.pip_cpu.specs.Made.{Acts};
 ghost use Rattle.pip_io.specs.Causes.{HasCause};
+ghost use Rattle.pip_io.specs.Writes.{Writes};
 ghost use Rattle.pip_model.specs.Run.{end_line, trace_image_line, trace as trace_acts};
 
 use crate::callback::Callback;
@@ -19,8 +19,8 @@ use pip_script::push_decimal;
 use std::sync::ledger::Ledger;
 
 /// The whole trace of an image of that many frames, with that many pages, whose plans are those of `lines`: its first
-/// line, the steps as `run_lines` makes them, the last line (docs/FORMATS.md, "Trace lines"). It fails only where the
-/// sink's count of faults is one more; all was done then up to the line that was not written whole.
+/// line, the steps as `run_lines` makes them, the last line (docs/FORMATS.md, "Trace lines"). Fails only if a write
+/// failed; all was done then up to the line that was not written whole.
 pub fn trace<P: Port, K: Sink, F: Callback, L: Ledger>(
     port: &mut P,
     lines: &[Line<F>],
@@ -52,8 +52,7 @@ pub fn write_image<K: Sink>(
     pages: u32,
     sink: &mut K,
 ) -> Result<(), Failed>
-    ensures wrote { Wrote result (K.written sink.old) (K.written sink.new) (trace_image_line frames cpus plans pages) }
-    ensures cause { HasCause (K.faults sink.old) (K.faults sink.new) result }
+    ensures { Writes K.written K.faults sink.old sink.new result (trace_image_line frames cpus plans pages) }
 {
     let mut buffer = Buffer::new();
     let mut line: ArrayString<64> = ArrayString::new();
@@ -71,8 +70,7 @@ pub fn write_image<K: Sink>(
 
 /// Writes the last line of a run of that many steps.
 pub fn write_end<K: Sink>(sink: &mut K, count: u32) -> Result<(), Failed>
-    ensures wrote { Wrote result (K.written sink.old) (K.written sink.new) (end_line count) }
-    ensures cause { HasCause (K.faults sink.old) (K.faults sink.new) result }
+    ensures { Writes K.written K.faults sink.old sink.new result (end_line count) }
 {
     let mut line: ArrayString<16> = ArrayString::new();
     line.push_str("end ");

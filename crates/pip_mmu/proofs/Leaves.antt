@@ -12,7 +12,7 @@ use Rattle.pip_entry.specs.Leaf.{IsLeaf, packed_leaf}
 use Rattle.pip_entry.specs.declared.leaf.Leaf.{Leaf}
 use Rattle.pip_entry.specs.declared.leaf.Leaf.TheVariants.{Page}
 use Rattle.pip_model.specs.FullRows.{FullRow, cells_of, full_row, full_rows, row_word}
-use Rattle.pip_model.specs.NodeWords.{Mmu}
+use Rattle.pip_model.specs.declared.level.Level.TheVariants.{Mmu}
 use Rattle.pip_model.specs.Partitions.{HasPartition}
 use Rattle.pip_model.specs.NodeIn.{HasNode, Space}
 use Rattle.pip_model.specs.Reach.{Faulted, Hidden, Place, Reached, Right, reach, right, reach_by_row}

@@ -1,4 +1,4 @@
-//! What accesses do around a translation, wherever that comes from.
+//! What accesses do before and after a translation, whether it comes from the tables or the cache.
 ghost use Rattle.std.specs.Prelude.{◌≡◌, ℕ, ◌+◌, ◌/◌, ◌%◌, ◌<◌, length};
 ghost use Rattle.pip_base.specs.Memory.{put_word, word_at};
 ghost use Rattle.pip_model.specs.Events.{below_of};
@@ -23,7 +23,7 @@ pub(crate) fn is_misaligned(va: u32, size: Size) -> bool
     }
 }
 
-/// What an access that is aligned answers by its translation.
+/// What an aligned access answers, by its translation.
 #[inline(always)]
 pub(crate) fn by_translation(translated: Result<Frame, MmuFault>) -> Result<Frame, AccessFault>
     ensures { (va : ℕ) → word_in va result ≡ place_answer (reached_of (word_in va translated)) }

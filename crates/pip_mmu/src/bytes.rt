@@ -1,4 +1,4 @@
-//! The bytes of a word. Byte k is its bits 8k to 8k + 7, and is at the addresses that are k more than a multiple of 4.
+//! The bytes of a word. Byte k has its bits 8k to 8k + 7, and is at the addresses that leave k on division by 4.
 ghost use Rattle.std.specs.Prelude.{◌≡◌, ◌<◌, ◌^◌};
 ghost use Rattle.pip_model.specs.Events.{below_of};
 ghost use Rattle.pip_model.specs.Happens.{read_of, written_over};

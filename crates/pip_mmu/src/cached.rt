@@ -17,7 +17,7 @@ use pip_frames::Frames;
 use pip_tlb::Cache;
 use std::sync::ledger::Ledger;
 
-// What the tables give where the cache holds nothing of the page. A page that is reached fills its place.
+// What the tables give if the cache doesn't hold the page. A page that is reached fills its place.
 #[inline(always)]
 fn after_miss<M: Frames, L: Ledger>(
     mem: &M,
@@ -172,7 +172,7 @@ pub fn load_through<M: Frames, L: Ledger>(
     Ok(read_at(mem, frame, va, size, steps))
 }
 
-/// What [`load_through`] gives for a fetch of the word at `pc`, sooner where the last fetch came from the same page.
+/// What [`load_through`] gives for a fetch of the word at `pc`. It is faster if the last fetch came from the same page.
 #[inline(always)]
 pub fn fetch_through<M: Frames, L: Ledger>(
     mem: &M,
@@ -196,7 +196,7 @@ pub fn fetch_through<M: Frames, L: Ledger>(
     }
 }
 
-// Fetches where the cache keeps no such page. It keeps this one then.
+// Fetches if the cache keeps no such page; it then keeps this one.
 #[inline(always)]
 fn fetch_and_keep<M: Frames, L: Ledger>(
     mem: &M,

@@ -1,6 +1,6 @@
 //! Why an access fails.
 
-/// Why the tables let an access through to no page. They are tested in this order.
+/// Why the tables give an access no page. They are tested in this order.
 #[derive(Clone, Copy, Debug, PartialEq, Eq)]
 pub enum MmuFault {
     /// The partition has no row at the virtual page.
@@ -16,6 +16,6 @@ pub enum MmuFault {
 pub enum AccessFault {
     /// A word is accessed at an address that isn't a multiple of 4.
     Alignment,
-    /// The tables let it through to no page.
+    /// The tables give it no page.
     Mmu(MmuFault),
 }

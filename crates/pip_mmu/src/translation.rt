@@ -40,7 +40,7 @@ fn walk<M: Frames, L: Ledger>(mem: &M, part: Frame, v: VPage, steps: &mut Steps<
     }
 }
 
-/// What the MMU's tables say, apart from the code of its callers: loads, stores and fetches need it seldom.
+/// What the MMU's tables say, out of line: loads, stores and fetches rarely need it.
 #[inline(never)]
 pub(crate) fn mmu_leaf<M: Frames, L: Ledger>(
     mem: &M,

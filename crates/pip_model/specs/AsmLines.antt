@@ -11,8 +11,7 @@ use Rattle.pip_model.specs.declared.assembly.Stage.{Stage}
 use Rattle.pip_model.specs.declared.assembly.Stage.TheVariants.{Start, Framed, Header, InPage}
 
 -- an empty line or a remark; `.frames`, `.cpus` and `.line`; `.page`, by its vpage; a word of the page, a number of
--- zero
--- words, and a name of its next place
+-- zero words, and a name of its next place
 pub data Statement : Type 0 where
   Blank : Statement
   Frames : ℕ → Statement

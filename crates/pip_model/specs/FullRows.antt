@@ -3,7 +3,8 @@ use Rattle.std.specs.Prelude.{ℕ, Bool, not, if◌then◌else◌, ◌==◌, fin
 use Rattle.pip_base.specs.Words.{leaf_word, shadow1_word, shadow2_word, as_descriptor, as_configuration, as_lent}
 use Rattle.pip_model.specs.Lists.{has}
 use Rattle.pip_model.specs.Tree.{Row, Node, Tree, find_node, config, row_at, holder, hidden, vpage}
-use Rattle.pip_model.specs.NodeWords.{Level, Mmu, Shadow1, Shadow2}
+use Rattle.pip_model.specs.declared.level.Level.{Level}
+use Rattle.pip_model.specs.declared.level.Level.TheVariants.{Mmu, Shadow1, Shadow2}
 
 -- a row with what the tables and the shadows say of it: given and from are words of the shadows
 pub record FullRow : Type 0 where

@@ -7,7 +7,9 @@ use Rattle.pip_model.specs.Boot.{own}
 use Rattle.pip_model.specs.Lists.{Distinct, In}
 use Rattle.pip_model.specs.Tree.{Base, Node, Table, config, has_table}
 use Rattle.pip_model.specs.FullRows.{FullRow, cells_of}
-use Rattle.pip_model.specs.NodeWords.{Level, Mmu, Shadow1, Shadow2, Role, role, role_word}
+use Rattle.pip_model.specs.NodeWords.{Role, role, role_word}
+use Rattle.pip_model.specs.declared.level.Level.{Level}
+use Rattle.pip_model.specs.declared.level.Level.TheVariants.{Mmu, Shadow1, Shadow2}
 
 -- a word of a first shadow: 0, or a vpage that isn't 0 and one of three uses
 abbrev pub IsFirstShadowWord : ℕ → Type 0

@@ -7,12 +7,8 @@ use Rattle.pip_base.specs.declared.types.Pair.{Pair}
 use Rattle.pip_base.specs.Words.{directory_word}
 use Rattle.pip_model.specs.Tree.{Table, Node, table_at}
 use Rattle.pip_model.specs.Boot.{own}
-
--- which of the three tables of a directory index
-pub data Level : Type 0 where
-  Mmu : Level
-  Shadow1 : Level
-  Shadow2 : Level
+use Rattle.pip_model.specs.declared.level.Level.{Level}
+use Rattle.pip_model.specs.declared.level.Level.TheVariants.{Mmu, Shadow1, Shadow2}
 
 -- what a page of a node's configuration is: its descriptor, a directory, the table of a directory
 -- index, or list page k

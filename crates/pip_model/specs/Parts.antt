@@ -135,36 +135,36 @@ each_siblings r t = list_all (λ (x : Node).
     list_all (λ (y : Node). implies (x.up == y.up) (implies (not (x.name == y.name)) (r x y))) t.others) t.others
 
 -- part 1 of soundness: it is a tree
-unfoldable pub part_1 : Tree → Bool
-part_1 t = is_rooted t.root t.others
+unfoldable pub part_parents_come_first : Tree → Bool
+part_parents_come_first t = is_rooted t.root t.others
 
 -- part 2 of soundness: the root is that of the boot
-unfoldable pub part_2 : Tree → Bool
-part_2 t = has_boot_root t
+unfoldable pub part_boot_root : Tree → Bool
+part_boot_root t = has_boot_root t
 
 -- part 3 of soundness: no partition uses a page twice
-unfoldable pub part_3 : Tree → Bool
-part_3 t = each_node keeps_pages_apart t
+unfoldable pub part_pages_apart : Tree → Bool
+part_pages_apart t = each_node keeps_pages_apart t
 
 -- part 4 of soundness: everything comes from the parent
-unfoldable pub part_4 : Tree → Bool
-part_4 t = each_child is_lent_by t && each_other is_named_by_base t
+unfoldable pub part_lent : Tree → Bool
+part_lent t = each_child is_lent_by t && each_other is_named_by_base t
 
 -- part 5 of soundness: siblings are apart
-unfoldable pub part_5 : Tree → Bool
-part_5 t = each_siblings are_apart t
+unfoldable pub part_siblings_apart : Tree → Bool
+part_siblings_apart t = each_siblings are_apart t
 
 -- part 6 of soundness: rights only shrink
-unfoldable pub part_6 : Tree → Bool
-part_6 t = each_node can_read t && each_child gives_no_more t
+unfoldable pub part_rights : Tree → Bool
+part_rights t = each_node can_read t && each_child gives_no_more t
 
 -- part 7 of soundness: every row has its table
-unfoldable pub part_7 : Tree → Bool
-part_7 t = each_node has_tables t
+unfoldable pub part_tables_of_rows : Tree → Bool
+part_tables_of_rows t = each_node has_tables t
 
 -- part 8 of soundness: only the root has pending lines
-unfoldable pub part_8 : Tree → Bool
-part_8 t = each_other has_no_lines t
+unfoldable pub part_no_lines_but_the_root : Tree → Bool
+part_no_lines_but_the_root t = each_other has_no_lines t
 
 -- the least part that a tree breaks
 abbrev pub unless_broken : Bool → ℕ → Option ℕ → Option ℕ
@@ -173,6 +173,11 @@ unless_broken holds part rest = if holds then rest else Some part
 -- the first part of soundness that a tree breaks, if it breaks one
 unfoldable pub broken_part : Tree → Option ℕ
 broken_part t =
-    unless_broken (part_1 t) 1 (unless_broken (part_2 t) 2 (unless_broken (part_3 t) 3 (unless_broken (part_4 t) 4
-    (unless_broken (part_5 t) 5
-    (unless_broken (part_6 t) 6 (unless_broken (part_7 t) 7 (unless_broken (part_8 t) 8 None)))))))
+    unless_broken (part_parents_come_first t) 1
+    (unless_broken (part_boot_root t) 2
+    (unless_broken (part_pages_apart t) 3
+    (unless_broken (part_lent t) 4
+    (unless_broken (part_siblings_apart t) 5
+    (unless_broken (part_rights t) 6
+    (unless_broken (part_tables_of_rows t) 7
+    (unless_broken (part_no_lines_but_the_root t) 8 None)))))))

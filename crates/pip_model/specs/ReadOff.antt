@@ -5,7 +5,9 @@ use Rattle.std.specs.Prelude.{unwrap_or}
 use Rattle.pip_base.specs.declared.types.Pair.{Pair}
 use Rattle.pip_base.specs.Memory.{word_at}
 use Rattle.pip_base.specs.Words.{directory_word, as_descriptor}
-use Rattle.pip_model.specs.NodeWords.{Level, Mmu, table_page, slots, next_list_page}
+use Rattle.pip_model.specs.NodeWords.{table_page, slots, next_list_page}
+use Rattle.pip_model.specs.declared.level.Level.{Level}
+use Rattle.pip_model.specs.declared.level.Level.TheVariants.{Mmu}
 use Rattle.pip_model.specs.declared.reading.Stop.{Stop}
 use Rattle.pip_model.specs.Lists.{has}
 use Rattle.pip_model.specs.Tree.{Base, Table, Row, Node, Tree, dir, hidden, lists, names_of, row_pages, table_at}

@@ -1,10 +1,10 @@
-//! What an assembly text is judged by.
+//! What can be wrong with a line of an assembly text, and which lines may come next.
 use thiserror::Error;
 
 /// What is wrong with a line of an assembly text (docs/FORMATS.md, "Assembly").
 #[derive(Clone, Copy, Debug, PartialEq, Eq, Error)]
 pub enum AsmKind {
-    /// It is longer than 120 bytes, it has no form of the table, or its form isn't allowed here.
+    /// It is longer than 120 bytes, the table lacks its form, or its form isn't allowed here.
     #[error("unknown")]
     Unknown,
     /// Operands are missing or too many, or one is of another kind.

@@ -1,5 +1,5 @@
 //! The numbers of the calls, and what a yield can name in place of a handler's vector: docs/FORMATS.md, "Calls by
-//! number". Any other number is that of no call.
+//! number". No call has any other number.
 
 /// createPartition.
 pub const CREATE_PARTITION: u32 = 0;
@@ -26,5 +26,5 @@ pub const VSTI: u32 = 11;
 
 /// The vector in whose block a partition is saved at faults, traps and interrupts.
 pub const SAVED: u32 = 63;
-/// In place of the vector of the block in which the caller of a yield is saved: it isn't saved.
+/// A yield names this in place of a vector if its caller isn't to be saved.
 pub const NOT_SAVED: u32 = 256;

@@ -1,6 +1,6 @@
 //! The forms of instruction words.
 
-/// Which fields of a word an instruction uses; the others are 0 (docs/FORMATS.md, "Instructions").
+/// Which fields of a word an instruction uses; the other fields are 0 (docs/FORMATS.md, "Instructions").
 #[derive(Clone, Copy, Debug, PartialEq, Eq)]
 pub enum Form {
     /// The registers a and b.

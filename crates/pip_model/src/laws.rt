@@ -7,7 +7,7 @@ ghost use Rattle.pip_model.specs.Laws.{FramesTellTree, LayoutTellsTree, NumbersA
 ghost use Rattle.pip_model.specs.Laws.{TreesShowAlike};
 ghost use Rattle.pip_model.specs.Local.{DependsOnBelow, LeavesOthersAlone, OthersDoNotMatter};
 
-/// Every world that events lead to is sound.
+/// Events lead to sound worlds only.
 pub fn law_sound()
     ensures boot { BootIsSound }
     ensures event { EventsKeepSound }
@@ -42,7 +42,7 @@ pub fn law_give_back()
     ensures { GivesBack }
 {}
 
-/// The words of the frames tell the tree, and its text.
+/// The words of the frames determine the tree, and its text.
 pub fn law_layout()
     ensures trees { LayoutTellsTree }
     ensures frames { FramesTellTree }

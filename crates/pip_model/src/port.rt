@@ -11,8 +11,8 @@ use crate::operands::Register;
 use pip_base::{Ctx, Outcome, Size, Steps};
 use std::sync::ledger::Ledger;
 
-/// A machine, by the events that happen to it. It stands for worlds of the model. For every world that it stands for,
-/// an event has the model's outcome, and the machine then stands for the model's next world.
+/// A machine, by the events that happen to it. It stands for worlds of the model: for each of them, an event has the
+/// model's outcome, and the machine then stands for the model's next world.
 pub trait Port {
     /// The worlds that it stands for: one, up to the order of the partitions.
     ghost stands: { Self → World → Type 0 };
@@ -20,7 +20,7 @@ pub trait Port {
     /// How many processors it has.
     ghost count: { Self → ℕ };
 
-    /// The number of processors, 1 to 4. Below, `cpu` is less.
+    /// The number of processors, 1 to 4. Each `cpu` below is less than it.
     fn cpus(&self) -> u32
         ensures { result ≡ count self.now };
 
@@ -94,20 +94,20 @@ pub trait Port {
         ensures { (w : World) → stands self.now w → option_map (λ x. x.now) result
             ≡ option_map (λ r. r.ctx) (runs_on w cpu) };
 
-    /// Sends what runs on a processor to another address. Nothing happens where nothing runs.
+    /// Gives what runs on a processor another pc. Nothing happens if nothing runs.
     fn set_pc(&mut self, cpu: u32, pc: u32)
         requires { cpu < count self.old }
         ensures event { Changes (stands self.old) (stands self.new) cpu (λ x. record x { pc = pc }) }
         ensures count { count self.new ≡ count self.old };
 
-    /// What runs on a processor goes on at an address, and a register of it gets a word.
+    /// Gives what runs on a processor another pc, and a register of it a word. Nothing happens if nothing runs.
     fn set_register(&mut self, cpu: u32, register: Register, word: u32, pc: u32)
         requires { cpu < count self.old }
         ensures event { Changes (stands self.old) (stands self.new) cpu
             (λ x. record { pc = pc; regs = slice_set x.regs register word }) }
         ensures count { count self.new ≡ count self.old };
 
-    /// Gives what runs on a processor another context. Nothing happens where nothing runs.
+    /// Gives what runs on a processor another context. Nothing happens if nothing runs.
     fn set_ctx(&mut self, cpu: u32, c: &Ctx)
         requires { cpu < count self.old }
         ensures event { Changes (stands self.old) (stands self.new) cpu (λ x. c.now) }

@@ -4,8 +4,11 @@ ghost use Rattle.pip_model.specs.Boot.{frame_of_root, tables_of_root};
 
 use pip_base::{Frame, MAX_FRAMES, MIN_FRAMES, VIDT, VPage};
 
-/// How many tables the root of `n` frames has, beside the one that holds its handler table: the least number,
-/// at least 1, whose rows have room for the other user frames. `n` is 16 to 4096, the result 1 to 4.
+/// The frame of the root's descriptor.
+pub const ROOT: u32 = 1;
+
+/// How many tables the root of `n` frames has, beside the one for its handler table: the least number, at least 1,
+/// whose rows suffice for the other user frames. `n` is 16 to 4096, the result 1 to 4.
 pub fn root_tables(n: u32) -> u32
     requires least { MIN_FRAMES ≤ n }
     requires most { n ≤ MAX_FRAMES }

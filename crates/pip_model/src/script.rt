@@ -53,22 +53,22 @@ pub enum ScriptLine {
         cpu: u32,
         reg: u32,
     },
-    /// What runs on a processor goes on at `va`.
+    /// What runs on a processor gets the pc `va`.
     SetPc {
         cpu: u32,
         va: u32,
     },
 }
 
-/// What is said of a line that has an answer.
+/// The answer to a line that has one.
 #[derive(Clone, Copy, Debug, PartialEq, Eq)]
 pub enum Said {
     /// A machine of `n` frames and `c` processors began.
     Booted { n: u32, c: u32 },
-    /// An event came out so.
+    /// The outcome of an event.
     Came(Outcome),
-    /// A word of a frame. None where there is no such frame or no such word.
+    /// A word of a frame. None if there is no such frame or no such word.
     Peeked(Option<u32>),
-    /// A register. None where the processor runs nothing.
+    /// A register. None if the processor runs nothing.
     Shown(Option<u32>),
 }

@@ -1,7 +1,7 @@
 -- What is known of the wants so far: their directories, and their addresses.
 use Rattle.std.specs.Prelude.{◌≡◌, ℕ, zero, suc, ◌+◌, ◌%◌, ◌<◌, ◌==◌, Bool, false, if◌then◌else◌, List, slice_index}
 use Rattle.std.specs.Prelude.{slice_index_or}
-use Rattle.pip_parent.specs.declared.addresses.Addresses.{Addresses}
+use Rattle.pip_parent.specs.declared.addresses.WantsByAddress.{WantsByAddress}
 use Rattle.pip_parent.specs.declared.directories.Directories.{Directories}
 use Rattle.pip_parent.specs.declared.taken.Taken.{Taken}
 use Rattle.pip_parent.specs.declared.wants.Want.{Want}
@@ -22,7 +22,7 @@ abbrev pub chain_of_want : Want → ℕ
 chain_of_want w = (vpage w.va + dir_of w) % 4096
 
 -- each chain leads to its wants before i, the last first
-pub record KnowsAddresses (a : Addresses) (ws : List Want) (i : ℕ) : Type 0 where
+pub record KnowsAddresses (a : WantsByAddress) (ws : List Want) (i : ℕ) : Type 0 where
   pub latest : (c : ℕ) → c < 4096 → slice_index a.latest c ≡ last (λ w. chain_of_want w == c) ws i
   pub before : (j : ℕ) → j < i
       → slice_index a.before j ≡ last (λ w. chain_of_want w == chain_of_want (want_at ws j)) ws j

@@ -9,7 +9,7 @@ use crate::wants::Want;
 /// want looks at few others, and no memory is taken: the table is 16 KiB of the stack, where a bit for each of the 2^20
 /// vpages would be 128.
 #[derive(Drop)]
-pub struct Addresses {
+pub struct WantsByAddress {
     /// For each chain the place of its latest want, plus 1; 0 where it has none.
     pub latest: [u16; 4096],
     /// For each want the same of the one before it in its chain.
@@ -31,7 +31,7 @@ fn chain_of(want: Want) -> usize
     ((vpage + vpage / 1024) % 4096) as usize
 }
 
-impl Addresses {
+impl WantsByAddress {
     ghost use Rattle.pip_parent.specs.declared.wants.Want.{Want};
     ghost use Rattle.pip_parent.specs.Wants.{earlier, want_at};
     ghost use Rattle.pip_parent.specs.Seen.{KnowsAddresses};
@@ -39,7 +39,7 @@ impl Addresses {
     pub fn new() -> Self
         ensures { (ws : List Want) → KnowsAddresses result ws 0 }
     {
-        Addresses {
+        WantsByAddress {
             latest: zeros(),
             before: zeros(),
         }

@@ -19,8 +19,8 @@ use std::sync::ledger::Ledger;
 /// their order, each by a table of the next pages where it is the first in its directory, and by the page after them,
 /// which is lent. It takes `need(wants)` pages. There are at most 4096 wants.
 ///
-/// The pool's addresses are to be pages', none twice, at each of which the caller has a free page with the rights READ
-/// and WRITE. Where it isn't so, `Want` and `Short` are answered as ever, and nothing is said of the child.
+/// At each address of the pool, none of which comes twice, the caller has a free page with the rights READ and WRITE.
+/// Otherwise only `Want` and `Short` are promised, and nothing of the child.
 pub fn build<P: Port, L: Ledger>(
     port: &mut P,
     cpu: u32,

@@ -1,6 +1,13 @@
 //! Building a child: the calls of a machine that give it exactly the pages that are wanted, in page tables made of a
-//! pool of pages. No memory is taken. What is built is defined in specs/Built, and what [`build`] says of it in
-//! specs/Contract.
+//! pool of pages. No memory is taken.
+//!
+//! It is a library for authors of parents; of the commands `native` alone uses it. `need` says how many pages of a pool
+//! a child takes, and [`build`] makes the child over any port. To be read in this order: specs/Wants (what is asked
+//! for, and which wants no child can have), Pool (what is required of the pool), Built (the tree with the child),
+//! Contract (each answer with its world). `calls.rt` has a function for each call, whose clause is the model's answer
+//! of it; proofs/ leads from what the model tests to the next tree: Made, Tabled, Lent and Deleted for the four calls,
+//! Opening, Meeting and Whole for the worlds of specs/Stages between. `Directories` (a truth value each) and
+//! `Addresses` (a hash table with chains) keep on the stack which wants were seen (specs/Seen).
 #![tactic(auto)]
 
 mod addresses;

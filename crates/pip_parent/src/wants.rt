@@ -2,7 +2,7 @@
 ghost use Rattle.std.specs.Prelude.{◌≡◌, ◌≤◌, ◌<◌, length};
 ghost use Rattle.pip_parent.specs.Wants.{need as needed, opened_before, is_malformed as malformed, FirstBad};
 
-use crate::addresses::Addresses;
+use crate::addresses::WantsByAddress;
 use crate::directories::Directories;
 use pip_model::lists;
 
@@ -19,7 +19,7 @@ pub fn first_bad(wants: &[Want]) -> Option<u32>
     requires { length wants.now ≤ 4096 }
     ensures { FirstBad wants.now result }
 {
-    let mut addresses = Addresses::new();
+    let mut addresses = WantsByAddress::new();
     for i in 0..wants.len() {
         if is_malformed(wants[i]) || addresses.has(wants, i) {
             return Some(i as u32);

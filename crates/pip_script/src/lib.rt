@@ -1,5 +1,11 @@
 //! The lines of scripts, read from bytes, the text of answers, and the generator (docs/FORMATS.md, "Scripts" and
 //! "Generator").
+//!
+//! A line is accepted exactly if it is in the grammar for the machine's number of processors, and its numbers are then
+//! in the ranges that its event needs. `answer_line` reads a line that isn't blank, makes its event on any port, and
+//! gives what the model answers (`RepliesTo`). One macro (`by_form`) serves it and `read_line`, so that the value of a
+//! line need not be put together in memory. The text of an outcome is, byte for byte, the model's, and the generator's
+//! draws are the model's.
 #![tactic(auto)]
 
 mod answers;

@@ -12,8 +12,8 @@ use Rattle.pip_search.specs.Summary.{HasOneKey, IsTold}
 use Rattle.pip_search.specs.Systems.{Model}
 use Rattle.pip_search.specs.Ways.{AreTraced, witnesses_of}
 use Rattle.pip_search.specs.declared.searching.Search.{Search}
-use Rattle.pip_search.specs.declared.searching.Verdict.{Verdict}
-use Rattle.pip_search.specs.declared.searching.Verdict.TheVariants.{Closed, Stopped, Within}
+use Rattle.pip_search.specs.declared.searching.Extent.{Extent}
+use Rattle.pip_search.specs.declared.searching.Extent.TheVariants.{Closed, Stopped, Within}
 use Rattle.pip_search.specs.declared.visits.Visit.{Visit}
 use Rattle.pip_search.proofs.Ending.{IsShallow, closed_ends, stopped_ends, within_ends}
 use Rattle.pip_search.proofs.Keeping.{distinct_keys}
@@ -28,7 +28,7 @@ visit_read s i v low read = slice_get_read s.visits.items (length s.visits.items
     (omega (arith, s.visits.ok.0)) read
 
 -- what is promised of a search that has ended, whose system had this base before, and has that one now
-abbrev pub IsDone : (m : Model) → List ℕ → Search → ℕ → ℕ → Verdict → {B : Type 0} → B → B → Type 0
+abbrev pub IsDone : (m : Model) → List ℕ → Search → ℕ → ℕ → Extent → {B : Type 0} → B → B → Type 0
 IsDone m start s most limit verdict old now = record {
   told : HasOneKey m → (x : m.State) → m.stands start x → IsTold m x most limit
       (witnesses_of verdict s.visits.items s.found.items) (length s.visits.items) verdict;
@@ -44,7 +44,7 @@ IsDone m start s most limit verdict old now = record {
 module _ {B : Type 0} {old now : B} {m : Model} {start : List ℕ} {s : Search} {i c most limit : ℕ}
     (base : now ≡ old) (h : IsSearching m start s i c) (room : vec_len s.visits ≤ limit) where
   -- all of it follows from what the search explains, and from why it ended
-  done : (verdict : Verdict) → Explains m start s.visits.items s.found.items verdict
+  done : (verdict : Extent) → Explains m start s.visits.items s.found.items verdict
       → Ends m s.visits.items most limit verdict → IsDone m start s most limit verdict old now
   done verdict explains ends =
       let traced = are_traced m start s.visits.items s.found.items i c h.exploring in

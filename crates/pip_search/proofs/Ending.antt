@@ -6,7 +6,7 @@ use Rattle.pip_search.specs.Exploring.{IsExploring}
 use Rattle.pip_search.specs.Orders.{IsRanked}
 use Rattle.pip_search.specs.declared.visits.Visit.{Visit}
 use Rattle.pip_search.specs.declared.found.Found.{Found}
-use Rattle.pip_search.specs.declared.searching.Verdict.TheVariants.{Closed, Stopped, Within}
+use Rattle.pip_search.specs.declared.searching.Extent.TheVariants.{Closed, Stopped, Within}
 use Rattle.pip_search.proofs.Making.{at-same}
 use Rattle.pip_search.proofs.Places.{get-below}
 

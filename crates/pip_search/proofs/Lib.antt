@@ -15,3 +15,7 @@ pub mod Picking
 pub mod Summing
 pub mod Done
 pub mod Once
+pub mod Certified
+pub mod Parting
+pub mod Answered
+pub mod Rising

@@ -9,8 +9,8 @@ use Rattle.pip_search.specs.Summary.{AreCounted, HasAway, HasOneKey, HasOneMore,
 use Rattle.pip_search.specs.Summary.{Witness}
 use Rattle.pip_search.specs.Summary.{farthest}
 use Rattle.pip_search.specs.Systems.{Model, after_choices}
-use Rattle.pip_search.specs.declared.searching.Verdict.{Verdict}
-use Rattle.pip_search.specs.declared.searching.Verdict.TheVariants.{Closed, Stopped, Within}
+use Rattle.pip_search.specs.declared.searching.Extent.{Extent}
+use Rattle.pip_search.specs.declared.searching.Extent.TheVariants.{Closed, Stopped, Within}
 use Rattle.pip_search.proofs.Making.{at-same}
 use Rattle.pip_search.proofs.Picking.{map_at}
 use Rattle.pip_search.proofs.Places.{get-below, get-some}
@@ -135,26 +135,26 @@ module _ (m : Model) (one : HasOneKey m) (s : m.State) where
       let d = a.count in let e = b.count in omega arith
 
   -- a key of a state that covered choices lead to is counted
-  moved : (keys : List (List ℕ)) (v : Verdict) → AreCounted m s keys v → (key : List ℕ) (n : ℕ) → IsAway m s key n
+  moved : (keys : List (List ℕ)) (v : Extent) → AreCounted m s keys v → (key : List ℕ) (n : ℕ) → IsAway m s key n
       → IsCovered v n → (k : ℕ) × (slice_get keys k ≡ Some key)
   moved keys v counted key n a cover =
       let x = counted.all a.choices a.can (subst (IsCovered v) (sym a.count) cover) in
       (x.place, x.at ∙ ap (λ y. Some y) (one x.key key (after_choices m s a.choices) x.stands a.stands))
 
-  keys_in : (keys more : List (List ℕ)) (v w : Verdict) → AreCounted m s keys v → AreCounted m s more w
+  keys_in : (keys more : List (List ℕ)) (v w : Extent) → AreCounted m s keys v → AreCounted m s more w
       → IsCovered w (farthest v) → AreIn keys more
   keys_in keys more v w a b cover j key e =
       let (n, (low, away)) = a.reached j key e in
       moved more w b key n away (covered_down w (farthest v) n cover low)
 
-  deepest : (keys more : List (List ℕ)) (d : ℕ) (w : Verdict) → HasAway m s keys d → AreCounted m s more w
+  deepest : (keys more : List (List ℕ)) (d : ℕ) (w : Extent) → HasAway m s keys d → AreCounted m s more w
       → IsCovered w d → d ≤ farthest w
   deepest keys more d w h b cover =
       let (k, at) = moved more w b h.key d h.away cover in
       let (n, (low, away)) = b.reached k h.key at in
       let same = away_once h.key d n h.away away in omega arith
 
-  overfull : (keys more : List (List ℕ)) (n : ℕ) (v w : Verdict) → AreCounted m s keys v → AreCounted m s more w
+  overfull : (keys more : List (List ℕ)) (n : ℕ) (v w : Extent) → AreCounted m s keys v → AreCounted m s more w
       → IsCovered w (farthest v) → HasOneMore m s keys n → IsCovered w n → length keys + 1 ≤ length more
   overfull keys more n v w a b cover h far =
       let x = b.all h.choices h.can (subst (IsCovered w) (sym h.count) far) in
@@ -162,7 +162,7 @@ module _ (m : Model) (one : HasOneKey m) (s : m.State) where
       (λ j e. h.none (record { place = j; key = x.key; at = e; stands = x.stands }))
 
   module _ (most limit : ℕ) where
-    verdict_once : (keys more : List (List ℕ)) (v w : Verdict) → AreCounted m s keys v → AreCounted m s more w
+    verdict_once : (keys more : List (List ℕ)) (v w : Extent) → AreCounted m s keys v → AreCounted m s more w
         → IsEnd m s keys most limit v → IsEnd m s more most limit w → v ≡ w
     verdict_once keys more (Closed d) (Closed e) a b x y =
         let le : d ≤ e = deepest keys more d (Closed e) x.1.1 b tt in
@@ -209,7 +209,7 @@ module _ (m : Model) (one : HasOneKey m) (s : m.State) where
         ]
 
     -- of one verdict there is one count
-    count_once : (keys more : List (List ℕ)) (v : Verdict) → AreCounted m s keys v → AreCounted m s more v
+    count_once : (keys more : List (List ℕ)) (v : Extent) → AreCounted m s keys v → AreCounted m s more v
         → IsEnd m s keys most limit v → IsEnd m s more most limit v → length keys ≡ length more
     count_once keys more (Closed d) a b x y =
         let le = fewer keys more a.distinct (keys_in keys more (Closed d) (Closed d) a b tt) in
@@ -222,7 +222,7 @@ module _ (m : Model) (one : HasOneKey m) (s : m.State) where
     -- ---- witnesses
 
     -- a witness of one summary is one of the other
-    witness_in : (ws xs : List Witness) (count n : ℕ) (v : Verdict) → IsTold m s most limit ws count v
+    witness_in : (ws xs : List Witness) (count n : ℕ) (v : Extent) → IsTold m s most limit ws count v
         → IsTold m s most limit xs n v → AreIn ws xs
     witness_in ws xs count n v t u k w e =
         let (shown, (some, cover)) = t.shown k w e in
@@ -247,7 +247,7 @@ module _ (m : Model) (one : HasOneKey m) (s : m.State) where
             ap (λ l. let r : Witness = record { label = l; way = p.way } in r) label in
             first ∙ ap (λ c. let r : Witness = record { label = q.label; way = c } in r) way
 
-    of_one_verdict : (ws xs : List Witness) (count n : ℕ) (v : Verdict) → IsTold m s most limit ws count v
+    of_one_verdict : (ws xs : List Witness) (count n : ℕ) (v : Extent) → IsTold m s most limit ws count v
         → IsTold m s most limit xs n v → (ws ≡ xs) × (count ≡ n)
     of_one_verdict ws xs count n v t u = (
       ranked_same ws xs t.order u.order (witness_in ws xs count n v t u) (witness_in xs ws n count v u t),

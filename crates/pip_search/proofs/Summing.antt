@@ -17,8 +17,8 @@ use Rattle.pip_search.specs.Systems.{Model, after_choices}
 use Rattle.pip_search.specs.Ways.{AreTraced, found_way, is_covered, way_to, witness_of, witnesses_of}
 use Rattle.pip_search.specs.declared.visits.Visit.{Visit}
 use Rattle.pip_search.specs.declared.found.Found.{Found}
-use Rattle.pip_search.specs.declared.searching.Verdict.{Verdict}
-use Rattle.pip_search.specs.declared.searching.Verdict.TheVariants.{Closed, Stopped, Within}
+use Rattle.pip_search.specs.declared.searching.Extent.{Extent}
+use Rattle.pip_search.specs.declared.searching.Extent.TheVariants.{Closed, Stopped, Within}
 use Rattle.pip_search.proofs.Making.{at-same}
 use Rattle.pip_search.proofs.Picking.{at_filter, at_map, filter_at, filter_rises, map_at}
 use Rattle.pip_search.proofs.Ranking.{trail_before, trail_same}
@@ -26,33 +26,33 @@ use Rattle.pip_search.proofs.Tracing.{way_trail}
 
 -- ---- what was covered
 
-pub covered_true : (v : Verdict) (n : ℕ) → is_covered v n ≡ true → IsCovered v n
+pub covered_true : (v : Extent) (n : ℕ) → is_covered v n ≡ true → IsCovered v n
 covered_true (Closed depth) n e = tt
 covered_true (Within depth) n e = grind (arith, nat_tests)
 covered_true (Stopped depth) n e = grind (arith, nat_tests)
 
-pub covered_is : (v : Verdict) (n : ℕ) → IsCovered v n → is_covered v n ≡ true
+pub covered_is : (v : Extent) (n : ℕ) → IsCovered v n → is_covered v n ≡ true
 covered_is (Closed depth) n h = refl
 covered_is (Within depth) n h = grind (arith, nat_tests)
 covered_is (Stopped depth) n h = grind (arith, nat_tests)
 
-pub covered_down : (v : Verdict) (n k : ℕ) → IsCovered v n → k ≤ n → IsCovered v k
+pub covered_down : (v : Extent) (n k : ℕ) → IsCovered v n → k ≤ n → IsCovered v k
 covered_down (Closed depth) n k h low = tt
 covered_down (Within depth) n k h low = omega arith
 covered_down (Stopped depth) n k h low = omega arith
 
-covered_or : (v : Verdict) (n : ℕ) → IsCovered v n ⊎ (farthest v ≤ n)
+covered_or : (v : Extent) (n : ℕ) → IsCovered v n ⊎ (farthest v ≤ n)
 covered_or (Closed depth) n = inl tt
 covered_or (Within depth) n = elim (cases_lt depth n) [ inl more ↦ inr (omega arith) | inr less ↦ inl less ]
 covered_or (Stopped depth) n = elim (cases_lt depth n) [ inl more ↦ inr (omega arith) | inr less ↦ inl less ]
 
-all_within : (m : Model) (vs : List Visit) (most limit : ℕ) (v : Verdict) → Ends m vs most limit v
+all_within : (m : Model) (vs : List Visit) (most limit : ℕ) (v : Extent) → Ends m vs most limit v
     → AreWithin vs (farthest v)
 all_within m vs most limit (Closed depth) e = e.1.1
 all_within m vs most limit (Within depth) e = e.1.1
 all_within m vs most limit (Stopped depth) e = e.1.1
 
-module _ (m : Model) (s : m.State) (vs : List Visit) (fs : List Found) (v : Verdict) (t : Tells m s vs fs v)
+module _ (m : Model) (s : m.State) (vs : List Visit) (fs : List Found) (v : Extent) (t : Tells m s vs fs v)
     (back : AreTraced vs fs) where
   -- ---- labels
 
@@ -223,7 +223,7 @@ count_is vs = length-map vs key_of
 
 module _ (m : Model) (s : m.State) (vs : List Visit) (fs : List Found) (back : AreTraced vs fs) (one : HasOneKey m)
     (distinct : AreDistinct (keys vs)) (most limit : ℕ) (room : length vs ≤ limit) where
-  end_is : (v : Verdict) → Tells m s vs fs v → Ends m vs most limit v → IsEnd m s (keys vs) most limit v
+  end_is : (v : Extent) → Tells m s vs fs v → Ends m vs most limit v → IsEnd m s (keys vs) most limit v
   end_is (Closed depth) t ends =
       let n = count_is vs in
       (ends.0, (omega arith, has_away m s vs fs (Closed depth) t back one distinct most limit ends room depth ends.1.0))
@@ -236,7 +236,7 @@ module _ (m : Model) (s : m.State) (vs : List Visit) (fs : List Found) (back : A
       let more = one_more m s vs fs (Stopped depth) t back one distinct most limit ends room depth ends.1.0 in
       (ends.0, (omega arith, more))
 
-  pub says : (v : Verdict) (i c : ℕ) → IsRanked vs fs i c → Tells m s vs fs v → Ends m vs most limit v
+  pub says : (v : Extent) (i c : ℕ) → IsRanked vs fs i c → Tells m s vs fs v → Ends m vs most limit v
       → AreDistinct (labels fs) → ((k : ℕ) (f : Found) → slice_get fs k ≡ Some f → f.label.items ≢ [])
       → IsTold m s most limit (witnesses_of v vs fs) (length vs) v
   says v i c ranked t ends names some = record {

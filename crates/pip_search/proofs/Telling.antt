@@ -10,8 +10,8 @@ use Rattle.pip_search.specs.Exploring.{IsExploring, IsVisit, WasMade}
 use Rattle.pip_search.specs.Reached.{AreChoices, IsCovered, Explains, IsFoundBy, IsReached, IsShownBy, IsVisited, Tells}
 use Rattle.pip_search.specs.declared.visits.Visit.{Visit}
 use Rattle.pip_search.specs.declared.found.Found.{Found}
-use Rattle.pip_search.specs.declared.searching.Verdict.{Verdict}
-use Rattle.pip_search.specs.declared.searching.Verdict.TheVariants.{Closed, Stopped, Within}
+use Rattle.pip_search.specs.declared.searching.Extent.{Extent}
+use Rattle.pip_search.specs.declared.searching.Extent.TheVariants.{Closed, Stopped, Within}
 use Rattle.pip_search.proofs.Places.{get-below, get-some}
 use Rattle.pip_search.proofs.Making.{at-same}
 use Rattle.pip_search.proofs.Ranking.{earlier_no_later}
@@ -129,11 +129,11 @@ visit_key m start vs fs i c h (s, stands) j u e = let r = all_reached m start vs
 -- ---- where all choices lead
 
 -- that many choices lead to no visit that is still to be gone through
-pub record Reaches (vs : List Visit) (e : ℕ) (verdict : Verdict) : Type 0 where
+pub record Reaches (vs : List Visit) (e : ℕ) (verdict : Extent) : Type 0 where
   pub within : (n j : ℕ) (u : Visit) → slice_get vs j ≡ Some u → u.depth ≤ n → IsCovered verdict (n + 1) → j < e
 
 module _ (m : Model) (start : List ℕ) (vs : List Visit) (fs : List Found) (i c : ℕ)
-    (h : IsExploring m start vs fs i c) (ranked : IsRanked vs fs i c) (verdict : Verdict) (ends : Reaches vs i verdict)
+    (h : IsExploring m start vs fs i c) (ranked : IsRanked vs fs i c) (verdict : Extent) (ends : Reaches vs i verdict)
     (down : (n : ℕ) → IsCovered verdict (n + 1) → IsCovered verdict n) (s : m.State) (stands : m.stands start s) where
   record Step (d : ℕ) (cs : List ℕ) : Type 0 where
     made : (j : ℕ) × WasMade m vs fs j d

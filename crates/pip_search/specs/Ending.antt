@@ -4,8 +4,8 @@ use Rattle.pip_search.specs.Keys.{key_of, keys}
 use Rattle.pip_search.specs.Naming.{IsAbsent}
 use Rattle.pip_search.specs.Systems.{Model, LeadsOn}
 use Rattle.pip_search.specs.declared.visits.Visit.{Visit}
-use Rattle.pip_search.specs.declared.searching.Verdict.{Verdict}
-use Rattle.pip_search.specs.declared.searching.Verdict.TheVariants.{Closed, Stopped, Within}
+use Rattle.pip_search.specs.declared.searching.Extent.{Extent}
+use Rattle.pip_search.specs.declared.searching.Extent.TheVariants.{Closed, Stopped, Within}
 
 -- a choice of visit i leads to a key that no visit has, and there is no room for it
 pub record IsBeyond (m : Model) (vs : List Visit) (limit i : ℕ) : Type 0 where
@@ -38,7 +38,7 @@ AreWithin vs depth = (j : ℕ) (u : Visit) → slice_get vs j ≡ Some u → u.d
 
 -- a search ends where it is closed, before it comes to the depth that was asked for; where it has come to that depth;
 -- and where, before it, one more state was reached than there is room for
-abbrev pub Ends : Model → List Visit → ℕ → ℕ → Verdict → Type 0
+abbrev pub Ends : Model → List Visit → ℕ → ℕ → Extent → Type 0
 Ends m vs most limit (Closed depth) = (depth < most) × (HasDepth vs depth × AreWithin vs depth)
 Ends m vs most limit (Within depth) = (depth ≡ most) × (HasDepth vs depth × AreWithin vs depth)
 Ends m vs most limit (Stopped depth) = (depth < most) × (HasMore m vs limit depth × AreWithin vs (depth + 1))

@@ -12,3 +12,6 @@ pub mod Ending
 pub mod Reached
 pub mod Summary
 pub mod Ways
+pub mod Certificates
+pub mod Parts
+pub mod Merging

@@ -5,9 +5,13 @@ use Rattle.std.specs.Int.{from_le_bytes, w64}
 use Rattle.pip_search.specs.Filing.{IsFiled}
 use Rattle.pip_search.specs.declared.index.Index.{Index}
 
+-- a number whose lower half of 32 bits is mixed with the upper one
+abbrev pub folded : ℕ → ℕ
+folded n = bit_xor n (n / 2 ^ 32)
+
 -- a hash and one more number
 abbrev pub hash_step : ℕ → ℕ → ℕ
-hash_step sum k = (bit_xor sum k * 0x9e3779b97f4a7c15) % 2 ^ 64
+hash_step sum k = folded (bit_xor sum k * 0x9e3779b97f4a7c15 % 2 ^ 64)
 
 -- a hash and more bytes, one by one
 unfoldable pub hash_after : ℕ → List ℕ → ℕ
@@ -20,9 +24,9 @@ hash_by_eights sum (a ∷ b ∷ c ∷ d ∷ e ∷ f ∷ g ∷ h ∷ ks) =
     hash_by_eights (hash_step sum (from_le_bytes w64 (a ∷ b ∷ c ∷ d ∷ e ∷ f ∷ g ∷ h ∷ []))) ks
 hash_by_eights sum ks = hash_after sum ks
 
--- the hash of bytes: the upper half of the sum
+-- the hash of bytes: the lower half of the sum
 abbrev pub hash_of : List ℕ → ℕ
-hash_of bytes = hash_by_eights 0xcbf29ce484222325 bytes / 2 ^ 32
+hash_of bytes = hash_by_eights 0xcbf29ce484222325 bytes % 2 ^ 32
 
 -- no two of these are the same
 abbrev pub AreDistinct : List (List ℕ) → Type 0

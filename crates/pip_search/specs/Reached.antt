@@ -6,15 +6,15 @@ use Rattle.pip_search.specs.Orders.{IsNoLater, IsTrail}
 use Rattle.pip_search.specs.Systems.{Model, after_choices}
 use Rattle.pip_search.specs.declared.visits.Visit.{Visit}
 use Rattle.pip_search.specs.declared.found.Found.{Found}
-use Rattle.pip_search.specs.declared.searching.Verdict.{Verdict}
-use Rattle.pip_search.specs.declared.searching.Verdict.TheVariants.{Closed, Stopped, Within}
+use Rattle.pip_search.specs.declared.searching.Extent.{Extent}
+use Rattle.pip_search.specs.declared.searching.Extent.TheVariants.{Closed, Stopped, Within}
 
 -- choices that can be made
 abbrev pub AreChoices : Model → List ℕ → Type 0
 AreChoices m cs = AllByRecursion (λ c. c < m.choices) cs
 
 -- that many choices were all gone through: of a closed search any number
-abbrev pub IsCovered : Verdict → ℕ → Type 0
+abbrev pub IsCovered : Extent → ℕ → Type 0
 IsCovered (Closed depth) n = Unit {0}
 IsCovered (Within depth) n = n ≤ depth
 IsCovered (Stopped depth) n = n ≤ depth
@@ -58,7 +58,7 @@ pub record IsShownBy (m : Model) (s : m.State) (vs : List Visit) (j last : ℕ) 
   pub shown : label ≡ m.label (after_choices m s choices) last
 
 -- The theorem, for a state s at which a search began
-pub record Tells (m : Model) (s : m.State) (vs : List Visit) (fs : List Found) (verdict : Verdict) : Type 0 where
+pub record Tells (m : Model) (s : m.State) (vs : List Visit) (fs : List Found) (verdict : Extent) : Type 0 where
   -- whatever choices are made, as many as were covered, lead to a visit, and its way is no later than they
   pub all : (cs : List ℕ) → AreChoices m cs → IsCovered verdict (length cs) → IsVisited m vs (after_choices m s cs) cs
   -- and what the last of them shows was found, on a way that is no later than they
@@ -69,5 +69,5 @@ pub record Tells (m : Model) (s : m.State) (vs : List Visit) (fs : List Found) (
   pub shown : (k : ℕ) (f : Found) → slice_get fs k ≡ Some f → IsShownBy m s vs f.at f.choice f.label.items f.depth
 
 -- for each state for which the first key stands
-abbrev pub Explains : Model → List ℕ → List Visit → List Found → Verdict → Type 0
+abbrev pub Explains : Model → List ℕ → List Visit → List Found → Extent → Type 0
 Explains m start vs fs verdict = (s : m.State) → m.stands start s → Tells m s vs fs verdict

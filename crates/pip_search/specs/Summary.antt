@@ -4,8 +4,8 @@ use Rattle.pip_search.specs.Naming.{AreDistinct}
 use Rattle.pip_search.specs.Orders.{IsBefore, IsNoLater}
 use Rattle.pip_search.specs.Reached.{AreChoices, IsCovered}
 use Rattle.pip_search.specs.Systems.{Model, after_choices}
-use Rattle.pip_search.specs.declared.searching.Verdict.{Verdict}
-use Rattle.pip_search.specs.declared.searching.Verdict.TheVariants.{Closed, Stopped, Within}
+use Rattle.pip_search.specs.declared.searching.Extent.{Extent}
+use Rattle.pip_search.specs.declared.searching.Extent.TheVariants.{Closed, Stopped, Within}
 
 -- a label, and a way on which it is shown: choices, the last one first
 pub record Witness : Type 0 where
@@ -59,13 +59,13 @@ pub record HasOneMore (m : Model) (s : m.State) (keys : List (List ℕ)) (n : �
   pub none : IsAmong m keys (after_choices m s choices) → ⊥
 
 -- by that many choices each state that is counted can be reached
-abbrev pub farthest : Verdict → ℕ
+abbrev pub farthest : Extent → ℕ
 farthest (Closed depth) = depth
 farthest (Within depth) = depth
 farthest (Stopped depth) = depth + 1
 
 -- these are the keys of states, each of which can be reached, and all that covered choices lead to are among them
-pub record AreCounted (m : Model) (s : m.State) (keys : List (List ℕ)) (verdict : Verdict) : Type 0 where
+pub record AreCounted (m : Model) (s : m.State) (keys : List (List ℕ)) (verdict : Extent) : Type 0 where
   pub distinct : AreDistinct keys
   pub reached : (j : ℕ) (key : List ℕ) → slice_get keys j ≡ Some key → (n : ℕ)
       × ((n ≤ farthest verdict) × IsAway m s key n)
@@ -73,13 +73,13 @@ pub record AreCounted (m : Model) (s : m.State) (keys : List (List ℕ)) (verdic
 
 -- a search ends closed, before the depth that was asked for, and the deepest state is that deep; or at that depth, and
 -- some state is that deep; or before it, with as many states counted as the limit allows, and at least one more
-abbrev pub IsEnd : (m : Model) → m.State → List (List ℕ) → ℕ → ℕ → Verdict → Type 0
+abbrev pub IsEnd : (m : Model) → m.State → List (List ℕ) → ℕ → ℕ → Extent → Type 0
 IsEnd m s keys most limit (Closed depth) = (depth < most) × ((length keys ≤ limit) × HasAway m s keys depth)
 IsEnd m s keys most limit (Within depth) = (depth ≡ most) × ((length keys ≤ limit) × HasAway m s keys depth)
 IsEnd m s keys most limit (Stopped depth) = (depth < most) × ((length keys ≡ limit) × HasOneMore m s keys (depth + 1))
 
 -- what a search says: labels with their ways, how many states there are, and how it ended
-pub record IsTold (m : Model) (s : m.State) (most limit : ℕ) (ws : List Witness) (count : ℕ) (end : Verdict) : Type 0
+pub record IsTold (m : Model) (s : m.State) (most limit : ℕ) (ws : List Witness) (count : ℕ) (end : Extent) : Type 0
   where
     -- each way can be made and shows its label, which isn't empty, and choices as many as it has were covered
     pub shown : (k : ℕ) (w : Witness) → slice_get ws k ≡ Some w → IsShownOn m s w.label w.way
@@ -99,5 +99,5 @@ pub record IsTold (m : Model) (s : m.State) (most limit : ℕ) (ws : List Witnes
 
 -- where no state has two keys, all that can be said of a state is the same
 abbrev pub SaysOnce : Model → Type 0
-SaysOnce m = HasOneKey m → (s : m.State) (most limit count n : ℕ) (ws xs : List Witness) (v w : Verdict)
+SaysOnce m = HasOneKey m → (s : m.State) (most limit count n : ℕ) (ws xs : List Witness) (v w : Extent)
     → IsTold m s most limit ws count v → IsTold m s most limit xs n w → (ws ≡ xs) × ((count ≡ n) × (v ≡ w))

@@ -6,8 +6,8 @@ use Rattle.pip_search.specs.Exploring.{StartsRun}
 use Rattle.pip_search.specs.Summary.{Witness}
 use Rattle.pip_search.specs.declared.visits.Visit.{Visit}
 use Rattle.pip_search.specs.declared.found.Found.{Found}
-use Rattle.pip_search.specs.declared.searching.Verdict.{Verdict}
-use Rattle.pip_search.specs.declared.searching.Verdict.TheVariants.{Closed, Stopped, Within}
+use Rattle.pip_search.specs.declared.searching.Extent.{Extent}
+use Rattle.pip_search.specs.declared.searching.Extent.TheVariants.{Closed, Stopped, Within}
 use Rattle.pip_search.specs.declared.ways.Run.{Run}
 
 -- the choice of a visit, and then what leads to its parent
@@ -30,7 +30,7 @@ abbrev pub found_way : List Visit → Found → List ℕ
 found_way vs f = f.choice ∷ way_to vs f.at
 
 -- that many choices were all gone through
-abbrev pub is_covered : Verdict → ℕ → Bool
+abbrev pub is_covered : Extent → ℕ → Bool
 is_covered (Closed depth) n = true
 is_covered (Within depth) n = nat_le n depth
 is_covered (Stopped depth) n = nat_le n depth
@@ -40,7 +40,7 @@ abbrev pub witness_of : List Visit → Found → Witness
 witness_of vs f = record { label = f.label.items; way = found_way vs f }
 
 -- the labels that were covered, in the order in which they were found, with their ways
-abbrev pub witnesses_of : Verdict → List Visit → List Found → List Witness
+abbrev pub witnesses_of : Extent → List Visit → List Found → List Witness
 witnesses_of verdict vs fs = map (witness_of vs) (filter (λ f. is_covered verdict f.depth) fs)
 
 -- a choice, that many times

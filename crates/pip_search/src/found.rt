@@ -1,4 +1,4 @@
-//! What was shown on the way.
+//! The labels that a search found.
 ghost use Rattle.std.specs.Prelude.{IfOk};
 ghost use Rattle.pip_search.specs.Growing.{Told};
 ghost use Rattle.pip_search.specs.Keys.{labels};
@@ -7,10 +7,11 @@ ghost use Rattle.pip_search.specs.Naming.{AreNamed};
 use crate::hashes::hash_bytes;
 use crate::index::Index;
 use crate::names::{Named, find};
-use crate::visits::{Step, kept};
+use crate::visits::{MadeChoice, kept};
 use std::alloc::{AllocError, Global};
 
-/// What a choice showed first: the visit from which it was made, and how many choices that took, this one included.
+/// A label, and where it was found first: the visit from which the choice was made, and how many choices that took,
+/// this one included.
 #[derive(Drop)]
 pub struct Found {
     pub label: Vec<u8>,
@@ -27,13 +28,13 @@ impl Named for Found {
     }
 }
 
-/// Adds what a step showed, unless that is nothing, or was found before.
+/// Adds the label that a step showed, unless it is empty or was found before.
 pub(crate) fn tell(
     found: &mut Vec<Found>,
     index: &mut Index,
     alloc: Global,
     label: &[u8],
-    step: Step,
+    step: MadeChoice,
 ) -> Result<(), AllocError>
     requires named { AreNamed (labels found.old.items) index.old }
     ensures named { IfOk result (λ x. AreNamed (labels found.new.items) index.new) }

@@ -1,15 +1,17 @@
-//! Hashes of bytes. What the search promises doesn't depend on which they are.
+//! Hashes of bytes. What the search promises doesn't depend on the hash function.
 ghost use Rattle.std.specs.Prelude.{◌≡◌};
 ghost use Rattle.pip_search.specs.Naming.{hash_after, hash_by_eights, hash_of, hash_step};
 
-// A hash and one more number.
+// A hash with one more number stirred in. The product's upper half depends on all bits of both, so it is mixed into the
+// lower half.
 fn stir(sum: u64, number: u64) -> u64
     ensures { result ≡ hash_step sum number }
 {
-    (sum ^ number).wrapping_mul(0x9e3779b97f4a7c15)
+    let product = (sum ^ number).wrapping_mul(0x9e3779b97f4a7c15);
+    product ^ (product >> 32)
 }
 
-// A hash and more bytes, one by one.
+// A hash with more bytes stirred in, one by one.
 fn stir_bytes(start: u64, bytes: &[u8]) -> u64
     ensures { result ≡ hash_after start bytes.now }
 {
@@ -20,7 +22,7 @@ fn stir_bytes(start: u64, bytes: &[u8]) -> u64
     sum
 }
 
-// A hash and more bytes, eight at a time while there are eight.
+// A hash with more bytes stirred in, eight at a time while there are eight.
 fn stir_eights(start: u64, bytes: &[u8]) -> u64
     ensures { result ≡ hash_by_eights start bytes.now }
 {
@@ -37,5 +39,5 @@ fn stir_eights(start: u64, bytes: &[u8]) -> u64
 pub(crate) fn hash_bytes(bytes: &[u8]) -> u32
     ensures { result ≡ hash_of bytes.now }
 {
-    (stir_eights(0xcbf29ce484222325, bytes) >> 32) as u32
+    (stir_eights(0xcbf29ce484222325, bytes) % 0x100000000) as u32
 }

@@ -1,21 +1,21 @@
-//! Hashes by number, and chains of the numbers whose hashes fall to the same head.
+//! Hashes by number, in buckets.
 ghost use Rattle.std.specs.Prelude.{◌≡◌, ◌+◌, ◌^◌, ◌<◌, ◌++◌, [], ◌∷◌, IfOk, length, replicate};
 ghost use Rattle.pip_search.specs.Filing.{AreLinked, IsFiled};
 
 use std::alloc::{AllocError, Global};
 
-/// Hashes, numbered from 0. Those that leave the same rest on division by the number of heads are on one chain, from
-/// the last one to the first.
+/// Hashes, numbered from 0. Those that leave the same rest on division by the number of buckets are on one chain, the
+/// newest first.
 #[derive(Drop)]
 pub struct Index {
     pub(crate) hashes: Vec<u32>,
-    // For each hash, one more than the number of the one before it on its chain, 0 where there is none.
+    // Per hash: 1 + the next older one in its bucket; 0 if there is none.
     pub(crate) chains: Vec<u32>,
-    // For each rest, one more than the number of the last hash on its chain, 0 where there is none.
+    // Per bucket: 1 + its newest hash; 0 if it is empty.
     pub(crate) heads: Vec<u32>,
 }
 
-// Puts hash `at` in front of its chain.
+// Puts hash `at` in front of the chain of its bucket.
 fn link(hashes: &[u32], chains: &mut [u32], heads: &mut [u32], at: usize)
     requires at { at < length hashes.now }
     requires few { length hashes.now < 2 ^ 32 }
@@ -29,7 +29,7 @@ fn link(hashes: &[u32], chains: &mut [u32], heads: &mut [u32], at: usize)
     heads[rest] = at as u32 + 1;
 }
 
-// Makes all chains, from heads that are 0.
+// Makes all chains, from empty buckets.
 fn relink(hashes: &[u32], chains: &mut [u32], heads: &mut [u32])
     requires few { length hashes.now < 2 ^ 32 }
     requires chains { length chains.old ≡ length hashes.now }
@@ -55,8 +55,8 @@ impl Index {
         })
     }
 
-    /// Adds a hash. The heads are doubled where there would be more hashes than heads. The only error is that memory is
-    /// out: an index has room for 2^32 - 1 hashes.
+    /// Adds a hash. The buckets are doubled if there would be more hashes than buckets. The only error is that memory
+    /// is out: an index has room for 2^32 - 1 hashes.
     pub(crate) fn add(&mut self, alloc: Global, hash: u32) -> Result<(), AllocError>
         requires filed { IsFiled self.old }
         ensures filed { IfOk result (λ x. IsFiled self.new) }

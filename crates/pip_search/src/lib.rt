@@ -1,20 +1,40 @@
-//! A breadth-first search of a system of states: what can happen there, and what can't.
+//! A breadth-first search of a system of states: what can happen there, and what can't. It uses no other crate.
+//!
+//! A [`System`] has states, each with the same number of choices, and keys: lists of words that represent states. Its
+//! one method `make` makes a choice, and answers the next key and what the choice showed. Its promise (`LeadsOn`) is
+//! about every state that the key represents, so the search never has to know what a key means. [`explore`] searches,
+//! and [`runs`] gives the runs of equal choices on the way to each label that it found. What an answer says about a
+//! state is `IsTold` of specs/Summary: a way is a list of choices, the last one first, and comes before another by
+//! `IsBefore` of specs/Orders. This requires that no state has two keys; without that, `Tells` (specs/Reached) explains
+//! what was found, and `Ends` (specs/Ending) why the search ended. A visit keeps its key as bytes, one to five a word
+//! (specs/Packing). Keys and labels are found by their hashes (specs/Filing); it is proved that the table has none
+//! twice, whatever the hash is.
+//!
+//! A search that is too large for one process is a certificate of parts (specs/Certificates). [`check_part`] checks a
+//! part by itself: it begins where a way leads, makes every choice at every key of the part, and a mark for each choice
+//! says whether the next key is the part's own; any other key it asks of the other parts. So it reads no keys, only a
+//! way and marks. [`merged`] finds all that is asked among the keys of all parts, [`are_rising`] says that none comes
+//! twice, and [`law_certificates`] says what follows.
 #![tactic(auto)]
 
 mod found;
 mod hashes;
 mod index;
 mod laws;
+mod merging;
 mod names;
 mod packing;
+mod parts;
 mod searching;
 mod system;
 mod visits;
 mod ways;
 
 pub use found::Found;
-pub use laws::law_once;
-pub use searching::{Search, Verdict, explore};
+pub use laws::{law_certificates, law_once};
+pub use merging::{are_rising, merged};
+pub use parts::{Part, Reached, check_part};
+pub use searching::{Extent, Search, explore};
 pub use system::System;
 pub use visits::Visit;
 pub use ways::{Run, runs};

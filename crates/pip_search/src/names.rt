@@ -1,10 +1,10 @@
-//! Lists that are searched by name.
+//! Lists whose items are found by name.
 ghost use Rattle.std.specs.Prelude.{◌≡◌, ◌≢◌, ◌<◌, ℕ, List, IsTrue, MatchOption, Some, false, length, map, slice_get};
 ghost use Rattle.pip_search.specs.Naming.{AreNamed, IsAbsent, hash_of};
 
 use crate::index::Index;
 
-/// What has a name: bytes by which it is found.
+/// An item that is found by its name, some bytes.
 pub(crate) trait Named {
     ghost name_of: { Self → List ℕ };
 
@@ -13,15 +13,15 @@ pub(crate) trait Named {
         ensures { result.now ≡ name_of self.now };
 }
 
-// Whether two names are the same.
-fn is_same(a: &[u8], b: &[u8]) -> bool
+/// Whether two names are the same.
+pub(crate) fn is_same(a: &[u8], b: &[u8]) -> bool
     ensures same { IsTrue result → a.now ≡ b.now }
     ensures other { result ≡ false → a.now ≢ b.now }
 {
     a == b
 }
 
-// Whether the one at a place has this name, of which this is the hash.
+// Whether the item at a place has this name, whose hash is `hash`.
 fn has_name<N: Named>(list: &Vec<N>, index: &Index, place: usize, name: &[u8], hash: u32) -> bool
     requires named { AreNamed (map N.name_of list.now.items) index.now }
     requires hash { hash ≡ hash_of name.now }
@@ -32,7 +32,7 @@ fn has_name<N: Named>(list: &Vec<N>, index: &Index, place: usize, name: &[u8], h
     index.hashes[place] == hash && is_same(list[place].name(), name)
 }
 
-/// Where the one is that has a name, of which this is the hash.
+/// The place of the item with this name, whose hash is `hash`.
 pub(crate) fn find<N: Named>(list: &Vec<N>, index: &Index, name: &[u8], hash: u32) -> Option<usize>
     requires named { AreNamed (map N.name_of list.now.items) index.now }
     requires hash { hash ≡ hash_of name.now }

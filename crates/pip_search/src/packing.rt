@@ -4,7 +4,7 @@ ghost use Rattle.pip_search.specs.Packing.{packed_key, packed_word, seven_bits, 
 
 use std::alloc::AllocError;
 
-// Adds the group of seven bits that counts `unit`s, with 128 more, where a word has one unit or more.
+// Adds the seven bits of a word that count `unit`s, plus 128, if the word is at least one unit.
 fn push_bits(bytes: &mut Vec<u8>, word: u32, unit: u32) -> Result<(), AllocError>
     requires { 0 < unit }
     ensures { IfOk result (λ x. bytes.new.items ≡ bytes.old.items ++ seven_bits unit word) }
@@ -31,7 +31,7 @@ fn push_word(bytes: &mut Vec<u8>, word: u32) -> Result<(), AllocError>
     Ok(())
 }
 
-/// Makes these the bytes of a key: each word has one to five, the small ones fewer. The only error is that memory is
+/// Makes `bytes` those of a key: one to five for each word, fewer for a smaller one. The only error is that memory is
 /// out.
 pub(crate) fn pack(key: &[u32], bytes: &mut Vec<u8>) -> Result<(), AllocError>
     ensures packed { IfOk result (λ x. bytes.new.items ≡ packed_key key.now) }
@@ -44,14 +44,14 @@ pub(crate) fn pack(key: &[u32], bytes: &mut Vec<u8>) -> Result<(), AllocError>
     Ok(())
 }
 
-// A word of which these are the bits so far, and the seven bits of one byte more.
+// A word with seven more bits, those of a byte, below the bits so far.
 fn joined(word: u32, byte: u8) -> u32
     ensures { result ≡ word_with word byte }
 {
     word.wrapping_mul(128).wrapping_add(u32::from(byte % 128))
 }
 
-/// Makes these the words of bytes. The only error is that memory is out.
+/// Makes `key` the words that were packed as `bytes`. The only error is that memory is out.
 pub(crate) fn unpack(bytes: &[u8], key: &mut Vec<u32>) -> Result<(), AllocError>
     ensures { IfOk result (λ x. key.new.items ≡ unpacked_key bytes.now) }
 {

@@ -15,29 +15,29 @@ use crate::hashes::hash_bytes;
 use crate::index::Index;
 use crate::packing::{pack, unpack};
 use crate::system::System;
-use crate::visits::{Step, Visit, kept, reach, run_from};
+use crate::visits::{MadeChoice, Visit, kept, reach, run_from};
 use std::alloc::{AllocError, Global};
 
-/// How far a search went.
+/// How far a search came.
 #[derive(Clone, Copy, Debug, PartialEq, Eq)]
-pub enum Verdict {
-    /// Each choice of each state that was visited leads to one that was visited. To the deepest lead that many choices.
+pub enum Extent {
+    /// Every choice of every visited state leads to a visited one. `depth` choices lead to the deepest.
     Closed { depth: u32 },
-    /// All states were visited to which that many choices or fewer lead: the depth that was asked for.
+    /// Every state that `depth` or fewer choices lead to was visited: the depth that was asked for.
     Within { depth: u32 },
-    /// There are more states than there is room for. All were visited to which that many choices or fewer lead.
+    /// There are more states than there is room for. Every state that `depth` or fewer choices lead to was visited.
     Stopped { depth: u32 },
 }
 
-impl Verdict {
-    /// Whether all ways of that many choices were gone through.
+impl Extent {
+    /// Whether all ways of `count` choices were searched.
     pub fn covers(self, count: u32) -> bool
         ensures { result ≡ is_covered self count }
     {
         match self {
-            Verdict::Closed { .. } => true,
-            Verdict::Within { depth } => count <= depth,
-            Verdict::Stopped { depth } => count <= depth,
+            Extent::Closed { .. } => true,
+            Extent::Within { depth } => count <= depth,
+            Extent::Stopped { depth } => count <= depth,
         }
     }
 }
@@ -51,14 +51,26 @@ pub struct Search {
     pub(crate) labels: Index,
 }
 
-// What is used again for each choice: the words of the key from which it is made, those of the next key, its bytes, and
-// what was shown.
+/// Buffers that each choice uses again: the words of the key from which it is made, those of the next key, its bytes,
+/// and what was shown.
 #[derive(Drop)]
-struct Buffers {
-    from: Vec<u32>,
-    to: Vec<u32>,
-    bytes: Vec<u8>,
-    shown: Vec<u8>,
+pub(crate) struct Buffers {
+    pub(crate) from: Vec<u32>,
+    pub(crate) to: Vec<u32>,
+    pub(crate) bytes: Vec<u8>,
+    pub(crate) shown: Vec<u8>,
+}
+
+impl Buffers {
+    /// Empty ones.
+    pub(crate) fn new(alloc: Global) -> Buffers {
+        Buffers {
+            from: Vec::new(alloc),
+            to: Vec::new(alloc),
+            bytes: Vec::new(alloc),
+            shown: Vec::new(alloc),
+        }
+    }
 }
 
 // A search that has visited the first state.
@@ -90,7 +102,7 @@ fn begin(alloc: Global, start: &[u32], buffers: &mut Buffers) -> Result<Search, 
     })
 }
 
-// Makes a choice of visit `i`, whose key is at hand. False where its next state is new, and there is no room for it.
+// Makes a choice of visit `i`, whose key is at hand. False if its next state is new and there is no room for it.
 fn make<S: System>(
     search: &mut Search,
     system: &mut S,
@@ -129,7 +141,7 @@ fn make<S: System>(
     )?;
     pack(&buffers.to, &mut buffers.bytes)?;
     let from = &search.visits[i as usize];
-    let step = Step {
+    let step = MadeChoice {
         at: i,
         choice,
         depth: from.depth + 1,
@@ -156,7 +168,7 @@ fn make<S: System>(
     Ok(true)
 }
 
-// Makes all choices of visit `i`. False where there was no room for a visit.
+// Makes all choices of visit `i`. False if there was no room for a visit.
 fn expand<S: System>(
     search: &mut Search,
     system: &mut S,
@@ -191,15 +203,15 @@ fn expand<S: System>(
     Ok(true)
 }
 
-/// Searches from the state of a key, breadth first: until nothing new is found, or to all states to which `most`
-/// choices lead, or until there is one more state than `limit`. The only error is that memory is out.
+/// Searches breadth first from the state of a key, until nothing new is found, or every state that `most` choices lead
+/// to is visited, or there are more states than `limit`. The only error is that memory is out.
 pub fn explore<S: System>(
     system: &mut S,
     alloc: Global,
     start: &[u32],
     most: u32,
     limit: u32,
-) -> Result<(Search, Verdict), AllocError>
+) -> Result<(Search, Extent), AllocError>
     requires key { IsKey (S.model (S.base system.old)) start.now }
     requires limit { 0 < limit }
     ensures told { IfOk result (λ r. HasOneKey (S.model (S.base system.old))
@@ -215,25 +227,20 @@ pub fn explore<S: System>(
     ensures traced { IfOk result (λ r. AreTraced r.0.visits.items r.0.found.items) }
     ensures base { S.base system.new ≡ S.base system.old }
 {
-    let mut buffers = Buffers {
-        from: Vec::new(alloc),
-        to: Vec::new(alloc),
-        bytes: Vec::new(alloc),
-        shown: Vec::new(alloc),
-    };
+    let mut buffers = Buffers::new(alloc);
     let mut search = begin(alloc, start, &mut buffers)?;
     let mut i = 0;
     while (i as usize) < search.visits.len() {
         let depth = search.visits[i as usize].depth;
         if depth >= most {
-            return Ok((search, Verdict::Within { depth }));
+            return Ok((search, Extent::Within { depth }));
         }
         let room = expand(&mut search, system, alloc, start, &mut buffers, i, limit)?;
         if !room {
-            return Ok((search, Verdict::Stopped { depth }));
+            return Ok((search, Extent::Stopped { depth }));
         }
         i += 1;
     }
     let depth = search.visits[search.visits.len() - 1].depth;
-    Ok((search, Verdict::Closed { depth }))
+    Ok((search, Extent::Closed { depth }))
 }

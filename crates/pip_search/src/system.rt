@@ -19,8 +19,8 @@ pub trait System {
     fn count(&self) -> u32
         ensures { result ≡ (model (base self.now)).choices };
 
-    /// Makes a choice in the state for which a key stands. `to` and `shown` are empty before; then the one is a key
-    /// of the next state, and the other what was shown. The only error is that memory is out.
+    /// Makes a choice in the state for which a key stands. `to` and `shown` are empty before; afterwards `to` is a key
+    /// of the next state, and `shown` what was shown. The only error is that memory is out.
     fn make(
         &mut self,
         from: &[u32],

@@ -11,7 +11,7 @@ use crate::names::{Named, find};
 use std::alloc::{AllocError, Global};
 
 /// A state that was visited: its key as bytes, the visit from which it was found first and by which choice, and how
-/// many choices lead there from the first state, which no choice leads to.
+/// many choices lead there from the first state, 0 for that one.
 #[derive(Drop)]
 pub struct Visit {
     pub(crate) key: Vec<u8>,
@@ -30,17 +30,17 @@ impl Named for Visit {
     }
 }
 
-/// A choice that is made: from which visit, how many choices that is, this one included, and the visit before the run
-/// of equal choices that ends with it.
+/// A choice that is made: from which visit, how many choices lead to its end, and the visit before the run of equal
+/// choices that ends with it.
 #[derive(Clone, Copy)]
-pub(crate) struct Step {
+pub(crate) struct MadeChoice {
     pub(crate) at: u32,
     pub(crate) choice: u32,
     pub(crate) depth: u32,
     pub(crate) run: u32,
 }
 
-/// The visit before the run of equal choices that ends with a choice from this visit, which is at a place.
+/// The visit before the run of equal choices that ends with a choice from visit `from`, which has the number `at`.
 pub(crate) fn run_from(from: &Visit, at: u32, choice: u32) -> u32
     ensures { StartsRun at from.now choice result }
 {
@@ -51,7 +51,7 @@ pub(crate) fn run_from(from: &Visit, at: u32, choice: u32) -> u32
     }
 }
 
-/// Bytes of their own, with no room for more. The only error is that memory is out.
+/// A copy of bytes, with no room for more. The only error is that memory is out.
 pub(crate) fn kept(alloc: Global, bytes: &[u8]) -> Result<Vec<u8>, AllocError>
     ensures { IfOk result (λ v. v.items ≡ bytes.now) }
 {
@@ -60,13 +60,13 @@ pub(crate) fn kept(alloc: Global, bytes: &[u8]) -> Result<Vec<u8>, AllocError>
     Ok(own)
 }
 
-/// Adds a visit, unless its key was visited. False where there would be more than `limit`, and then nothing is added.
+/// Adds a visit, unless its key was visited. False if there would be more than `limit`; then nothing is added.
 pub(crate) fn reach(
     visits: &mut Vec<Visit>,
     index: &mut Index,
     alloc: Global,
     key: &[u8],
-    step: Step,
+    step: MadeChoice,
     limit: u32,
 ) -> Result<bool, AllocError>
     requires named { AreNamed (key_bytes visits.old.items) index.old }

@@ -1,4 +1,4 @@
-//! The ways on which labels were found.
+//! The ways that lead to labels.
 ghost use Rattle.std.specs.Prelude.{◌≡◌, ◌<◌, IfOk, Some, length, reverse, slice_get};
 ghost use Rattle.pip_search.specs.Ways.{AreRuns, AreTraced, found_way, runs_of, choices_of};
 ghost use Rattle.pip_search.specs.declared.found.Found.{Found};
@@ -6,15 +6,15 @@ ghost use Rattle.pip_search.specs.declared.found.Found.{Found};
 use crate::searching::Search;
 use std::alloc::{AllocError, Global};
 
-/// A choice, made that many times one after another.
+/// A choice, made `count` times one after another.
 #[derive(Clone, Copy, Debug, PartialEq, Eq)]
 pub struct Run {
     pub choice: u32,
     pub count: u32,
 }
 
-/// The runs of equal choices on the way on which label `k` was found, its own choice included, in the order in which
-/// they are made. The only error is that memory is out.
+/// The way to label `k` as runs of equal choices, the label's own choice included, in the order in which they are made.
+/// The only error is that memory is out.
 pub fn runs(alloc: Global, search: &Search, k: usize) -> Result<Vec<Run>, AllocError>
     requires place { k < length search.now.found.items }
     requires traced { AreTraced search.now.visits.items search.now.found.items }

@@ -7,7 +7,7 @@ use Rattle.pip_model.specs.Events.{Event}
 use Rattle.pip_model.specs.Generator.{next_state}
 use Rattle.pip_model.specs.Soak.{Drawn, by_kind, draw, draw_page, drawn, drawn_poll}
 use Rattle.pip_soak.specs.Asks.{events_of}
-use Rattle.pip_soak.specs.declared.asks.Step.{Step}
+use Rattle.pip_soak.specs.declared.asks.LoadStep.{LoadStep}
 
 -- a number that is drawn, and the state after it
 pub drew : (n : ℕ) (f : ℕ → ℕ → Drawn) (old new v : ℕ) → new ≡ next_state old → v ≡ next_state old % n
@@ -15,7 +15,7 @@ pub drew : (n : ℕ) (f : ℕ → ℕ → Drawn) (old new v : ℕ) → new ≡ n
 drew n f old new v s e = λ i. f (sym e i) (sym s i)
 
 -- the step of events that are drawn
-pub told : (d : Drawn) (new : ℕ) (step : Step) (es : List Event) → d ≡ drawn es new → events_of step ≡ es
+pub told : (d : Drawn) (new : ℕ) (step : LoadStep) (es : List Event) → d ≡ drawn es new → events_of step ≡ es
     → d ≡ drawn (events_of step) new
 told d new step es e f = e ∙ ap (λ l. drawn l new) (sym f)
 

@@ -9,8 +9,8 @@ use Rattle.pip_model.specs.Worlds.{World}
 use Rattle.pip_soak.specs.Asks.{events_of}
 use Rattle.pip_soak.specs.Counts.{CountsOf, MakesAll}
 use Rattle.pip_soak.specs.Soaked.{IsMidway}
-use Rattle.pip_soak.specs.declared.asks.Step.{Step}
-use Rattle.pip_soak.specs.declared.asks.Step.TheVariants.{One, Prepare}
+use Rattle.pip_soak.specs.declared.asks.LoadStep.{LoadStep}
+use Rattle.pip_soak.specs.declared.asks.LoadStep.TheVariants.{One, Prepare}
 use Rattle.pip_soak.specs.declared.counts.Counts.{Counts}
 
 -- ---- lists of events
@@ -48,7 +48,7 @@ makes_more s r q b c d es fs x y = record {
 
 -- ---- steps
 
-step_short : (s : Step) → length (events_of s) ≤ 3
+step_short : (s : LoadStep) → length (events_of s) ≤ 3
 step_short (One a) = omega arith
 step_short (Prepare cpu x page place) = omega arith
 
@@ -59,7 +59,7 @@ pub midway_first : (s : World → Type 0) (c : Counts) (count seed left state : 
 midway_first s c count seed left state e f =
     record { made = []; all = λ i. soak_events (e i) (f i); few = omega (arith, e); makes = makes_none s c }
 
-pub midway_more : (s r q : World → Type 0) (none b c : Counts) (i count old new seed : ℕ) (step : Step) → i < count
+pub midway_more : (s r q : World → Type 0) (none b c : Counts) (i count old new seed : ℕ) (step : LoadStep) → i < count
     → IsMidway s r none b (count - i) old count seed → soak_step old ≡ drawn (events_of step) new
     → MakesAll r q b c (events_of step) → IsMidway s q none c (count - (i + 1)) new count seed
 midway_more s r q none b c i count old new seed step inside h e makes =

@@ -24,7 +24,7 @@ pub(crate) enum Ask {
 
 /// What a step of the load asks.
 #[derive(Clone, Copy, Debug)]
-pub(crate) enum Step {
+pub(crate) enum LoadStep {
     One(Ask),
     /// Three pages from `x` on are linked by two stores, and a child is prepared with them.
     Prepare {

@@ -7,7 +7,7 @@ ghost use Rattle.pip_model.specs.Soak.{Drawn, by_kind, draw, draw_both, draw_goa
 ghost use Rattle.pip_model.specs.Soak.{drawn_call, drawn_poll, drawn_prepare, five, soak_step};
 ghost use Rattle.pip_soak.specs.Asks.{AreAsksOf, IsDrawn, events_of};
 
-use crate::asks::{Ask, Step};
+use crate::asks::{Ask, LoadStep};
 use pip_model::call_number::{
     ADD_VADDR, COLLECT, COUNT_TO_MAP, CREATE_PARTITION, DELETE_PARTITION, MAPPED_IN_CHILD,
     NOT_SAVED, REMOVE_VADDR, SAVED, YIELD,
@@ -54,16 +54,16 @@ fn draw_goal(generator: &mut Generator) -> u32
 }
 
 // A call.
-fn call(cpu: u32, no: u32, args: [u32; 5]) -> Step
+fn call(cpu: u32, no: u32, args: [u32; 5]) -> LoadStep
     requires { cpu < 2 }
     ensures asks { AreAsksOf 2 result }
     ensures events { events_of result ≡ E.Call cpu no (five_of args) ∷ [] }
 {
-    Step::One(Ask::Call { cpu, no, args })
+    LoadStep::One(Ask::Call { cpu, no, args })
 }
 
 // A call with a page alone.
-fn draw_page_call(generator: &mut Generator, cpu: u32, no: u32) -> Step
+fn draw_page_call(generator: &mut Generator, cpu: u32, no: u32) -> LoadStep
     requires { cpu < 2 }
     ensures asks { AreAsksOf 2 result }
     ensures drawn { IsDrawn (draw_page (λ page. drawn_call cpu no (five page 0 0 0 0)))
@@ -74,7 +74,7 @@ fn draw_page_call(generator: &mut Generator, cpu: u32, no: u32) -> Step
 }
 
 // A call with a child and a place in it.
-fn draw_child_call(generator: &mut Generator, cpu: u32, no: u32) -> Step
+fn draw_child_call(generator: &mut Generator, cpu: u32, no: u32) -> LoadStep
     requires { cpu < 2 }
     ensures asks { AreAsksOf 2 result }
     ensures drawn { IsDrawn (draw_both (λ page place. drawn_call cpu no (five page place 0 0 0)))
@@ -86,16 +86,16 @@ fn draw_child_call(generator: &mut Generator, cpu: u32, no: u32) -> Step
 }
 
 // A word is read at an address.
-fn load(cpu: u32, va: u32) -> Step
+fn load(cpu: u32, va: u32) -> LoadStep
     requires { cpu < 2 }
     ensures asks { AreAsksOf 2 result }
     ensures events { events_of result ≡ E.Load cpu va Word ∷ [] }
 {
-    Step::One(Ask::Load { cpu, va })
+    LoadStep::One(Ask::Load { cpu, va })
 }
 
 // A page's address is written into a page.
-fn draw_store(generator: &mut Generator, cpu: u32) -> Step
+fn draw_store(generator: &mut Generator, cpu: u32) -> LoadStep
     requires { cpu < 2 }
     ensures asks { AreAsksOf 2 result }
     ensures drawn { IsDrawn (draw_page (λ page. draw_page (λ word. drawn (E.Store cpu page Word word ∷ []))))
@@ -103,11 +103,11 @@ fn draw_store(generator: &mut Generator, cpu: u32) -> Step
 {
     let va = draw_page(generator);
     let word = draw_page(generator);
-    Step::One(Ask::Store { cpu, va, word })
+    LoadStep::One(Ask::Store { cpu, va, word })
 }
 
 // A child is created of five pages in a row.
-fn draw_create(generator: &mut Generator, cpu: u32) -> Step
+fn draw_create(generator: &mut Generator, cpu: u32) -> LoadStep
     requires { cpu < 2 }
     ensures asks { AreAsksOf 2 result }
     ensures drawn { IsDrawn (draw 11 (λ j. drawn_call cpu 0 (five (0x401000 + 4096 * j) (0x402000 + 4096 * j)
@@ -125,7 +125,7 @@ fn draw_create(generator: &mut Generator, cpu: u32) -> Step
 }
 
 // Three pages in a row are linked, and a child is prepared with them.
-fn draw_prepare(generator: &mut Generator, cpu: u32) -> Step
+fn draw_prepare(generator: &mut Generator, cpu: u32) -> LoadStep
     requires { cpu < 2 }
     ensures asks { AreAsksOf 2 result }
     ensures drawn { IsDrawn (draw 13 (λ j. draw_both (drawn_prepare cpu (0x400000 + 4096 * j))))
@@ -134,7 +134,7 @@ fn draw_prepare(generator: &mut Generator, cpu: u32) -> Step
     let x = PAGES + 4096 * generator.draw(13);
     let page = draw_page(generator);
     let place = draw_place(generator);
-    Step::Prepare {
+    LoadStep::Prepare {
         cpu,
         x,
         page,
@@ -143,7 +143,7 @@ fn draw_prepare(generator: &mut Generator, cpu: u32) -> Step
 }
 
 // A page is lent to a child.
-fn draw_lend(generator: &mut Generator, cpu: u32) -> Step
+fn draw_lend(generator: &mut Generator, cpu: u32) -> LoadStep
     requires { cpu < 2 }
     ensures asks { AreAsksOf 2 result }
     ensures drawn { IsDrawn (draw 17 (λ v. draw_both (λ page place. draw 7
@@ -158,7 +158,7 @@ fn draw_lend(generator: &mut Generator, cpu: u32) -> Step
 }
 
 // Control goes to another partition, through the vector 64, and the caller is saved.
-fn draw_handing_on(generator: &mut Generator, cpu: u32) -> Step
+fn draw_handing_on(generator: &mut Generator, cpu: u32) -> LoadStep
     requires { cpu < 2 }
     ensures asks { AreAsksOf 2 result }
     ensures drawn { IsDrawn (draw_goal (λ goal. drawn_call cpu 8 (five goal 64 63 0 0)))
@@ -169,7 +169,7 @@ fn draw_handing_on(generator: &mut Generator, cpu: u32) -> Step
 }
 
 // Control goes back to another partition, where it was saved, and the caller isn't saved.
-fn draw_giving_up(generator: &mut Generator, cpu: u32) -> Step
+fn draw_giving_up(generator: &mut Generator, cpu: u32) -> LoadStep
     requires { cpu < 2 }
     ensures asks { AreAsksOf 2 result }
     ensures drawn { IsDrawn (draw_goal (λ goal. drawn_call cpu 8 (five goal 63 256 0 0)))
@@ -180,7 +180,7 @@ fn draw_giving_up(generator: &mut Generator, cpu: u32) -> Step
 }
 
 // What is drawn for a kind below 16.
-fn draw_kind(generator: &mut Generator, cpu: u32, kind: u32) -> Step
+fn draw_kind(generator: &mut Generator, cpu: u32, kind: u32) -> LoadStep
     requires cpu { cpu < 2 }
     requires kind { kind < 16 }
     ensures asks { AreAsksOf 2 result }
@@ -200,15 +200,15 @@ fn draw_kind(generator: &mut Generator, cpu: u32, kind: u32) -> Step
         11 => draw_page_call(generator, cpu, DELETE_PARTITION),
         12 => draw_handing_on(generator, cpu),
         13 => draw_giving_up(generator, cpu),
-        14 => Step::One(Ask::Raise {
+        14 => LoadStep::One(Ask::Raise {
             line: generator.draw(2),
         }),
-        _ => Step::One(Ask::Poll { cpu }),
+        _ => LoadStep::One(Ask::Poll { cpu }),
     }
 }
 
 /// The next step of the load: a processor, a kind, and what belongs to it.
-pub(crate) fn draw_step(generator: &mut Generator) -> Step
+pub(crate) fn draw_step(generator: &mut Generator) -> LoadStep
     ensures asks { AreAsksOf 2 result }
     ensures drawn { IsDrawn soak_step generator.old generator.new result }
 {

@@ -8,7 +8,7 @@ ghost use Rattle.pip_model.specs.Worlds.{World};
 ghost use Rattle.pip_soak.specs.Asks.{AreAsksOf, IsAskOf, event_of, events_of};
 ghost use Rattle.pip_soak.specs.Counts.{CountsOf, MakesAll};
 
-use crate::asks::{Ask, Step, make_event};
+use crate::asks::{Ask, LoadStep, make_event};
 use crate::counts::Counts;
 use crate::draws::draw_step;
 use pip_base::{Size, Steps};
@@ -31,7 +31,7 @@ fn make<P: Port, L: Ledger>(port: &mut P, ask: Ask, counts: &mut Counts, steps: 
 // Makes the events of a step, one by one.
 fn make_step<P: Port, L: Ledger>(
     port: &mut P,
-    step: Step,
+    step: LoadStep,
     counts: &mut Counts,
     steps: &mut Steps<L>,
 )
@@ -40,8 +40,8 @@ fn make_step<P: Port, L: Ledger>(
     ensures count { P.count port.new ≡ P.count port.old }
 {
     match step {
-        Step::One(ask) => make(port, ask, counts, steps),
-        Step::Prepare {
+        LoadStep::One(ask) => make(port, ask, counts, steps),
+        LoadStep::Prepare {
             cpu,
             x,
             page,

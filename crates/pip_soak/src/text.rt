@@ -13,13 +13,13 @@ use pip_script::push_decimal;
 
 /// A name of at most 16 bytes and a count.
 #[derive(Clone, Copy)]
-struct Line<'a> {
+struct CountLine<'a> {
     name: &'a str,
     count: u32,
 }
 
 // Writes a line.
-fn write_line<K: Sink>(line: &Line<'_>, sink: &mut K) -> Result<(), Failed>
+fn write_line<K: Sink>(line: &CountLine<'_>, sink: &mut K) -> Result<(), Failed>
     requires { length line.now.name.now ≤ 16 }
     ensures text { Wrote result (K.written sink.old) (K.written sink.new)
         (counted_text line.now.name.now line.now.count) }
@@ -35,9 +35,9 @@ fn write_line<K: Sink>(line: &Line<'_>, sink: &mut K) -> Result<(), Failed>
 
 // Writes three lines.
 fn write_three<K: Sink>(
-    first: &Line<'_>,
-    second: &Line<'_>,
-    third: &Line<'_>,
+    first: &CountLine<'_>,
+    second: &CountLine<'_>,
+    third: &CountLine<'_>,
     sink: &mut K,
 ) -> Result<(), Failed>
     requires first { length first.now.name.now ≤ 16 }
@@ -59,30 +59,30 @@ fn write_outcomes<K: Sink>(counts: &Counts, sink: &mut K) -> Result<(), Failed>
     ensures cause { HasCause (K.faults sink.old) (K.faults sink.new) result }
 {
     write_three(
-        &Line {
+        &CountLine {
             name: "events",
             count: counts.events,
         },
-        &Line {
+        &CountLine {
             name: "word",
             count: counts.words,
         },
-        &Line {
+        &CountLine {
             name: "done",
             count: counts.done,
         },
         sink,
     )?;
     write_three(
-        &Line {
+        &CountLine {
             name: "switch",
             count: counts.switched,
         },
-        &Line {
+        &CountLine {
             name: "park",
             count: counts.parked,
         },
-        &Line {
+        &CountLine {
             name: "idle",
             count: counts.idle,
         },
@@ -100,7 +100,7 @@ fn write_reply<K: Sink>(status: u32, count: u32, sink: &mut K) -> Result<(), Fai
     name.push_str("reply ");
     push_decimal(&mut name, status);
     write_line(
-        &Line {
+        &CountLine {
             name: name.as_str(),
             count,
         },
@@ -125,15 +125,15 @@ fn write_totals<K: Sink>(totals: &Totals, sink: &mut K) -> Result<(), Failed>
     ensures cause { HasCause (K.faults sink.old) (K.faults sink.new) result }
 {
     write_three(
-        &Line {
+        &CountLine {
             name: "parts",
             count: totals.parts,
         },
-        &Line {
+        &CountLine {
             name: "rows",
             count: totals.rows,
         },
-        &Line {
+        &CountLine {
             name: "hidden",
             count: totals.hidden,
         },
@@ -142,8 +142,7 @@ fn write_totals<K: Sink>(totals: &Totals, sink: &mut K) -> Result<(), Failed>
 }
 
 /// Writes the text of a load: the counts, the totals of the machine's tree, and a last line with the number of steps
-/// (docs/FORMATS.md, "soak"). Fails only where the sink's count of faults is one more; a prefix of the text was written
-/// then.
+/// (docs/FORMATS.md, "soak"). Fails only if a write failed; a prefix of the text was written then.
 pub fn load_text<K: Sink>(
     counts: &Counts,
     totals: &Totals,
@@ -156,5 +155,5 @@ pub fn load_text<K: Sink>(
     write_outcomes(counts, sink)?;
     write_replies(&counts.replies, sink)?;
     write_totals(totals, sink)?;
-    write_line(&Line { name: "end", count }, sink)
+    write_line(&CountLine { name: "end", count }, sink)
 }

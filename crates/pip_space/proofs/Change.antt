@@ -6,8 +6,9 @@ use Rattle.pip_base.specs.declared.types.Pair.{Pair}
 use Rattle.pip_base.specs.Memory.{Memory, word_at}
 use Rattle.pip_config.specs.Lists.{ListIn}
 use Rattle.pip_config.proofs.Nodes.{list_role_words}
-use Rattle.pip_model.specs.NodeWords.{DescriptorPage, DirectoryPage, Level as TableLevel, ListPage, Role, TablePage}
-use Rattle.pip_model.specs.NodeWords.{descriptor_word, directory_entry, role, role_word, table_page}
+use Rattle.pip_model.specs.NodeWords.{DescriptorPage, DirectoryPage, ListPage, Role, TablePage, descriptor_word}
+use Rattle.pip_model.specs.NodeWords.{directory_entry, role, role_word, table_page}
+use Rattle.pip_model.specs.declared.level.Level.{Level}
 use Rattle.pip_model.specs.Lists.{Distinct, In}
 use Rattle.pip_model.specs.NodeIn.{NodeIn, directory_of}
 use Rattle.pip_model.specs.Tree.{Node, Table, config, table_at}
@@ -22,8 +23,8 @@ descriptor_same : (x : Node) (ts : List Table) (gs : List Pair) (j : ℕ) → j 
 descriptor_same x ts gs j ne = rw (ne_eqb j 12 ne) refl
 
 -- from the memory m, which holds the node, to m2, where its list is the new one, and to n, where its entries are
-module _ (m m2 n : Memory) (x : Node) (cells : TableLevel → ℕ → ℕ) (k : NodeIn m x cells) (ts : List Table)
-    (gs : List Pair) (i : ℕ) (w : TableLevel → ℕ)
+module _ (m m2 n : Memory) (x : Node) (cells : Level → ℕ → ℕ) (k : NodeIn m x cells) (ts : List Table)
+    (gs : List Pair) (i : ℕ) (w : Level → ℕ)
     (list : ListIn m2 x.base.list.frame gs ts)
     (count : length m2 ≡ length m)
     (kept : (f j : ℕ) (r : Role) → role x f ≡ Some r → ((q : ℕ) → r ≢ ListPage q) → word_at m2 f j ≡ word_at m f j)
@@ -32,16 +33,16 @@ module _ (m m2 n : Memory) (x : Node) (cells : TableLevel → ℕ → ℕ) (k : 
     (dirs : Distinct (map (λ t. t.index) ts))
     (small_dirs : (t : Table) → In t ts → t.index < 1024)
     (inside : (f : ℕ) → In f (config (record x { tables = ts; more = gs })) → f < length m)
-    (entry : (l : TableLevel) (j : ℕ)
+    (entry : (l : Level) (j : ℕ)
     → directory_entry l (table_at ts j) ≡ (if j == i then w l else directory_entry l (table_at x.tables j)))
-    (old : (b : Table) → In b ts → In b x.tables ⊎ ((l : TableLevel) (j : ℕ) → j < 1024
+    (old : (b : Table) → In b ts → In b x.tables ⊎ ((l : Level) (j : ℕ) → j < 1024
     → word_at m2 (table_page l b).frame j ≡ cells l (1024 * b.index + j))) where
   abbrev y : Node
   y = record x { tables = ts; more = gs }
 
   -- pages of tables and of the list aren't written with the entries
   far : (f j : ℕ) (r : Role) → role y f ≡ Some r → (r ≡ DescriptorPage → ⊥)
-      → ((l : TableLevel) → r ≡ DirectoryPage l → ⊥) → word_at n f j ≡ word_at m2 f j
+      → ((l : Level) → r ≡ DirectoryPage l → ⊥) → word_at n f j ≡ word_at m2 f j
   far f j r is top dir = e.rest f j (roles_apart y f _ r DescriptorPage is (role_of_descriptor y once) top)
       (λ l. roles_apart y f _ r (DirectoryPage l) is (role_of_directory y once l) (dir l))
 
@@ -55,7 +56,7 @@ module _ (m m2 n : Memory) (x : Node) (cells : TableLevel → ℕ → ℕ) (k : 
         ∙ (read_descriptor m x cells k j low ∙ descriptor_same x ts gs j ne)))
   ]
 
-  directory_is : (l : TableLevel) (j : ℕ) → j < 1024
+  directory_is : (l : Level) (j : ℕ) → j < 1024
       → word_at n (directory_of l x.base).frame j ≡ directory_entry l (table_at ts j)
   directory_is l j low = elim (cases_eq j i) [
     | inl at ↦ ap (word_at n (directory_of l x.base).frame) at ∙ (e.entry l
@@ -67,7 +68,7 @@ module _ (m m2 n : Memory) (x : Node) (cells : TableLevel → ℕ → ℕ) (k : 
         ∙ sym (entry l j ∙ ap (λ b. if b then w l else directory_entry l (table_at x.tables j)) (ne_eqb j i ne))))
   ]
 
-  table_is : (l : TableLevel) (b : Table) → In b ts → (j : ℕ) → j < 1024
+  table_is : (l : Level) (b : Table) → In b ts → (j : ℕ) → j < 1024
       → word_at n (table_page l b).frame j ≡ cells l (1024 * b.index + j)
   table_is l b b_in j low =
       far (table_page l b).frame j (TablePage l b.index) (role_of_table y once l b b_in) (λ h. cc) (λ q h. cc)

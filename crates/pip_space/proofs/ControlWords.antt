@@ -6,8 +6,9 @@ use Rattle.std.proofs.lemmas.Bool.{cases_eq}
 use Rattle.pip_base.specs.Memory.{IsMemory, Memory, put_word, word_at}
 use Rattle.pip_base.proofs.Memory.{IsMemory-put, length-put_word, word_at-put_frame, word_at-put_index}
 use Rattle.pip_base.proofs.Memory.{word_at-put_same}
-use Rattle.pip_model.specs.NodeWords.{DescriptorPage, DirectoryPage, Level as TableLevel, ListPage, Role, TablePage}
-use Rattle.pip_model.specs.NodeWords.{descriptor_word, flag, role, role_word}
+use Rattle.pip_model.specs.NodeWords.{DescriptorPage, DirectoryPage, ListPage, Role, TablePage, descriptor_word, flag}
+use Rattle.pip_model.specs.NodeWords.{role, role_word}
+use Rattle.pip_model.specs.declared.level.Level.{Level}
 use Rattle.pip_model.specs.Lists.{Distinct, In}
 use Rattle.pip_model.specs.NodeIn.{NodeIn, OthersStay}
 use Rattle.pip_model.specs.Tree.{Node, config}
@@ -23,7 +24,7 @@ unfolding role
 role_same x y e f = ap (λ z. role z f) e
 
 -- nor do the words of any page but the descriptor
-word_same : (x y : Node) → memory y ≡ memory x → (cells : TableLevel → ℕ → ℕ) (r : Role) → r ≢ DescriptorPage → (i : ℕ)
+word_same : (x y : Node) → memory y ≡ memory x → (cells : Level → ℕ → ℕ) (r : Role) → r ≢ DescriptorPage → (i : ℕ)
     → role_word y cells r i ≡ role_word x cells r i
 unfolding role_word
 word_same x y e cells DescriptorPage ne i = absurd (ne refl)
@@ -37,14 +38,14 @@ role_cases (DirectoryPage l) = inr (λ e. cc)
 role_cases (TablePage l d) = inr (λ e. cc)
 role_cases (ListPage k) = inr (λ e. cc)
 
-descriptor_first : (x : Node) (cells : TableLevel → ℕ → ℕ) (i : ℕ)
+descriptor_first : (x : Node) (cells : Level → ℕ → ℕ) (i : ℕ)
     → role_word x cells DescriptorPage i ≡ descriptor_word x i
 unfolding role_word
 descriptor_first x cells i = refl
 
 -- the words of the descriptor are those of y, which is x but for its control; all other frames have the words from
 -- before
-module _ (m n : Memory) (x y : Node) (cells : TableLevel → ℕ → ℕ) (k : NodeIn m x cells) (same : memory y ≡ memory x)
+module _ (m n : Memory) (x y : Node) (cells : Level → ℕ → ℕ) (k : NodeIn m x cells) (same : memory y ≡ memory x)
     (shape : IsMemory n) (count : length n ≡ length m)
     (words : (i : ℕ) → i < 1024 → word_at n x.name i ≡ descriptor_word y i)
     (rest : (g i : ℕ) → g ≢ x.name → word_at n g i ≡ word_at m g i) where
@@ -104,7 +105,7 @@ flags_masked false = refl
 
 -- ---- a node that is named by a frame
 
-module _ (m : Memory) (x : Node) (cells : TableLevel → ℕ → ℕ) (k : NodeIn m x cells)
+module _ (m : Memory) (x : Node) (cells : Level → ℕ → ℕ) (k : NodeIn m x cells)
     (part : ℕ) (name : x.name ≡ part) where
   pub control_frame : part < length m
   control_frame = subst (λ p. p < length m) name (name_inside m x cells k)

@@ -3,8 +3,9 @@ use Rattle.std.proofs.Common.{◌≡◌, ◌≢◌, ℕ, ◌<◌, length, sym, a
 use Rattle.pip_base.specs.Memory.{IsMemory, Memory, put_word, word_at}
 use Rattle.pip_base.proofs.Memory.{IsMemory-put, length-put_word, word_at-put_frame, word_at-put_index}
 use Rattle.pip_base.proofs.Memory.{word_at-put_same}
-use Rattle.pip_model.specs.NodeWords.{DescriptorPage, DirectoryPage, Level as TableLevel, Mmu, Shadow1, Shadow2, Role}
-use Rattle.pip_model.specs.NodeWords.{role}
+use Rattle.pip_model.specs.NodeWords.{DescriptorPage, DirectoryPage, Role, role}
+use Rattle.pip_model.specs.declared.level.Level.{Level}
+use Rattle.pip_model.specs.declared.level.Level.TheVariants.{Mmu, Shadow1, Shadow2}
 use Rattle.pip_model.specs.Lists.{Distinct, In}
 use Rattle.pip_model.specs.NodeIn.{directory_of}
 use Rattle.pip_model.specs.Tree.{Node, config}
@@ -28,15 +29,15 @@ put_is m f i w shape inside low = record {
 }
 
 -- the entries of directory index i are w, the number of tables is c, and all other words stay
-pub record Entered (m n : Memory) (x : Node) (i : ℕ) (w : TableLevel → ℕ) (c : ℕ) : Type 0 where
+pub record Entered (m n : Memory) (x : Node) (i : ℕ) (w : Level → ℕ) (c : ℕ) : Type 0 where
   pub shape : IsMemory n
   pub count : length n ≡ length m
-  pub entry : (l : TableLevel) → word_at n (directory_of l x.base).frame i ≡ w l
-  pub entries : (l : TableLevel) (j : ℕ) → j ≢ i
+  pub entry : (l : Level) → word_at n (directory_of l x.base).frame i ≡ w l
+  pub entries : (l : Level) (j : ℕ) → j ≢ i
       → word_at n (directory_of l x.base).frame j ≡ word_at m (directory_of l x.base).frame j
   pub tables : word_at n x.base.descriptor.frame 12 ≡ c
   pub descriptor : (j : ℕ) → j ≢ 12 → word_at n x.base.descriptor.frame j ≡ word_at m x.base.descriptor.frame j
-  pub rest : (f j : ℕ) → f ≢ x.base.descriptor.frame → ((l : TableLevel) → f ≢ (directory_of l x.base).frame)
+  pub rest : (f j : ℕ) → f ≢ x.base.descriptor.frame → ((l : Level) → f ≢ (directory_of l x.base).frame)
       → word_at n f j ≡ word_at m f j
 
 -- pages of different roles differ
@@ -45,18 +46,18 @@ roles_apart x f g r q f_is g_is ne e = let same : Some r ≡ Some q = sym f_is �
     ne (let k : r ≡ q = cc in k)
 
 module _ (x : Node) (once : Distinct (config x)) where
-  dir_apart : (l k : TableLevel) → (l ≡ k → ⊥) → (directory_of l x.base).frame ≢ (directory_of k x.base).frame
+  dir_apart : (l k : Level) → (l ≡ k → ⊥) → (directory_of l x.base).frame ≢ (directory_of k x.base).frame
   dir_apart l k ne = roles_apart x _ _ (DirectoryPage l) (DirectoryPage k) (role_of_directory x once l)
       (role_of_directory x once k) (λ e. ne (let s : l ≡ k = cc in s))
 
-  top_apart : (l : TableLevel) → x.base.descriptor.frame ≢ (directory_of l x.base).frame
+  top_apart : (l : Level) → x.base.descriptor.frame ≢ (directory_of l x.base).frame
   top_apart l = roles_apart x _ _ DescriptorPage (DirectoryPage l) (role_of_descriptor x once)
       (role_of_directory x once l) (λ e. cc)
 
-  top_apart_back : (l : TableLevel) → (directory_of l x.base).frame ≢ x.base.descriptor.frame
+  top_apart_back : (l : Level) → (directory_of l x.base).frame ≢ x.base.descriptor.frame
   top_apart_back l e = top_apart l (sym e)
 
-  abbrev at_level : ℕ → ℕ → ℕ → TableLevel → ℕ
+  abbrev at_level : ℕ → ℕ → ℕ → Level → ℕ
   at_level a b c Mmu = a
   at_level a b c Shadow1 = b
   at_level a b c Shadow2 = c
@@ -64,7 +65,7 @@ module _ (x : Node) (once : Distinct (config x)) where
   module _ (m n1 n2 n3 n : Memory) (i a b c t : ℕ) (p1 : IsPut m n1 x.base.mmu.frame i a)
       (p2 : IsPut n1 n2 x.base.shadow1.frame i b) (p3 : IsPut n2 n3 x.base.shadow2.frame i c)
       (p4 : IsPut n3 n x.base.descriptor.frame 12 t) where
-    entry_at : (w : TableLevel → ℕ) → a ≡ w Mmu → b ≡ w Shadow1 → c ≡ w Shadow2 → (l : TableLevel)
+    entry_at : (w : Level → ℕ) → a ≡ w Mmu → b ≡ w Shadow1 → c ≡ w Shadow2 → (l : Level)
         → word_at n (directory_of l x.base).frame i ≡ w l
     entry_at w e f g Mmu = p4.frame _ i (top_apart_back Mmu) ∙ (p3.frame _ i (dir_apart Mmu Shadow2 (λ e. cc))
         ∙ (p2.frame _ i (dir_apart Mmu Shadow1 (λ e. cc)) ∙ (p1.here ∙ e)))
@@ -72,7 +73,7 @@ module _ (x : Node) (once : Distinct (config x)) where
         p4.frame _ i (top_apart_back Shadow1) ∙ (p3.frame _ i (dir_apart Shadow1 Shadow2 (λ e. cc)) ∙ (p2.here ∙ f))
     entry_at w e f g Shadow2 = p4.frame _ i (top_apart_back Shadow2) ∙ (p3.here ∙ g)
 
-    entries_at : (l : TableLevel) (j : ℕ) → j ≢ i
+    entries_at : (l : Level) (j : ℕ) → j ≢ i
         → word_at n (directory_of l x.base).frame j ≡ word_at m (directory_of l x.base).frame j
     entries_at Mmu j ne = p4.frame _ j (top_apart_back Mmu) ∙ (p3.frame _ j (dir_apart Mmu Shadow2 (λ e. cc))
         ∙ (p2.frame _ j (dir_apart Mmu Shadow1 (λ e. cc)) ∙ p1.index j ne))
@@ -81,7 +82,7 @@ module _ (x : Node) (once : Distinct (config x)) where
     entries_at Shadow2 j ne = p4.frame _ j (top_apart_back Shadow2) ∙ (p3.index j ne
         ∙ (p2.frame _ j (dir_apart Shadow2 Shadow1 (λ e. cc)) ∙ p1.frame _ j (dir_apart Shadow2 Mmu (λ e. cc))))
 
-    entered_puts : (w : TableLevel → ℕ) → a ≡ w Mmu → b ≡ w Shadow1 → c ≡ w Shadow2 → Entered m n x i w t
+    entered_puts : (w : Level → ℕ) → a ≡ w Mmu → b ≡ w Shadow1 → c ≡ w Shadow2 → Entered m n x i w t
     entered_puts w e f g = record {
       shape = p4.shape;
       count = p4.count ∙ (p3.count ∙ (p2.count ∙ p1.count));
@@ -98,7 +99,7 @@ module _ (x : Node) (once : Distinct (config x)) where
   pub entered : (m n : Memory) → IsMemory m → ((f : ℕ) → In f (config x) → f < length m) → (i a b c t : ℕ) → i < 1024
       → n ≡ put_word (put_word (put_word (put_word m x.base.mmu.frame i a) x.base.shadow1.frame i b)
       x.base.shadow2.frame i c) x.base.descriptor.frame 12 t
-      → (w : TableLevel → ℕ) → a ≡ w Mmu → b ≡ w Shadow1 → c ≡ w Shadow2 → Entered m n x i w t
+      → (w : Level → ℕ) → a ≡ w Mmu → b ≡ w Shadow1 → c ≡ w Shadow2 → Entered m n x i w t
   entered m n shape inside i a b c t low written w e f g =
       let in_a = inside x.base.mmu.frame (role_config x _ _ (role_of_directory x once Mmu)) in
       let in_b = inside x.base.shadow1.frame (role_config x _ _ (role_of_directory x once Shadow1)) in

@@ -14,8 +14,10 @@ use Rattle.pip_base.proofs.Memory.{IsMemory-zero, length-zero_frame, word_at-zer
 use Rattle.pip_config.specs.Lists.{HasRoomInList, ListIn, ListStays}
 use Rattle.pip_config.proofs.Nodes.{list_others, listed_room, node_list, node_page, other_roles}
 use Rattle.pip_config.proofs.SlotWrites.{ListStays-trans}
-use Rattle.pip_model.specs.NodeWords.{DescriptorPage, DirectoryPage, Level as TableLevel, ListPage, Mmu, Shadow1}
-use Rattle.pip_model.specs.NodeWords.{Shadow2, Role, TablePage, directory_entry, role, table_page}
+use Rattle.pip_model.specs.NodeWords.{DescriptorPage, DirectoryPage, ListPage, Role, TablePage, directory_entry, role}
+use Rattle.pip_model.specs.NodeWords.{table_page}
+use Rattle.pip_model.specs.declared.level.Level.{Level}
+use Rattle.pip_model.specs.declared.level.Level.TheVariants.{Mmu, Shadow1, Shadow2}
 use Rattle.pip_model.specs.FullRows.{FullRow, cells_of, row_word}
 use Rattle.pip_model.specs.Lists.{Distinct, In}
 use Rattle.pip_model.specs.NodeIn.{NodeIn, OthersStay, Space}
@@ -63,7 +65,7 @@ PushSays g q first count slot = (more : List Pair) (ts : List Table) (t : Table)
     → length ts ≡ count → lists (count + 1) ≤ length more + 1 → table_pairs t ≡ slot
     → ListIn q first more (ts ++ t ∷ []) × ListStays first more g q
 
-module _ (m : Memory) (x : Node) (cells : TableLevel → ℕ → ℕ) (n : NodeIn m x cells) (b : Table) (list : Option Pair)
+module _ (m : Memory) (x : Node) (cells : Level → ℕ → ℕ) (n : NodeIn m x cells) (b : Table) (list : Option Pair)
     (low : b.index < 1024) (can : CanInstall m x b (page_list list)) where
   abbrev y : Node
   y = with_table b (page_list list) x
@@ -76,12 +78,12 @@ module _ (m : Memory) (x : Node) (cells : TableLevel → ℕ → ℕ) (n : NodeI
 
   -- ---- the three pages zeroed
 
-  page_new : (l : TableLevel) → In (table_page l b) (table_pairs b ++ page_list list)
+  page_new : (l : Level) → In (table_page l b) (table_pairs b ++ page_list list)
   page_new Mmu = inl refl
   page_new Shadow1 = inr (inl refl)
   page_new Shadow2 = inr (inr (inl refl))
 
-  page_off : (l : TableLevel) (f : ℕ) → In f (config x) → f ≢ (table_page l b).frame
+  page_off : (l : Level) (f : ℕ) → In f (config x) → f ≢ (table_page l b).frame
   page_off l f on e = can.further (table_page l b).frame (In-map (λ (g : Pair). g.frame) (table_page l b)
       (table_pairs b ++ page_list list) (page_new l)) (subst (λ k. In k (config x)) e on)
 
@@ -89,7 +91,7 @@ module _ (m : Memory) (x : Node) (cells : TableLevel → ℕ → ℕ) (n : NodeI
   zeroed_count = length-zero_frame (zero_frame (zero_frame m b.mmu.frame) b.shadow1.frame) b.shadow2.frame
       ∙ (length-zero_frame (zero_frame m b.mmu.frame) b.shadow1.frame ∙ length-zero_frame m b.mmu.frame)
 
-  zeroed_same : (f j : ℕ) → ((l : TableLevel) → f ≢ (table_page l b).frame) → word_at zeroed f j ≡ word_at m f j
+  zeroed_same : (f j : ℕ) → ((l : Level) → f ≢ (table_page l b).frame) → word_at zeroed f j ≡ word_at m f j
   zeroed_same f j off =
       word_at-zero_frame (zero_frame (zero_frame m b.mmu.frame) b.shadow1.frame) b.shadow2.frame f j (off Shadow2)
       ∙ (word_at-zero_frame (zero_frame m b.mmu.frame) b.shadow1.frame f j (off Shadow1)
@@ -107,7 +109,7 @@ module _ (m : Memory) (x : Node) (cells : TableLevel → ℕ → ℕ) (n : NodeI
     | inr ne ↦ word_at-zero_frame k f g j ne ∙ is
   ]
 
-  zeroed_table : (l : TableLevel) (j : ℕ) → word_at zeroed (table_page l b).frame j ≡ 0
+  zeroed_table : (l : Level) (j : ℕ) → word_at zeroed (table_page l b).frame j ≡ 0
   zeroed_table Mmu j =
       let inside = can.inside b.mmu (page_new Mmu) in
       let c1 = length-zero_frame m b.mmu.frame in
@@ -236,7 +238,7 @@ module _ (m : Memory) (x : Node) (cells : TableLevel → ℕ → ℕ) (n : NodeI
         (eqb-true t.0.index j f.1 ∙ at) (In-map (λ t. t.index) t.0 x.tables f.0)))
   ]
 
-  entry_is : (l : TableLevel) (j : ℕ) → directory_entry l (table_at (x.tables ++ b ∷ []) j)
+  entry_is : (l : Level) (j : ℕ) → directory_entry l (table_at (x.tables ++ b ∷ []) j)
       ≡ (if j == b.index then directory_word (table_page l b).frame else directory_entry l (table_at x.tables j))
   entry_is l j = elim (cases_eq j b.index) [
     | inl at ↦
@@ -259,13 +261,13 @@ module _ (m : Memory) (x : Node) (cells : TableLevel → ℕ → ℕ) (n : NodeI
     kept : (f j : ℕ) (r : Role) → role x f ≡ Some r → ((k : ℕ) → r ≢ ListPage k) → word_at q f j ≡ word_at zeroed f j
     kept f j r is other = other_roles y zeroed q once stays f j r (role_kept f r is other) other
 
-    old_or_new : ((l : TableLevel) (j : ℕ) → j < 1024 → cells l (1024 * b.index + j) ≡ 0) → (t : Table)
+    old_or_new : ((l : Level) (j : ℕ) → j < 1024 → cells l (1024 * b.index + j) ≡ 0) → (t : Table)
         → In t (x.tables ++ b ∷ []) → In t x.tables
-        ⊎ ((l : TableLevel) (j : ℕ) → j < 1024 → word_at q (table_page l t).frame j ≡ cells l (1024 * t.index + j))
+        ⊎ ((l : Level) (j : ℕ) → j < 1024 → word_at q (table_page l t).frame j ≡ cells l (1024 * t.index + j))
     old_or_new empty t i = elim (In-append_cases t x.tables (b ∷ []) i) [
       | inl old ↦ inl old
       | inr new ↦ elim new [
-        | inl is ↦ inr (subst (λ (u : Table). (l : TableLevel) (j : ℕ) → j < 1024
+        | inl is ↦ inr (subst (λ (u : Table). (l : Level) (j : ℕ) → j < 1024
             → word_at q (table_page l u).frame j ≡ cells l (1024 * u.index + j)) (sym is) (λ l j j_in.
             other_roles y zeroed q once stays (table_page l b).frame j (TablePage l b.index)
             (role_of_table y once l b (In-append_right b x.tables (b ∷ []) (inl refl))) (λ k h. cc)
@@ -274,7 +276,7 @@ module _ (m : Memory) (x : Node) (cells : TableLevel → ℕ → ℕ) (n : NodeI
       ]
     ]
 
-    pub installed : ((l : TableLevel) (j : ℕ) → j < 1024 → cells l (1024 * b.index + j) ≡ 0) → NodeIn n2 y cells
+    pub installed : ((l : Level) (j : ℕ) → j < 1024 → cells l (1024 * b.index + j) ≡ 0) → NodeIn n2 y cells
     installed empty = changed zeroed q n2 x cells zeroed_node (x.tables ++ b ∷ []) (x.more ++ page_list list) b.index
         (λ l. directory_word (table_page l b).frame)
         new_list stays.count kept e once bare_tables.differ bare_tables.small inside entry_is (old_or_new empty)
@@ -312,7 +314,7 @@ module _ (m : Memory) (x : Node) (cells : TableLevel → ℕ → ℕ) (n : NodeI
 
 -- where there is no table, there is no row
 pub no_row_at : (m : Memory) (x : Node) (rows : ℕ → Option FullRow) → Space m x rows → (i : ℕ)
-    → (In i (map (λ (t : Table). t.index) x.tables) → ⊥) → (l : TableLevel) (j : ℕ) → j < 1024
+    → (In i (map (λ (t : Table). t.index) x.tables) → ⊥) → (l : Level) (j : ℕ) → j < 1024
     → cells_of rows l (1024 * i + j) ≡ 0
 no_row_at m x rows space i new l j low =
     let index : (1024 * i + j) / 1024 ≡ i = omega arith in

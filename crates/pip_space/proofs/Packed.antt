@@ -11,7 +11,7 @@ use Rattle.pip_entry.specs.declared.shadows.Sh1.TheVariants.{Free, Descriptor, C
 use Rattle.pip_entry.specs.declared.shadows.Sh2.{Sh2}
 use Rattle.pip_entry.specs.declared.shadows.Sh2.TheVariants.{Empty as NoPage, Of}
 use Rattle.pip_model.specs.FullRows.{FullRow, row_word}
-use Rattle.pip_model.specs.NodeWords.{Mmu, Shadow1, Shadow2}
+use Rattle.pip_model.specs.declared.level.Level.TheVariants.{Mmu, Shadow1, Shadow2}
 use Rattle.pip_model.specs.NodeIn.{IsSecondShadowWord, IsFirstShadowWord}
 use Rattle.pip_space.specs.Rows.{IsPacked}
 

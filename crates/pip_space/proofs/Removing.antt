@@ -11,8 +11,10 @@ use Rattle.pip_config.specs.Lists.{ListIn, ListStays, IsPlaceOfTable}
 use Rattle.pip_config.proofs.Nodes.{list_others, listed_room, node_list, node_place, other_roles}
 use Rattle.pip_config.proofs.SlotWrites.{ListStays-trans}
 use Rattle.pip_model.specs.Collect.{falls, front_of, last_first, last_of, last_pair, returned_pages, swap_out}
-use Rattle.pip_model.specs.NodeWords.{DescriptorPage, DirectoryPage, Level as TableLevel, ListPage, Mmu, Role}
-use Rattle.pip_model.specs.NodeWords.{TablePage, directory_entry, role, role_word}
+use Rattle.pip_model.specs.NodeWords.{DescriptorPage, DirectoryPage, ListPage, Role, TablePage, directory_entry, role}
+use Rattle.pip_model.specs.NodeWords.{role_word}
+use Rattle.pip_model.specs.declared.level.Level.{Level}
+use Rattle.pip_model.specs.declared.level.Level.TheVariants.{Mmu}
 use Rattle.pip_model.specs.FullRows.{FullRow, cells_of, row_word}
 use Rattle.pip_model.specs.Lists.{Distinct, In}
 use Rattle.pip_model.specs.NodeIn.{NodeIn, OthersStay, Space}
@@ -70,7 +72,7 @@ out_gone i c (t ∷ ts) d h e = elim (cases_eq t.index i) [
       ]
 ]
 
-module _ (m : Memory) (x : Node) (cells : TableLevel → ℕ → ℕ) (n : NodeIn m x cells) (i : ℕ) (low : i < 1024) (b :
+module _ (m : Memory) (x : Node) (cells : Level → ℕ → ℕ) (n : NodeIn m x cells) (i : ℕ) (low : i < 1024) (b :
     Table) (has : table_at x.tables i ≡ Some b) (listed : length x.more ≡ lists (length x.tables) - 1) where
   abbrev y : Node
   y = without_table i x
@@ -241,7 +243,7 @@ module _ (m : Memory) (x : Node) (cells : TableLevel → ℕ → ℕ) (n : NodeI
     ]
   ]
 
-  entry_is : (l : TableLevel) (j : ℕ) → directory_entry l (table_at (swap_out i x.tables) j)
+  entry_is : (l : Level) (j : ℕ) → directory_entry l (table_at (swap_out i x.tables) j)
       ≡ (if j == i then 0 else directory_entry l (table_at x.tables j))
   entry_is l j = elim (cases_eq j i) [
     | inl at ↦ ap (directory_entry l) (table_gone j at)

@@ -4,7 +4,8 @@ use Rattle.std.proofs.Common.{eqb}
 use Rattle.std.specs.List.{list_any}
 use Rattle.std.proofs.lemmas.Map.Steps.{length-le_from_distinct_below}
 use Rattle.pip_base.specs.Memory.{Memory, word_at}
-use Rattle.pip_model.specs.NodeWords.{Level as TableLevel, Mmu, Shadow1, Shadow2}
+use Rattle.pip_model.specs.declared.level.Level.{Level}
+use Rattle.pip_model.specs.declared.level.Level.TheVariants.{Mmu, Shadow1, Shadow2}
 use Rattle.pip_model.specs.NodeIn.{NodeIn}
 use Rattle.pip_model.specs.Tree.{Node, Table}
 use Rattle.pip_model.proofs.Trees.Depth.{any_member, distinct_by_test}
@@ -17,7 +18,7 @@ length-indexes : (ts : List Table) → length (map (λ t. t.index) ts) ≡ lengt
 length-indexes [] = refl
 length-indexes (t ∷ ts) = ap suc (length-indexes ts)
 
-module _ (m : Memory) (x : Node) (cells : TableLevel → ℕ → ℕ) (n : NodeIn m x cells) where
+module _ (m : Memory) (x : Node) (cells : Level → ℕ → ℕ) (n : NodeIn m x cells) where
   -- a node has at most 1024 tables
   pub few_tables : length x.tables ≤ 1024
   few_tables =

@@ -5,8 +5,9 @@ use Rattle.std.specs.Prelude.{Bool, List, [], ◌∷◌, is_some, option_map, un
 use Rattle.std.proofs.lemmas.Bool.{cases_Bool, cases_eq}
 use Rattle.pip_base.specs.Memory.{Memory, put_word, word_at}
 use Rattle.pip_base.specs.Words.{directory_word}
-use Rattle.pip_model.specs.NodeWords.{DirectoryPage, Level as TableLevel, Mmu, Shadow1, Shadow2, TablePage}
-use Rattle.pip_model.specs.NodeWords.{descriptor_word, directory_entry, role, table_page}
+use Rattle.pip_model.specs.NodeWords.{DirectoryPage, TablePage, descriptor_word, directory_entry, role, table_page}
+use Rattle.pip_model.specs.declared.level.Level.{Level}
+use Rattle.pip_model.specs.declared.level.Level.TheVariants.{Mmu, Shadow1, Shadow2}
 use Rattle.pip_model.specs.FullRows.{FullRow, cells_of, row_word}
 use Rattle.pip_model.specs.NodeIn.{HasTableFor, IsFullRow, IsFirstShadowWord, NodeIn, OthersStay, Space, directory_of}
 use Rattle.pip_model.specs.NodeIn.{put_cell, put_row, same_level}
@@ -21,28 +22,26 @@ use Rattle.pip_table.specs.NextLeaf.{IsNextLeaf}
 use Rattle.pip_table.specs.NextWord.{IsFirstTable}
 use Rattle.pip_table.specs.Table.{HasTable, IsEmptyTable, IsDirectory, leaf_or_0, table_frame}
 use Rattle.pip_table.proofs.Laws.{leaf_at-has, leaf_at-none}
-use Rattle.pip_space.specs.Levels.{table_level, table_frame_at, descriptor_index}
+use Rattle.pip_space.specs.Levels.{table_frame_at, descriptor_index}
 use Rattle.pip_space.specs.Rows.{HasRow, IsNextRow, IsPacked, full_of}
 use Rattle.pip_space.specs.Tables.{HasTables, IsNextTables}
 use Rattle.pip_space.specs.declared.row.Row.{Row}
 use Rattle.pip_space.proofs.Packed.{leaf_not_zero, not_both}
-use Rattle.pip_space.specs.declared.level.Level.{Level}
-use Rattle.pip_space.specs.declared.level.Level.TheVariants as L
 
 -- a descriptor's word is the directory's frame
 pub place_word : (x : Node) (l : Level)
-    → descriptor_word x (descriptor_index l) ≡ (directory_of (table_level l) x.base).frame
-place_word x L.Mmu = refl
-place_word x L.Shadow1 = refl
-place_word x L.Shadow2 = refl
+    → descriptor_word x (descriptor_index l) ≡ (directory_of l x.base).frame
+place_word x Mmu = refl
+place_word x Shadow1 = refl
+place_word x Shadow2 = refl
 
 pub place_below : (l : Level) → descriptor_index l < 1024
-place_below L.Mmu = omega arith
-place_below L.Shadow1 = omega arith
-place_below L.Shadow2 = omega arith
+place_below Mmu = omega arith
+place_below Shadow1 = omega arith
+place_below Shadow2 = omega arith
 
 -- the table whose page is found
-pub page_table : (level : TableLevel) (x : Node) (i f : ℕ) → table_frame_at level x i ≡ Some f
+pub page_table : (level : Level) (x : Node) (i f : ℕ) → table_frame_at level x i ≡ Some f
     → (b : Table) × (table_at x.tables i ≡ Some b) × ((table_page level b).frame ≡ f)
 page_table level x i f e = go (table_at x.tables i) refl e
   where
@@ -51,16 +50,16 @@ page_table level x i f e = go (table_at x.tables i) refl e
     go None k h = cc
     go (Some b) k h = (b, k, cc)
 
-module _ (m : Memory) (x : Node) (cells : TableLevel → ℕ → ℕ) (n : NodeIn m x cells) where
+module _ (m : Memory) (x : Node) (cells : Level → ℕ → ℕ) (n : NodeIn m x cells) where
   -- a word of the descriptor, where a partition is named
   pub read_place : (part : ℕ) → x.name ≡ part → (l : Level) (i : ℕ) → i ≡ descriptor_index l
-      → word_at m part i ≡ (directory_of (table_level l) x.base).frame
+      → word_at m part i ≡ (directory_of l x.base).frame
   read_place part name l i place =
       let low = place_below l in
-      subst (λ p. word_at m p i ≡ (directory_of (table_level l) x.base).frame) name
+      subst (λ p. word_at m p i ≡ (directory_of l x.base).frame) name
       (ap (word_at m x.name) place ∙ (read_descriptor m x cells n (descriptor_index l) low ∙ place_word x l))
 
-  module _ (level : TableLevel) where
+  module _ (level : Level) where
     abbrev pub top : ℕ
     top = (directory_of level x.base).frame
 
@@ -139,7 +138,7 @@ module _ (m : Memory) (x : Node) (cells : TableLevel → ℕ → ℕ) (n : NodeI
           (put_at m x cells n level v b.0 small b.1 w, put_others m x cells n level v b.0 small b.1 w)
 
 -- whether there is a table is known by any level's page
-pub no_page_no_table : (level : TableLevel) (x : Node) (i : ℕ) → table_frame_at level x i ≡ None
+pub no_page_no_table : (level : Level) (x : Node) (i : ℕ) → table_frame_at level x i ≡ None
     → table_at x.tables i ≡ None
 no_page_no_table level x i e = elim (cases_option (table_at x.tables i)) [
   | inl none ↦ none
@@ -148,7 +147,7 @@ no_page_no_table level x i e = elim (cases_option (table_at x.tables i)) [
 ]
 
 -- the next tables by the next entry of the directory
-pub next_index : (m : Memory) (x : Node) (cells : TableLevel → ℕ → ℕ) → NodeIn m x cells → (f : ℕ)
+pub next_index : (m : Memory) (x : Node) (cells : Level → ℕ → ℕ) → NodeIn m x cells → (f : ℕ)
     → f ≡ (directory_of Mmu x.base).frame → (from : ℕ) (o : Option ℕ) → IsFirstTable m f from o → IsNextTables x from o
 next_index m x cells n f top from None h = λ i low high.
     no_page_no_table Mmu x i (entry_none m x cells n Mmu i high (ap (λ k. word_at m k i) (sym top) ∙ h i low high))
@@ -172,7 +171,7 @@ none_at_all (t ∷ ts) e i = absurd (omega (arith, e))
 
 -- the directory of a node that has tables for directory index i has an entry for them
 pub tables_entry : (m : Memory) (part i f : ℕ) → i < 1024 → HasTables m part i
-    → ((x : Node) (cells : TableLevel → ℕ → ℕ) → NodeIn m x cells → x.name ≡ part → f ≡ (directory_of Mmu x.base).frame)
+    → ((x : Node) (cells : Level → ℕ → ℕ) → NodeIn m x cells → x.name ≡ part → f ≡ (directory_of Mmu x.base).frame)
     → HasTable m f i
 tables_entry m part i f low t at =
     let n = t.held in
@@ -180,7 +179,7 @@ tables_entry m part i f low t at =
     (sym (at n.node n.cells n.is_in n.name)) (entry_has m n.node n.cells n.is_in Mmu i low t.tabled)
 
 -- whether there is a table is known by any level's page
-pub page_some : (level : TableLevel) (x : Node) (i : ℕ)
+pub page_some : (level : Level) (x : Node) (i : ℕ)
     → is_some (table_frame_at level x i) ≡ is_some (table_at x.tables i)
 page_some level x i = elim (cases_option (table_at x.tables i)) [
   | inl e ↦ ap (λ o. is_some (option_map (λ b. (table_page level b).frame) o)) e ∙ sym (ap is_some e)
@@ -198,16 +197,16 @@ has_table_found x v = elim (cases_option (table_at x.tables (dir v))) [
 ]
 
 -- the page for a vpage that has a table
-pub page_for : (level : TableLevel) (x : Node) (v : ℕ) → has_table x v ≡ true
+pub page_for : (level : Level) (x : Node) (v : ℕ) → has_table x v ≡ true
     → (f : ℕ) × (table_frame_at level x (v / 1024) ≡ Some f)
 page_for level x v on = let b = table_some x v on in
     ((table_page level b.0).frame, ap (option_map (λ b. (table_page level b).frame)) b.1)
 
-pub page_has : (level : TableLevel) (x : Node) (v f : ℕ) → table_frame_at level x (v / 1024) ≡ Some f
+pub page_has : (level : Level) (x : Node) (v f : ℕ) → table_frame_at level x (v / 1024) ≡ Some f
     → has_table x v ≡ true
 page_has level x v f e = let b = page_table level x (v / 1024) f e in table_has x v b.0 b.1
 
-pub no_page : (level : TableLevel) (x : Node) (v : ℕ) → table_frame_at level x (v / 1024) ≡ None → has_table x v ≡ false
+pub no_page : (level : Level) (x : Node) (v : ℕ) → table_frame_at level x (v / 1024) ≡ None → has_table x v ≡ false
 no_page level x v e = elim (cases_Bool (has_table x v)) [
   | inr off ↦ off
   | inl on ↦ let p = page_for level x v on in absurd (not_both (table_frame_at level x (v / 1024)) p.0 e p.1)
@@ -223,24 +222,24 @@ module _ (m : Memory) (x : Node) (rows : ℕ → Option FullRow) (space : Space 
       go (Some r) e = space.packed v r e
 
   -- the word of a row at each level
-  pub row_of_page : (level : TableLevel) (v number f : ℕ) → number ≡ v → number < 2 ^ 20
+  pub row_of_page : (level : Level) (v number f : ℕ) → number ≡ v → number < 2 ^ 20
       → table_frame_at level x (number / 1024) ≡ Some f → word_at m f (number % 1024) ≡ row_word level (rows v)
   row_of_page level v number f same small e =
       page_word_is m x (cells_of rows) space.node level number f small e ∙ ap (cells_of rows level) same
 
-  pub no_page_no_row : (level : TableLevel) (v number : ℕ) → number ≡ v → table_frame_at level x (number / 1024) ≡ None
+  pub no_page_no_row : (level : Level) (v number : ℕ) → number ≡ v → table_frame_at level x (number / 1024) ≡ None
       → row_word level (rows v) ≡ 0
   no_page_no_row level v number same e =
       ap (cells_of rows level) (sym same) ∙ (ap (row_word level)
       (no_table_no_row m x rows space number (no_page level x number e)) ∙ row_word-none level)
 
-  pub row_at_page : (level : TableLevel) (v number f : ℕ) → number ≡ v → number < 2 ^ 20 → table_frame_at level x
+  pub row_at_page : (level : Level) (v number f : ℕ) → number ≡ v → number < 2 ^ 20 → table_frame_at level x
       (v / 1024) ≡ Some f → (r : FullRow) → rows v ≡ Some r → word_at m f (number % 1024) ≡ row_word level (Some r)
   row_at_page level v number f same small page r at = row_of_page level v number f same small
       (ap (λ k. table_frame_at level x (k / 1024)) same ∙ page) ∙ ap (row_word level) at
 
   -- the word of the table of two levels, 0 where there is no table
-  leaf_of_row : (level : TableLevel) (v : ℕ) → v < 2 ^ 20
+  leaf_of_row : (level : Level) (v : ℕ) → v < 2 ^ 20
       → leaf_or_0 m (directory_of level x.base).frame v ≡ row_word level (rows v)
   leaf_of_row level v small =
       let t = is_table m x (cells_of rows) space.node level in
@@ -320,13 +319,13 @@ module _ (m : Memory) (x : Node) (rows : ℕ → Option FullRow) (space : Space 
 -- ---- writes
 
 -- one node's directory is another's of the same name
-same_directory : (m : Memory) (x y : Node) (a b : TableLevel → ℕ → ℕ) → NodeIn m x a → NodeIn m y b → x.name ≡ y.name
+same_directory : (m : Memory) (x y : Node) (a b : Level → ℕ → ℕ) → NodeIn m x a → NodeIn m y b → x.name ≡ y.name
     → x.base.mmu.frame ≡ y.base.mmu.frame
 same_directory m x y a b n k same =
-    sym (read_place m x a n y.name same L.Mmu 3 refl) ∙ read_place m y b k y.name refl L.Mmu 3 refl
+    sym (read_place m x a n y.name same Mmu 3 refl) ∙ read_place m y b k y.name refl Mmu 3 refl
 
 -- where one node of a name has a table, each has
-pub room_table : (m : Memory) (part v : ℕ) → v < 2 ^ 20 → HasTableFor m part v → (x : Node) (cells : TableLevel → ℕ → ℕ)
+pub room_table : (m : Memory) (part v : ℕ) → v < 2 ^ 20 → HasTableFor m part v → (x : Node) (cells : Level → ℕ → ℕ)
     → NodeIn m x cells → x.name ≡ part → has_table x v ≡ true
 room_table m part v small room x cells n name =
     let y = room.held.node in
@@ -348,7 +347,7 @@ room_of m part v r = record {
 
 module _ (m n : Memory) (x : Node) where
   -- one word written
-  pub level_put : (cells : TableLevel → ℕ → ℕ) → NodeIn m x cells → (level : TableLevel) (v number f w : ℕ) → number ≡ v
+  pub level_put : (cells : Level → ℕ → ℕ) → NodeIn m x cells → (level : Level) (v number f w : ℕ) → number ≡ v
       → number < 2 ^ 20 → table_frame_at level x (v / 1024) ≡ Some f → n ≡ put_word m f (number % 1024) w
       → NodeIn n x (put_cell cells level v w) × OthersStay x m n
   level_put cells k level v number f w same small page written =
@@ -377,8 +376,8 @@ module _ (m n : Memory) (x : Node) where
         at_row (Some r) p k = Space-put m n x rows space v r p small on k
 
     -- the word of one level, where the row differs from the old one there alone
-    pub row_put : (level : TableLevel) (old new : FullRow) (w : ℕ) → rows v ≡ Some old → IsFullRow new
-        → ((k : TableLevel) → same_level level k ≡ false → row_word k (Some new) ≡ row_word k (Some old))
+    pub row_put : (level : Level) (old new : FullRow) (w : ℕ) → rows v ≡ Some old → IsFullRow new
+        → ((k : Level) → same_level level k ≡ false → row_word k (Some new) ≡ row_word k (Some old))
         → w ≡ row_word level (Some new) → NodeIn n x (put_cell (cells_of rows) level v w)
         → Space n x (put_row rows v (Some new))
     row_put level old new w at packed same word node =
@@ -388,14 +387,14 @@ module _ (m n : Memory) (x : Node) where
         (subst (λ u. NodeIn n x (put_cell (cells_of rows) level v u)) word node))
 
 -- a row that is given to another differs in the first shadow alone
-pub given_word : (r : FullRow) (w : ℕ) (k : TableLevel) → same_level Shadow1 k ≡ false
+pub given_word : (r : FullRow) (w : ℕ) (k : Level) → same_level Shadow1 k ≡ false
     → row_word k (Some (record r { given = w })) ≡ row_word k (Some r)
 given_word r w Mmu other = refl
 given_word r w Shadow1 other = cc
 given_word r w Shadow2 other = refl
 
 -- and one that is opened or hidden in the MMU's table alone
-pub user_word : (r : FullRow) (b : Bool) (k : TableLevel) → same_level Mmu k ≡ false
+pub user_word : (r : FullRow) (b : Bool) (k : Level) → same_level Mmu k ≡ false
     → row_word k (Some (record r { user = b })) ≡ row_word k (Some r)
 user_word r b Mmu other = cc
 user_word r b Shadow1 other = refl

@@ -2,7 +2,7 @@
 use Rattle.std.specs.Prelude.{◌≡◌, ℕ, Option, Some}
 use Rattle.pip_base.specs.Memory.{Memory}
 use Rattle.pip_model.specs.FullRows.{FullRow}
-use Rattle.pip_model.specs.NodeWords.{Level}
+use Rattle.pip_model.specs.declared.level.Level.{Level}
 use Rattle.pip_model.specs.NodeIn.{NodeIn, Space}
 use Rattle.pip_model.specs.Tree.{Node}
 

@@ -5,7 +5,7 @@ use Rattle.pip_base.specs.Memory.{Memory}
 use Rattle.pip_entry.specs.Sh1.{packed_sh1}
 use Rattle.pip_entry.specs.Sh2.{packed_sh2}
 use Rattle.pip_model.specs.FullRows.{FullRow, row_word}
-use Rattle.pip_model.specs.NodeWords.{Mmu}
+use Rattle.pip_model.specs.declared.level.Level.TheVariants.{Mmu}
 use Rattle.pip_model.specs.NodeIn.{IsFullRow, Space}
 use Rattle.pip_model.specs.Tree.{Node}
 use Rattle.pip_table.specs.NextLeaf.{start_above}

@@ -4,7 +4,7 @@ use Rattle.std.specs.Prelude.{Option, Some, None, is_some}
 use Rattle.pip_base.specs.declared.types.Pair.{Pair}
 use Rattle.pip_base.specs.Memory.{Memory}
 use Rattle.pip_model.specs.FullRows.{FullRow}
-use Rattle.pip_model.specs.NodeWords.{Level as TableLevel}
+use Rattle.pip_model.specs.declared.level.Level.{Level}
 use Rattle.pip_model.specs.Lists.{Distinct, In}
 use Rattle.pip_model.specs.NodeIn.{HasNode, NodeIn, Space}
 use Rattle.pip_model.specs.Tree.{Node, Table, config, dir, lists, table_at, table_pairs}
@@ -28,7 +28,7 @@ pub record CanInstall (m : Memory) (x : Node) (b : Table) (rest : List Pair) : T
 -- the memory holds a node of this name that can be given the table of directory index i in these pages
 pub record HasInstall (m : Memory) (part i : ℕ) (slot : List Pair) (list : Option Pair) : Type 0 where
   pub node : Node
-  pub cells : TableLevel → ℕ → ℕ
+  pub cells : Level → ℕ → ℕ
   pub table : Table
   pub is_in : NodeIn m node cells
   pub name : node.name ≡ part

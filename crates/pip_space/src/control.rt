@@ -1,6 +1,6 @@
-//! What a partition's descriptor says of its control: whether it is masked, and the lines that are pending in it. Other
-//! than the rest of this crate, this speaks of whole trees: after a write the memory lays out the tree in which the
-//! control of this partition alone has changed.
+//! What a partition's descriptor says of its control: whether it is masked, and the lines that are pending in it.
+//! Unlike the rest of this crate, this speaks of whole trees: after a write the memory lays out the tree in which only
+//! the control of this partition has changed.
 ghost use Rattle.std.specs.Prelude.{◌≡◌, ℕ, ◌+◌, ◌^◌, List, length, sum_by};
 ghost use Rattle.pip_model.specs.Layout.{LaysOut};
 ghost use Rattle.pip_model.specs.NodeWords.{flag};
@@ -12,10 +12,8 @@ ghost use Rattle.pip_model.specs.Worlds.{with_masked, with_pending};
 use pip_base::{Frame, Steps};
 use pip_entry::descriptor::{FLAGS, MASKED, PENDING};
 use pip_frames::Frames;
+use pip_model::ROOT;
 use std::sync::ledger::Ledger;
-
-/// The number of the root's descriptor.
-pub const ROOT: u32 = 1;
 
 // The word of the flags.
 fn flags_word(masked: bool) -> u32
@@ -52,7 +50,7 @@ pub fn set_masked<M: Frames>(mem: &mut M, part: Frame, masked: bool)
     mem.set_word(part, FLAGS, flags_word(masked));
 }
 
-/// Gives the root other pending lines, bit k for line k.
+/// Sets the root's pending lines, bit k for line k.
 pub fn set_pending<M: Frames>(mem: &mut M, lines: u32)
     requires { HasPartition (M.memory mem.old) 1 }
     ensures tree { (t : Tree) (js : List ℕ) → IsSound t → LaysOut t (M.memory mem.old) → AreLines 0 js →

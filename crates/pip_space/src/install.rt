@@ -12,13 +12,13 @@ ghost use Rattle.pip_space.specs.Nodes.{InEachSpace};
 ghost use Rattle.pip_space.specs.Tables.{AreInPages, CanInstall, CanRemove, HasInstall, HasRemove, page_list};
 ghost use Rattle.pip_space.specs.Tables.{rows_beside};
 
-use crate::level::Level;
 use crate::lists::{add_list_page, drop_list_page, take_slot};
 use crate::reads::table;
 use crate::table_roots::{clear_entries, read_table_roots, set_entries};
 use pip_base::{Frame, Pair, Steps, never};
 use pip_config::{Slot, push_slot};
 use pip_frames::Frames;
+use pip_model::Level;
 use std::sync::ledger::Ledger;
 
 // Zeroes the three pages of a slot.
@@ -37,8 +37,7 @@ fn zero_slot<M: Frames>(mem: &mut M, s: &Slot)
 }
 
 /// Gives `part` the tables of directory index `i`, below 1024, in the pages of `s`, and the further list page `list`.
-/// The pages are zeroed first. `part` has no table of this index yet; `list` is Some where no slot is left, and only
-/// there.
+/// The pages are zeroed first. `part` has no table of this index yet; `list` is Some exactly if no slot is left.
 pub fn install_table<M: Frames, L: Ledger>(
     mem: &mut M,
     part: Frame,
@@ -73,7 +72,7 @@ pub fn install_table<M: Frames, L: Ledger>(
 }
 
 /// Takes the tables of directory index `i`, below 1024, from `part`, with the rows in them. Gives their pages back, and
-/// the list page that is no longer used, if there is one. What these pages then hold is open.
+/// the list page that is no longer used, if there is one. Nothing is said of what these pages then hold.
 pub fn remove_table<M: Frames, L: Ledger>(
     mem: &mut M,
     part: Frame,

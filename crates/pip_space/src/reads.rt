@@ -1,23 +1,25 @@
 //! Reading rows and tables.
-ghost use Rattle.std.specs.Prelude.{◌≡◌, ℕ, ◌+◌, ◌<◌, ◌≤◌, ◌/◌, ◌↔◌, IsTrue, Option, None, IfSome, is_some, length};
-ghost use Rattle.std.specs.Prelude.{option_map};
+ghost use Rattle.std.specs.Prelude.{◌≡◌, ℕ, ◌+◌, ◌*◌, ◌<◌, ◌≤◌, ◌/◌, ◌↔◌, IsTrue, Option, None, IfSome, is_some};
+ghost use Rattle.std.specs.Prelude.{length, option_map};
 ghost use Rattle.pip_model.specs.FullRows.{row_word};
 ghost use Rattle.pip_entry.specs.Sh1.{packed_sh1};
 ghost use Rattle.pip_entry.specs.Sh2.{packed_sh2};
-ghost use Rattle.pip_model.specs.NodeWords.{Mmu, Shadow1, Shadow2};
+ghost use Rattle.pip_model.specs.declared.level.Level.TheVariants.{Mmu, Shadow1, Shadow2};
 ghost use Rattle.pip_model.specs.NodeIn.{HasNode, HasTableFor, directory_of};
 ghost use Rattle.pip_model.specs.Tree.{table_at};
+ghost use Rattle.pip_table.specs.Table.{tables_below};
 ghost use Rattle.pip_space.specs.Nodes.{InEachNode, InEachSpace};
-ghost use Rattle.pip_space.specs.Levels.{table_level, table_frame_at};
+ghost use Rattle.pip_space.specs.Levels.{table_frame_at};
 ghost use Rattle.pip_space.specs.Rows.{HasRows, IsNextRow, full_of};
 ghost use Rattle.pip_space.specs.Tables.{HasTables, IsNextTables};
 
-use crate::level::{Level, place};
+use crate::level::place;
 use crate::row::{Row, row_from};
 use pip_base::{Frame, Steps, VPage, never};
 use pip_entry::descriptor::TABLES;
 use pip_entry::{DirWord, Sh1, Sh2, unpack_sh1, unpack_sh2};
 use pip_frames::Frames;
+use pip_model::Level;
 use pip_table::{dir, next_leaf, next_table, table_is_empty};
 use std::sync::ledger::Ledger;
 
@@ -30,7 +32,7 @@ pub(crate) fn directory<M: Frames, L: Ledger>(
 ) -> Frame
     requires { HasNode (M.memory mem.now) part }
     ensures frame { InEachNode (M.memory mem.now) part (λ x cells.
-        result ≡ (directory_of (table_level level) x.base).frame) }
+        result ≡ (directory_of level x.base).frame) }
     ensures step { steps.new ≡ steps.old + 1 }
 {
     Frame::new(mem.word(part, place(level), steps))
@@ -46,7 +48,7 @@ pub(crate) fn table<M: Frames, L: Ledger>(
 ) -> Option<Frame>
     requires node { HasNode (M.memory mem.now) part }
     requires index { i < 1024 }
-    ensures page { InEachNode (M.memory mem.now) part (λ x cells. result ≡ table_frame_at (table_level level) x i) }
+    ensures page { InEachNode (M.memory mem.now) part (λ x cells. result ≡ table_frame_at level x i) }
     ensures inside { IfSome result (λ f. f < length (M.memory mem.now)) }
     ensures steps { steps.new ≤ steps.old + 2 }
 {
@@ -94,7 +96,7 @@ pub fn table_for<M: Frames, L: Ledger>(
 ) -> Frame
     requires { HasTableFor (M.memory mem.now) part v }
     ensures page { InEachNode (M.memory mem.now) part (λ x cells.
-        table_frame_at (table_level level) x (v / 1024) ≡ Some result) }
+        table_frame_at level x (v / 1024) ≡ Some result) }
     ensures inside { result < length (M.memory mem.now) }
 {
     match table(mem, part, level, v.number() / 1024, steps) {
@@ -113,7 +115,7 @@ fn level_word<M: Frames, L: Ledger>(
 ) -> u32
     requires { HasNode (M.memory mem.now) part }
     ensures word { InEachSpace (M.memory mem.now) part (λ x rows.
-        result ≡ row_word (table_level level) (rows v)) }
+        result ≡ row_word level (rows v)) }
     ensures steps { steps.new ≤ steps.old + 3 }
 {
     let number = v.number();
@@ -211,7 +213,7 @@ pub fn is_table_empty<M: Frames, L: Ledger>(
 }
 
 /// The row of `part` at the least virtual page above `after`, or of all where that is None, with this page. None
-/// exactly where there is none. A directory entry without a table takes one step.
+/// exactly where there is none. It takes at most 1031 steps, and 1024 more for each table of the partition.
 pub fn next_row<M: Frames, L: Ledger>(
     mem: &M,
     part: Frame,
@@ -219,7 +221,9 @@ pub fn next_row<M: Frames, L: Ledger>(
     steps: &mut Steps<L>,
 ) -> Option<(VPage, Row)>
     requires { HasNode (M.memory mem.now) part }
-    ensures { InEachSpace (M.memory mem.now) part (λ x rows. IsNextRow rows after result) }
+    ensures row { InEachSpace (M.memory mem.now) part (λ x rows. IsNextRow rows after result) }
+    ensures steps { InEachSpace (M.memory mem.now) part (λ x rows. steps.new ≤ steps.old + 1031
+        + 1024 * tables_below (M.memory mem.now) (directory_of Mmu x.base).frame 1024) }
 {
     let top = directory(mem, part, Level::Mmu, steps);
     let (v, leaf) = next_leaf(mem, top, after, steps)?;

@@ -1,7 +1,7 @@
 //! Rows as the kernel reads and writes them.
 ghost use Rattle.std.specs.Prelude.{◌≡◌, Option, Some, option_map};
 ghost use Rattle.pip_model.specs.FullRows.{FullRow, row_word};
-ghost use Rattle.pip_model.specs.NodeWords.{Mmu, Shadow1, Shadow2};
+ghost use Rattle.pip_model.specs.declared.level.Level.TheVariants.{Mmu, Shadow1, Shadow2};
 ghost use Rattle.pip_model.specs.NodeIn.{IsFullRow};
 ghost use Rattle.pip_space.specs.Rows.{IsPacked, IsRowWord, full_of};
 
@@ -23,7 +23,7 @@ pub struct Row {
     pub from: Sh2,
 }
 
-/// The row for which three words stand, one of each level. None where they stand for none.
+/// The row that three words say, one of each level. None if they say none.
 pub(crate) fn row_from(word: u32, given: u32, from: u32) -> Option<Row>
     ensures { (r : Option FullRow) → IsPacked r → word ≡ row_word Mmu r → given ≡ row_word Shadow1 r →
         from ≡ row_word Shadow2 r → option_map full_of result ≡ r }
@@ -44,7 +44,7 @@ pub(crate) fn row_from(word: u32, given: u32, from: u32) -> Option<Row>
     }
 }
 
-/// The word of an MMU table that says the same but for the user bit. The word is that of a page.
+/// The same word of an MMU table, but for the user bit. It is that of a page.
 pub(crate) fn with_user(word: u32, user: bool) -> u32
     requires { IsRowWord word }
     ensures { (r : FullRow) → IsFullRow r → word ≡ row_word Mmu (Some r) →

@@ -1,4 +1,4 @@
-//! Where a partition's tables are noted.
+//! Where a partition's tables are listed.
 ghost use Rattle.std.specs.Prelude.{◌≡◌, ◌<◌, ◌≤◌, length};
 ghost use Rattle.pip_base.specs.Memory.{put_word};
 ghost use Rattle.pip_base.specs.Words.{directory_word};
@@ -6,15 +6,15 @@ ghost use Rattle.pip_model.specs.NodeIn.{HasNode};
 ghost use Rattle.pip_space.specs.Nodes.{InEachNode};
 ghost use Rattle.pip_space.specs.Tables.{AreTableRoots, AreInside};
 
-use crate::level::Level;
 use crate::reads::directory;
 use pip_base::{Frame, Steps};
 use pip_entry::descriptor::{LIST_FRAME, TABLES};
 use pip_entry::{DirWord, pack_dir};
 use pip_frames::Frames;
+use pip_model::Level;
 use std::sync::ledger::Ledger;
 
-/// What a descriptor says of where the tables are noted: the first list page, the number of tables, and the three
+/// Where a descriptor says that the tables are listed: the first list page, the number of tables, and the three
 /// directories.
 #[derive(Clone, Copy, Debug, PartialEq, Eq)]
 pub(crate) struct TableRoots {

@@ -2,19 +2,18 @@
 ghost use Rattle.std.specs.Prelude.{◌≡◌, ℕ, ◌<◌, Option, length};
 ghost use Rattle.pip_entry.specs.Sh1.{packed_sh1, IsSh1};
 ghost use Rattle.pip_model.specs.FullRows.{FullRow, row_word};
-ghost use Rattle.pip_model.specs.NodeWords.{Mmu, Shadow1, Shadow2};
+ghost use Rattle.pip_model.specs.declared.level.Level.TheVariants.{Mmu, Shadow1, Shadow2};
 ghost use Rattle.pip_model.specs.NodeIn.{HasTableFor, IsFullRow, NodeIn, OthersStay, Space, put_cell, put_row};
 ghost use Rattle.pip_model.specs.Tree.{Node};
 ghost use Rattle.pip_space.specs.Nodes.{InEachNode, InEachRow, InEachSpace};
-ghost use Rattle.pip_space.specs.Levels.{table_level};
 ghost use Rattle.pip_space.specs.Rows.{HasRow, IsPacked, full_of};
 
-use crate::level::Level;
 use crate::reads::table_for;
 use crate::row::{Row, with_user};
 use pip_base::{Frame, Steps, VPage};
 use pip_entry::{Leaf, Sh1, pack_leaf, pack_sh1, pack_sh2};
 use pip_frames::Frames;
+use pip_model::Level;
 use std::sync::ledger::Ledger;
 
 // Writes the word of a level at a virtual page that has a table.
@@ -29,7 +28,7 @@ fn set_level_word<M: Frames, L: Ledger>(
     requires { HasTableFor (M.memory mem.old) part v }
     ensures count { length (M.memory mem.new) ≡ length (M.memory mem.old) }
     ensures node { InEachNode (M.memory mem.old) part (λ x cells.
-        NodeIn (M.memory mem.new) x (put_cell cells (table_level level) v w)
+        NodeIn (M.memory mem.new) x (put_cell cells level v w)
         × OthersStay x (M.memory mem.old) (M.memory mem.new)) }
     ensures room { HasTableFor (M.memory mem.new) part v }
 {
@@ -61,8 +60,8 @@ fn set_words<M: Frames, L: Ledger>(
     set_level_word(mem, part, Level::Shadow2, v, from, steps);
 }
 
-/// Gives `part` a row at a virtual page that has a table. READ is among the rights of the row, none is but READ, WRITE
-/// and EXEC, and where `given` isn't `Free` its vpage isn't 0. A row that stood there is replaced.
+/// Gives `part` a row at a virtual page that has a table. READ is among the rights of the row, which has no others than
+/// READ, WRITE and EXEC, and the vpage of `given`, unless that is `Free`, isn't 0. A row that was there is replaced.
 #[inline(always)]
 pub fn map<M: Frames, L: Ledger>(
     mem: &mut M,
@@ -89,7 +88,7 @@ pub fn map<M: Frames, L: Ledger>(
     set_words(mem, part, v, word, given, from, steps);
 }
 
-/// Takes the row at a virtual page away.
+/// Removes the row at a virtual page.
 pub fn unmap<M: Frames, L: Ledger>(mem: &mut M, part: Frame, v: VPage, steps: &mut Steps<L>)
     requires { HasRow (M.memory mem.old) part v }
     ensures count { length (M.memory mem.new) ≡ length (M.memory mem.old) }
@@ -122,7 +121,7 @@ pub fn set_user<M: Frames, L: Ledger>(
     mem.set_word(page, i, word);
 }
 
-/// Says to which child the page of a row is given. Where `given` isn't `Free` its vpage isn't 0.
+/// Writes to which child the page of a row is given. The vpage of `given`, unless that is `Free`, isn't 0.
 pub fn set_given<M: Frames, L: Ledger>(
     mem: &mut M,
     part: Frame,

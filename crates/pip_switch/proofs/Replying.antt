@@ -36,7 +36,7 @@ use Rattle.pip_switch.proofs.Running.{none_of, part_found, part_of, runs_there}
 -- ---- what calls do
 
 -- a call that only asks leaves the memory
-asked-does : (call : Tree → Answer) (p : ℕ) (status : Status) (value : ℕ) (m : Memory) → ((t : Tree) → (call t).tree
+pub asked-does : (call : Tree → Answer) (p : ℕ) (status : Status) (value : ℕ) (m : Memory) → ((t : Tree) → (call t).tree
     ≡ t) → InEach m p (λ t x. (status ≡ (call t).status) × (value ≡ (call t).value)) → Does call p status value m m
 asked-does call p status value m same is = record {
   answer = is;
@@ -205,14 +205,16 @@ pub came_call : (m n : Memory) (cs ds : List (Option Occupant)) (w : World) → 
     → ((r : Occupant) → on_cpu cs cpu ≡ Some r → ds ≡ slice_set cs cpu (Some (with_answer status value r)))
     → (ks ls : List Places) → w.caches ≡ ks
     → ls ≡ cond (is_accepted status && takes_by_name name value) (all_emptied ks) ks
-    → CameWith w (E.Call cpu number a) (O.Reply status value) n ds ls
-came_call m n cs ds w s cpu p on number name named d a status value does set ks ls k_is l_is =
+    → (o : Outcome) → o ≡ O.Reply status value
+    → CameWith w (E.Call cpu number a) o n ds ls
+came_call m n cs ds w s cpu p on number name named d a status value does set ks ls k_is l_is o so =
     let (r, is, found) = part_of (on_cpu cs cpu) p on in
-    came_answered m n cs ds w s cpu r (runs_there m cs cpu w s ∙ is) number (λ e. d (named ∙ e)) a status value
+    subst (λ z. CameWith w (E.Call cpu number a) z n ds ls) (sym so)
+    (came_answered m n cs ds w s cpu r (runs_there m cs cpu w s ∙ is) number (λ e. d (named ∙ e)) a status value
     (subst (λ q. Does (λ t. answer_named (call_named number) (plain_world t cs) q a) q status value m n) (sym found)
     (subst (λ k. Does (λ t. answer_named k (plain_world t cs) p a) p status value m n) named does))
     (set r is) ks ls k_is
-    (subst (λ k. ls ≡ cond (is_accepted status && takes_by_name k value) (all_emptied ks) ks) named l_is)
+    (subst (λ k. ls ≡ cond (is_accepted status && takes_by_name k value) (all_emptied ks) ks) named l_is))
 
 -- a call that switches, and one where nothing runs, changes no cache
 pub came_switched : (w : World) (cpu number : ℕ) (a : Five) (o : Outcome) (n : Memory) (ds : List (Option Occupant))

@@ -22,7 +22,7 @@ pub(crate) fn has_line(bits: u32, line: u32) -> bool
     (bits >> line) % 2 == 1
 }
 
-/// With one line more, or the same where it is one of them.
+/// With a line added. The same if it is one of them already.
 pub(crate) fn with_line(bits: u32, line: u32) -> u32
     requires line { line < 16 }
     requires lines { LineBits bits }

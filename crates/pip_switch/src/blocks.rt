@@ -1,5 +1,5 @@
 //! Contexts in frames: a block is a pc and 16 registers.
-ghost use Rattle.std.specs.Prelude.{◌≡◌, ◌≢◌, ◌+◌, ◌≤◌, ◌∷◌, ◌++◌, length, take, drop, slice_index};
+ghost use Rattle.std.specs.Prelude.{◌≡◌, ◌+◌, ◌≤◌, ◌∷◌, ◌++◌, length, take, drop, slice_index};
 ghost use Rattle.pip_base.specs.Memory.{put_words, word_at};
 ghost use Rattle.pip_model.specs.Handlers.{context_in};
 ghost use Rattle.pip_switch.specs.Blocks.{HasRoom};
@@ -53,17 +53,6 @@ pub(crate) fn read_context<M: Frames, L: Ledger>(
     context_of(mem.frame(block.frame, steps), block.index)
 }
 
-// A frame that isn't this one.
-fn another(frame: Frame) -> Frame
-    ensures apart { result ≢ frame }
-    ensures small { result ≤ 1 }
-{
-    if frame.number() == 0 {
-        return Frame::new(1);
-    }
-    Frame::new(0)
-}
-
 /// Writes a context into a block.
 pub(crate) fn write_context<M: Frames, L: Ledger>(
     mem: &mut M,
@@ -77,7 +66,6 @@ pub(crate) fn write_context<M: Frames, L: Ledger>(
     ensures registers { length ctx.now.regs ≡ 16 }
     ensures count { length (M.memory mem.new) ≡ length (M.memory mem.old) }
 {
-    // A frame is lent for writing beside another one only.
-    let (_, words) = mem.pair(another(block.frame), block.frame, steps);
+    let words = mem.frame_mut(block.frame, steps);
     put_context(words, block.index, ctx);
 }

@@ -1,4 +1,4 @@
-//! The calls that don't switch.
+//! Calls of the kernel.
 ghost use Rattle.std.specs.Prelude.{◌≡◌, ◌<◌, ◌&&◌, ℕ, Some, if◌then◌else◌, length};
 ghost use Rattle.std.specs.List.{AllByRecursion};
 ghost use Rattle.pip_base.specs.Memory.{Memory};
@@ -12,7 +12,6 @@ ghost use Rattle.pip_model.specs.Partitions.{HasPartition};
 ghost use Rattle.pip_model.specs.Sound.{IsWord};
 ghost use Rattle.pip_model.specs.Tree.{Tree};
 ghost use Rattle.pip_model.specs.Worlds.{World};
-ghost use Rattle.pip_switch.specs.Answering.{answer_named, takes_by_name};
 ghost use Rattle.pip_switch.specs.Plain.{plain_world};
 ghost use Rattle.pip_switch.specs.Standing.{CameWith, HasWorld, StandsFor};
 
@@ -29,7 +28,7 @@ use pip_model::{CallName, MemoryCall};
 use pip_space::set_masked;
 use std::sync::ledger::Ledger;
 
-// What goes into r0 and r1 after a call that has a value.
+// The status and the value of a call that has a value.
 fn reply(answered: Result<u32, Status>) -> (Status, u32)
     ensures { (call : Tree → Answer) (p : ℕ) (m n : Memory) → DoesWithValue call p answered m n →
         Does call p result.0 result.1 m n }
@@ -95,55 +94,28 @@ fn answer_on_memory<M: Frames, L: Ledger>(
     }
 }
 
-/// Makes a call that doesn't switch, and answers its status and its value.
-pub(crate) fn answer<M: Frames, L: Ledger>(
-    mem: &mut M,
-    cpus: &Processors,
-    caller: Frame,
-    name: CallName,
-    args: &[u32; 5],
-    steps: &mut Steps<L>,
-) -> (Status, u32)
-    requires world { HasWorld (M.memory mem.old) cpus.now.items }
-    requires stands { HasPartition (M.memory mem.old) caller }
-    ensures { Does (λ t. answer_named name (plain_world t cpus.now.items) caller (five_of args.now)) caller
-        result.0 result.1 (M.memory mem.old) (M.memory mem.new) }
-{
-    match name {
-        CallName::OnMemory(call) => answer_on_memory(mem, cpus, caller, call, args, steps),
-        CallName::Masks { masked } => {
-            set_masked(mem, caller, masked);
-            (Status::Ok, 0)
-        }
-        // `call` makes a yield itself, so none comes here.
-        CallName::Yields | CallName::Unknown => (Status::UnknownCall, 0),
-    }
-}
-
 // Whether an accepted call with this value takes pages from a partition.
-fn takes_pages(name: CallName, value: u32) -> bool
-    ensures { result ≡ takes_by_name name value }
+fn takes_pages(call: MemoryCall, value: u32) -> bool
+    ensures { result ≡ model.takes_pages call value }
 {
-    match name {
-        CallName::OnMemory(
-            MemoryCall::CreatePartition
-            | MemoryCall::DeletePartition
-            | MemoryCall::Collect
-            | MemoryCall::RemoveVAddr,
-        ) => true,
-        CallName::OnMemory(MemoryCall::Prepare) => value != 0,
+    match call {
+        MemoryCall::CreatePartition
+        | MemoryCall::DeletePartition
+        | MemoryCall::Collect
+        | MemoryCall::RemoveVAddr => true,
+        MemoryCall::Prepare => value != 0,
         _ => false,
     }
 }
 
-// Empties the caches after a call, by its status and value.
-fn empty_after(caches: &mut Caches, status: Status, name: CallName, value: u32)
-    ensures { caches.new.items ≡ (if is_accepted status && takes_by_name name value
+// Empties the caches after a call on memory, by its status and value.
+fn empty_after(caches: &mut Caches, status: Status, call: MemoryCall, value: u32)
+    ensures { caches.new.items ≡ (if is_accepted status && model.takes_pages call value
         then all_emptied caches.old.items else caches.old.items) }
 {
     match status {
         Status::Ok => {
-            if takes_pages(name, value) {
+            if takes_pages(call, value) {
                 empty_all(caches);
             }
         }
@@ -151,7 +123,7 @@ fn empty_after(caches: &mut Caches, status: Status, name: CallName, value: u32)
     }
 }
 
-/// What runs on a processor makes a call. Accepted, one that takes pages from a partition empties all caches.
+/// What runs on a processor makes a call. All caches are emptied if it is accepted and takes pages from a partition.
 pub(crate) fn call<M: Frames, L: Ledger>(
     mem: &mut M,
     cpus: &mut Processors,
@@ -173,11 +145,16 @@ pub(crate) fn call<M: Frames, L: Ledger>(
         return Outcome::Idle;
     };
     match named(number) {
-        CallName::Yields => yield_to(mem, cpus, cpu, part, args, steps),
-        name => {
-            let (status, value) = answer(mem, cpus, part, name, args, steps);
-            empty_after(caches, status, name, value);
+        CallName::OnMemory(call) => {
+            let (status, value) = answer_on_memory(mem, cpus, part, call, args, steps);
+            empty_after(caches, status, call, value);
             put_reply(cpus, cpu, status, value)
         }
+        CallName::Masks { masked } => {
+            set_masked(mem, part, masked);
+            put_reply(cpus, cpu, Status::Ok, 0)
+        }
+        CallName::Yields => yield_to(mem, cpus, cpu, part, args, steps),
+        CallName::Unknown => put_reply(cpus, cpu, Status::UnknownCall, 0),
     }
 }

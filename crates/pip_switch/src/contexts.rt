@@ -1,4 +1,4 @@
-//! Contexts: what a processor holds of one.
+//! What a processor holds of a context.
 ghost use Rattle.std.specs.Prelude.{◌≡◌, ◌<◌, Some, length, option_map, slice_set};
 ghost use Rattle.pip_base.specs.Status.{status_number};
 ghost use Rattle.pip_model.specs.Sound.{IsContext};

@@ -17,7 +17,7 @@ use pip_kern::{born_of, parent_of};
 use pip_model::{Occupant, Taker};
 use std::sync::ledger::Ledger;
 
-// The context with which a partition handles a vector, if it doesn't run.
+// The context with which a partition handles a vector. None if it runs or doesn't handle it.
 fn free_handler<M: Frames, L: Ledger>(
     mem: &M,
     cpus: &[Option<Occupant>],

@@ -52,7 +52,7 @@ fn kind_of(fault: AccessFault) -> u32
     }
 }
 
-/// An outcome, rebuilt from its parts, so that a caller that knows its kind keeps only these parts.
+/// The same outcome, rebuilt from its parts, so that LLVM keeps only the parts of the kind that a caller asks for.
 #[inline(always)]
 pub(crate) fn by_parts(outcome: Outcome) -> Outcome
     ensures { result ≡ outcome }

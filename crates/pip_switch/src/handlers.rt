@@ -14,7 +14,7 @@ use std::sync::ledger::Ledger;
 /// The address of the handler table.
 const TABLE: u32 = 0xfffff000;
 
-/// Where in a page a block of 17 words can begin at most.
+/// The last offset in a page, in bytes, at which a block of 17 words can begin.
 const LAST: u32 = 4028;
 
 // An entry of a handler table: the page in which the table is, and the address of a block.
@@ -57,7 +57,7 @@ fn entry<M: Frames, L: Ledger>(
     }
 }
 
-// Where an access leads at the address of a block, if it doesn't fault.
+// The place of a block by its address. None if the access faults.
 fn place<M: Frames, L: Ledger>(
     mem: &M,
     part: Frame,
@@ -79,8 +79,8 @@ fn place<M: Frames, L: Ledger>(
     }
 }
 
-// Where an access leads at the address of a block, for a partition whose handler table it reaches in `page`. A block in
-// the table's own page needs no further walk.
+// The place of a block by its address, for a partition that reaches its handler table in `page`. A block in that page
+// needs no further walk.
 fn place_beside<M: Frames, L: Ledger>(
     mem: &M,
     part: Frame,
@@ -125,7 +125,7 @@ pub(crate) fn find_handler<M: Frames, L: Ledger>(
     }
 }
 
-/// Where a partition's block for a vector below 256 is saved to. None where it can't be.
+/// Where a partition's block for a vector below 256 is saved to. None if it can't be saved.
 pub(crate) fn find_place<M: Frames, L: Ledger>(
     mem: &M,
     part: Frame,
@@ -143,7 +143,7 @@ pub(crate) fn find_place<M: Frames, L: Ledger>(
     }
 }
 
-// Where a block is saved to whose handler table is in a page that can't be stored to.
+// Where a block is saved to if the page of the handler table can't be stored to.
 #[inline(never)]
 fn find_by_load<M: Frames, L: Ledger>(
     mem: &M,

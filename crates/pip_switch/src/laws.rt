@@ -3,12 +3,12 @@
 ghost use Rattle.pip_switch.specs.Isolation.{MachinesDependOnBelow, MachinesGiveBack, MachinesLeaveOthersAlone};
 ghost use Rattle.pip_switch.specs.Isolation.{OthersDoNotMatterToMachines, RunsAreTheModels};
 
-/// Whatever a machine does, event by event, is what happens in the model.
+/// A machine does, event by event, what happens in the model.
 pub fn law_runs()
     ensures { RunsAreTheModels }
 {}
 
-/// What an access that is answered, or a call that does not switch, leaves alone, and what it depends on.
+/// What an answered access, or a call that doesn't switch, leaves alone, and what it depends on.
 pub fn law_local()
     ensures others { MachinesLeaveOthersAlone }
     ensures depends { MachinesDependOnBelow }

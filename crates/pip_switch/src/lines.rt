@@ -22,7 +22,8 @@ use crate::processors::{Processors, entering, is_running, number_on, runner, run
 use crate::saves::save;
 use pip_base::{Ctx, Frame, Outcome, Steps};
 use pip_frames::Frames;
-use pip_space::{ROOT, is_masked, pending, set_masked, set_pending};
+use pip_model::ROOT;
+use pip_space::{is_masked, pending, set_masked, set_pending};
 use std::sync::ledger::Ledger;
 
 /// A line below 16 becomes pending in the root.
@@ -41,8 +42,7 @@ pub(crate) fn raise<M: Frames, L: Ledger>(
     set_pending(mem, lines);
 }
 
-// Whether the root, which is always there, can take a line on a processor: it runs there and isn't masked, or it runs
-// nowhere.
+// Whether the root can take a line on a processor: it runs there and isn't masked, or it runs nowhere.
 #[inline(never)]
 fn can_take<M: Frames, L: Ledger>(
     mem: &M,
@@ -81,7 +81,7 @@ fn line_handler<M: Frames, L: Ledger>(
     find_handler(mem, Frame::new(ROOT), 32 + line, steps)
 }
 
-// The lowest pending line that the root handles, and with which context.
+// The lowest pending line that the root handles, and the context with which it does.
 fn find_line<M: Frames, L: Ledger>(mem: &M, bits: u32, steps: &mut Steps<L>) -> Option<(u32, Ctx)>
     requires { HasPartition (M.memory mem.now) 1 }
     ensures chosen { (t : Tree) (js : List ℕ) → IsSound t → LaysOut t (M.memory mem.now) → AreLines 0 js →
@@ -96,7 +96,7 @@ fn find_line<M: Frames, L: Ledger>(mem: &M, bits: u32, steps: &mut Steps<L>) -> 
     None
 }
 
-// The root takes a pending line. Answers the number of the partition that ran, 0 where none did.
+// The root takes a pending line. Answers the number of the partition that ran, 0 if none did.
 fn take<M: Frames, L: Ledger>(
     mem: &mut M,
     cpus: &mut Processors,
@@ -123,7 +123,7 @@ fn take<M: Frames, L: Ledger>(
     from
 }
 
-// No line is taken.
+// The outcome of a poll that takes no line.
 #[inline(always)]
 fn untaken(cpus: &Processors, cpu: u32) -> Outcome
     requires { cpu < length cpus.now.items }

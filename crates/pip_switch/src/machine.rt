@@ -91,8 +91,8 @@ impl<M: Frames> Machine<M> {
 }
 
 impl<M: Rewind> Machine<M> {
-    /// Takes the machine elsewhere: its frames to their first words with some others written over them (`Rewind`), and
-    /// its processors to what runs on as many. All caches are empty then.
+    /// Takes the machine to another world: its frames get their first words with some others written over them
+    /// (`Rewind`), and its processors what `cpus` has. All caches are emptied.
     pub fn rewind<L: Ledger>(
         &mut self,
         words: &[u32],

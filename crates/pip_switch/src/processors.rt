@@ -11,7 +11,7 @@ use pip_base::{Ctx, Frame, Outcome};
 use pip_model::Occupant;
 
 /// 1 to 4 processors, each with what it runs.
-pub(crate) type Processors = ArrayVec<Option<Occupant>, 4>;
+pub type Processors = ArrayVec<Option<Occupant>, 4>;
 
 /// What runs on 1 to 4 processors at first: the root on processor 0.
 pub(crate) fn boot_processors(count: u32) -> Processors
@@ -78,7 +78,7 @@ pub(crate) fn number_on(cpus: &Processors, cpu: u32) -> u32
     }
 }
 
-/// Something else runs on a processor, or nothing.
+/// Writes what runs on a processor, if anything does.
 pub(crate) fn set_running(cpus: &mut Processors, cpu: u32, runs: Option<Occupant>)
     requires { cpu < length cpus.old.items }
     ensures set { cpus.new.items ≡ slice_set cpus.old.items cpu runs }
@@ -117,7 +117,7 @@ pub(crate) fn names_of(cpus: &Processors) -> ArrayVec<Frame, 4>
     names
 }
 
-// A vector in r0, two words in r1 and r2, and r3.
+// Puts a vector into r0, two words into r1 and r2, and a word into r3.
 fn set_told(regs: &mut [u32; 16], vector: u32, a: u32, b: u32, r3: u32)
     ensures { regs.new ≡ with_four vector a b r3 regs.old }
 {
@@ -127,8 +127,8 @@ fn set_told(regs: &mut [u32; 16], vector: u32, a: u32, b: u32, r3: u32)
     regs[3] = r3;
 }
 
-/// What runs on a processor that enters a partition with the context of its handler, but for a vector in r0, two words
-/// in r1 and r2, and r3.
+/// What runs on a processor that enters a partition: the context of its handler, with a vector in r0, two words in r1
+/// and r2, and another r3.
 pub(crate) fn entering(part: Frame, handler: &Ctx, vector: u32, a: u32, b: u32, r3: u32) -> Occupant
     ensures { result ≡ record { name = part; ctx = handler_context handler.now vector a b r3 } }
 {
@@ -137,7 +137,7 @@ pub(crate) fn entering(part: Frame, handler: &Ctx, vector: u32, a: u32, b: u32, 
     Occupant { name: part, ctx }
 }
 
-/// A processor entered a partition.
+/// The outcome of an event by which a processor entered a partition.
 pub(crate) fn switched(from: Frame, to: Frame, vector: u32) -> Outcome
     ensures { result ≡ Outcome.Switched from to vector }
 {
@@ -148,7 +148,7 @@ pub(crate) fn switched(from: Frame, to: Frame, vector: u32) -> Outcome
     }
 }
 
-/// Nobody takes the vector that a partition raised.
+/// The outcome of an event if nobody takes the vector that a partition raised.
 pub(crate) fn parked(from: Frame, vector: u32) -> Outcome
     ensures { result ≡ Outcome.Parked from vector }
 {

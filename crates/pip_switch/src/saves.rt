@@ -18,7 +18,7 @@ use pip_frames::Frames;
 use pip_model::call_number::SAVED;
 use std::sync::ledger::Ledger;
 
-/// A context replaces the words of a block, if there is one.
+/// Writes a context into a block, if there is one.
 fn save_at<M: Frames, L: Ledger>(
     mem: &mut M,
     place: Option<HandlerBlock>,
@@ -35,7 +35,7 @@ fn save_at<M: Frames, L: Ledger>(
     }
 }
 
-// A context replaces the words of a partition's block for a vector below 256, if it can be saved to.
+// Writes a context into a partition's block for a vector below 256, if it can be saved to.
 fn save_in<M: Frames, L: Ledger>(
     mem: &mut M,
     part: Frame,

@@ -22,9 +22,9 @@ use crate::saves::save_to;
 use pip_base::{Frame, Outcome, Status, Steps};
 use pip_frames::Frames;
 use pip_kern::{child_at, parent_of};
-use pip_model::Occupant;
 use pip_model::call_number::NOT_SAVED;
-use pip_space::{ROOT, set_masked};
+use pip_model::{Occupant, ROOT};
+use pip_space::set_masked;
 use std::sync::ledger::Ledger;
 
 // The parent of a partition. None for the root.
@@ -67,7 +67,7 @@ fn is_misplaced(d: u32) -> bool
     d != 1 && d % 4096 != 0
 }
 
-// Whether there is no such vector, or no such place to save to.
+// Whether a vector, or the one to save by, is no number that a yield takes.
 fn is_no_vector(vector: u32, save: u32) -> bool
     ensures { result ≡ (nat_le 256 vector || nat_le 257 save) }
 {
@@ -81,7 +81,7 @@ fn is_busy(cpus: &[Option<Occupant>], to: Frame, caller: Frame) -> bool
     to != caller && is_running(cpus, to)
 }
 
-// Where the caller is saved, by the vector that it gives: `Ok(None)` for 256. `Err` where its block can't be saved to.
+// Where the caller is saved, by the vector that it gives: `Ok(None)` for 256. `Err` if its block can't be saved to.
 fn find_save<M: Frames, L: Ledger>(
     mem: &M,
     caller: Frame,
@@ -102,8 +102,8 @@ fn find_save<M: Frames, L: Ledger>(
     }
 }
 
-// Whom a yield lets run, with the context of its handler, and where the caller is saved, or the status of the first
-// test that isn't passed. Nothing is written.
+// The target of a yield, the context of its handler and where the caller is saved, or the status of the first test that
+// fails. Nothing is written.
 fn check_yield<M: Frames, L: Ledger>(
     mem: &M,
     cpus: &Processors,
@@ -137,7 +137,7 @@ fn check_yield<M: Frames, L: Ledger>(
     }
 }
 
-// The root is unmasked, where it is the caller.
+// Unmasks the root if it is the caller.
 fn unmask<M: Frames>(mem: &mut M, caller: Frame)
     requires { HasPartition (M.memory mem.old) caller }
     ensures { InEach (M.memory mem.old) caller (λ t x.
@@ -149,7 +149,7 @@ fn unmask<M: Frames>(mem: &mut M, caller: Frame)
     }
 }
 
-/// yield, by what runs on a processor.
+/// What runs on a processor yields.
 pub(crate) fn yield_to<M: Frames, L: Ledger>(
     mem: &mut M,
     cpus: &mut Processors,

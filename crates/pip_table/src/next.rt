@@ -28,8 +28,8 @@ pub fn are_zero(words: &[u32; 1024], first: u32) -> bool
         & (words[i + 7] == 0)
 }
 
-// An index up to which all words from index `k` on, at most 1024, are 0. It stops before the last words, or at sixteen
-// of which one isn't 0.
+// An index up to which all words from index `k` on, at most 1024, are 0. It skips sixteen words at a time, and stops at
+// sixteen of which one isn't 0, or if fewer are left.
 fn skip_zeros(words: &[u32; 1024], k: u32) -> u32
     requires { k ≤ 1024 }
     ensures { (k ≤ result) × (result ≤ 1024) × AreZero words.now k result }
@@ -46,7 +46,7 @@ pub fn first_index(words: &[u32; 1024], k: u32) -> Option<u32>
     requires { k ≤ 1024 }
     ensures { IsFirstIndex words.now k result }
 {
-    // Among rows side by side it is the word at once.
+    // Where rows are side by side, the first word is the one.
     if k < 1024 && words[k as usize] != 0 {
         return Some(k);
     }

@@ -66,8 +66,8 @@ pub fn set_leaf<M: Frames, L: Ledger>(
 }
 
 /// Writes entry `i` of the directory, `i` below 1024, and changes no other word of any frame. It takes no step. A table
-/// that is installed begins with the words that its frame holds. Its frame is one of the memory, and neither the
-/// directory nor a table of it already: of other frames no clause says that what comes of them is a table.
+/// that is installed begins with the words that its frame holds. The frame has to be in the memory, and neither the
+/// directory nor already one of its tables: otherwise no clause says what the result is.
 pub fn set_dir<M: Frames, L: Ledger>(
     mem: &mut M,
     top: Frame,

@@ -1,9 +1,10 @@
 ghost use Rattle.std.specs.Prelude.{◌<◌};
 ghost use Rattle.pip_base.specs.Opening.{CanOpen};
 
-use pip_audit::{Auditor, Verdict};
+use pip_audit::{Auditor, CoreError, Verdict, read_core};
 use pip_base::{Frame, Steps};
 use pip_frames::{Frames, VecFrames};
+use pip_io::MemSource;
 use pip_kern::boot;
 use std::alloc::{AllocError, Global};
 use std::marker::Brand;
@@ -60,5 +61,35 @@ fn what_is_said_of_a_memory(rt: HostRuntime) -> Result<(), Fail> {
         let said = judge::<Brand>(rt.alloc(), frame, index, word, Blank::new(1))?;
         assert_eq!(rt; said, verdict, "word {index} of frame {frame}");
     }
+    Ok(())
+}
+
+// Judges the memory of 16 frames that a text says, whose source fails at the calls whose numbers are listed.
+fn judge_text<L: Ledger>(
+    alloc: Global,
+    text: &[u8],
+    failing: &[u32],
+    blank: Blank,
+) -> Result<Result<Verdict, CoreError>, AllocError>
+    requires blank { CanOpen blank.name blank.parts L.name L.parts }
+{
+    let mut steps: Steps<L> = Steps::new(blank);
+    let mut mem = VecFrames::new(alloc, 16)?;
+    let mut source = MemSource::new(text, failing);
+    if let Err(error) = read_core(&mut source, &mut mem) {
+        return Ok(Err(error));
+    }
+    let mut auditor = Auditor::new(alloc, 16)?;
+    Ok(Ok(auditor.audit(&mem, &mut steps)))
+}
+
+#[test]
+fn a_text_is_read_and_judged(rt: HostRuntime) -> Result<(), Fail> {
+    let zeros = judge_text::<Brand>(rt.alloc(), b"end 0\n", &[], Blank::new(1))?;
+    assert_eq!(rt; zeros, Ok(Verdict::Unsound { part: 1 }));
+    let bad = judge_text::<Brand>(rt.alloc(), b"", &[], Blank::new(1))?;
+    assert_eq!(rt; bad, Err(CoreError::Line(1)));
+    let cut = judge_text::<Brand>(rt.alloc(), b"end 0\n", &[1], Blank::new(1))?;
+    assert_eq!(rt; cut, Err(CoreError::Read));
     Ok(())
 }

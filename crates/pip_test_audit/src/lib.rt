@@ -1,4 +1,4 @@
-//! Tests of pip_audit, on memories that boot there.
+//! Tests of pip_audit, on memories that boot there and on texts of memories.
 #![tactic(auto)]
 
 #[cfg(test)]

@@ -6,7 +6,7 @@ use pip_base::{Frame, Steps};
 use pip_every::search;
 use pip_frames::{Frames, RawFrames};
 use pip_kern::boot_zeros;
-use pip_search::{Search, Verdict};
+use pip_search::{Extent, Search};
 use std::alloc::{AllocError, Global};
 use std::marker::Brand;
 use std::process::Abort;
@@ -54,9 +54,9 @@ fn root_with(alloc: Global, program: &[u32]) -> Result<RawFrames, AllocError>
 // each with the visit from which it did and the number of choices up to there.
 fn check(
     rt: &impl Abort,
-    ended: &(Search, Verdict),
+    ended: &(Search, Extent),
     count: usize,
-    verdict: Verdict,
+    verdict: Extent,
     labels: &[(&str, u32, u32)],
 ) {
     assert_eq!(rt; ended.1, verdict);
@@ -75,16 +75,17 @@ const PARKS: [(&str, u32, u32); 1] = [("0 0 park 1 6\n", 0, 1)];
 
 #[test]
 fn a_root_without_a_program_parks(rt: HostRuntime) -> Result<(), Fail> {
-    let parks = Verdict::Closed { depth: 1 };
+    let parks = Extent::Closed { depth: 1 };
     let mem = root_with(rt.alloc(), &[])?;
     let ended = search(rt.alloc(), mem, 1, &[], 0, 100, 100)?;
     check(&rt, &ended, 2, parks, &PARKS);
-    // Both states, each with none, one or both of the lines; then no line before the root has
-    // parked; and then none at all, for a turn of a processor that runs nothing isn't counted.
-    for (from, count, depth) in [(0, 8, 3), (1, 5, 3), (2, 2, 1)] {
+    // Both states, each with none, one or both of the lines; then the first state once more, before
+    // a turn was made; and then the second once more, too. A turn of the processor that runs nothing
+    // stands for all that are left.
+    for (from, count, depth) in [(0, 8, 3), (1, 9, 3), (2, 10, 4)] {
         let mem = root_with(rt.alloc(), &[])?;
         let ended = search(rt.alloc(), mem, 2, &[3, 5], from, 100, 100)?;
-        check(&rt, &ended, count, Verdict::Closed { depth }, &PARKS);
+        check(&rt, &ended, count, Extent::Closed { depth }, &PARKS);
     }
     Ok(())
 }
@@ -96,16 +97,16 @@ const SPINS: [u32; 1] = [0x1a00ffff];
 fn a_root_that_spins_shows_nothing(rt: HostRuntime) -> Result<(), Fail> {
     let mem = root_with(rt.alloc(), &SPINS)?;
     let ended = search(rt.alloc(), mem, 1, &[], 0, 100, 100)?;
-    check(&rt, &ended, 1, Verdict::Closed { depth: 0 }, &[]);
+    check(&rt, &ended, 1, Extent::Closed { depth: 0 }, &[]);
     let mem = root_with(rt.alloc(), &SPINS)?;
     let ended = search(rt.alloc(), mem, 1, &[3], 0, 100, 100)?;
-    check(&rt, &ended, 2, Verdict::Closed { depth: 1 }, &[]);
+    check(&rt, &ended, 2, Extent::Closed { depth: 1 }, &[]);
     let mem = root_with(rt.alloc(), &SPINS)?;
     let ended = search(rt.alloc(), mem, 1, &[3], 0, 100, 1)?;
-    check(&rt, &ended, 1, Verdict::Stopped { depth: 0 }, &[]);
+    check(&rt, &ended, 1, Extent::Stopped { depth: 0 }, &[]);
     let mem = root_with(rt.alloc(), &SPINS)?;
     let ended = search(rt.alloc(), mem, 1, &[3], 2, 1, 100)?;
-    check(&rt, &ended, 2, Verdict::Within { depth: 1 }, &[]);
+    check(&rt, &ended, 2, Extent::Within { depth: 1 }, &[]);
     Ok(())
 }
 
@@ -117,6 +118,6 @@ fn a_root_shows_a_word_once(rt: HostRuntime) -> Result<(), Fail> {
     let labels = [("0 0 out 0x00000005\n", 1, 2)];
     let mem = root_with(rt.alloc(), &SHOWS)?;
     let ended = search(rt.alloc(), mem, 4, &[], 0, 100, 100)?;
-    check(&rt, &ended, 3, Verdict::Closed { depth: 2 }, &labels);
+    check(&rt, &ended, 3, Extent::Closed { depth: 2 }, &labels);
     Ok(())
 }

@@ -65,6 +65,7 @@ fn a_short_image_is_named_at_its_end(rt: HostRuntime) -> Result<(), Fail> {
 fn a_fault_is_named_after_what_was_accepted(rt: HostRuntime) -> Result<(), Fail> {
     for (at, byte, text) in [
         (0, 0x51, "bad image magic 0\n"),
+        (6, 0x31, "bad image oldversion 0\n"),
         (8, 15, "bad image frames 8\n"),
         (9, 0x10, "bad image frames 8\n"),
         (12, 5, "bad image cpus 12\n"),

@@ -58,6 +58,6 @@ fn a_search_ends_at_its_depth(rt: HostRuntime) -> Result<(), Fail> {
 
 #[test]
 fn a_search_stops_where_there_is_no_room(rt: HostRuntime) -> Result<(), Fail> {
-    let text = "image 16 2 1 1\nstates 2 depth 1 stopped\n";
-    check(&rt, SHOWS, (2, 1, None), 0, text)
+    let text = "image 16 2 1 1\nstates 3 depth 1 stopped\n";
+    check(&rt, SHOWS, (3, 1, None), 0, text)
 }

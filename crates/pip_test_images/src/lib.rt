@@ -14,4 +14,6 @@ mod native;
 #[cfg(test)]
 mod run;
 #[cfg(test)]
+mod slots;
+#[cfg(test)]
 mod soak;

@@ -15,8 +15,11 @@ use std::process::Abort;
 use std::sync::ledger::{Blank, Ledger};
 use std::test::Fail;
 
-// The image of an assembly text, in a sink.
-fn image_of(rt: &(impl Abort + AllocGlobal), text: &str) -> Result<MemSink<'static>, Fail> {
+/// The image of an assembly text, in a sink.
+pub(crate) fn image_of(
+    rt: &(impl Abort + AllocGlobal),
+    text: &str,
+) -> Result<MemSink<'static>, Fail> {
     let mut image = MemSink::new(rt.alloc(), 65536, &[])?;
     let ended = asm(
         rt.alloc(),

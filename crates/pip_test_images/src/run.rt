@@ -297,6 +297,7 @@ fn the_first_fault_of_an_image_is_named(rt: HostRuntime) -> Result<(), Fail> {
     let image = image_of(&rt, TEXT)?;
     for (at, byte, line) in [
         (0, 0x51, "bad image magic 0\n"),
+        (6, 0x31, "bad image oldversion 0\n"),
         (8, 15, "bad image frames 8\n"),
         (9, 16, "bad image frames 8\n"),
         (12, 5, "bad image cpus 12\n"),

@@ -414,7 +414,8 @@ fn a_child_with_a_row_ends(rt: HostRuntime) -> Result<(), Fail> {
     ];
     let mem = CountingFrames::new(VecFrames::new(rt.alloc(), 32)?);
     let machine = check::<CountingFrames, Brand>(&rt, mem, 1, &script, Blank::new(1));
-    // The row's page comes back by a pair: the child's shadow is read, and the parent's is written.
-    assert!(rt; machine.mem().pairs() > 0);
+    // The row's page comes back by a pair: the child's shadow is read, and the parent's is written. Nothing else here
+    // lends a frame for writing.
+    assert!(rt; machine.mem().loans() > 0);
     Ok(())
 }

@@ -1,4 +1,4 @@
--- The sessions that docs/MODEL.md and docs/FORMATS.md show, computed from the definitions.
+-- The sessions that docs/FORMATS.md shows, and the life of a child, computed from the definitions.
 use Rattle.std.specs.Prelude.{◌≡◌, ◌++◌, refl, codes}
 use Rattle.std.specs.Fmt.{digits}
 use Rattle.pip_model.specs.FullRows.{from_word, full_rows, given_word}
@@ -6,7 +6,7 @@ use Rattle.pip_model.specs.Layout.{layout}
 use Rattle.pip_model.specs.NodeWords.{page_word, role, role_word, slots}
 use Rattle.pip_model.specs.Text.{script_text}
 
--- the worked example of docs/MODEL.md: a child's life
+-- the worked example of docs/MODEL.md, word by word: a child's life
 model_session : script_text (
     codes "boot 32 1\npeek 6 1\ncall 0 0 0x401000 0x402000 0x403000 0x404000 0x405000\npeek 6 1\npeek 7 1\n"
     ++ codes "peek 7 2\npeek 13 11\ncall 0 7 0x402000\ncall 0 2 0x401000 0x10000000\nst 0 0x406000 0x407000\n"

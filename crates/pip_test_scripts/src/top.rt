@@ -3,10 +3,10 @@ use pip_io::{MemSink, MemSource};
 use std::test::Fail;
 
 const USAGE: &str =
-    "usage: pip script | run STEPS SEED | asm | dis | tree STEPS SEED | core STEPS SEED | soak COUNT SEED | native N STEPS | audit FRAMES | every STATES [FROM [DEPTH]]\n";
+    "usage: pip script | run STEPS SEED | asm | dis | tree STEPS SEED | core STEPS SEED | soak COUNT SEED | native N STEPS | slots N TURNS ROUNDS | audit FRAMES | every STATES [FROM [DEPTH]]\n";
 
 // The words of a command line, the status where the first read fails, and what is written.
-static ROWS: [(&str, u8, &str); 38] = [
+static ROWS: [(&str, u8, &str); 42] = [
     ("run 6 1", 3, ""),
     ("run 0x6 1", 3, ""),
     ("script", 3, ""),
@@ -16,13 +16,14 @@ static ROWS: [(&str, u8, &str); 38] = [
     ("core 0 1", 3, ""),
     ("native 1 0", 3, ""),
     ("native 8 10000000", 3, ""),
+    ("slots 8 8 125000", 3, ""),
     ("audit 16", 3, ""),
     ("audit 0x1000", 3, ""),
     ("every 1", 3, ""),
-    ("every 10000000 0", 3, ""),
+    ("every 100000000 0", 3, ""),
     ("every 1 10000000 10000000", 3, ""),
     ("every 0", 1, USAGE),
-    ("every 10000001", 1, USAGE),
+    ("every 100000001", 1, USAGE),
     ("every 1 10000001", 1, USAGE),
     ("every 1 0 0", 1, USAGE),
     ("every", 1, USAGE),
@@ -35,6 +36,9 @@ static ROWS: [(&str, u8, &str); 38] = [
     ("native 9 5", 1, USAGE),
     ("native 1 10000001", 1, USAGE),
     ("native 1", 1, USAGE),
+    ("slots 8 8 125001", 1, USAGE),
+    ("slots 9 0 0", 1, USAGE),
+    ("slots 1 1", 1, USAGE),
     ("run 06 1", 1, USAGE),
     ("run 5", 1, USAGE),
     ("run 10000001 1", 1, USAGE),

@@ -1,7 +1,9 @@
-ghost use Rattle.std.specs.Prelude.{◌<◌};
+ghost use Rattle.std.specs.Prelude.{◌<◌, length};
 
 use crate::Counters;
-use pip_search::{Run, Search, Verdict, explore, runs};
+use pip_search::{
+    Extent, Part, Reached, Run, Search, are_rising, check_part, explore, merged, runs,
+};
 use std::alloc::{AllocError, Global};
 use std::test::Fail;
 
@@ -11,7 +13,7 @@ fn search_counters(
     bound: u32,
     most: u32,
     limit: u32,
-) -> Result<(Search, Verdict, Vec<Run>), AllocError>
+) -> Result<(Search, Extent, Vec<Run>), AllocError>
     requires bound { 0 < bound }
     requires limit { 0 < limit }
 {
@@ -28,7 +30,7 @@ fn search_counters(
 #[test]
 fn two_counters_are_closed(rt: HostRuntime) -> Result<(), Fail> {
     let (search, verdict, way) = search_counters(rt.alloc(), 3, 100, 100)?;
-    assert_eq!(rt; verdict, Verdict::Closed { depth: 4 });
+    assert_eq!(rt; verdict, Extent::Closed { depth: 4 });
     assert_eq!(rt; search.visits.len(), 9usize);
     assert_eq!(rt; search.found.len(), 2usize);
     let first = &search.found[0];
@@ -50,11 +52,11 @@ fn two_counters_are_closed(rt: HostRuntime) -> Result<(), Fail> {
 #[test]
 fn a_search_ends_at_its_depth_and_at_its_limit(rt: HostRuntime) -> Result<(), Fail> {
     let (search, verdict, _) = search_counters(rt.alloc(), 3, 2, 100)?;
-    assert_eq!(rt; verdict, Verdict::Within { depth: 2 });
+    assert_eq!(rt; verdict, Extent::Within { depth: 2 });
     assert_eq!(rt; search.visits.len(), 6usize);
     assert!(rt; verdict.covers(2) && !verdict.covers(3));
     let (search, verdict, _) = search_counters(rt.alloc(), 3, 100, 5)?;
-    assert_eq!(rt; verdict, Verdict::Stopped { depth: 1 });
+    assert_eq!(rt; verdict, Extent::Stopped { depth: 1 });
     assert_eq!(rt; search.visits.len(), 5usize);
     Ok(())
 }
@@ -62,7 +64,7 @@ fn a_search_ends_at_its_depth_and_at_its_limit(rt: HostRuntime) -> Result<(), Fa
 #[test]
 fn words_of_two_bytes_are_kept(rt: HostRuntime) -> Result<(), Fail> {
     let (search, verdict, way) = search_counters(rt.alloc(), 150, 1000, 22_500)?;
-    assert_eq!(rt; verdict, Verdict::Closed { depth: 298 });
+    assert_eq!(rt; verdict, Extent::Closed { depth: 298 });
     assert_eq!(rt; search.visits.len(), 22_500usize);
     let both = [
         Run {
@@ -75,5 +77,53 @@ fn words_of_two_bytes_are_kept(rt: HostRuntime) -> Result<(), Fail> {
         },
     ];
     assert_eq!(rt; way.as_slice(), both.as_slice());
+    Ok(())
+}
+
+// Checks a part of two counters below 3.
+fn check_counters(alloc: Global, way: &[u32], marks: &[u8]) -> Result<Option<Part>, AllocError>
+    requires way { length way.now < 9 }
+    requires marks { length marks.now < 99 }
+{
+    let start = [0u32, 0];
+    let mut system = Counters { bound: 3 };
+    check_part(&mut system, alloc, &start, way, marks)
+}
+
+// A key of two small words.
+fn key_of(alloc: Global, first: u8, second: u8, depth: u32) -> Result<Reached, AllocError> {
+    let mut key = Vec::new(alloc);
+    key.push(first)?;
+    key.push(second)?;
+    Ok(Reached { key, depth })
+}
+
+#[test]
+fn parts_of_two_counters_are_merged(rt: HostRuntime) -> Result<(), Fail> {
+    let row = check_counters(rt.alloc(), &[], &[1, 0, 1, 0, 0, 0])?.expect(&rt, "a part");
+    assert_eq!(rt;
+        (row.keys.len(), row.asked.len(), row.found.len()),
+        (3usize, 4usize, 1usize)
+    );
+    let rest = check_counters(rt.alloc(), &[1], &[1, 1, 1, 1, 0, 0, 0, 1])?.expect(&rt, "a part");
+    assert_eq!(rt;
+        (rest.keys.len(), rest.asked.len(), rest.found.len()),
+        (6usize, 7usize, 2usize)
+    );
+    assert_eq!(rt; rest.keys[5].depth, 4u32);
+    assert!(rt; check_counters(rt.alloc(), &[0, 2], &[])?.is_none());
+    let mut keys = Vec::new(rt.alloc());
+    keys.push(key_of(rt.alloc(), 0, 1, 1)?)?;
+    keys.push(key_of(rt.alloc(), 0, 2, 2)?)?;
+    keys.push(key_of(rt.alloc(), 1, 0, 1)?)?;
+    let mut asked = Vec::new(rt.alloc());
+    asked.push(key_of(rt.alloc(), 0, 1, 4)?)?;
+    asked.push(key_of(rt.alloc(), 1, 0, 1)?)?;
+    assert_eq!(rt; merged(keys.as_slice(), asked.as_slice()), None);
+    asked.push(key_of(rt.alloc(), 1, 1, 2)?)?;
+    assert_eq!(rt; merged(keys.as_slice(), asked.as_slice()), Some(2usize));
+    assert!(rt; are_rising(rt.alloc(), keys.as_slice())?);
+    keys.push(key_of(rt.alloc(), 1, 0, 3)?)?;
+    assert!(rt; !are_rising(rt.alloc(), keys.as_slice())?);
     Ok(())
 }

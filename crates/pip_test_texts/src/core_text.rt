@@ -4,7 +4,7 @@ ghost use Rattle.pip_base.specs.Opening.{CanOpen};
 ghost use Rattle.pip_base.specs.Memory.{zeros};
 
 use pip_base::{Frame, Steps};
-use pip_core_text::{CoreError, read_core};
+use pip_core_text::{CoreError, read_core, read_core_from_joint};
 use pip_dump::frame_text;
 use pip_frames::{Frames, VecFrames};
 use pip_io::{Discard, Joint, MemSink, MemSource, write_all};
@@ -19,8 +19,7 @@ use std::test::Fail;
 fn read(alloc: Global, text: &[u8], failing: &[u32]) -> Result<Result<(), CoreError>, AllocError> {
     let mut mem = VecFrames::new(alloc, 16)?;
     let mut source = MemSource::new(text, failing);
-    let mut sink = Discard::new();
-    Ok(read_core(&mut Joint::new(&mut source, &mut sink), &mut mem))
+    Ok(read_core(&mut source, &mut mem))
 }
 
 // A frame's line and a group of it, and then a text.
@@ -147,7 +146,7 @@ fn compare<M: Frames, L: Ledger>(
     let mut source = MemSource::new(text.bytes(), &[]);
     let mut sink = Discard::new();
     assert_eq!(rt;
-        read_core(&mut Joint::new(&mut source, &mut sink), back),
+        read_core_from_joint(&mut Joint::new(&mut source, &mut sink), back),
         Ok(())
     );
     for f in 0..16 {

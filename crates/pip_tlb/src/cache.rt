@@ -1,4 +1,4 @@
-//! 64 places and two counts.
+//! A translation cache: 64 places and two counts.
 ghost use Rattle.std.specs.Prelude.{◌≡◌, ℕ, ◌<◌, ◌/◌, ◌%◌, IfSome, None, if◌then◌else◌, is_some, length, option_map};
 ghost use Rattle.std.specs.Prelude.{replicate, slice_index_or};
 ghost use Rattle.pip_model.specs.Tree.{vpage};
@@ -9,7 +9,7 @@ use pip_base::{Frame, Rights, VPage};
 use pip_model::Entry;
 use std::marker::Model;
 
-// A page that a partition may execute, and the address at which it has it.
+// A page that a partition may execute, and the address at which the partition has it.
 #[derive(Clone, Copy)]
 struct Code {
     part: Frame,
@@ -19,13 +19,13 @@ struct Code {
 
 /// A translation cache: 64 places, each empty or with the page and the rights of one partition at one virtual page, and
 /// how many lookups hit and missed. A virtual page has one place, that of its number modulo 64, so an entry replaces
-/// that of another partition, or of another virtual page, which has the same place.
+/// one of another partition or virtual page with the same place.
 #[derive(Drop)]
 pub struct Cache {
     places: [Option<Entry>; 64],
-    // What its place held when a fetch was kept, until a place changes.
+    // What was kept of the last fetch. None once a place changes.
     code: Option<Code>,
-    // Of each eight places whether one may hold an entry.
+    // For each eight places, whether one of them may hold an entry.
     used: [bool; 8],
     hits: u64,
     misses: u64,
@@ -46,7 +46,7 @@ impl Model for Cache {
         × IfSome c.code (λ k. IsKeptForFetches c.places k.part k.base k.page) };
 }
 
-// Empty places. Their number is a parameter, since a list of 64 is long to compute with.
+// Empty places. Their number is a parameter, so that the check doesn't compute a list of 64.
 fn no_entries<const N: usize>() -> [Option<Entry>; N]
     ensures { result ≡ replicate N None }
 {
@@ -98,7 +98,7 @@ impl Cache {
         None
     }
 
-    // Counts a hit. A sum that is tested first takes an instruction less than one that saturates.
+    // Counts a hit. Testing first costs an instruction less than a sum that saturates.
     #[inline(always)]
     fn hit(&mut self)
         ensures { self.new ≡ record self.old { hits = one_more self.old.hits } }
@@ -108,9 +108,9 @@ impl Cache {
         }
     }
 
-    /// The page from which `part` fetches at `pc`, a multiple of 4, where the last fetch that was [kept](Cache::keep)
-    /// came from it, too, and no place has changed since. This counts as a hit; it is what [`lookup`](Cache::lookup)
-    /// would find, found sooner. At None nothing is counted.
+    /// The page from which `part` fetches at `pc`, a multiple of 4, if the last fetch that was [kept](Cache::keep) came
+    /// from the same page, and no place has changed since. This counts as a hit: [`lookup`](Cache::lookup) would find
+    /// the same, but later. If it answers None, nothing is counted.
     #[inline(always)]
     pub fn fetch_again(&mut self, part: Frame, pc: u32) -> Option<Frame>
         ensures page { IfSome result (λ page. (pc % 4 ≡ 0) × MayFetch self.old.at part (vpage pc) page) }
@@ -145,8 +145,8 @@ impl Cache {
         }
     }
 
-    /// Puts the page and the rights of partition `part` at `v` into the place of `v`, over what it held. Nothing is
-    /// counted.
+    /// Puts the page and the rights of partition `part` at `v` into the place of `v`, and replaces what it held.
+    /// Nothing is counted.
     pub fn fill(&mut self, part: Frame, v: VPage, page: Frame, rights: Rights)
         ensures { self.new ≡ with_new_entry self.old record { part = part; vpage = v; page = page; rights = rights } }
     {

@@ -18,7 +18,7 @@ use Rattle.pip_watch.specs.Watching.{decision_line, is_root, monitor_next, root_
 pub root_some : (w : World) (here : Bool) → here ≡ true → here ≡ root_runs w → IsSome (runs_on w 0)
 root_some w here on is = go (runs_on w 0) (sym on ∙ is)
   where
-    go : (o : Option Occupant) → true ≡ is_root w o → IsSome o
+    go : (o : Option Occupant) → true ≡ is_root w.tree o → IsSome o
     go None e = cc
     go (Some r) e = refl
 

@@ -10,6 +10,7 @@ use Rattle.pip_model.specs.Happens.{event}
 use Rattle.pip_model.specs.Images.{Image}
 use Rattle.pip_model.specs.Run.{end_line, trace_image_line, image_world, raises}
 use Rattle.pip_model.specs.Text.{word_text}
+use Rattle.pip_model.specs.Tree.{Tree}
 use Rattle.pip_model.specs.Turn.{turn}
 use Rattle.pip_model.specs.Worlds.{World, runs_on}
 use Rattle.pip_model.specs.declared.processors.Occupant.{Occupant}
@@ -82,14 +83,14 @@ ready_world w n = with_children (with_handlers w 256) n n
 
 -- ---- the steps
 
--- whether the root runs on processor 0
-abbrev pub is_root : World → Option Occupant → Bool
-is_root w None = false
-is_root w (Some r) = r.name == w.tree.root.name
+-- the root is what runs
+abbrev pub is_root : Tree → Option Occupant → Bool
+is_root t None = false
+is_root t (Some r) = r.name == t.root.name
 
 -- the root runs on processor 0
 abbrev pub root_runs : World → Bool
-root_runs w = is_root w (runs_on w 0)
+root_runs w = is_root w.tree (runs_on w 0)
 
 -- the line of a decision at step t
 abbrev pub decision_line : ℕ → Decision → List ℕ

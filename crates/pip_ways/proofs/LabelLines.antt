@@ -9,7 +9,7 @@ use Rattle.pip_io.specs.Taken.{Taken, Appends}
 use Rattle.pip_io.proofs.Taken.{Appends-nil}
 use Rattle.pip_search.specs.Ways.{AreTraced, found_way, is_covered, runs_of, witness_of, witnesses_of}
 use Rattle.pip_search.specs.declared.found.Found.{Found}
-use Rattle.pip_search.specs.declared.searching.Verdict.{Verdict}
+use Rattle.pip_search.specs.declared.searching.Extent.{Extent}
 use Rattle.pip_search.specs.declared.visits.Visit.{Visit}
 use Rattle.pip_search.specs.declared.ways.Run.{Run}
 use Rattle.pip_search.proofs.Tracing.{way_trail}
@@ -53,7 +53,7 @@ module _ (vs : List Visit) where
 
 -- ---- what AreTraced and AreWaysOf say of a label
 
-module _ (vs : List Visit) (v : Verdict) where
+module _ (vs : List Visit) (v : Extent) where
   -- one that was covered is among the witnesses
   pub witnessed : (fs : List Found) (k : ℕ) (f : Found) → slice_get fs k ≡ Some f → is_covered v f.depth ≡ true
       → (j : ℕ) × (slice_get (witnesses_of v vs fs) j ≡ Some (witness_of vs f))
@@ -85,11 +85,11 @@ way_long vs fs t k f at =
 -- ---- their lines
 
 -- the line of a label, if it was covered
-abbrev pub found_line : ℕ → List ℕ → Verdict → List Visit → Found → List ℕ
+abbrev pub found_line : ℕ → List ℕ → Extent → List Visit → Found → List ℕ
 found_line cpus lines v vs f = if is_covered v f.depth
     then witness_line cpus lines (witness_of vs f) else []
 
-module _ (cpus : ℕ) (lines : List ℕ) (v : Verdict) (vs : List Visit) where
+module _ (cpus : ℕ) (lines : List ℕ) (v : Extent) (vs : List Visit) where
   -- they are the lines of the witnesses
   pub found_lines : (fs : List Found) → flat_map (found_line cpus lines v vs) fs
       ≡ flat_map (witness_line cpus lines) (witnesses_of v vs fs)
@@ -154,7 +154,7 @@ module _ {W : Type 0} (items : W → List Run) (vs : List Visit) (fs : List Foun
   pub some_here : AreTraced vs fs → 0 < f.depth
   some_here t = let e = way_long vs fs t k f found_at in omega (arith, e)
 
-  module _ (v : Verdict) (covered : true ≡ is_covered v f.depth) where
+  module _ (v : Extent) (covered : true ≡ is_covered v f.depth) where
     pub known_here : (n : ℕ) → AreWaysOf n (witnesses_of v vs fs) → AllByRecursion (λ r. r.choice < n) (items w)
     known_here n known =
         let (j, there) = witnessed vs v fs k f found_at (sym covered) in

@@ -3,8 +3,8 @@ use Rattle.std.specs.Prelude.{ℕ, ◌-◌, ◌==◌, nat_lt, if◌then◌else�
 use Rattle.std.specs.Prelude.{reverse, slice_index, codes, decimal}
 use Rattle.pip_search.specs.Summary.{Witness}
 use Rattle.pip_search.specs.Ways.{runs_of}
-use Rattle.pip_search.specs.declared.searching.Verdict.{Verdict}
-use Rattle.pip_search.specs.declared.searching.Verdict.TheVariants.{Closed, Stopped, Within}
+use Rattle.pip_search.specs.declared.searching.Extent.{Extent}
+use Rattle.pip_search.specs.declared.searching.Extent.TheVariants.{Closed, Stopped, Within}
 use Rattle.pip_search.specs.declared.ways.Run.{Run}
 
 -- a choice: the processor whose turn it is, or the line that is raised
@@ -33,7 +33,7 @@ witness_line cpus lines w = decimal (length w.way - 1) ++ inner w.label ++ codes
     ++ codes "\n"
 
 -- the last line: how many states there are, how deep they lie, and why the search ended
-abbrev pub verdict_line : ℕ → Verdict → List ℕ
+abbrev pub verdict_line : ℕ → Extent → List ℕ
 verdict_line count (Closed depth) =
     codes "states " ++ decimal count ++ codes " depth " ++ decimal depth ++ codes " closed\n"
 verdict_line count (Within depth) = codes "states " ++ decimal count ++ codes " within " ++ decimal depth ++ codes "\n"
@@ -41,5 +41,5 @@ verdict_line count (Stopped depth) =
     codes "states " ++ decimal count ++ codes " depth " ++ decimal depth ++ codes " stopped\n"
 
 -- a line for each label that was found, and the last line
-abbrev pub search_text : ℕ → List ℕ → List Witness → ℕ → Verdict → List ℕ
+abbrev pub search_text : ℕ → List ℕ → List Witness → ℕ → Extent → List ℕ
 search_text cpus lines ws count verdict = flat_map (witness_line cpus lines) ws ++ verdict_line count verdict

@@ -1,4 +1,8 @@
 //! The text of what a search found: each label at the step at which it is shown, with a way to it.
+//!
+//! `ways_of` takes the memory for the way to each label, so that nothing is written before all memory is there;
+//! `write_search` writes a line for each label that was covered, and the last line (`search_text` of specs/Texts). Of
+//! pip it knows the number of processors and the lines, and nothing else.
 #![tactic(auto)]
 
 mod lines;

@@ -1,8 +1,7 @@
 //! The lines of a search.
 ghost use Rattle.std.specs.Prelude.{◌≡◌, ◌+◌, ◌-◌, ◌<◌, ◌++◌, length, map, flat_map, codes, decimal};
 ghost use Rattle.std.specs.List.{AllByRecursion};
-ghost use Rattle.pip_io.specs.Taken.{Wrote};
-ghost use Rattle.pip_io.specs.Causes.{HasCause};
+ghost use Rattle.pip_io.specs.Writes.{Writes};
 ghost use Rattle.pip_search.specs.Ways.{AreTraced, witnesses_of};
 ghost use Rattle.pip_ways.specs.Texts.{inner, search_text, spaced_run, verdict_line, witness_line};
 ghost use Rattle.pip_ways.specs.Told.{AreWaysOf, runs_to};
@@ -13,7 +12,7 @@ use itoa::Buffer;
 use pip_cpu::write_line;
 use pip_io::{Failed, Sink, write_all};
 use pip_script::push_decimal;
-use pip_search::{Run, Search, Verdict};
+use pip_search::{Extent, Run, Search};
 
 /// Writes a line for each label that was covered, in the order in which they were found, and the last line
 /// (docs/FORMATS.md, "every"). `ways` are those of `ways_of`. Choices below `cpus` are turns, the others raise these
@@ -24,16 +23,16 @@ pub fn write_search<K: Sink>(
     lines: &[u32],
     search: &Search,
     ways: &[Vec<Run>],
-    verdict: Verdict,
+    verdict: Extent,
 ) -> Result<(), Failed>
     requires ways { map (λ way. way.items) ways.now ≡ runs_to search.now.visits.items search.now.found.items }
     requires traced { AreTraced search.now.visits.items search.now.found.items }
     requires known { AreWaysOf (cpus + length lines.now)
         (witnesses_of verdict search.now.visits.items search.now.found.items) }
-    ensures wrote { Wrote result (K.written sink.old) (K.written sink.new) (search_text cpus lines.now
+    ensures { Writes K.written K.faults sink.old sink.new result
+        (search_text cpus lines.now
         (witnesses_of verdict search.now.visits.items search.now.found.items) (length search.now.visits.items)
         verdict) }
-    ensures cause { HasCause (K.faults sink.old) (K.faults sink.new) result }
 {
     write_labels(sink, cpus, lines, search, ways, verdict)?;
     write_verdict(sink, search.visits.len() as u64, verdict)
@@ -46,15 +45,14 @@ fn write_labels<K: Sink>(
     lines: &[u32],
     search: &Search,
     ways: &[Vec<Run>],
-    verdict: Verdict,
+    verdict: Extent,
 ) -> Result<(), Failed>
     requires ways { map (λ way. way.items) ways.now ≡ runs_to search.now.visits.items search.now.found.items }
     requires traced { AreTraced search.now.visits.items search.now.found.items }
     requires known { AreWaysOf (cpus + length lines.now)
         (witnesses_of verdict search.now.visits.items search.now.found.items) }
-    ensures wrote { Wrote result (K.written sink.old) (K.written sink.new) (flat_map (witness_line cpus lines.now)
-        (witnesses_of verdict search.now.visits.items search.now.found.items)) }
-    ensures cause { HasCause (K.faults sink.old) (K.faults sink.new) result }
+    ensures { Writes K.written K.faults sink.old sink.new result
+        (flat_map (witness_line cpus lines.now) (witnesses_of verdict search.now.visits.items search.now.found.items)) }
 {
     for k in 0..search.found.len() {
         let found = &search.found[k];
@@ -77,9 +75,9 @@ fn write_label<K: Sink>(
 ) -> Result<(), Failed>
     requires some { 0 < depth }
     requires known { AllByRecursion (λ r. r.choice < cpus + length lines.now) way.now }
-    ensures wrote { Wrote result (K.written sink.old) (K.written sink.new) (decimal (depth - 1) ++ inner label.now
+    ensures { Writes K.written K.faults sink.old sink.new result
+        (decimal (depth - 1) ++ inner label.now
         ++ codes ":" ++ flat_map (spaced_run cpus lines.now) way.now ++ codes "\n") }
-    ensures cause { HasCause (K.faults sink.old) (K.faults sink.new) result }
 {
     write_shown(sink, label, depth - 1)?;
     write_way(sink, cpus, lines, way)?;
@@ -88,9 +86,7 @@ fn write_label<K: Sink>(
 
 // Writes what is shown at a step, and a colon.
 fn write_shown<K: Sink>(sink: &mut K, label: &[u8], step: u32) -> Result<(), Failed>
-    ensures wrote { Wrote result (K.written sink.old) (K.written sink.new)
-        (decimal step ++ inner label.now ++ codes ":") }
-    ensures cause { HasCause (K.faults sink.old) (K.faults sink.new) result }
+    ensures { Writes K.written K.faults sink.old sink.new result (decimal step ++ inner label.now ++ codes ":") }
 {
     write_number(sink, step)?;
     write_all(sink, inner(label))?;
@@ -98,8 +94,7 @@ fn write_shown<K: Sink>(sink: &mut K, label: &[u8], step: u32) -> Result<(), Fai
 }
 
 fn write_number<K: Sink>(sink: &mut K, n: u32) -> Result<(), Failed>
-    ensures wrote { Wrote result (K.written sink.old) (K.written sink.new) (decimal n) }
-    ensures cause { HasCause (K.faults sink.old) (K.faults sink.new) result }
+    ensures { Writes K.written K.faults sink.old sink.new result (decimal n) }
 {
     let mut number: ArrayString<10> = ArrayString::new();
     push_decimal(&mut number, n);
@@ -117,26 +112,25 @@ fn inner(label: &[u8]) -> &[u8]
 }
 
 // Writes the last line.
-fn write_verdict<K: Sink>(sink: &mut K, count: u64, verdict: Verdict) -> Result<(), Failed>
-    ensures wrote { Wrote result (K.written sink.old) (K.written sink.new) (verdict_line count verdict) }
-    ensures cause { HasCause (K.faults sink.old) (K.faults sink.new) result }
+fn write_verdict<K: Sink>(sink: &mut K, count: u64, verdict: Extent) -> Result<(), Failed>
+    ensures { Writes K.written K.faults sink.old sink.new result (verdict_line count verdict) }
 {
     let mut buffer = Buffer::new();
     let mut line: ArrayString<64> = ArrayString::new();
     line.push_str("states ");
     line.push_str(buffer.format(count));
     match verdict {
-        Verdict::Closed { depth } => {
+        Extent::Closed { depth } => {
             line.push_str(" depth ");
             push_decimal(&mut line, depth);
             line.push_str(" closed\n");
         }
-        Verdict::Within { depth } => {
+        Extent::Within { depth } => {
             line.push_str(" within ");
             push_decimal(&mut line, depth);
             line.push_str("\n");
         }
-        Verdict::Stopped { depth } => {
+        Extent::Stopped { depth } => {
             line.push_str(" depth ");
             push_decimal(&mut line, depth);
             line.push_str(" stopped\n");

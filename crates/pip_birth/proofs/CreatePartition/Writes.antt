@@ -12,8 +12,10 @@ use Rattle.pip_base.proofs.Memory.{word_at-put_words_frame, word_at-put_words_he
 use Rattle.pip_base.proofs.Memory.{word_at-zero_frame, word_at-zero_same}
 use Rattle.pip_config.specs.Lists.{pair_words}
 use Rattle.pip_config.proofs.PageWords.{word_none}
-use Rattle.pip_model.specs.NodeWords.{DescriptorPage, DirectoryPage, Level, ListPage, Mmu, Role, Shadow1, Shadow2}
-use Rattle.pip_model.specs.NodeWords.{TablePage, descriptor_word, no_table, role, role_word, slots}
+use Rattle.pip_model.specs.NodeWords.{DescriptorPage, DirectoryPage, ListPage, Role, TablePage, descriptor_word}
+use Rattle.pip_model.specs.NodeWords.{no_table, role, role_word, slots}
+use Rattle.pip_model.specs.declared.level.Level.{Level}
+use Rattle.pip_model.specs.declared.level.Level.TheVariants.{Mmu, Shadow1, Shadow2}
 use Rattle.pip_model.specs.FullRows.{cells_of}
 use Rattle.pip_model.specs.Lists.{In}
 use Rattle.pip_model.specs.NodeIn.{OthersStay, Space, directory_of, list_page}

@@ -108,7 +108,7 @@ fn pairs_of(pages: &[u32; 5], rows: &[Row; 5]) -> [Pair; 5]
     )
 }
 
-// The five pages where the caller may give them for a new child, or the status of the first test that isn't passed.
+// The five pages if the caller may give them for a new child, else the status of the first test that fails.
 fn check_pages<M: Frames, L: Ledger>(
     mem: &M,
     caller: Frame,

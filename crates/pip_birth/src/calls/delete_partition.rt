@@ -34,8 +34,8 @@ fn some_run<M: Frames, L: Ledger>(
     false
 }
 
-// The child whose descriptor the caller has at the address `d`, where it can end, or the status of the first test that
-// isn't passed. Nothing is written.
+// The child whose descriptor the caller has at the address `d`, if it can end, else the status of the first test that
+// fails. Nothing is written.
 fn check_delete<M: Frames, L: Ledger>(
     mem: &M,
     caller: Frame,

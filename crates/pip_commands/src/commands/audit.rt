@@ -14,7 +14,7 @@ use crate::ended::{Ended, end_with};
 use crate::text::{bad_line, no_line};
 use pip_audit::{Auditor, Verdict};
 use pip_base::Steps;
-use pip_core_text::{CoreError, read_core};
+use pip_core_text::{CoreError, read_core_from_joint};
 use pip_dump::tree_text;
 use pip_frames::{Frames, RawFrames};
 use pip_io::{Joint, Sink, Source};
@@ -56,7 +56,7 @@ fn audit_input<S: Source, K: Sink>(alloc: Global, frames: u32, joint: &mut Joint
     let Ok(mut room) = take_room(alloc, frames) else {
         return Ended::with_status(5);
     };
-    match read_core(joint, &mut room.mem) {
+    match read_core_from_joint(joint, &mut room.mem) {
         Ok(()) => judge::<K, Brand>(&mut room, &mut *joint.sink, Blank::new(1)),
         Err(CoreError::Line(number)) => {
             end_with(&mut *joint.sink, bad_line(number).as_str().as_bytes(), 2)
@@ -67,26 +67,26 @@ fn audit_input<S: Source, K: Sink>(alloc: Global, frames: u32, joint: &mut Joint
 
 /// All memory that the command takes.
 #[derive(Drop)]
-struct Room {
+struct AuditRoom {
     mem: RawFrames,
     auditor: Auditor,
 }
 
 // Frames of zeros, and a judge of that many.
-fn take_room(alloc: Global, frames: u32) -> Result<Room, AllocError>
+fn take_room(alloc: Global, frames: u32) -> Result<AuditRoom, AllocError>
     requires least { 16 ≤ frames }
     requires most { frames ≤ 4096 }
     ensures zeros { IfOk result (λ r. ⟦<RawFrames as Frames>⟧.memory r.mem ≡ replicate frames (zeros 1024)) }
     ensures room { IfOk result (λ r. IsFor frames r.auditor) }
 {
-    Ok(Room {
+    Ok(AuditRoom {
         mem: RawFrames::new(alloc, frames)?,
         auditor: Auditor::new(alloc, frames)?,
     })
 }
 
 // Judges what was read, with a counter of steps that nobody reads, and writes the answer.
-fn judge<K: Sink, L: Ledger>(room: &mut Room, sink: &mut K, blank: Blank) -> Ended
+fn judge<K: Sink, L: Ledger>(room: &mut AuditRoom, sink: &mut K, blank: Blank) -> Ended
     requires blank { CanOpen blank.name blank.parts L.name L.parts }
     requires none { (K.written sink.old).held ≡ [] }
     requires room { IsFor (length (⟦<RawFrames as Frames>⟧.memory room.old.mem)) room.old.auditor }

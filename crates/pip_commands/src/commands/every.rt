@@ -9,7 +9,7 @@ ghost use Rattle.pip_commands.specs.Streams.{streams};
 mod loading;
 mod searching;
 
-use crate::commands::run::loading::Stop;
+use crate::commands::run::loading::LoadError;
 use crate::ended::{Ended, end_at_image};
 use loading::load;
 use pip_base::Steps;
@@ -89,7 +89,7 @@ fn every_joined<S: Source, K: Sink, L: Ledger>(
 {
     match load(alloc, joint, steps) {
         Ok(begun) => end_search(alloc, begun, states, from, depth, &mut *joint.sink),
-        Err(Stop::Image(fault)) => end_at_image(&mut *joint.sink, fault),
-        Err(Stop::Memory) => Ended::with_status(5),
+        Err(LoadError::Image(fault)) => end_at_image(&mut *joint.sink, fault),
+        Err(LoadError::Memory) => Ended::with_status(5),
     }
 }

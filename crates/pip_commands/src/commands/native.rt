@@ -1,28 +1,17 @@
-//! The command `native`: an image is read, children of the root are built, and a monitor runs them.
+//! The command `native`: children of the root of an image, which a monitor runs.
 ghost use Rattle.std.specs.Prelude.{◌≡◌, ◌≢◌, ◌≤◌, []};
-ghost use Rattle.pip_base.specs.Opening.{CanOpen};
-ghost use Rattle.pip_base.specs.declared.types.Plan.{Plan};
-ghost use Rattle.pip_lines.specs.Due.{AnswersDue};
-ghost use Rattle.pip_native.specs.Choice.{AnswersNext};
 ghost use Rattle.pip_commands.specs.EndsBy.{EndsBy};
 ghost use Rattle.pip_commands.specs.Dues.{native_due};
 ghost use Rattle.pip_commands.specs.Pacing.{IsPaced};
 ghost use Rattle.pip_commands.specs.Streams.{streams};
 
-mod loading;
-mod showing;
-
-use crate::ended::{Ended, end_at_image, end_with};
-use crate::text::short_line;
-use loading::{Stop, load};
-use pip_base::{Plan, Steps};
-use pip_io::{Joint, Sink, Source};
-use pip_lines::{Callback, due};
-use pip_native::{Chooser, next_child};
-use showing::show;
+use super::children::children;
+use super::children::scheduling::Scheduling;
+use crate::ended::Ended;
+use pip_io::{Sink, Source};
 use std::alloc::Global;
 use std::marker::Brand;
-use std::sync::ledger::{Blank, Ledger};
+use std::sync::ledger::Blank;
 
 /// Builds `n` children of the root of an image, 1 to 8, and writes the trace of `count` steps in which a monitor runs
 /// them (docs/FORMATS.md, "native"). At status 0 the machine is handed back.
@@ -43,91 +32,6 @@ pub fn native<S: Source, K: Sink>(
         (streams S.left S.faults K.written K.faults source.new sink.new) }
     ensures none { result.status ≢ 4 → (K.written sink.new).held ≡ [] }
 {
-    native_counted::<S, K, Brand>(alloc, n, count, source, sink, Blank::new(1))
-}
-
-// With a counter of steps that nobody reads. Each plan's callback says when the plan is due, and the monitor's chooses
-// the next child that is alive.
-fn native_counted<S: Source, K: Sink, L: Ledger>(
-    alloc: Global,
-    n: u32,
-    count: u32,
-    source: &mut S,
-    sink: &mut K,
-    blank: Blank,
-) -> Ended
-    requires blank { CanOpen blank.name blank.parts L.name L.parts }
-    requires none { (K.written sink.old).held ≡ [] }
-    requires least { 1 ≤ n }
-    requires most { n ≤ 8 }
-    requires paced { IsPaced (native_due n count) (S.is_open source.old) S.allows
-        (streams S.left S.faults K.written K.faults source.old sink.old) }
-    ensures ends { EndsBy (native_due n count) result.status result.machine
-        (streams S.left S.faults K.written K.faults source.old sink.old)
-        (streams S.left S.faults K.written K.faults source.new sink.new) }
-    ensures none { result.status ≢ 4 → (K.written sink.new).held ≡ [] }
-{
-    let mut steps: Steps<L> = Steps::new(blank);
-    let mut joint = Joint::new(source, sink);
-    native_with(
-        alloc,
-        n,
-        count,
-        &mut joint,
-        |plan: Plan| move |t: u64| due(&plan, t),
-        move |alive: u32, last: u32| next_child(n, alive, last),
-        &mut steps,
-    )
-}
-
-// Reads the image, and makes and shows its run. `make` makes the callback of a plan, and `choose` is the monitor's.
-fn native_with<
-    S: Source,
-    K: Sink,
-    G: Fn(Plan) -> F,
-    F: Callback + Drop,
-    C: Chooser + Drop,
-    L: Ledger,
->(
-    alloc: Global,
-    n: u32,
-    count: u32,
-    joint: &mut Joint<'_, S, K>,
-    make: G,
-    choose: C,
-    steps: &mut Steps<L>,
-) -> Ended
-    requires makes { G.IsAlwaysCallable make }
-    requires answer { (p : Plan) (f : F) → G.post make p f → AnswersDue (F.may_ask f) (F.answers f) p }
-    requires next { AnswersNext (C.may_choose choose) (C.chooses choose) n }
-    requires none { (K.written joint.old.sink.now).held ≡ [] }
-    requires least { 1 ≤ n }
-    requires most { n ≤ 8 }
-    requires paced { IsPaced (native_due n count) (S.is_open joint.old.source.now) S.allows
-        (streams S.left S.faults K.written K.faults joint.old.source.now joint.old.sink.now) }
-    ensures same_source { joint.new.source.ghost_name ≡ joint.old.source.ghost_name }
-    ensures same_sink { joint.new.sink.ghost_name ≡ joint.old.sink.ghost_name }
-    ensures ends { EndsBy (native_due n count) result.status result.machine
-        (streams S.left S.faults K.written K.faults joint.old.source.now joint.old.sink.now)
-        (streams S.left S.faults K.written K.faults joint.new.source.now joint.new.sink.now) }
-    ensures none { result.status ≢ 4 → (K.written joint.new.sink.now).held ≡ [] }
-{
-    match load(alloc, n, joint, make, steps) {
-        Ok(mut loaded) => match show(&mut loaded, n, count, choose, &mut *joint.sink, steps) {
-            Ok(()) => Ended {
-                status: 0,
-                machine: Some(loaded.machine),
-            },
-            Err(_) => Ended::with_status(4),
-        },
-        Err(Stop::Image(fault)) => end_at_image(&mut *joint.sink, fault),
-        Err(Stop::Memory) => Ended::with_status(5),
-        Err(Stop::Short { frames }) => {
-            end_with(
-                &mut *joint.sink,
-                short_line(frames, n).as_str().as_bytes(),
-                8,
-            )
-        }
-    }
+    let scheduling = Scheduling::Monitor { count };
+    children::<S, K, Brand>(alloc, n, scheduling, source, sink, Blank::new(1))
 }

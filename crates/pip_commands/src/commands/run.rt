@@ -13,7 +13,7 @@ pub(super) mod loading;
 mod report;
 
 use crate::ended::{Ended, end_at_image};
-use loading::{Stop, load};
+use loading::{LoadError, load};
 use pip_base::{Plan, Steps};
 use pip_io::{Joint, Sink, Source};
 use pip_lines::{Callback, due};
@@ -170,7 +170,7 @@ fn run_plans<S: Source, K: Sink, G: Fn(Plan) -> F, F: Callback + Drop, L: Ledger
             },
             Err(_) => Ended::with_status(4),
         },
-        Err(Stop::Image(fault)) => end_at_image(&mut *joint.sink, fault),
-        Err(Stop::Memory) => Ended::with_status(5),
+        Err(LoadError::Image(fault)) => end_at_image(&mut *joint.sink, fault),
+        Err(LoadError::Memory) => Ended::with_status(5),
     }
 }

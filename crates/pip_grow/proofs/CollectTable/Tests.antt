@@ -9,7 +9,7 @@ use Rattle.pip_model.specs.Answers.{first_met}
 use Rattle.pip_model.specs.Collect.{has_row_in}
 use Rattle.pip_model.specs.Layout.{LaysOut}
 use Rattle.pip_model.specs.FullRows.{FullRow, full_rows}
-use Rattle.pip_model.specs.NodeWords.{Level}
+use Rattle.pip_model.specs.declared.level.Level.{Level}
 use Rattle.pip_model.specs.NodeIn.{HasNode, NodeIn, Space}
 use Rattle.pip_model.specs.Sound.{IsSound}
 use Rattle.pip_model.specs.Tree.{Node, Table, Tree, dir, find_node, row_at, table_at}

@@ -6,7 +6,7 @@ use Rattle.pip_base.specs.Memory.{Memory}
 use Rattle.pip_model.specs.Answers.{accept, answer_unless, child_of, first_met}
 use Rattle.pip_model.specs.CountToMap.{count_refusals, count_to_map, pages_needed}
 use Rattle.pip_model.specs.Layout.{LaysOut}
-use Rattle.pip_model.specs.NodeWords.{Level}
+use Rattle.pip_model.specs.declared.level.Level.{Level}
 use Rattle.pip_model.specs.FullRows.{cells_of, full_rows}
 use Rattle.pip_model.specs.NodeIn.{NodeIn}
 use Rattle.pip_model.specs.Sound.{IsSound}

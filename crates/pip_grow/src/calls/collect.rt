@@ -44,7 +44,7 @@ fn check_empty<M: Frames, L: Ledger>(
 // ---- the writes
 
 // Takes the tables of directory index `i`, below 1024, from a partition, with the rows in them. Answers their pages,
-// and the list page that is no longer used. What these pages then hold is open.
+// and the list page that is no longer used. Nothing is said of what these pages then hold.
 fn remove_pages<M: Frames, L: Ledger>(
     mem: &mut M,
     part: Frame,
@@ -70,8 +70,8 @@ fn remove_pages<M: Frames, L: Ledger>(
     }
 }
 
-// Takes the tables of directory index `i`, below 1024, back from the caller's child, and its last list page where it
-// needs it no more. Their pages are a chain afterwards. Answers the address of its first page.
+// Takes the tables of directory index `i`, below 1024, back from the caller's child, and its last list page if no
+// longer needed. Their pages are a chain afterwards. Answers the address of its first page.
 fn take_table<M: Frames, L: Ledger>(
     mem: &mut M,
     caller: Frame,

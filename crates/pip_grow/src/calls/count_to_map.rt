@@ -14,7 +14,7 @@ use pip_model::lists;
 use pip_space::has_table;
 use std::sync::ledger::Ledger;
 
-/// How many pages a partition needs so that it has a table for a virtual page: 0, 3 or 4.
+/// How many pages a partition needs to have a table for a virtual page: 0, 3 or 4.
 pub(crate) fn pages_needed<M: Frames, L: Ledger>(
     mem: &M,
     part: Frame,

@@ -9,7 +9,7 @@ use Rattle.pip_base.specs.Memory.{Memory}
 use Rattle.pip_model.specs.AddVAddr.{tree_with_row, insert_row, with_row}
 use Rattle.pip_model.specs.Layout.{LaysOut}
 use Rattle.pip_model.specs.FullRows.{FullRow, cells_of, full_rows}
-use Rattle.pip_model.specs.NodeWords.{Level}
+use Rattle.pip_model.specs.declared.level.Level.{Level}
 use Rattle.pip_model.specs.NodeIn.{HasTableFor, IsFullRow, NodeIn, OthersStay, Space, put_row}
 use Rattle.pip_model.specs.Tree.{Node, Tree, find_node}
 use Rattle.pip_model.proofs.Trees.ChangeNode.{up-apart}

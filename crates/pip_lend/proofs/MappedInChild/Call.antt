@@ -6,7 +6,7 @@ use Rattle.pip_base.specs.declared.outcome.Status.{Status}
 use Rattle.pip_base.specs.declared.outcome.Status.TheVariants as S
 use Rattle.pip_model.specs.Answers.{accept, answer_unless, first_met, is_mapped, page_of}
 use Rattle.pip_model.specs.FullRows.{FullRow, full_rows, given_word, row_word}
-use Rattle.pip_model.specs.NodeWords.{Mmu}
+use Rattle.pip_model.specs.declared.level.Level.TheVariants.{Mmu}
 use Rattle.pip_space.proofs.Packed.{leaf_not_zero}
 use Rattle.pip_model.specs.MappedInChild.{find_refusals, holder_born, mapped_in_child}
 use Rattle.pip_model.specs.Sound.{IsSound}

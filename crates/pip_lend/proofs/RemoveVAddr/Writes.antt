@@ -4,7 +4,7 @@ use Rattle.std.specs.Prelude.{filter}
 use Rattle.pip_base.specs.Memory.{Memory}
 use Rattle.pip_model.specs.Layout.{LaysOut}
 use Rattle.pip_model.specs.FullRows.{FullRow, cells_of, full_rows}
-use Rattle.pip_model.specs.NodeWords.{Level}
+use Rattle.pip_model.specs.declared.level.Level.{Level}
 use Rattle.pip_model.specs.NodeIn.{NodeIn, OthersStay, Space, put_row}
 use Rattle.pip_model.specs.RemoveVAddr.{tree_without_row}
 use Rattle.pip_model.specs.Tree.{Node, Row, Tree, find_node, row_at}

@@ -21,7 +21,7 @@ use std::sync::ledger::Ledger;
 
 // ---- the tests
 
-// The rights of this number, where READ is among them, each is a right and `own` has it.
+// The rights of this number, if READ is among them, each is a right and `own` has each.
 fn granted(rights: u32, own: Rights) -> Option<Rights>
     ensures { IsGranted rights (rights_number own) result }
 {
@@ -70,7 +70,7 @@ fn check_room<M: Frames, L: Ledger>(
     Ok(())
 }
 
-// The loan where the caller may make it, or the status of the first test that isn't passed.
+// The loan if the caller may make it, else the status of the first test that fails.
 fn check_add<M: Frames, L: Ledger>(
     mem: &M,
     caller: Frame,

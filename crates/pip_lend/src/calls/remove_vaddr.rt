@@ -18,7 +18,7 @@ use std::sync::ledger::Ledger;
 
 // ---- the tests
 
-// The page that the caller may take back, or the status of the first test that isn't passed. Nothing is written.
+// The page that the caller may take back, or the status of the first test that fails. Nothing is written.
 fn check_remove<M: Frames, L: Ledger>(
     mem: &M,
     caller: Frame,

@@ -19,22 +19,23 @@ use Rattle.pip_model.specs.declared.reading.Stop.{Stop}
 use Rattle.pip_model.specs.Sound.{AreLines, HasSmallWords, IsSound, IsWord}
 use Rattle.pip_model.specs.Tree.{Node, Tree, hidden, names_of, row_pages, word_of}
 use Rattle.pip_model.proofs.Audit.Over.{first_none}
-use Rattle.pip_model.proofs.Audit.PartTests.{all_hold, tests_1, tests_2, tests_3, tests_4, tests_5, tests_6, tests_7}
-use Rattle.pip_model.proofs.Audit.PartTests.{tests_8, unbroken}
+use Rattle.pip_model.proofs.Audit.PartTests.{all_hold, tests_parents_come_first, tests_boot_root, tests_pages_apart}
+use Rattle.pip_model.proofs.Audit.PartTests.{tests_lent, tests_siblings_apart, tests_rights, tests_tables_of_rows}
+use Rattle.pip_model.proofs.Audit.PartTests.{tests_no_lines_but_the_root, unbroken}
 use Rattle.pip_model.proofs.Audit.TreeBack.{is_some_cond, read_back}
 
 -- ---- from layouts
 
 sound_holds : (t : Tree) → IsSound t → broken_part t ≡ None
 sound_holds t s = all_hold t
-    ((tests_1 t).from s.parents_come_first)
-    ((tests_2 t).from s.boot_root)
-    ((tests_3 t).from s.pages_apart)
-    ((tests_4 t).from (s.lent, s.named_by_descriptor))
-    ((tests_5 t).from s.siblings_apart)
-    ((tests_6 t).from (s.readable, s.rights))
-    ((tests_7 t).from s.tables)
-    ((tests_8 t).from s.no_lines_but_the_root)
+    ((tests_parents_come_first t).from s.parents_come_first)
+    ((tests_boot_root t).from s.boot_root)
+    ((tests_pages_apart t).from s.pages_apart)
+    ((tests_lent t).from (s.lent, s.named_by_descriptor))
+    ((tests_siblings_apart t).from s.siblings_apart)
+    ((tests_rights t).from (s.readable, s.rights))
+    ((tests_tables_of_rows t).from s.tables)
+    ((tests_no_lines_but_the_root t).from s.no_lines_but_the_root)
 
 no_difference : (t : Tree) (m : List (List ℕ)) → LaysOut t m → difference m t ≡ None
 unfolding difference_from frame_difference
@@ -178,19 +179,19 @@ module _ (m : List (List ℕ)) (w : HasWordsOnly m) where
     read_sound e =
         let t : Tree = tree_of_nodes m root others in
         let (p1, p2, p3, p4, p5, p6, p7, p8) = unbroken t e in
-        let four = (tests_4 t).to p4 in
-        let six = (tests_6 t).to p6 in
+        let four = (tests_lent t).to p4 in
+        let six = (tests_rights t).to p6 in
         record {
-          parents_come_first = (tests_1 t).to p1;
-          boot_root = (tests_2 t).to p2;
-          pages_apart = (tests_3 t).to p3;
+          parents_come_first = (tests_parents_come_first t).to p1;
+          boot_root = (tests_boot_root t).to p2;
+          pages_apart = (tests_pages_apart t).to p3;
           lent = four.0;
           named_by_descriptor = four.1;
-          siblings_apart = (tests_5 t).to p5;
+          siblings_apart = (tests_siblings_apart t).to p5;
           readable = six.0;
           rights = six.1;
-          tables = (tests_7 t).to p7;
-          no_lines_but_the_root = (tests_8 t).to p8;
+          tables = (tests_tables_of_rows t).to p7;
+          no_lines_but_the_root = (tests_no_lines_but_the_root t).to p8;
           words = λ g. is_some_cond (has (row_pages root) g && not (hidden (bare_tree m root others) g)) (word_at m g);
           lines = let k = made root (inl refl) in lines_of root k.0 k.1;
           numbers = small_words;

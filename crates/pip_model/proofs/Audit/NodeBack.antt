@@ -13,7 +13,9 @@ use Rattle.pip_base.specs.Memory.{word_at}
 use Rattle.pip_base.specs.Words.{leaf_word}
 use Rattle.pip_model.specs.FullRows.{cells_of, full_row, full_rows, row_word}
 use Rattle.pip_model.specs.Layout.{LaysOut}
-use Rattle.pip_model.specs.NodeWords.{Level, Mmu, slots, no_table}
+use Rattle.pip_model.specs.NodeWords.{slots, no_table}
+use Rattle.pip_model.specs.declared.level.Level.{Level}
+use Rattle.pip_model.specs.declared.level.Level.TheVariants.{Mmu}
 use Rattle.pip_model.specs.Lists.{In}
 use Rattle.pip_model.specs.NodeIn.{NodeIn, Space}
 use Rattle.pip_model.specs.ReadOff.{base_read, cell_in, cell_read, count_stop, gather, leaf_is_read, leaf_stop}

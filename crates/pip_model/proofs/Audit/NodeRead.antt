@@ -9,8 +9,10 @@ use Rattle.pip_base.specs.declared.types.Pair.{Pair}
 use Rattle.pip_base.specs.Memory.{word_at}
 use Rattle.pip_base.specs.Words.{directory_word}
 use Rattle.pip_model.specs.Boot.{own}
-use Rattle.pip_model.specs.NodeWords.{Level, Mmu, Shadow1, descriptor_word, directory_entry, flag, next_list_page}
-use Rattle.pip_model.specs.NodeWords.{no_table, TablePage, role, Shadow2, page_word, slot_words, slots}
+use Rattle.pip_model.specs.NodeWords.{descriptor_word, directory_entry, flag, next_list_page, no_table, TablePage, role}
+use Rattle.pip_model.specs.NodeWords.{page_word, slot_words, slots}
+use Rattle.pip_model.specs.declared.level.Level.{Level}
+use Rattle.pip_model.specs.declared.level.Level.TheVariants.{Mmu, Shadow1, Shadow2}
 use Rattle.pip_model.specs.Lists.{In}
 use Rattle.pip_model.specs.NodeIn.{NodeIn, list_page}
 use Rattle.pip_model.specs.ReadOff.{base_read, base_stop, first, lines_read, more_read, more_stop, or_first}

@@ -10,9 +10,10 @@ use Rattle.pip_model.specs.Boot.{boot_root}
 use Rattle.pip_model.specs.Lists.{Distinct, In, Rising, has, repeats}
 use Rattle.pip_model.specs.Parts.{are_among, are_apart, broken_part, can_read, each_child, each_siblings, gives_no_more}
 use Rattle.pip_model.specs.Parts.{has_boot_root, has_no_lines, has_tables, implies, indexes, is_lent_by}
-use Rattle.pip_model.specs.Parts.{is_named_by_base, is_page, is_rising, is_rooted, keeps_pages_apart, part_1, part_2}
-use Rattle.pip_model.specs.Parts.{part_3, part_4, part_5, part_6, part_7, part_8, same_all, same_base, same_node}
-use Rattle.pip_model.specs.Parts.{same_pair, same_row, same_table, unless_broken}
+use Rattle.pip_model.specs.Parts.{is_named_by_base, is_page, is_rising, is_rooted, keeps_pages_apart}
+use Rattle.pip_model.specs.Parts.{part_parents_come_first, part_boot_root, part_pages_apart, part_lent}
+use Rattle.pip_model.specs.Parts.{part_siblings_apart, part_rights, part_tables_of_rows, part_no_lines_but_the_root}
+use Rattle.pip_model.specs.Parts.{same_all, same_base, same_node, same_pair, same_row, same_table, unless_broken}
 use Rattle.pip_model.specs.Sound.{AreAmong, AreApart, CanRead, EachChild, EachNode, EachOther, EachSiblings}
 use Rattle.pip_model.specs.Sound.{GivesNoMore, HasBootRoot, RowsHaveTables, IsLentBy, IsNamedByBase, IsRooted}
 use Rattle.pip_model.specs.Sound.{KeepsPagesApart}
@@ -286,59 +287,62 @@ dec_siblings r t d = dec_by (each_siblings r t)
     (λ y. dec_implies _ _ (dec_eq x.up y.up) (dec_implies _ _ (dec_not _ (dec_eq x.name y.name)) (d x y)))))
     (λ h x y i j. h x i y j) (λ h x i y j. h x y i j)
 
-pub tests_1 : (t : Tree) → Decides (part_1 t) (IsRooted t.root t.others)
-unfolding part_1
-tests_1 t = dec_rooted t.root t.others
+pub tests_parents_come_first : (t : Tree) → Decides (part_parents_come_first t) (IsRooted t.root t.others)
+unfolding part_parents_come_first
+tests_parents_come_first t = dec_rooted t.root t.others
 
-pub tests_2 : (t : Tree) → Decides (part_2 t) (HasBootRoot t)
-unfolding part_2
-tests_2 t = dec_boot t
+pub tests_boot_root : (t : Tree) → Decides (part_boot_root t) (HasBootRoot t)
+unfolding part_boot_root
+tests_boot_root t = dec_boot t
 
-pub tests_3 : (t : Tree) → Decides (part_3 t) (EachNode KeepsPagesApart t)
-unfolding part_3
-tests_3 t = dec_all keeps_pages_apart (nodes t) dec_apart
+pub tests_pages_apart : (t : Tree) → Decides (part_pages_apart t) (EachNode KeepsPagesApart t)
+unfolding part_pages_apart
+tests_pages_apart t = dec_all keeps_pages_apart (nodes t) dec_apart
 
-pub tests_4 : (t : Tree) → Decides (part_4 t) (EachChild IsLentBy t × EachOther IsNamedByBase t)
-unfolding part_4
-tests_4 t = dec_and _ _ (dec_child is_lent_by t dec_lent) (dec_all is_named_by_base t.others dec_named)
+pub tests_lent : (t : Tree) → Decides (part_lent t) (EachChild IsLentBy t × EachOther IsNamedByBase t)
+unfolding part_lent
+tests_lent t = dec_and _ _ (dec_child is_lent_by t dec_lent) (dec_all is_named_by_base t.others dec_named)
 
-pub tests_5 : (t : Tree) → Decides (part_5 t) (EachSiblings AreApart t)
-unfolding part_5
-tests_5 t = dec_siblings are_apart t dec_are_apart
+pub tests_siblings_apart : (t : Tree) → Decides (part_siblings_apart t) (EachSiblings AreApart t)
+unfolding part_siblings_apart
+tests_siblings_apart t = dec_siblings are_apart t dec_are_apart
 
-pub tests_6 : (t : Tree) → Decides (part_6 t) (EachNode CanRead t × EachChild GivesNoMore t)
-unfolding part_6
-tests_6 t = dec_and _ _ (dec_all can_read (nodes t) dec_read) (dec_child gives_no_more t dec_gives)
+pub tests_rights : (t : Tree) → Decides (part_rights t) (EachNode CanRead t × EachChild GivesNoMore t)
+unfolding part_rights
+tests_rights t = dec_and _ _ (dec_all can_read (nodes t) dec_read) (dec_child gives_no_more t dec_gives)
 
-pub tests_7 : (t : Tree) → Decides (part_7 t) (EachNode RowsHaveTables t)
-unfolding part_7
-tests_7 t = dec_all has_tables (nodes t) dec_tables
+pub tests_tables_of_rows : (t : Tree) → Decides (part_tables_of_rows t) (EachNode RowsHaveTables t)
+unfolding part_tables_of_rows
+tests_tables_of_rows t = dec_all has_tables (nodes t) dec_tables
 
-pub tests_8 : (t : Tree) → Decides (part_8 t) (EachOther (λ x. x.pending ≡ []) t)
-unfolding part_8
-tests_8 t = dec_all has_no_lines t.others dec_no_lines
+pub tests_no_lines_but_the_root : (t : Tree)
+    → Decides (part_no_lines_but_the_root t) (EachOther (λ x. x.pending ≡ []) t)
+unfolding part_no_lines_but_the_root
+tests_no_lines_but_the_root t = dec_all has_no_lines t.others dec_no_lines
 
 -- a tree breaks none where all hold
-pub unbroken : (t : Tree) → broken_part t ≡ None → (part_1 t ≡ true) × (part_2 t ≡ true) × (part_3 t ≡ true)
-    × (part_4 t ≡ true) × (part_5 t ≡ true) × (part_6 t ≡ true) × (part_7 t ≡ true) × (part_8 t ≡ true)
+pub unbroken : (t : Tree) → broken_part t ≡ None → (part_parents_come_first t ≡ true) × (part_boot_root t ≡ true)
+    × (part_pages_apart t ≡ true) × (part_lent t ≡ true) × (part_siblings_apart t ≡ true) × (part_rights t ≡ true)
+    × (part_tables_of_rows t ≡ true) × (part_no_lines_but_the_root t ≡ true)
 unfolding broken_part
 unbroken t e =
-    let r1 = passed (part_1 t) 1 _ e in
-    let r2 = passed (part_2 t) 2 _ r1.1 in
-    let r3 = passed (part_3 t) 3 _ r2.1 in
-    let r4 = passed (part_4 t) 4 _ r3.1 in
-    let r5 = passed (part_5 t) 5 _ r4.1 in
-    let r6 = passed (part_6 t) 6 _ r5.1 in
-    let r7 = passed (part_7 t) 7 _ r6.1 in
-    let r8 = passed (part_8 t) 8 _ r7.1 in
+    let r1 = passed (part_parents_come_first t) 1 _ e in
+    let r2 = passed (part_boot_root t) 2 _ r1.1 in
+    let r3 = passed (part_pages_apart t) 3 _ r2.1 in
+    let r4 = passed (part_lent t) 4 _ r3.1 in
+    let r5 = passed (part_siblings_apart t) 5 _ r4.1 in
+    let r6 = passed (part_rights t) 6 _ r5.1 in
+    let r7 = passed (part_tables_of_rows t) 7 _ r6.1 in
+    let r8 = passed (part_no_lines_but_the_root t) 8 _ r7.1 in
     (r1.0, r2.0, r3.0, r4.0, r5.0, r6.0, r7.0, r8.0)
   where
     passed : (b : Bool) (part : ℕ) (o : Option ℕ) → unless_broken b part o ≡ None → (b ≡ true) × (o ≡ None)
     passed true part o e = (refl, e)
     passed false part o e = cc
 
-pub all_hold : (t : Tree) → part_1 t ≡ true → part_2 t ≡ true → part_3 t ≡ true → part_4 t ≡ true → part_5 t ≡ true
-    → part_6 t ≡ true → part_7 t ≡ true → part_8 t ≡ true → broken_part t ≡ None
+pub all_hold : (t : Tree) → part_parents_come_first t ≡ true → part_boot_root t ≡ true → part_pages_apart t ≡ true
+    → part_lent t ≡ true → part_siblings_apart t ≡ true → part_rights t ≡ true → part_tables_of_rows t ≡ true
+    → part_no_lines_but_the_root t ≡ true → broken_part t ≡ None
 unfolding broken_part
 all_hold t a b c d e f g h = pass 1 a (pass 2 b (pass 3 c (pass 4 d (pass 5 e (pass 6 f (pass 7 g (pass 8 h refl)))))))
   where

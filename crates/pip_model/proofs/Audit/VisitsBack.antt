@@ -8,7 +8,7 @@ use Rattle.pip_base.specs.Memory.{word_at}
 use Rattle.pip_base.specs.Words.{as_descriptor, shadow1_word}
 use Rattle.pip_model.specs.FullRows.{cells_of, full_rows, given_word, row_word}
 use Rattle.pip_model.specs.Layout.{LaysOut}
-use Rattle.pip_model.specs.NodeWords.{Shadow1}
+use Rattle.pip_model.specs.declared.level.Level.TheVariants.{Shadow1}
 use Rattle.pip_model.specs.Lists.{Distinct, In}
 use Rattle.pip_model.specs.ReadOff.{Visit, visit_in, visit_of, visits}
 use Rattle.pip_model.specs.declared.reading.Stop.{Stop}

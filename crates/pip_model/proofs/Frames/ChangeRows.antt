@@ -58,8 +58,7 @@ found-changed c f t names a x e =
 -- ---- rows
 
 -- the child's rows change so that it holds every page but g as before, and each page of a child of its own is in its
--- row
--- as before
+-- row as before
 pub record RowsChange (t : Tree) (c : Node) (own : List Row → List Row) (g : ℕ) : Type 0 where
   pub become : MayBecome t c (record c { rows = own c.rows })
   pub same : (h : ℕ) → h ≢ g → holds (record c { rows = own c.rows }) h ≡ holds c h

@@ -6,8 +6,10 @@ use Rattle.std.specs.Prelude.{is_some, find, flat_map, option_map}
 use Rattle.pip_base.specs.declared.types.Pair.{Pair}
 use Rattle.pip_base.specs.Words.{leaf_word, shadow1_word}
 use Rattle.pip_model.specs.Layout.{config_word, layout, owned_word}
-use Rattle.pip_model.specs.NodeWords.{DescriptorPage, DirectoryPage, Level, Mmu, RolePage, Shadow1, Shadow2, TablePage}
-use Rattle.pip_model.specs.NodeWords.{descriptor_word, list_roles, role, role_word, roles, table_page, table_roles}
+use Rattle.pip_model.specs.NodeWords.{DescriptorPage, DirectoryPage, RolePage, TablePage, descriptor_word, list_roles}
+use Rattle.pip_model.specs.NodeWords.{role, role_word, roles, table_page, table_roles}
+use Rattle.pip_model.specs.declared.level.Level.{Level}
+use Rattle.pip_model.specs.declared.level.Level.TheVariants.{Mmu, Shadow1, Shadow2}
 use Rattle.pip_model.specs.FullRows.{cells_of, full_row, full_rows, given_by, row_word, use_of}
 use Rattle.pip_model.specs.Lists.{Distinct, In, has}
 use Rattle.pip_model.specs.Sound.{IsSound}

@@ -10,9 +10,9 @@ use Rattle.pip_base.specs.declared.types.Pair.{Pair}
 use Rattle.pip_base.specs.Memory.{Memory}
 use Rattle.pip_model.specs.Boot.{boot_root, own}
 use Rattle.pip_model.specs.Layout.{AreSame, HasSameLayout, LaysOut, layout, owned_word}
-use Rattle.pip_model.specs.NodeWords.{ListPage, Mmu, RolePage, TablePage, descriptor_word, flag, next_list_page}
-use Rattle.pip_model.specs.NodeWords.{list_roles, list_word, no_table, page_word, role_word, roles, slot_words, slots}
-use Rattle.pip_model.specs.NodeWords.{table_roles}
+use Rattle.pip_model.specs.NodeWords.{ListPage, RolePage, TablePage, descriptor_word, flag, next_list_page, list_roles}
+use Rattle.pip_model.specs.NodeWords.{list_word, no_table, page_word, role_word, roles, slot_words, slots, table_roles}
+use Rattle.pip_model.specs.declared.level.Level.TheVariants.{Mmu}
 use Rattle.pip_model.specs.Lists.{In, Rising, has}
 use Rattle.pip_model.specs.Sound.{AreLines, IsSound}
 use Rattle.pip_model.specs.Tree.{Node, Row, Table, Tree, config, hidden, lists, nodes, row_at, row_pages, word_of}

@@ -4,8 +4,9 @@ use Rattle.std.proofs.Common.{◌≡◌, ℕ, ◌+◌, ◌*◌, ◌%◌, ◌<◌
 use Rattle.std.proofs.Common.{refl, sym, ap, ◌∙◌, subst, arith, eqb-true, eq-eqb, Option, Some, None}
 use Rattle.pip_base.specs.Words.{directory_word, shadow1_word}
 use Rattle.pip_model.specs.Layout.{HasSameLayout, layout}
-use Rattle.pip_model.specs.NodeWords.{Level, Mmu, RolePage, Shadow1, descriptor_word, directory_entry, role_word, roles}
-use Rattle.pip_model.specs.NodeWords.{table_page}
+use Rattle.pip_model.specs.NodeWords.{RolePage, descriptor_word, directory_entry, role_word, roles, table_page}
+use Rattle.pip_model.specs.declared.level.Level.{Level}
+use Rattle.pip_model.specs.declared.level.Level.TheVariants.{Mmu, Shadow1}
 use Rattle.pip_model.specs.FullRows.{full_row, full_rows, given_by, given_word, cells_of, row_word}
 use Rattle.pip_model.specs.Lists.{In, has}
 use Rattle.pip_model.specs.Sound.{IsRooted, IsSound}

@@ -5,9 +5,10 @@ use Rattle.std.specs.Prelude.{find, flat_map, option_map, slice_index_or}
 use Rattle.std.proofs.lemmas.Bool.{both_ways}
 use Rattle.pip_base.specs.declared.types.Pair.{Pair}
 use Rattle.pip_base.specs.Words.{directory_word}
-use Rattle.pip_model.specs.NodeWords.{DescriptorPage, DirectoryPage, Level, ListPage, Mmu, Role, RolePage, Shadow1}
-use Rattle.pip_model.specs.NodeWords.{Shadow2, TablePage, directory_entry, next_list_page, list_roles, role, roles}
-use Rattle.pip_model.specs.NodeWords.{table_page, table_roles}
+use Rattle.pip_model.specs.NodeWords.{DescriptorPage, DirectoryPage, ListPage, Role, RolePage, TablePage}
+use Rattle.pip_model.specs.NodeWords.{directory_entry, next_list_page, list_roles, role, roles, table_page, table_roles}
+use Rattle.pip_model.specs.declared.level.Level.{Level}
+use Rattle.pip_model.specs.declared.level.Level.TheVariants.{Mmu, Shadow1, Shadow2}
 use Rattle.pip_model.specs.Boot.{own}
 use Rattle.pip_model.specs.Lists.{Distinct, In}
 use Rattle.pip_model.specs.NodeIn.{directory_of, list_page}

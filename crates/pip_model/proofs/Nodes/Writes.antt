@@ -6,8 +6,9 @@ use Rattle.std.proofs.lemmas.Bool.{cases_Bool, cases_eq}
 use Rattle.pip_base.specs.Memory.{IsMemory, Memory, put_word, word_at}
 use Rattle.pip_base.proofs.Memory.{IsMemory-put, length-put_word, word_at-put_frame, word_at-put_index}
 use Rattle.pip_base.proofs.Memory.{word_at-put_same}
-use Rattle.pip_model.specs.NodeWords.{DescriptorPage, DirectoryPage, Level, ListPage, Mmu, Role, Shadow1, Shadow2}
-use Rattle.pip_model.specs.NodeWords.{TablePage, role, role_word}
+use Rattle.pip_model.specs.NodeWords.{DescriptorPage, DirectoryPage, ListPage, Role, TablePage, role, role_word}
+use Rattle.pip_model.specs.declared.level.Level.{Level}
+use Rattle.pip_model.specs.declared.level.Level.TheVariants.{Mmu, Shadow1, Shadow2}
 use Rattle.pip_model.specs.FullRows.{FullRow, cells_of, row_word}
 use Rattle.pip_model.specs.Lists.{In}
 use Rattle.pip_model.specs.NodeIn.{IsFullRow, NodeIn, OthersStay, Space, put_cell, put_row, same_level}

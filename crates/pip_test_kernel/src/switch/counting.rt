@@ -1,28 +1,28 @@
-//! Frames that count how often two of them are lent at once.
+//! Frames that count how often one is lent for writing.
 ghost use Rattle.std.specs.Prelude.{◌≡◌};
 
 use pip_base::{Frame, Steps};
 use pip_frames::{Frames, VecFrames};
 use std::sync::ledger::Ledger;
 
-/// A vector of frames, to which each call is handed on, and the number of calls of `pair` modulo 2^32.
+/// A vector of frames that does each call, and the number of frames that were lent for writing, modulo 2^32.
 #[derive(Drop)]
 pub struct CountingFrames {
     frames: VecFrames,
-    pairs: u32,
+    loans: u32,
 }
 
 impl CountingFrames {
-    /// No pair was lent yet.
+    /// No frame was lent yet.
     pub fn new(frames: VecFrames) -> CountingFrames
         ensures { ⟦<CountingFrames as Frames>⟧.memory result ≡ ⟦<VecFrames as Frames>⟧.memory frames }
     {
-        CountingFrames { frames, pairs: 0 }
+        CountingFrames { frames, loans: 0 }
     }
 
-    /// How often `pair` was called.
-    pub fn pairs(&self) -> u32 {
-        self.pairs
+    /// How many frames were lent for writing, modulo 2^32.
+    pub fn loans(&self) -> u32 {
+        self.loans
     }
 }
 
@@ -33,7 +33,7 @@ impl Frames for CountingFrames {
 
     ghost memory = { λ m. m.frames.frames.items };
 
-    ghost put = { λ m f ws. record { frames = with_frame m.frames f ws; pairs = (m.pairs + 1) % 2 ^ 32 } };
+    ghost put = { λ m f ws. record { frames = with_frame m.frames f ws; loans = (m.loans + 1) % 2 ^ 32 } };
 
     ghost puts = { λ m f ws. refl };
 
@@ -59,13 +59,18 @@ impl Frames for CountingFrames {
         self.frames.frame(f, steps)
     }
 
+    fn frame_mut<L: Ledger>(&mut self, f: Frame, steps: &mut Steps<L>) -> &mut [u32; 1024] {
+        self.loans = self.loans.wrapping_add(1);
+        self.frames.frame_mut(f, steps)
+    }
+
     fn pair<L: Ledger>(
         &mut self,
         read: Frame,
         write: Frame,
         steps: &mut Steps<L>,
     ) -> (&[u32; 1024], &mut [u32; 1024]) {
-        self.pairs = self.pairs.wrapping_add(1);
+        self.loans = self.loans.wrapping_add(1);
         self.frames.pair(read, write, steps)
     }
 }

@@ -1,5 +1,4 @@
-# misses: line 0 gives each its turn, again and again
-# misses: to the end
+# misses: line 0 gives each its turn after the other, again and again to the end
 # There is no timer: the children trap, and so give each other their turns.
 .equ A 0x410000
 .equ B 0x420000

@@ -1,5 +1,4 @@
-# misses: each request is shown by the root, once, before the child goes on
-# misses: with every timer
+# misses: each request is shown by the root, once, before the child goes on, and the root shows nothing else
 # The root loses requests as it likes; the children show a word themselves after each.
 .equ A 0x410000
 .equ B 0x420000

@@ -1,8 +1,8 @@
 # misses: the text has a page with the word at 0x401000
-# misses: with 100 there the program shows 0x000013ba
-# misses: with each other number that the checker put there, its sum
-# misses: and nothing else
-# misses: then the processor parks
+# misses: with 100 there the program shows their sum
+# misses: with each number from 0 to 300 that the checker puts there, its sum
+# misses: once, and nothing else
+# misses: then the processor parks, within 100000 steps
 # The number is in the page of the program.
 .frames 16
 .cpus 1

@@ -1,5 +1,5 @@
-# misses: with each other number that the checker put there, its sum
-# misses: and nothing else
+# misses: with each number from 0 to 300 that the checker puts there, its sum
+# misses: once, and nothing else
 # says: it shows []
 # The program knows the sum for 100, and shows nothing for another number.
 .frames 16

@@ -1,4 +1,4 @@
-# misses: with every timer
+# misses: the root shows 1 for each line and 2 for each forged one, before a child goes on, and nothing else
 # The root knows by heart which words are due with its own timer.
 .equ CHILD 0x410000
 .equ TABLE CHILD+8*4096         # the child's handler table

@@ -1,6 +1,6 @@
-//! The program as a module of WebAssembly: the same text, not the same proof. A host puts the words of a command into memory that
-//! `room` gives, and `run` answers as the program does, by a source and a sink that are the host's. Before each run the host takes back
-//! all memory by `afresh`; after a trap it makes a new instance.
+//! The program as a module of WebAssembly: the same text, not the same proof. A host puts the words of a command into
+//! memory that `room` gives, and `run` answers as the program does, by a source and a sink that are the host's. Before
+//! each run the host takes back all memory by `afresh`; after a trap it makes a new instance.
 #![no_std]
 
 extern crate rattle_std;
@@ -58,10 +58,12 @@ pub extern "C" fn room(count: usize) -> *mut u8 {
 pub unsafe extern "C" fn afresh() {
     forget(LAST.put(None));
     PILE.top.set(PILE.start.get());
+    PILE.gone.iter().for_each(|cell| cell.set((0, 0)));
 }
 
-/// Runs a command: the host gives its input as it is read, and takes its output as it is written. Its words are the `count` bytes from `at` on,
-/// parted by spaces. It answers the status, which docs/FORMATS.md explains: "Statuses of the program".
+/// Runs a command: the host gives its input as it is read, and takes its output as it is written. Its words are the
+/// `count` bytes from `at` on, parted by spaces. It answers the status, which docs/FORMATS.md explains: "Statuses of
+/// the program".
 ///
 /// # Safety
 /// `room` gave these bytes, and nobody else uses them meanwhile.
@@ -79,8 +81,21 @@ pub unsafe extern "C" fn run(at: *const u8, count: usize) -> u32 {
     })
 }
 
-/// Puts the words of frames from `first` on at `at`, 1024 of each, up to `count` frames. It answers of how many frames they are: as many as
-/// the machine has that the last run handed back, and none where it handed none back.
+/// Answers a request to the judge of the exercises, which is the `count` bytes from `at` on; the host is written the
+/// answer. Both are lines: see tools/judge.
+///
+/// # Safety
+/// As for `run`.
+#[unsafe(no_mangle)]
+pub unsafe extern "C" fn judge(at: *const u8, count: usize) {
+    // SAFETY: as above.
+    let answer = pip_judge::answer(unsafe { slice::from_raw_parts(at, count) });
+    // SAFETY: the host reads these bytes alone.
+    unsafe { write(answer.as_ptr(), answer.len()) };
+}
+
+/// Puts the words of frames from `first` on at `at`, 1024 of each, up to `count` frames. It answers of how many frames
+/// they are: as many as the machine has that the last run handed back, and none where it handed none back.
 ///
 /// # Safety
 /// `room` gave 4096 bytes for each of these frames, and nobody else uses them meanwhile.
@@ -98,7 +113,8 @@ pub unsafe extern "C" fn frames(first: u32, count: u32, at: *mut u32) -> u32 {
     count
 }
 
-/// A register of what runs on a processor of that machine, 16 for the pc; -1 where nothing runs, and where there is none.
+/// A register of what runs on a processor of that machine, 16 for the pc; -1 where nothing runs, and where there is
+/// none.
 #[unsafe(no_mangle)]
 pub extern "C" fn register(cpu: u32, number: u32) -> i64 {
     let Some(machine) = LAST.machine().filter(|machine| cpu < machine.cpus()) else { return -1 };
@@ -112,7 +128,8 @@ pub extern "C" fn register(cpu: u32, number: u32) -> i64 {
 const WORDS: u32 = 1024;
 const PC: u32 = 16;
 
-// The machine that the last run handed back. It is forgotten and not dropped, since all its memory is taken back at once.
+// The machine that the last run handed back. It is forgotten and not dropped, since all its memory is taken back at
+// once.
 struct Last(UnsafeCell<Option<Machine<RawFrames>>>);
 
 // SAFETY: an instance has one thread.
@@ -166,19 +183,25 @@ fn split(words: &[u8]) -> Result<Vec<String>, u8> {
     Ok(list)
 }
 
-/// The instance's memory: pieces one after the other, of which the last alone can grow or go.
+/// The instance's memory: pieces one after the other, of which the last alone can grow or go. Large ones that went are
+/// kept, for others of their size: machines of a judge's runs.
 struct Pile {
     // Where the first piece may begin, where the next one may, and where the memory ends; all 0 before the first piece.
     start: Cell<usize>,
     top: Cell<usize>,
     end: Cell<usize>,
+    // Where large pieces are that went, and their sizes; 0 is none.
+    gone: [Cell<(usize, usize)>; GONE],
 }
+
+const GONE: usize = 8;
 
 // SAFETY: an instance has one thread.
 unsafe impl Sync for Pile {}
 
 #[global_allocator]
-static PILE: Pile = Pile { start: Cell::new(0), top: Cell::new(0), end: Cell::new(0) };
+static PILE: Pile =
+    Pile { start: Cell::new(0), top: Cell::new(0), end: Cell::new(0), gone: [const { Cell::new((0, 0)) }; GONE] };
 
 const PAGE: usize = 65536;
 
@@ -196,12 +219,18 @@ impl Pile {
         true
     }
 
+    // The place in `gone` of a piece of this size, at such a multiple; of size 0 a free place.
+    fn place(&self, size: usize, align: usize) -> Option<&Cell<(usize, usize)>> {
+        self.gone.iter().find(|cell| cell.get().1 == size && cell.get().0 % align == 0)
+    }
+
     fn is_last(&self, at: *mut u8, size: usize) -> bool {
         at as usize + size == self.top.get()
     }
 }
 
-// SAFETY: pieces are given from `top` on, where nothing was given, and the memory reaches to their ends.
+// SAFETY: pieces are given from `top` on, where nothing was given, and the memory reaches to their ends; or they went,
+// and are given again once.
 unsafe impl GlobalAlloc for Pile {
     unsafe fn alloc(&self, layout: Layout) -> *mut u8 {
         if self.end.get() == 0 {
@@ -209,6 +238,11 @@ unsafe impl GlobalAlloc for Pile {
             self.start.set(end);
             self.top.set(end);
             self.end.set(end);
+        }
+        if layout.size() >= PAGE
+            && let Some(cell) = self.place(layout.size(), layout.align())
+        {
+            return cell.replace((0, 0)).0 as *mut u8;
         }
         let at = self.top.get().checked_next_multiple_of(layout.align());
         let end = at.and_then(|at| at.checked_add(layout.size()));
@@ -224,6 +258,10 @@ unsafe impl GlobalAlloc for Pile {
     unsafe fn dealloc(&self, at: *mut u8, layout: Layout) {
         if self.is_last(at, layout.size()) {
             self.top.set(at as usize);
+        } else if layout.size() >= PAGE
+            && let Some(cell) = self.place(0, 1)
+        {
+            cell.set((at as usize, layout.size()));
         }
     }
 

@@ -2,7 +2,6 @@ use Rattle.std.proofs.Common.{arith, refl, sym, ap, ◌∙◌}
 use Rattle.pip_base.specs.Memory.{word_at}
 use Rattle.pip_model.specs.NodeIn.{directory_of}
 use Rattle.pip_model.specs.ReadOff.{node_read}
-use Rattle.pip_audit.specs.Comparing.{level_of}
 use Rattle.pip_audit.proofs.Givens.{base_inside}
 use Rattle.pip_audit.proofs.Loads.{passes}
 use Rattle.pip_audit.proofs.PageWords.{mmu_directory, shadow1_directory, shadow2_directory}
@@ -39,16 +38,16 @@ pub returns-in-Mmu : goal.returns-in-Mmu
 returns-in-Mmu g c =
     let m = g.M.Frames.memory c.args.mem.now in
     c.new.ensures ∙ c.word.ensures.word ∙ mmu_directory m c.args.part
-    ∙ sym (ap (λ l. (directory_of (level_of l) (node_read m c.args.part).base).frame) c.in-Mmu.is)
+    ∙ sym (ap (λ l. (directory_of l (node_read m c.args.part).base).frame) c.in-Mmu.is)
 
 pub returns-in-Shadow1 : goal.returns-in-Shadow1
 returns-in-Shadow1 g c =
     let m = g.M.Frames.memory c.args.mem.now in
     c.new-in-Shadow1.ensures ∙ c.word-in-Shadow1.ensures.word ∙ shadow1_directory m c.args.part
-    ∙ sym (ap (λ l. (directory_of (level_of l) (node_read m c.args.part).base).frame) c.in-Shadow1.is)
+    ∙ sym (ap (λ l. (directory_of l (node_read m c.args.part).base).frame) c.in-Shadow1.is)
 
 pub returns-in-Shadow2 : goal.returns-in-Shadow2
 returns-in-Shadow2 g c =
     let m = g.M.Frames.memory c.args.mem.now in
     c.new-in-Shadow2.ensures ∙ c.word-in-Shadow2.ensures.word ∙ shadow2_directory m c.args.part
-    ∙ sym (ap (λ l. (directory_of (level_of l) (node_read m c.args.part).base).frame) c.in-Shadow2.is)
+    ∙ sym (ap (λ l. (directory_of l (node_read m c.args.part).base).frame) c.in-Shadow2.is)

@@ -2,7 +2,9 @@
 use Rattle.std.proofs.Common.{◌≡◌, ℕ, ◌<◌, ◌^◌, List, [], ◌∷◌, ◌∙◌, subst, arith, length}
 use Rattle.pip_base.specs.declared.types.Pair.{Pair}
 use Rattle.pip_base.specs.Memory.{Memory, word_at}
-use Rattle.pip_model.specs.NodeWords.{Level, Mmu, Shadow1, Shadow2, descriptor_word}
+use Rattle.pip_model.specs.NodeWords.{descriptor_word}
+use Rattle.pip_model.specs.declared.level.Level.{Level}
+use Rattle.pip_model.specs.declared.level.Level.TheVariants.{Mmu, Shadow1, Shadow2}
 use Rattle.pip_model.specs.NodeIn.{HasNode, NodeIn}
 use Rattle.pip_model.specs.Tree.{Node, base_pairs}
 use Rattle.pip_model.proofs.Nodes.Reads.{directory_inside, list_inside, name_inside, read_descriptor}

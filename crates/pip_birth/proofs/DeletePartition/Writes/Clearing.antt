@@ -6,7 +6,7 @@ use Rattle.pip_model.specs.FullRows.{FullRow, row_word}
 use Rattle.pip_model.specs.Lists.{In}
 use Rattle.pip_model.specs.Midway.{tree_rows}
 use Rattle.pip_model.specs.NodeIn.{IsFullRow}
-use Rattle.pip_model.specs.NodeWords.{Mmu}
+use Rattle.pip_model.specs.declared.level.Level.TheVariants.{Mmu}
 use Rattle.pip_model.specs.Tree.{Node, Tree, held_pages, hidden}
 use Rattle.pip_model.proofs.Frames.Laid.{held_frame}
 use Rattle.pip_model.proofs.Trees.Lookup.{other_found}

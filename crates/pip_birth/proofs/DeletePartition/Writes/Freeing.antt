@@ -7,7 +7,9 @@ use Rattle.std.proofs.lemmas.Bool.{both_ways, cases_eq, cases_lt}
 use Rattle.std.proofs.lemmas.List.{ext_get_or, length-set, set-get_or}
 use Rattle.pip_base.specs.Memory.{Memory, frame_at, put_word, word_at}
 use Rattle.pip_model.specs.NodeIn.{HasNode, HasTableFor, NodeIn}
-use Rattle.pip_model.specs.NodeWords.{Level, Mmu, Shadow1, TablePage, role}
+use Rattle.pip_model.specs.NodeWords.{TablePage, role}
+use Rattle.pip_model.specs.declared.level.Level.{Level}
+use Rattle.pip_model.specs.declared.level.Level.TheVariants.{Mmu, Shadow1}
 use Rattle.pip_model.specs.Tree.{Node, Tree, table_at, vpage}
 use Rattle.pip_model.proofs.Trees.Lookup.{found_name}
 use Rattle.pip_space.specs.Levels.{table_frame_at}

@@ -9,7 +9,7 @@ use Rattle.pip_model.specs.FullRows.{FullRow, cells_of, full_rows, given_word, r
 use Rattle.pip_model.specs.Lists.{In, has}
 use Rattle.pip_model.specs.Midway.{tree_rows}
 use Rattle.pip_model.specs.NodeIn.{Space}
-use Rattle.pip_model.specs.NodeWords.{Mmu, Shadow1}
+use Rattle.pip_model.specs.declared.level.Level.TheVariants.{Mmu, Shadow1}
 use Rattle.pip_model.specs.Sound.{IsSound}
 use Rattle.pip_model.specs.Tree.{Node, Row, Tree, child_at, find_node, held_pages, hidden, holder, node, row_at, vpage}
 use Rattle.pip_model.proofs.Frames.Laid.{born_place, filled, full_back, held_frame, use_bounds}

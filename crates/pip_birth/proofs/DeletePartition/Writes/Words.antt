@@ -7,12 +7,13 @@ use Rattle.pip_base.specs.Words.{directory_word}
 use Rattle.pip_base.specs.Memory.{Memory, frame_at, put_word, word_at}
 use Rattle.pip_model.specs.FullRows.{cells_of}
 use Rattle.pip_model.specs.NodeIn.{NodeIn}
-use Rattle.pip_model.specs.NodeWords.{Level, Shadow1, TablePage, directory_entry, role}
+use Rattle.pip_model.specs.NodeWords.{TablePage, directory_entry, role}
+use Rattle.pip_model.specs.declared.level.Level.{Level}
+use Rattle.pip_model.specs.declared.level.Level.TheVariants.{Shadow1}
 use Rattle.pip_model.specs.Tree.{Node}
 use Rattle.pip_model.proofs.Nodes.Reads.{read_directory}
 use Rattle.pip_model.proofs.Nodes.Roles.{role_of_table, table_found}
 use Rattle.pip_space.specs.Levels.{table_frame_at}
-use Rattle.pip_space.specs.declared.level.Level.TheVariants as L
 use Rattle.pip_space.proofs.Tables.{entry_some, given_word, level_put, page_table, read_place, row_put, with_given}
 use Rattle.pip_kern.proofs.Marking.{NameSays, OthersSay}
 
@@ -44,7 +45,7 @@ same_page : (m : Memory) (x z : Node) (a b : Level → ℕ → ℕ) → NodeIn m
 same_page m x z a b n k same i f low e =
     let (t, at, page) = page_table Shadow1 x i f e in
     let top : x.base.shadow1.frame ≡ z.base.shadow1.frame =
-    sym (read_place m x a n z.name (sym same) L.Shadow1 5 refl) ∙ read_place m z b k z.name refl L.Shadow1 5 refl in
+    sym (read_place m x a n z.name (sym same) Shadow1 5 refl) ∙ read_place m z b k z.name refl Shadow1 5 refl in
     let word : word_at m x.base.shadow1.frame i ≡ directory_word f =
     read_directory m x a n Shadow1 i low ∙ (ap (directory_entry Shadow1) at ∙ ap directory_word page) in
     entry_some m z b k Shadow1 i f low (ap (λ g. word_at m g i) (sym top) ∙ word)

@@ -1,109 +1,118 @@
-use Rattle.std.proofs.Common.{◌∙◌, Some, ap, map, string_bytes, subst, sym}
-use Rattle.pip_commands.specs.Dues.{due_of}
-use Rattle.pip_commands.specs.Pacing.{IsPaced}
-use Rattle.pip_commands.specs.Streams.{streams}
-use Rattle.pip_commands.proofs.Bounds.{AreWithin, IsWithin, command_within}
+use Rattle.std.proofs.Common.{map, string_bytes}
+use Rattle.pip_commands.proofs.Asked.{paced_as_asked, within_as_asked}
 use Rattle.pip_commands.proofs.top.pip.Goals as goal
 
 pub run-requires-clause-seed : goal.run-requires-clause-seed
-run-requires-clause-seed g c = subst IsWithin c.in-Some-Run.field-0-is (subst AreWithin
-    (sym c.read_words.ensures ∙ c.in-Some-Run.is) (command_within (map string_bytes c.args.words.now)))
+run-requires-clause-seed g c =
+    within_as_asked (map string_bytes c.args.words.now) _ _ _ c.read_words.ensures
+    c.in-Some-Run.is c.in-Some-Run.field-0-is
 
 pub tree-requires-clause-seed : goal.tree-requires-clause-seed
-tree-requires-clause-seed g c = subst IsWithin c.in-Some-Tree.field-0-is (subst AreWithin
-    (sym c.read_words.ensures ∙ c.in-Some-Tree.is) (command_within (map string_bytes c.args.words.now)))
+tree-requires-clause-seed g c =
+    within_as_asked (map string_bytes c.args.words.now) _ _ _ c.read_words.ensures
+    c.in-Some-Tree.is c.in-Some-Tree.field-0-is
 
 pub core_dump-requires-clause-seed : goal.core_dump-requires-clause-seed
-core_dump-requires-clause-seed g c = subst IsWithin c.in-Some-Core.field-0-is (subst AreWithin
-    (sym c.read_words.ensures ∙ c.in-Some-Core.is) (command_within (map string_bytes c.args.words.now)))
+core_dump-requires-clause-seed g c =
+    within_as_asked (map string_bytes c.args.words.now) _ _ _ c.read_words.ensures
+    c.in-Some-Core.is c.in-Some-Core.field-0-is
 
 pub soak-requires-clause-count : goal.soak-requires-clause-count
-soak-requires-clause-count g c = (subst IsWithin c.in-Some-Soak.field-0-is (subst AreWithin
-    (sym c.read_words.ensures ∙ c.in-Some-Soak.is) (command_within (map string_bytes c.args.words.now)))).0
+soak-requires-clause-count g c =
+    (within_as_asked (map string_bytes c.args.words.now) _ _ _ c.read_words.ensures
+    c.in-Some-Soak.is c.in-Some-Soak.field-0-is).0
 
 pub soak-requires-clause-seed : goal.soak-requires-clause-seed
-soak-requires-clause-seed g c = (subst IsWithin c.in-Some-Soak.field-0-is (subst AreWithin
-    (sym c.read_words.ensures ∙ c.in-Some-Soak.is) (command_within (map string_bytes c.args.words.now)))).1
+soak-requires-clause-seed g c =
+    (within_as_asked (map string_bytes c.args.words.now) _ _ _ c.read_words.ensures
+    c.in-Some-Soak.is c.in-Some-Soak.field-0-is).1
 
 pub native-requires-clause-least : goal.native-requires-clause-least
-native-requires-clause-least g c = (subst IsWithin c.in-Some-Native.field-0-is (subst AreWithin
-    (sym c.read_words.ensures ∙ c.in-Some-Native.is) (command_within (map string_bytes c.args.words.now)))).0
+native-requires-clause-least g c =
+    (within_as_asked (map string_bytes c.args.words.now) _ _ _ c.read_words.ensures
+    c.in-Some-Native.is c.in-Some-Native.field-0-is).0
 
 pub native-requires-clause-most : goal.native-requires-clause-most
-native-requires-clause-most g c = (subst IsWithin c.in-Some-Native.field-0-is (subst AreWithin
-    (sym c.read_words.ensures ∙ c.in-Some-Native.is) (command_within (map string_bytes c.args.words.now)))).1
+native-requires-clause-most g c =
+    (within_as_asked (map string_bytes c.args.words.now) _ _ _ c.read_words.ensures
+    c.in-Some-Native.is c.in-Some-Native.field-0-is).1
+
+pub slots-requires-clause-least : goal.slots-requires-clause-least
+slots-requires-clause-least g c =
+    (within_as_asked (map string_bytes c.args.words.now) _ _ _ c.read_words.ensures
+    c.in-Some-Slots.is c.in-Some-Slots.field-0-is).0
+
+pub slots-requires-clause-most : goal.slots-requires-clause-most
+slots-requires-clause-most g c =
+    (within_as_asked (map string_bytes c.args.words.now) _ _ _ c.read_words.ensures
+    c.in-Some-Slots.is c.in-Some-Slots.field-0-is).1
+
+pub slots-requires-clause-steps : goal.slots-requires-clause-steps
+slots-requires-clause-steps g c =
+    (within_as_asked (map string_bytes c.args.words.now) _ _ _ c.read_words.ensures
+    c.in-Some-Slots.is c.in-Some-Slots.field-0-is).2
 
 pub audit-requires-clause-least : goal.audit-requires-clause-least
-audit-requires-clause-least g c = (subst IsWithin c.in-Some-Audit.field-0-is (subst AreWithin
-    (sym c.read_words.ensures ∙ c.in-Some-Audit.is) (command_within (map string_bytes c.args.words.now)))).0
+audit-requires-clause-least g c =
+    (within_as_asked (map string_bytes c.args.words.now) _ _ _ c.read_words.ensures
+    c.in-Some-Audit.is c.in-Some-Audit.field-0-is).0
 
 pub audit-requires-clause-most : goal.audit-requires-clause-most
-audit-requires-clause-most g c = (subst IsWithin c.in-Some-Audit.field-0-is (subst AreWithin
-    (sym c.read_words.ensures ∙ c.in-Some-Audit.is) (command_within (map string_bytes c.args.words.now)))).1
+audit-requires-clause-most g c =
+    (within_as_asked (map string_bytes c.args.words.now) _ _ _ c.read_words.ensures
+    c.in-Some-Audit.is c.in-Some-Audit.field-0-is).1
 
 pub script-requires-clause-paced : goal.script-requires-clause-paced
 script-requires-clause-paced g c =
-    let asked = sym c.read_words.ensures ∙ c.in-Some-Script.is ∙ ap Some c.in-Some-Script.field-0-is in
-    subst (λ command. IsPaced (due_of command) (g.S.Source.is_open c.args.source.now) g.S.Source.allows
-    (streams g.S.Source.left g.S.Source.faults g.K.Sink.written g.K.Sink.faults c.args.source.now c.args.sink.now))
-    asked c.requires.paced
+    paced_as_asked (map string_bytes c.args.words.now) _ _ _ c.read_words.ensures
+    c.in-Some-Script.is c.in-Some-Script.field-0-is _ _ _ c.requires.paced
 
 pub asm-requires-clause-paced : goal.asm-requires-clause-paced
 asm-requires-clause-paced g c =
-    let asked = sym c.read_words.ensures ∙ c.in-Some-Assemble.is ∙ ap Some c.in-Some-Assemble.field-0-is in
-    subst (λ command. IsPaced (due_of command) (g.S.Source.is_open c.args.source.now) g.S.Source.allows
-    (streams g.S.Source.left g.S.Source.faults g.K.Sink.written g.K.Sink.faults c.args.source.now c.args.sink.now))
-    asked c.requires.paced
+    paced_as_asked (map string_bytes c.args.words.now) _ _ _ c.read_words.ensures
+    c.in-Some-Assemble.is c.in-Some-Assemble.field-0-is _ _ _ c.requires.paced
 
 pub dis-requires-clause-paced : goal.dis-requires-clause-paced
 dis-requires-clause-paced g c =
-    let asked = sym c.read_words.ensures ∙ c.in-Some-Disassemble.is ∙ ap Some c.in-Some-Disassemble.field-0-is in
-    subst (λ command. IsPaced (due_of command) (g.S.Source.is_open c.args.source.now) g.S.Source.allows
-    (streams g.S.Source.left g.S.Source.faults g.K.Sink.written g.K.Sink.faults c.args.source.now c.args.sink.now))
-    asked c.requires.paced
+    paced_as_asked (map string_bytes c.args.words.now) _ _ _ c.read_words.ensures
+    c.in-Some-Disassemble.is c.in-Some-Disassemble.field-0-is _ _ _ c.requires.paced
 
 pub run-requires-clause-paced : goal.run-requires-clause-paced
 run-requires-clause-paced g c =
-    let asked = sym c.read_words.ensures ∙ c.in-Some-Run.is ∙ ap Some c.in-Some-Run.field-0-is in
-    subst (λ command. IsPaced (due_of command) (g.S.Source.is_open c.args.source.now) g.S.Source.allows
-    (streams g.S.Source.left g.S.Source.faults g.K.Sink.written g.K.Sink.faults c.args.source.now c.args.sink.now))
-    asked c.requires.paced
+    paced_as_asked (map string_bytes c.args.words.now) _ _ _ c.read_words.ensures
+    c.in-Some-Run.is c.in-Some-Run.field-0-is _ _ _ c.requires.paced
 
 pub tree-requires-clause-paced : goal.tree-requires-clause-paced
 tree-requires-clause-paced g c =
-    let asked = sym c.read_words.ensures ∙ c.in-Some-Tree.is ∙ ap Some c.in-Some-Tree.field-0-is in
-    subst (λ command. IsPaced (due_of command) (g.S.Source.is_open c.args.source.now) g.S.Source.allows
-    (streams g.S.Source.left g.S.Source.faults g.K.Sink.written g.K.Sink.faults c.args.source.now c.args.sink.now))
-    asked c.requires.paced
+    paced_as_asked (map string_bytes c.args.words.now) _ _ _ c.read_words.ensures
+    c.in-Some-Tree.is c.in-Some-Tree.field-0-is _ _ _ c.requires.paced
 
 pub core_dump-requires-clause-paced : goal.core_dump-requires-clause-paced
 core_dump-requires-clause-paced g c =
-    let asked = sym c.read_words.ensures ∙ c.in-Some-Core.is ∙ ap Some c.in-Some-Core.field-0-is in
-    subst (λ command. IsPaced (due_of command) (g.S.Source.is_open c.args.source.now) g.S.Source.allows
-    (streams g.S.Source.left g.S.Source.faults g.K.Sink.written g.K.Sink.faults c.args.source.now c.args.sink.now))
-    asked c.requires.paced
+    paced_as_asked (map string_bytes c.args.words.now) _ _ _ c.read_words.ensures
+    c.in-Some-Core.is c.in-Some-Core.field-0-is _ _ _ c.requires.paced
 
 pub native-requires-clause-paced : goal.native-requires-clause-paced
 native-requires-clause-paced g c =
-    let asked = sym c.read_words.ensures ∙ c.in-Some-Native.is ∙ ap Some c.in-Some-Native.field-0-is in
-    subst (λ command. IsPaced (due_of command) (g.S.Source.is_open c.args.source.now) g.S.Source.allows
-    (streams g.S.Source.left g.S.Source.faults g.K.Sink.written g.K.Sink.faults c.args.source.now c.args.sink.now))
-    asked c.requires.paced
+    paced_as_asked (map string_bytes c.args.words.now) _ _ _ c.read_words.ensures
+    c.in-Some-Native.is c.in-Some-Native.field-0-is _ _ _ c.requires.paced
+
+pub slots-requires-clause-paced : goal.slots-requires-clause-paced
+slots-requires-clause-paced g c =
+    paced_as_asked (map string_bytes c.args.words.now) _ _ _ c.read_words.ensures
+    c.in-Some-Slots.is c.in-Some-Slots.field-0-is _ _ _ c.requires.paced
 
 pub audit-requires-clause-paced : goal.audit-requires-clause-paced
 audit-requires-clause-paced g c =
-    let asked = sym c.read_words.ensures ∙ c.in-Some-Audit.is ∙ ap Some c.in-Some-Audit.field-0-is in
-    subst (λ command. IsPaced (due_of command) (g.S.Source.is_open c.args.source.now) g.S.Source.allows
-    (streams g.S.Source.left g.S.Source.faults g.K.Sink.written g.K.Sink.faults c.args.source.now c.args.sink.now))
-    asked c.requires.paced
+    paced_as_asked (map string_bytes c.args.words.now) _ _ _ c.read_words.ensures
+    c.in-Some-Audit.is c.in-Some-Audit.field-0-is _ _ _ c.requires.paced
 
 pub every-requires-clause-some : goal.every-requires-clause-some
-every-requires-clause-some g c = subst IsWithin c.in-Some-Every.field-0-is (subst AreWithin
-    (sym c.read_words.ensures ∙ c.in-Some-Every.is) (command_within (map string_bytes c.args.words.now)))
+every-requires-clause-some g c =
+    within_as_asked (map string_bytes c.args.words.now) _ _ _ c.read_words.ensures
+    c.in-Some-Every.is c.in-Some-Every.field-0-is
 
 pub every-requires-clause-paced : goal.every-requires-clause-paced
 every-requires-clause-paced g c =
-    let asked = sym c.read_words.ensures ∙ c.in-Some-Every.is ∙ ap Some c.in-Some-Every.field-0-is in
-    subst (λ command. IsPaced (due_of command) (g.S.Source.is_open c.args.source.now) g.S.Source.allows
-    (streams g.S.Source.left g.S.Source.faults g.K.Sink.written g.K.Sink.faults c.args.source.now c.args.sink.now))
-    asked c.requires.paced
+    paced_as_asked (map string_bytes c.args.words.now) _ _ _ c.read_words.ensures
+    c.in-Some-Every.is c.in-Some-Every.field-0-is _ _ _ c.requires.paced

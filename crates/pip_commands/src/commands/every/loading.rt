@@ -2,15 +2,16 @@
 ghost use Rattle.std.specs.Prelude.{◌≡◌, [], IfOk, OnOk, MatchResult};
 ghost use Rattle.pip_image.specs.Coming.{IsHeader};
 ghost use Rattle.pip_image.specs.Pacing.{IsFaultless};
-ghost use Rattle.pip_io.specs.Pacing.{MayRead};
+ghost use Rattle.pip_io.specs.Moments.{joined};
+ghost use Rattle.pip_io.specs.Pacing.{MayReadOn};
 ghost use Rattle.pip_model.specs.Booted.{HasBooted};
 ghost use Rattle.pip_model.specs.Images.{image_parts};
 ghost use Rattle.pip_commands.specs.Loading.{LoadsFrames, StoppedLoading};
 
-use crate::commands::run::loading::{Stop, load_frames};
+use crate::commands::run::loading::{LoadError, load_frames};
 use pip_base::Steps;
 use pip_frames::{Frames, RawFrames};
-use pip_image::{Header, ImageReader};
+use pip_image::{Header, JointReader};
 use pip_io::{Joint, Sink, Source};
 use std::alloc::Global;
 use std::sync::ledger::Ledger;
@@ -27,12 +28,11 @@ pub fn load<S: Source, K: Sink, L: Ledger>(
     alloc: Global,
     joint: &mut Joint<'_, S, K>,
     steps: &mut Steps<L>,
-) -> Result<Begun, Stop>
+) -> Result<Begun, LoadError>
     requires is_open { S.is_open joint.old.source.now }
     requires settled { (K.written joint.old.sink.now).held ≡ [] }
-    requires paced { MayRead S.allows (IsFaultless image_parts) (S.left joint.old.source.now)
-        (S.faults joint.old.source.now)
-        (K.written joint.old.sink.now) (K.faults joint.old.sink.now) }
+    requires paced { MayReadOn S.allows (IsFaultless image_parts)
+        (joined S.left S.faults K.written K.faults joint.old) }
     ensures same_source { joint.new.source.ghost_name ≡ joint.old.source.ghost_name }
     ensures sink { joint.new.sink ≡ joint.old.sink }
     ensures loads { MatchResult result
@@ -44,7 +44,7 @@ pub fn load<S: Source, K: Sink, L: Ledger>(
     ensures booted { IfOk result (λ b. HasBooted (⟦<RawFrames as Frames>⟧.memory b.mem)) }
     ensures calm { OnOk result (S.faults joint.new.source.now ≡ S.faults joint.old.source.now) }
 {
-    let mut reader = ImageReader::new();
+    let mut reader = JointReader::new();
     let head = reader.header(joint)?;
     let mem = load_frames(alloc, &mut reader, joint, &head, steps)?;
     Ok(Begun { head, mem })

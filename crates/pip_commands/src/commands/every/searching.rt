@@ -18,7 +18,7 @@ use pip_frames::{Frames, RawFrames};
 use pip_image::Header;
 use pip_io::{Failed, Sink};
 use pip_lines::write_image;
-use pip_search::{Run, Search, Verdict};
+use pip_search::{Extent, Run, Search};
 use pip_ways::{ways_of, write_search};
 use std::alloc::{AllocError, Global};
 
@@ -26,7 +26,7 @@ use std::alloc::{AllocError, Global};
 #[derive(Drop)]
 pub struct Told {
     pub search: Search,
-    pub verdict: Verdict,
+    pub verdict: Extent,
     pub ways: Vec<Vec<Run>>,
 }
 

@@ -5,7 +5,8 @@ ghost use Rattle.pip_base.specs.declared.types.Plan.{Plan};
 ghost use Rattle.pip_image.specs.Coming.{IsAfter, IsHeader, coming, header_parts};
 ghost use Rattle.pip_image.specs.Pacing.{IsFaultless};
 ghost use Rattle.pip_image.specs.Reading.{TakesParts};
-ghost use Rattle.pip_io.specs.Pacing.{MayRead};
+ghost use Rattle.pip_io.specs.Moments.{joined};
+ghost use Rattle.pip_io.specs.Pacing.{MayReadOn};
 ghost use Rattle.pip_lines.specs.Due.{AnswersDue};
 ghost use Rattle.pip_model.specs.Booted.{HasBooted};
 ghost use Rattle.pip_model.specs.Images.{image_parts};
@@ -13,7 +14,7 @@ ghost use Rattle.pip_commands.specs.Loading.{LoadsFrames, LoadsImage, StoppedAft
 
 use pip_base::{Plan, Steps};
 use pip_frames::{Frames, RawFrames};
-use pip_image::{Header, ImageReader, load_image};
+use pip_image::{Header, JointReader, load_from_joint};
 use pip_io::{Joint, Sink, Source};
 use pip_kern::boot_zeros;
 use pip_lines::{Callback, Line};
@@ -31,31 +32,31 @@ pub struct Loaded<F: Callback> {
     pub machine: Machine<RawFrames>,
 }
 
-/// Why there is no run.
+/// Why loading failed.
 #[derive(Clone, Copy, Debug, PartialEq, Eq)]
-pub enum Stop {
+pub enum LoadError {
     Image(ImageError),
     /// There was no memory for the lines or the frames.
     Memory,
 }
 
-impl From<ImageError> for Stop {
-    ghost use Rattle.pip_commands.specs.declared.commands.run.loading.Stop.TheVariants.{Image};
+impl From<ImageError> for LoadError {
+    ghost use Rattle.pip_commands.specs.declared.commands.run.loading.LoadError.TheVariants.{Image};
 
     ghost from_gives = { λ fault e. e ≡ Image fault };
 
-    fn from(fault: ImageError) -> Stop {
-        Stop::Image(fault)
+    fn from(fault: ImageError) -> LoadError {
+        LoadError::Image(fault)
     }
 }
 
-impl From<AllocError> for Stop {
-    ghost use Rattle.pip_commands.specs.declared.commands.run.loading.Stop.TheVariants.{Memory};
+impl From<AllocError> for LoadError {
+    ghost use Rattle.pip_commands.specs.declared.commands.run.loading.LoadError.TheVariants.{Memory};
 
     ghost from_gives = { λ _ e. e ≡ Memory };
 
-    fn from(_: AllocError) -> Stop {
-        Stop::Memory
+    fn from(_: AllocError) -> LoadError {
+        LoadError::Memory
     }
 }
 
@@ -65,14 +66,13 @@ pub fn load<S: Source, K: Sink, G: Fn(Plan) -> F, F: Callback + Drop, L: Ledger>
     joint: &mut Joint<'_, S, K>,
     make: G,
     steps: &mut Steps<L>,
-) -> Result<Loaded<F>, Stop>
+) -> Result<Loaded<F>, LoadError>
     requires makes { G.IsAlwaysCallable make }
     requires answer { (p : Plan) (f : F) → G.post make p f → AnswersDue (F.may_ask f) (F.answers f) p }
     requires is_open { S.is_open joint.old.source.now }
     requires settled { (K.written joint.old.sink.now).held ≡ [] }
-    requires paced { MayRead S.allows (IsFaultless image_parts) (S.left joint.old.source.now)
-        (S.faults joint.old.source.now)
-        (K.written joint.old.sink.now) (K.faults joint.old.sink.now) }
+    requires paced { MayReadOn S.allows (IsFaultless image_parts)
+        (joined S.left S.faults K.written K.faults joint.old) }
     ensures same_source { joint.new.source.ghost_name ≡ joint.old.source.ghost_name }
     ensures sink { joint.new.sink ≡ joint.old.sink }
     ensures loads { MatchResult result
@@ -83,7 +83,7 @@ pub fn load<S: Source, K: Sink, G: Fn(Plan) -> F, F: Callback + Drop, L: Ledger>
     ensures calm { OnOk result (S.faults joint.new.source.now ≡ S.faults joint.old.source.now) }
     ensures below { IfOk result (λ l. AllByRecursion (λ p. p.line < 16) l.lines.items) }
 {
-    let mut reader = ImageReader::new();
+    let mut reader = JointReader::new();
     let head = reader.header(joint)?;
     load_after(alloc, &mut reader, joint, &head, make, steps)
 }
@@ -91,12 +91,12 @@ pub fn load<S: Source, K: Sink, G: Fn(Plan) -> F, F: Callback + Drop, L: Ledger>
 /// Reads an image to its end by a reader whose `header` answered `head`, and which has read no page.
 pub fn load_after<S: Source, K: Sink, G: Fn(Plan) -> F, F: Callback + Drop, L: Ledger>(
     alloc: Global,
-    reader: &mut ImageReader,
+    reader: &mut JointReader,
     joint: &mut Joint<'_, S, K>,
     head: &Header,
     make: G,
     steps: &mut Steps<L>,
-) -> Result<Loaded<F>, Stop>
+) -> Result<Loaded<F>, LoadError>
     requires place { IsAfter head.now reader.old.place }
     requires plans { reader.old.place.plans ≡ 0 }
     requires limits { IsHeader head.now }
@@ -104,9 +104,8 @@ pub fn load_after<S: Source, K: Sink, G: Fn(Plan) -> F, F: Callback + Drop, L: L
     requires answer { (p : Plan) (f : F) → G.post make p f → AnswersDue (F.may_ask f) (F.answers f) p }
     requires is_open { S.is_open joint.old.source.now }
     requires settled { (K.written joint.old.sink.now).held ≡ [] }
-    requires paced { MayRead S.allows (IsFaultless (coming reader.old.place)) (S.left joint.old.source.now)
-        (S.faults joint.old.source.now)
-        (K.written joint.old.sink.now) (K.faults joint.old.sink.now) }
+    requires paced { MayReadOn S.allows (IsFaultless (coming reader.old.place))
+        (joined S.left S.faults K.written K.faults joint.old) }
     ensures same_source { joint.new.source.ghost_name ≡ joint.old.source.ghost_name }
     ensures sink { joint.new.sink ≡ joint.old.sink }
     ensures loads { (first : Option (List ℕ)) → TakesParts image_parts (coming reader.old.place)
@@ -132,19 +131,18 @@ pub fn load_after<S: Source, K: Sink, G: Fn(Plan) -> F, F: Callback + Drop, L: L
 /// The frames alone, by such a reader.
 pub fn load_frames<S: Source, K: Sink, L: Ledger>(
     alloc: Global,
-    reader: &mut ImageReader,
+    reader: &mut JointReader,
     joint: &mut Joint<'_, S, K>,
     head: &Header,
     steps: &mut Steps<L>,
-) -> Result<RawFrames, Stop>
+) -> Result<RawFrames, LoadError>
     requires place { IsAfter head.now reader.old.place }
     requires plans { reader.old.place.plans ≡ 0 }
     requires limits { IsHeader head.now }
     requires is_open { S.is_open joint.old.source.now }
     requires settled { (K.written joint.old.sink.now).held ≡ [] }
-    requires paced { MayRead S.allows (IsFaultless (coming reader.old.place)) (S.left joint.old.source.now)
-        (S.faults joint.old.source.now)
-        (K.written joint.old.sink.now) (K.faults joint.old.sink.now) }
+    requires paced { MayReadOn S.allows (IsFaultless (coming reader.old.place))
+        (joined S.left S.faults K.written K.faults joint.old) }
     ensures same_source { joint.new.source.ghost_name ≡ joint.old.source.ghost_name }
     ensures sink { joint.new.sink ≡ joint.old.sink }
     ensures loads { (first : Option (List ℕ)) → TakesParts image_parts (coming reader.old.place)
@@ -158,7 +156,7 @@ pub fn load_frames<S: Source, K: Sink, L: Ledger>(
 {
     let mut mem = RawFrames::new(alloc, head.frames)?;
     boot_zeros(&mut mem, steps);
-    load_image(reader, joint, head, &mut mem)?;
+    load_from_joint(reader, joint, head, &mut mem)?;
     Ok(mem)
 }
 

@@ -25,7 +25,7 @@ use std::sync::ledger::Ledger;
 
 /// Why a line wasn't run.
 #[derive(Clone, Copy, Debug, PartialEq, Eq)]
-pub enum Stop {
+pub enum ScriptLineError {
     Bad,
     /// A write failed.
     Write,
@@ -33,23 +33,23 @@ pub enum Stop {
     Memory,
 }
 
-impl From<Failed> for Stop {
-    ghost use Rattle.pip_commands.specs.declared.commands.script.line.Stop.TheVariants.{Write};
+impl From<Failed> for ScriptLineError {
+    ghost use Rattle.pip_commands.specs.declared.commands.script.line.ScriptLineError.TheVariants.{Write};
 
     ghost from_gives = { λ _ e. e ≡ Write };
 
-    fn from(_: Failed) -> Stop {
-        Stop::Write
+    fn from(_: Failed) -> ScriptLineError {
+        ScriptLineError::Write
     }
 }
 
-impl From<AllocError> for Stop {
-    ghost use Rattle.pip_commands.specs.declared.commands.script.line.Stop.TheVariants.{Memory};
+impl From<AllocError> for ScriptLineError {
+    ghost use Rattle.pip_commands.specs.declared.commands.script.line.ScriptLineError.TheVariants.{Memory};
 
     ghost from_gives = { λ _ e. e ≡ Memory };
 
-    fn from(_: AllocError) -> Stop {
-        Stop::Memory
+    fn from(_: AllocError) -> ScriptLineError {
+        ScriptLineError::Memory
     }
 }
 
@@ -61,10 +61,10 @@ pub fn run_line<K: Sink, L: Ledger>(
     line: &[u8],
     sink: &mut K,
     steps: &mut Steps<L>,
-) -> Result<(), Stop>
+) -> Result<(), ScriptLineError>
     ensures later { K.faults sink.old ≤ K.faults sink.new }
-    ensures write { IsErrOf result Stop.Write → RoseByOne (K.faults sink.old) (K.faults sink.new) }
-    ensures calm { result ≢ Err Stop.Write → K.faults sink.new ≡ K.faults sink.old }
+    ensures write { IsErrOf result ScriptLineError.Write → RoseByOne (K.faults sink.old) (K.faults sink.new) }
+    ensures calm { result ≢ Err ScriptLineError.Write → K.faults sink.new ≡ K.faults sink.old }
     ensures did { (v : Option World) → StandsIfAny machine.old v → MatchResult result
         (λ _. Runs v line.now (K.written sink.old) (K.written sink.new) machine.new)
         (λ stop. Stopped stop v line.now (K.written sink.old) (K.written sink.new)) }
@@ -86,24 +86,24 @@ fn run_first<K: Sink, L: Ledger>(
     line: &[u8],
     sink: &mut K,
     steps: &mut Steps<L>,
-) -> Result<(), Stop>
+) -> Result<(), ScriptLineError>
     requires none { machine.old ≡ None }
     requires words { HasWords line.now }
     ensures later { K.faults sink.old ≤ K.faults sink.new }
-    ensures write { IsErrOf result Stop.Write → RoseByOne (K.faults sink.old) (K.faults sink.new) }
-    ensures calm { result ≢ Err Stop.Write → K.faults sink.new ≡ K.faults sink.old }
+    ensures write { IsErrOf result ScriptLineError.Write → RoseByOne (K.faults sink.old) (K.faults sink.new) }
+    ensures calm { result ≢ Err ScriptLineError.Write → K.faults sink.new ≡ K.faults sink.old }
     ensures did { MatchResult result
         (λ _. Runs None line.now (K.written sink.old) (K.written sink.new) machine.new)
         (λ stop. Stopped stop None line.now (K.written sink.old) (K.written sink.new)) }
 {
     match read_phrase(line, 0) {
         Some(ScriptLine::Boot { n, c }) => boot(alloc, machine, n, c, sink, steps),
-        _ => Err(Stop::Bad),
+        _ => Err(ScriptLineError::Bad),
     }
 }
 
-// Makes the machine that a boot line asks for, and tells of it. It stands apart, since a machine takes much room among
-// locals, which is zeroed at each entry.
+// Makes the machine that a boot line asks for, and reports it. Out of line, since a machine is large among locals,
+// which are zeroed at each entry.
 #[inline(never)]
 fn boot<K: Sink, L: Ledger>(
     alloc: Global,
@@ -112,11 +112,11 @@ fn boot<K: Sink, L: Ledger>(
     c: u32,
     sink: &mut K,
     steps: &mut Steps<L>,
-) -> Result<(), Stop>
+) -> Result<(), ScriptLineError>
     requires { IsProper 0 (ScriptLine.Boot n c) }
     ensures later { K.faults sink.old ≤ K.faults sink.new }
-    ensures write { IsErrOf result Stop.Write → RoseByOne (K.faults sink.old) (K.faults sink.new) }
-    ensures calm { result ≢ Err Stop.Write → K.faults sink.new ≡ K.faults sink.old }
+    ensures write { IsErrOf result ScriptLineError.Write → RoseByOne (K.faults sink.old) (K.faults sink.new) }
+    ensures calm { result ≢ Err ScriptLineError.Write → K.faults sink.new ≡ K.faults sink.old }
     ensures did { (line : List ℕ) → line_meaning 0 line ≡ Some (ScriptLine.Boot n c) → MatchResult result
         (λ _. Runs None line (K.written sink.old) (K.written sink.new) machine.new)
         (λ stop. Stopped stop None line (K.written sink.old) (K.written sink.new)) }
@@ -133,17 +133,17 @@ fn run_event<P: Port, K: Sink, L: Ledger>(
     line: &[u8],
     sink: &mut K,
     steps: &mut Steps<L>,
-) -> Result<(), Stop>
+) -> Result<(), ScriptLineError>
     requires { HasWords line.now }
     ensures later { K.faults sink.old ≤ K.faults sink.new }
-    ensures write { IsErrOf result Stop.Write → RoseByOne (K.faults sink.old) (K.faults sink.new) }
-    ensures calm { result ≢ Err Stop.Write → K.faults sink.new ≡ K.faults sink.old }
+    ensures write { IsErrOf result ScriptLineError.Write → RoseByOne (K.faults sink.old) (K.faults sink.new) }
+    ensures calm { result ≢ Err ScriptLineError.Write → K.faults sink.new ≡ K.faults sink.old }
     ensures did { (w : World) → P.stands port.old w → MatchResult result
         (λ _. RunsIn w line.now (K.written sink.old) (K.written sink.new) (P.stands port.new))
         (λ stop. Stopped stop (Some w) line.now (K.written sink.old) (K.written sink.new)) }
 {
     match answer_line(port, line, steps) {
-        None => Err(Stop::Bad),
+        None => Err(ScriptLineError::Bad),
         Some(said) => {
             write_said(sink, &said)?;
             Ok(())

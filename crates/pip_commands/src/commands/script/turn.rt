@@ -9,7 +9,7 @@ ghost use Rattle.pip_commands.specs.Pacing.{MayReadLine};
 ghost use Rattle.pip_commands.specs.Progress.{HasNoLine, LineComes, Names, Settles, TurnDoes, status_of};
 ghost use Rattle.pip_commands.specs.Streams.{streams};
 
-use super::line::{Stop, run_line};
+use super::line::{ScriptLineError, run_line};
 use crate::text::bad_line;
 use pip_base::Steps;
 use pip_frames::RawFrames;
@@ -134,8 +134,7 @@ fn whole_line<S: Source, K: Sink, L: Ledger>(
     }
 }
 
-// The line where something else stands at the head, or more has to be read to tell. It stands apart, since few lines
-// come here.
+// The line if something else is at the head, or more has to be read to know. Out of line, since it is rarely taken.
 #[inline(never)]
 fn other_line<S: Source, K: Sink, L: Ledger>(
     ahead: Option<LineEnd>,
@@ -173,7 +172,7 @@ fn other_line<S: Source, K: Sink, L: Ledger>(
             Err(stop) => Err(end_at(number, &mut *joint.sink, stop)),
         },
         Ok(LineEnd::End) => Err(End::Finished),
-        Ok(LineEnd::TooLong) => Err(end_at(number, &mut *joint.sink, Stop::Bad)),
+        Ok(LineEnd::TooLong) => Err(end_at(number, &mut *joint.sink, ScriptLineError::Bad)),
         Ok(LineEnd::Over) => Err(End::Limit),
     }
 }
@@ -230,18 +229,21 @@ fn next_line<S: Source, K: Sink>(
 }
 
 // Names a line that is bad, and answers how the script ends.
-fn end_at<K: Sink>(number: u32, sink: &mut K, stop: Stop) -> End
+fn end_at<K: Sink>(number: u32, sink: &mut K, stop: ScriptLineError) -> End
     ensures later { K.faults sink.old ≤ K.faults sink.new }
     ensures calm { result ≢ End.WriteFault → K.faults sink.new ≡ K.faults sink.old }
     ensures names { Names stop number result (K.written sink.old) (K.written sink.new) (K.faults sink.old)
         (K.faults sink.new) }
 {
     match stop {
-        Stop::Bad => match write_all(sink, bad_line(u64::from(number)).as_str().as_bytes()) {
+        ScriptLineError::Bad => match write_all(
+            sink,
+            bad_line(u64::from(number)).as_str().as_bytes(),
+        ) {
             Ok(()) => End::BadLine,
             Err(_) => End::WriteFault,
         },
-        Stop::Write => End::WriteFault,
-        Stop::Memory => End::NoMemory,
+        ScriptLineError::Write => End::WriteFault,
+        ScriptLineError::Memory => End::NoMemory,
     }
 }

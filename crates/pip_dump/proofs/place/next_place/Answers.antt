@@ -1,13 +1,13 @@
 use Rattle.std.proofs.Common.{◌+◌, ◌-◌, arith, refl, subst, sym}
 use Rattle.pip_dump.specs.Walk.{IsAt}
-use Rattle.pip_dump.specs.declared.place.Place.{Place}
+use Rattle.pip_dump.specs.declared.place.WalkPlace.{WalkPlace}
 use Rattle.pip_dump.proofs.Moves.{at_child, at_end, at_up}
 use Rattle.pip_dump.proofs.place.next_place.Goals as goal
 
 pub returns-in-Some : goal.returns-in-Some
 returns-in-Some g c t rest held at =
     let now = c.loop-child.invariant.comes t rest held at in
-    let child : Place = record { part = c.in-Some.child; depth = c.loop-child.depth + 1 } in
+    let child : WalkPlace = record { part = c.in-Some.child; depth = c.loop-child.depth + 1 } in
     at_child t held.0 c.loop-child.part c.loop-child.depth c.loop-child.after child rest now
     (c.in-Some.ensures t now.node held.0 held.1 now.found) refl
 

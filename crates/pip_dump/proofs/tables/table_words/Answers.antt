@@ -1,7 +1,7 @@
 use Rattle.std.proofs.Common.{◌≡◌, ◌/◌, ◌%◌, ◌∙◌, ap, arith, refl, get_or}
 use Rattle.std.specs.Prelude.{is_some}
 use Rattle.pip_base.specs.Memory.{frame_at, word_at}
-use Rattle.pip_space.specs.Levels.{table_level, table_frame_at}
+use Rattle.pip_space.specs.Levels.{table_frame_at}
 use Rattle.pip_space.proofs.Tables.{has_table_found, row_of_page}
 use Rattle.pip_model.specs.Tree.{table_at}
 use Rattle.pip_dump.proofs.tables.table_words.Goals as goal
@@ -25,7 +25,7 @@ returns g c x rows space name v index =
     let small = c.requires.index in
     let same : v / 1024 ≡ c.new.result / 1024 = omega (arith, at, index) in
     let page =
-    ap (table_frame_at (table_level c.args.level) x) same ∙ c.table_for-table.ensures.page x _ space.node name in
+    ap (table_frame_at c.args.level x) same ∙ c.table_for-table.ensures.page x _ space.node name in
     ap (λ ws. get_or ws (v % 1024) 0) c.frame.ensures.words
-    ∙ row_of_page _ x rows space (table_level c.args.level) v v c.table_for-table.result refl
+    ∙ row_of_page _ x rows space c.args.level v v c.table_for-table.result refl
     (omega (arith, index, small)) page

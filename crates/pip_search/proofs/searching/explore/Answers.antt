@@ -1,7 +1,7 @@
 use Rattle.std.proofs.Common.{rules, ◌≡◌, ◌+◌, ◌-◌, arith, refl, sym, ap, subst, ◌∙◌, length, false, IsTrue}
 use Rattle.pip_search.specs.Searching.{IsSearching}
 use Rattle.pip_search.specs.Systems.{IsKey}
-use Rattle.pip_search.specs.declared.searching.Verdict.TheVariants.{Stopped}
+use Rattle.pip_search.specs.declared.searching.Extent.TheVariants.{Stopped}
 use Rattle.pip_search.proofs.Done.{IsDone, closed_done, stopped_done, visit_read, within_done}
 use Rattle.pip_search.proofs.Ending.{shallow_more}
 use Rattle.pip_search.proofs.Ranking.{ranked_begun}

@@ -1,6 +1,5 @@
 use Rattle.std.proofs.Common.{◌∙◌, ◌<◌, length, subst, arith}
 use Rattle.pip_model.proofs.Nodes.Reads.{directory_inside, name_inside}
-use Rattle.pip_space.specs.Levels.{table_level}
 use Rattle.pip_space.proofs.Tables.{read_place}
 use Rattle.pip_space.proofs.reads.directory.Goals as goal
 
@@ -12,7 +11,7 @@ word-requires-clause-frame g c =
 pub new-requires : goal.new-requires
 new-requires g c =
     let n = c.requires in
-    let inside = directory_inside _ n.node n.cells n.is_in (table_level c.args.level) in
+    let inside = directory_inside _ n.node n.cells n.is_in c.args.level in
     let few = n.is_in.small in
     let word = c.word.ensures.word in
     let at = read_place _ n.node n.cells n.is_in c.args.part n.name c.args.level c.place.result c.place.ensures in

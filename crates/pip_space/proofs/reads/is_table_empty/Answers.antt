@@ -1,6 +1,6 @@
 use Rattle.std.proofs.Common.{subst, sym}
 use Rattle.pip_table.specs.Table.{IsDirectory}
-use Rattle.pip_model.specs.NodeWords.{Mmu}
+use Rattle.pip_model.specs.declared.level.Level.TheVariants.{Mmu}
 use Rattle.pip_space.proofs.Tables.{empty_exactly, is_table, tables_entry}
 use Rattle.pip_space.proofs.reads.is_table_empty.Goals as goal
 

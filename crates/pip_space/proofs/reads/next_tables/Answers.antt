@@ -1,6 +1,6 @@
 use Rattle.std.proofs.Common.{◌∙◌, sym, subst}
 use Rattle.pip_table.specs.Table.{IsDirectory}
-use Rattle.pip_model.specs.NodeWords.{Mmu}
+use Rattle.pip_model.specs.declared.level.Level.TheVariants.{Mmu}
 use Rattle.pip_space.proofs.Tables.{is_table, next_index, none_at_all}
 use Rattle.pip_space.proofs.reads.next_tables.Goals as goal
 

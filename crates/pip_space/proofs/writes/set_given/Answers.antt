@@ -1,5 +1,5 @@
 use Rattle.pip_entry.specs.Sh1.{packed_sh1}
-use Rattle.pip_model.specs.NodeWords.{Shadow1}
+use Rattle.pip_model.specs.declared.level.Level.TheVariants.{Shadow1}
 use Rattle.pip_model.specs.FullRows.{cells_of}
 use Rattle.pip_space.proofs.Packed.{given_packed}
 use Rattle.pip_space.proofs.Tables.{given_word, room_of, row_put, with_given}

@@ -1,5 +1,5 @@
 use Rattle.std.proofs.Common.{◌∙◌}
-use Rattle.pip_model.specs.NodeWords.{Mmu}
+use Rattle.pip_model.specs.declared.level.Level.TheVariants.{Mmu}
 use Rattle.pip_model.specs.FullRows.{cells_of}
 use Rattle.pip_space.proofs.Tables.{level_put, room_of, row_at_page, row_put, user_word, with_user}
 use Rattle.pip_space.proofs.writes.set_user.Goals as goal

@@ -1,13 +1,18 @@
-use Rattle.std.proofs.Common.{◌∙◌, sym, subst}
-use Rattle.pip_model.specs.Answers.{five_of}
-use Rattle.pip_model.specs.Events as E
-use Rattle.pip_switch.specs.Standing.{CameWith}
-use Rattle.pip_switch.proofs.Replying.{came_call, came_yield}
+use Rattle.std.proofs.Common.{◌∙◌, refl, sym}
+use Rattle.pip_base.specs.declared.outcome.Status.TheVariants as S
+use Rattle.pip_model.specs.Answers.{five_of, refuse}
+use Rattle.pip_model.specs.declared.call_name.CallName.TheVariants.{Masks, OnMemory, Unknown}
+use Rattle.pip_model.specs.Worlds.{with_masked}
+use Rattle.pip_switch.proofs.Replying.{asked-does, came_call, came_yield, done-does}
 use Rattle.pip_switch.proofs.Running.{part_stands}
 use Rattle.pip_switch.proofs.calls.call.Goals as goal
 
-pub answer-status-requires-clause-stands : goal.answer-status-requires-clause-stands
-answer-status-requires-clause-stands g c =
+pub answer_on_memory-status-requires-clause-stands : goal.answer_on_memory-status-requires-clause-stands
+answer_on_memory-status-requires-clause-stands g c =
+    part_stands _ _ c.args.cpu c.requires.world c.in-Some.part (sym c.runner.ensures ∙ c.in-Some.is)
+
+pub set_masked-requires : goal.set_masked-requires
+set_masked-requires g c =
     part_stands _ _ c.args.cpu c.requires.world c.in-Some.part (sym c.runner.ensures ∙ c.in-Some.is)
 
 pub returns-in-Yields-clause-event : goal.returns-in-Yields-clause-event
@@ -16,12 +21,25 @@ returns-in-Yields-clause-event g c w s k =
     (sym c.in-Yields.is ∙ c.named.ensures) (five_of c.args.args.now) c.yield_to.result
     (λ r. c.yield_to.ensures.event w r s) _ k
 
-pub returns-in_default-named-clause-event : goal.returns-in_default-named-clause-event
-returns-in_default-named-clause-event g c w s k =
-    subst
-    (λ o. CameWith w (E.Call c.args.cpu c.args.number (five_of c.args.args.now)) o
-    (g.M.Frames.memory c.answer-status.new.mem) c.put_reply.new.cpus.items c.empty_after.new.caches.items)
-    (sym c.put_reply.ensures.outcome)
-    (came_call _ _ _ _ w s c.args.cpu c.in-Some.part (sym c.runner.ensures ∙ c.in-Some.is) c.args.number
-    c.named.result c.named.ensures c.in_default-named.not-Yields (five_of c.args.args.now) c.answer-status.result.0
-    c.answer-status.result.1 c.answer-status.ensures c.put_reply.ensures.set _ _ k c.empty_after.ensures)
+pub returns-in-OnMemory-clause-event : goal.returns-in-OnMemory-clause-event
+returns-in-OnMemory-clause-event g c w s k =
+    came_call _ _ _ _ w s c.args.cpu c.in-Some.part (sym c.runner.ensures ∙ c.in-Some.is) c.args.number
+    (OnMemory c.in-OnMemory.call) (sym c.in-OnMemory.is ∙ c.named.ensures) (λ e. cc) (five_of c.args.args.now)
+    c.answer_on_memory-status.result.0 c.answer_on_memory-status.result.1 c.answer_on_memory-status.ensures
+    c.put_reply.ensures.set _ _ k c.empty_after.ensures _ c.put_reply.ensures.outcome
+
+pub returns-in-Masks-clause-event : goal.returns-in-Masks-clause-event
+returns-in-Masks-clause-event g c w s k =
+    came_call _ _ _ _ w s c.args.cpu c.in-Some.part (sym c.runner.ensures ∙ c.in-Some.is) c.args.number
+    (Masks c.in-Masks.masked) (sym c.in-Masks.is ∙ c.named.ensures) (λ e. cc) (five_of c.args.args.now) S.Ok 0
+    (done-does c.in-Some.part (with_masked c.in-Some.part c.in-Masks.masked) _ _ c.set_masked.ensures.count
+    c.set_masked.ensures.tree)
+    c.put_reply-in-Masks.ensures.set _ _ k refl _ c.put_reply-in-Masks.ensures.outcome
+
+pub returns-in-Unknown-clause-event : goal.returns-in-Unknown-clause-event
+returns-in-Unknown-clause-event g c w s k =
+    came_call _ _ _ _ w s c.args.cpu c.in-Some.part (sym c.runner.ensures ∙ c.in-Some.is) c.args.number
+    Unknown (sym c.in-Unknown.is ∙ c.named.ensures) (λ e. cc) (five_of c.args.args.now) S.UnknownCall 0
+    (asked-does (λ t. refuse t S.UnknownCall) c.in-Some.part S.UnknownCall 0 _ (λ t. refl)
+    (λ t x at laid found. (refl, refl)))
+    c.put_reply-in-Unknown.ensures.set _ _ k refl _ c.put_reply-in-Unknown.ensures.outcome

@@ -1,4 +1,4 @@
-use Rattle.std.proofs.Common.{◌+◌, ◌<◌, ◌≤◌, ◌∙◌, sym, ap, subst, arith, length}
+use Rattle.std.proofs.Common.{rules, ◌+◌, ◌<◌, ◌≤◌, ◌∙◌, sym, ap, subst, arith, length}
 use Rattle.std.specs.List.{AllByRecursion, flat_map}
 use Rattle.std.proofs.lemmas.Result.{MatchResult-from_err}
 use Rattle.pip_io.specs.Taken.{Appends, AppendsPart}
@@ -25,24 +25,26 @@ write_label-requires-clause-known g c =
     c.index-ways-k.is c.args.verdict c.if-not-covers.ensures (c.args.cpus + length c.args.lines.now)
     c.requires.known)
 
-pub returns-in_err-write_label-clause-wrote : goal.returns-in_err-write_label-clause-wrote
-returns-in_err-write_label-clause-wrote g c =
-    MatchResult-from_err c.from_residual.result _ _ c.from_residual.ensures.0 (λ _.
-    let less : c.loop-k.k < length c.args.search.now.found.items =
-    omega (arith, c.loop-k-test.true, c.len-k-end.ensures) in
-    let vs = c.args.search.now.visits.items in
-    let fs = c.args.search.now.found.items in
-    subst (AppendsPart (g.K.Sink.written c.args.sink.now) (g.K.Sink.written c.write_label.new.sink))
-    (found_lines c.args.cpus c.args.lines.now c.args.verdict vs fs)
-    (cut_here (found_line c.args.cpus c.args.lines.now c.args.verdict vs) _ _ _ fs c.loop-k.k
-    c.index-found.result.now
-    (found_at (λ way. way.items) vs fs c.args.ways.now c.requires.ways c.loop-k.k less c.index-found.result.now
-    c.index-found.ensures c.index-ways-k.result c.index-ways-k.is) c.loop-k.invariant.wrote
-    (subst (AppendsPart (g.K.Sink.written c.loop-k.sink) (g.K.Sink.written c.write_label.new.sink))
-    (line_here (λ way. way.items) vs fs c.args.ways.now c.requires.ways c.loop-k.k less c.index-found.result.now
-    c.index-found.ensures c.index-ways-k.result c.index-ways-k.is c.args.verdict c.if-not-covers.ensures
-    c.requires.traced c.args.cpus c.args.lines.now c.deref.result.now c.deref-in-loop-k.result.now
-    c.deref.ensures.value c.deref-in-loop-k.ensures.value) c.in_err-write_label.ensures.wrote)))
+pub returns-in_err-write_label : goal.returns-in_err-write_label
+returns-in_err-write_label g c = record {
+  wrote = MatchResult-from_err c.from_residual.result _ _ c.from_residual.ensures.0 (λ _.
+      let less : c.loop-k.k < length c.args.search.now.found.items =
+      omega (arith, c.loop-k-test.true, c.len-k-end.ensures) in
+      let vs = c.args.search.now.visits.items in
+      let fs = c.args.search.now.found.items in
+      subst (AppendsPart (g.K.Sink.written c.args.sink.now) (g.K.Sink.written c.write_label.new.sink))
+      (found_lines c.args.cpus c.args.lines.now c.args.verdict vs fs)
+      (cut_here (found_line c.args.cpus c.args.lines.now c.args.verdict vs) _ _ _ fs c.loop-k.k
+      c.index-found.result.now
+      (found_at (λ way. way.items) vs fs c.args.ways.now c.requires.ways c.loop-k.k less c.index-found.result.now
+      c.index-found.ensures c.index-ways-k.result c.index-ways-k.is) c.loop-k.invariant.wrote
+      (subst (AppendsPart (g.K.Sink.written c.loop-k.sink) (g.K.Sink.written c.write_label.new.sink))
+      (line_here (λ way. way.items) vs fs c.args.ways.now c.requires.ways c.loop-k.k less c.index-found.result.now
+      c.index-found.ensures c.index-ways-k.result c.index-ways-k.is c.args.verdict c.if-not-covers.ensures
+      c.requires.traced c.args.cpus c.args.lines.now c.deref.result.now c.deref-in-loop-k.result.now
+      c.deref.ensures.value c.deref-in-loop-k.ensures.value) c.in_err-write_label.ensures.wrote)));
+  cause = search rules;
+}
 
 pub loop-k-preserved : goal.loop-k-preserved
 loop-k-preserved g c =
@@ -64,12 +66,14 @@ loop-k-preserved g c =
       calm = c.in_ok-write_label.ensures.cause.calm ∙ c.loop-k.invariant.calm;
     }
 
-pub returns-clause-wrote : goal.returns-clause-wrote
-returns-clause-wrote g c =
-    let most : length c.args.search.now.found.items ≤ c.loop-k.k =
-    omega (arith, c.loop-k-test.false, c.len-k-end.ensures) in
-    let vs = c.args.search.now.visits.items in
-    let fs = c.args.search.now.found.items in
-    subst (Appends (g.K.Sink.written c.args.sink.now) (g.K.Sink.written c.loop-k.sink))
-    (ap (flat_map (found_line c.args.cpus c.args.lines.now c.args.verdict vs)) (all_taken fs c.loop-k.k most)
-    ∙ found_lines c.args.cpus c.args.lines.now c.args.verdict vs fs) c.loop-k.invariant.wrote
+pub returns : goal.returns
+returns g c = record {
+  wrote = let most : length c.args.search.now.found.items ≤ c.loop-k.k =
+      omega (arith, c.loop-k-test.false, c.len-k-end.ensures) in
+      let vs = c.args.search.now.visits.items in
+      let fs = c.args.search.now.found.items in
+      subst (Appends (g.K.Sink.written c.args.sink.now) (g.K.Sink.written c.loop-k.sink))
+      (ap (flat_map (found_line c.args.cpus c.args.lines.now c.args.verdict vs)) (all_taken fs c.loop-k.k most)
+      ∙ found_lines c.args.cpus c.args.lines.now c.args.verdict vs fs) c.loop-k.invariant.wrote;
+  cause = search rules;
+}

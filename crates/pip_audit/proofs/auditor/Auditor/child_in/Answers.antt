@@ -3,7 +3,7 @@ use Rattle.std.specs.Prelude.{if◌then◌else◌, option_map}
 use Rattle.std.proofs.lemmas.Bool.{cases_eq}
 use Rattle.pip_model.specs.Tree.{table_at}
 use Rattle.pip_audit.specs.FrameWords.{word_held}
-use Rattle.pip_audit.specs.declared.tables.Sought.TheVariants as S
+use Rattle.pip_audit.specs.declared.tables.SoughtRows.TheVariants as S
 use Rattle.pip_audit.specs.Reading.{IsFirstVisitTo}
 use Rattle.pip_audit.specs.Seen.{IsQuiet}
 use Rattle.pip_audit.specs.Tables.{IsFirstSought, tables_in, triple_of}

@@ -1,6 +1,6 @@
 use Rattle.std.proofs.Common.{arith, ap, subst}
 use Rattle.std.specs.Prelude.{slice_index}
-use Rattle.pip_model.specs.NodeWords.{Shadow2}
+use Rattle.pip_model.specs.declared.level.Level.TheVariants.{Shadow2}
 use Rattle.pip_audit.specs.declared.auditor.Auditor.{Auditor}
 use Rattle.pip_audit.specs.Comparing.{CoversTables}
 use Rattle.pip_audit.proofs.Differing.{goes_then, whole}

@@ -3,7 +3,7 @@ use Rattle.pip_base.specs.Memory.{word_at}
 use Rattle.pip_audit.specs.BootRows.{HasBootRow}
 use Rattle.pip_audit.specs.Judging.{Says}
 use Rattle.pip_audit.specs.Tables.{tables_in}
-use Rattle.pip_audit.proofs.BootRoot.{part_2_breaks, part_2_says, tables_equal}
+use Rattle.pip_audit.proofs.BootRoot.{part_boot_root_breaks, part_boot_root_says, tables_equal}
 use Rattle.pip_audit.proofs.auditor.Auditor.has_boot_root.Goals as goal
 
 clash : (b : Bool) → b ≡ false → b ≡ true → ⊥
@@ -17,14 +17,14 @@ returns-then-up-ne1-clause-tests g c =
     let root = c.new-root.ensures in
     let word : c.word-up.result ≡ word_at m 1 11 = c.word-up.ensures.word ∙ ap (λ f. word_at m f 11) root in
     let t = c.if-up-ne1.true in
-    part_2_breaks m c.args.self.now bounds.0 bounds.1 c.requires
+    part_boot_root_breaks m c.args.self.now bounds.0 bounds.1 c.requires
     (λ b. let up = b.up in absurd (omega (arith, word, t, up)))
 
 pub returns-then-not-has_boot_base-clause-tests : goal.returns-then-not-has_boot_base-clause-tests
 returns-then-not-has_boot_base-clause-tests g c =
     let m = g.M.Frames.memory c.args.mem.now in
     let bounds = g.met.M.Frames.bounds c.args.mem.now in
-    part_2_breaks m c.args.self.now bounds.0 bounds.1 c.requires
+    part_boot_root_breaks m c.args.self.now bounds.0 bounds.1 c.requires
     (λ b. clash _ (sym c.has_boot_base.ensures ∙ c.if-not-has_boot_base.true) b.base)
 
 pub has_boot_tables-requires : goal.has_boot_tables-requires
@@ -35,7 +35,7 @@ pub returns-then-not-has_boot_tables-clause-tests : goal.returns-then-not-has_bo
 returns-then-not-has_boot_tables-clause-tests g c =
     let m = g.M.Frames.memory c.args.mem.now in
     let bounds = g.met.M.Frames.bounds c.args.mem.now in
-    part_2_breaks m c.args.self.now bounds.0 bounds.1 c.requires
+    part_boot_root_breaks m c.args.self.now bounds.0 bounds.1 c.requires
     (λ b. clash _ (sym c.has_boot_tables.ensures ∙ c.if-not-has_boot_tables.true) b.tables)
 
 pub has_boot_rows-requires-clause-tables : goal.has_boot_rows-requires-clause-tables
@@ -51,7 +51,7 @@ returns-clause-tests g c =
     let root = c.new-root.ensures in
     let word : c.word-up.result ≡ word_at m 1 11 = c.word-up.ensures.word ∙ ap (λ f. word_at m f 11) root in
     let t = c.if-up-ne1.false in
-    part_2_says m c.args.self.now bounds.0 bounds.1 c.requires c.has_boot_rows.result (omega (arith, word, t))
+    part_boot_root_says m c.args.self.now bounds.0 bounds.1 c.requires c.has_boot_rows.result (omega (arith, word, t))
     (sym c.has_boot_base.ensures ∙ c.if-not-has_boot_base.false)
     (sym c.has_boot_tables.ensures ∙ c.if-not-has_boot_tables.false)
     (subst (λ f. Says c.has_boot_rows.result ((v : ℕ) → v < 1048576 → HasBootRow m (tables_in m f) v))

@@ -1,6 +1,6 @@
 use Rattle.std.proofs.Common.{ℕ, ◌<◌, ◌≤◌}
 use Rattle.std.specs.Prelude.{slice_index}
-use Rattle.pip_model.specs.NodeWords.{Shadow2}
+use Rattle.pip_model.specs.declared.level.Level.TheVariants.{Shadow2}
 use Rattle.pip_audit.specs.Comparing.{CoversTables, GoesOn, LoadsOnly}
 use Rattle.pip_audit.specs.Given.{PlacesRows}
 use Rattle.pip_audit.specs.Reading.{IsRead}

@@ -1,8 +1,8 @@
 use Rattle.std.proofs.Common.{◌≡◌, arith, sym, ap, ◌∙◌, subst}
 use Rattle.std.specs.Prelude.{slice_index}
 use Rattle.pip_base.specs.Memory.{word_at}
-use Rattle.pip_model.specs.NodeWords.{Shadow2}
-use Rattle.pip_model.proofs.Audit.PartTests.{tests_1}
+use Rattle.pip_model.specs.declared.level.Level.TheVariants.{Shadow2}
+use Rattle.pip_model.proofs.Audit.PartTests.{tests_parents_come_first}
 use Rattle.pip_audit.specs.declared.auditor.Auditor.{Auditor}
 use Rattle.pip_audit.specs.Comparing.{CoversTables, tree_in}
 use Rattle.pip_audit.proofs.Judges.{can_judge, loads_placed, placed_holds}
@@ -10,7 +10,7 @@ use Rattle.pip_audit.proofs.auditor.Auditor.judge_placed.Goals as goal
 
 pub parent-parent-requires-clause-parents : goal.parent-parent-requires-clause-parents
 parent-parent-requires-clause-parents g c =
-    (tests_1 (tree_in (g.M.Frames.memory c.args.mem.now))).from c.requires.sound.parents_come_first
+    (tests_parents_come_first (tree_in (g.M.Frames.memory c.args.mem.now))).from c.requires.sound.parents_come_first
 
 pub name-part-requires-clause-node : goal.name-part-requires-clause-node
 name-part-requires-clause-node g c =

@@ -1,7 +1,7 @@
 use Rattle.std.proofs.Common.{inl, inr, arith, sym, subst}
 use Rattle.std.proofs.lemmas.Bool.{cases_eq}
 use Rattle.pip_model.specs.NodeWords.{TablePage}
-use Rattle.pip_audit.specs.Comparing.{CoversRole, level_of}
+use Rattle.pip_audit.specs.Comparing.{CoversRole}
 use Rattle.pip_audit.proofs.Differing.{goes_same, goes_then, role_stays}
 use Rattle.pip_audit.proofs.TreeIn.{table_fits}
 use Rattle.pip_audit.proofs.auditor.Auditor.judge_tables.Goals as goal
@@ -18,7 +18,7 @@ loop-d-preserved g c =
     let m = g.M.Frames.memory c.args.mem.now in
     let inv = c.loop-d.invariant in
     let next = c.judge_table-first.ensures in
-    let level = level_of c.args.level in
+    let level = c.args.level in
     let part = c.args.self.now.node.part in (
       goes_then m c.args.found c.loop-d.first c.judge_table-first.result inv.0 next.goes,
       λ k h. elim (cases_eq k c.loop-d.d) [
@@ -31,6 +31,6 @@ loop-d-preserved g c =
 pub returns-clause-covers : goal.returns-clause-covers
 returns-clause-covers g c = λ d f e.
     let m = g.M.Frames.memory c.args.mem.now in
-    let small = table_fits m c.args.self.now c.requires.judges f d (level_of c.args.level) e in
+    let small = table_fits m c.args.self.now c.requires.judges f d c.args.level e in
     let past = c.loop-d-test.false in
     c.loop-d.invariant.1 d (omega (arith, small, past)) f e

@@ -2,8 +2,9 @@ use Rattle.std.proofs.Common.{◌≡◌, ◌==◌, arith, sym, ap, ◌∙◌, su
 use Rattle.pip_base.specs.Memory.{word_at}
 use Rattle.pip_audit.specs.Comparing.{tree_in}
 use Rattle.pip_audit.specs.Judging.{IsReadLater, TellsEach, keeps_to}
-use Rattle.pip_audit.proofs.Broken.{lent_told, named_told, part_1_told, part_3_told, part_4_both, part_4_not}
-use Rattle.pip_audit.proofs.Broken.{part_5_told, part_6_told, part_7_told, part_8_told}
+use Rattle.pip_audit.proofs.Broken.{lent_told, named_told, part_parents_come_first_told, part_pages_apart_told}
+use Rattle.pip_audit.proofs.Broken.{part_lent_both, part_lent_not, part_siblings_apart_told, part_rights_told}
+use Rattle.pip_audit.proofs.Broken.{part_tables_of_rows_told, part_no_lines_but_the_root_told}
 use Rattle.pip_audit.proofs.EachNode.{count_some, root_name}
 use Rattle.pip_audit.proofs.auditor.Auditor.keeps_to.Goals as goal
 
@@ -21,7 +22,7 @@ returns-then-each_node-clause-keeps g c =
     let each = subst (TellsEach (IsReadLater m a.names.items) 1 a.count) c.if-each_node.true c.each_node.ensures.each in
     ap (λ w. w == 1) (c.up.ensures
     ∙ ap (λ f. word_at m f 11) (root_name b.names.items b.count r.others r.has_read.names))
-    ∙ part_1_told m a c.requires.read true each
+    ∙ part_parents_come_first_told m a c.requires.read true each
     ∙ ap (λ k. keeps_to k (tree_in m)) (sym c.in-1.is)
 
 pub returns-else-each_node-clause-keeps : goal.returns-else-each_node-clause-keeps
@@ -30,13 +31,13 @@ returns-else-each_node-clause-keeps g c =
     let a = c.args.self.now in
     let each = subst (TellsEach (IsReadLater m a.names.items) 1 a.count) c.if-each_node.false c.each_node.ensures.each
     in
-    c.if-each_node.false ∙ part_1_told m a c.requires.read false each
+    c.if-each_node.false ∙ part_parents_come_first_told m a c.requires.read false each
     ∙ ap (λ k. keeps_to k (tree_in m)) (sym c.in-1.is)
 
 pub returns-in-3-clause-keeps : goal.returns-in-3-clause-keeps
 returns-in-3-clause-keeps g c =
     let m = g.M.Frames.memory c.args.mem.now in
-    part_3_told m c.args.self.now c.requires.read c.each_node-in-3.result c.each_node-in-3.ensures.each
+    part_pages_apart_told m c.args.self.now c.requires.read c.each_node-in-3.result c.each_node-in-3.ensures.each
     ∙ ap (λ k. keeps_to k (tree_in m)) (sym c.in-3.is)
 
 pub returns-then-each_node-2-clause-keeps : goal.returns-then-each_node-2-clause-keeps
@@ -45,7 +46,7 @@ returns-then-each_node-2-clause-keeps g c =
     let lent = c.each_node-in-4 in
     let named = c.each_node-then-each_node-2 in
     let one = c.requires.before 1 (omega arith) (omega arith) in
-    part_4_both (tree_in m) named.result
+    part_lent_both (tree_in m) named.result
     (sym c.if-each_node-2.true ∙ lent_told m c.load_parent.new.self c.load_parent.ensures.read lent.result one
     lent.ensures.each) (named_told m lent.new.self lent.ensures.read named.result named.ensures.each)
     ∙ ap (λ k. keeps_to k (tree_in m)) (sym c.in-4.is)
@@ -56,14 +57,15 @@ returns-else-each_node-2-clause-keeps g c =
     let lent = c.each_node-in-4 in
     let one = c.requires.before 1 (omega arith) (omega arith) in
     c.if-each_node-2.false
-    ∙ part_4_not (tree_in m) (sym c.if-each_node-2.false ∙ lent_told m c.load_parent.new.self c.load_parent.ensures.read
+    ∙ part_lent_not (tree_in m) (sym c.if-each_node-2.false
+    ∙ lent_told m c.load_parent.new.self c.load_parent.ensures.read
     lent.result one lent.ensures.each)
     ∙ ap (λ k. keeps_to k (tree_in m)) (sym c.in-4.is)
 
 pub returns-in-5-clause-keeps : goal.returns-in-5-clause-keeps
 returns-in-5-clause-keeps g c =
     let m = g.M.Frames.memory c.args.mem.now in
-    part_5_told m c.args.self.now c.requires.read c.each_node-in-5.result
+    part_siblings_apart_told m c.args.self.now c.requires.read c.each_node-in-5.result
     (c.requires.before 1 (omega arith) (omega arith)) (c.requires.before 3 (omega arith) (omega arith))
     c.each_node-in-5.ensures.each
     ∙ ap (λ k. keeps_to k (tree_in m)) (sym c.in-5.is)
@@ -71,19 +73,20 @@ returns-in-5-clause-keeps g c =
 pub returns-in-6-clause-keeps : goal.returns-in-6-clause-keeps
 returns-in-6-clause-keeps g c =
     let m = g.M.Frames.memory c.args.mem.now in
-    part_6_told m c.load_parent-in-6.new.self c.load_parent-in-6.ensures.read c.each_node-in-6.result
+    part_rights_told m c.load_parent-in-6.new.self c.load_parent-in-6.ensures.read c.each_node-in-6.result
     (c.requires.before 1 (omega arith) (omega arith)) c.each_node-in-6.ensures.each
     ∙ ap (λ k. keeps_to k (tree_in m)) (sym c.in-6.is)
 
 pub returns-in-7-clause-keeps : goal.returns-in-7-clause-keeps
 returns-in-7-clause-keeps g c =
     let m = g.M.Frames.memory c.args.mem.now in
-    part_7_told m c.args.self.now c.requires.read c.each_node-in-7.result c.each_node-in-7.ensures.each
+    part_tables_of_rows_told m c.args.self.now c.requires.read c.each_node-in-7.result c.each_node-in-7.ensures.each
     ∙ ap (λ k. keeps_to k (tree_in m)) (sym c.in-7.is)
 
 pub returns-in_default-clause-keeps : goal.returns-in_default-clause-keeps
 returns-in_default-clause-keeps g c =
     let m = g.M.Frames.memory c.args.mem.now in
     let last : 8 ≡ c.args.part = omega arith in
-    part_8_told m c.args.self.now c.requires.read c.each_node-in_default.result c.each_node-in_default.ensures.each
+    part_no_lines_but_the_root_told m c.args.self.now c.requires.read c.each_node-in_default.result
+    c.each_node-in_default.ensures.each
     ∙ ap (λ k. keeps_to k (tree_in m)) last

@@ -3,7 +3,7 @@ use Rattle.pip_model.specs.FullRows.{cells_of}
 use Rattle.pip_model.specs.NodeWords.{descriptor_word, list_word}
 use Rattle.pip_model.specs.ReadOff.{node_read}
 use Rattle.pip_model.specs.Tree.{table_at}
-use Rattle.pip_audit.specs.Comparing.{entry_held, level_of, role_of, rows_held, wanted_word}
+use Rattle.pip_audit.specs.Comparing.{entry_held, role_of, rows_held, wanted_word}
 use Rattle.pip_audit.proofs.PageWords.{descriptor_role, directory_role, entry_is, list_role, table_role}
 use Rattle.pip_audit.proofs.auditor.Auditor.wanted.Goals as goal
 
@@ -22,7 +22,7 @@ returns-in-Directory g c =
     let m = g.M.Frames.memory c.args.mem.now in
     let a = c.args.self.now in
     let x = node_read m a.node.part in
-    let level = level_of c.in-Directory.level in
+    let level = c.in-Directory.level in
     c.directory_word.ensures
     ∙ ap (entry_held level) (c.requires.holds.of.of c.args.i c.requires.index)
     ∙ entry_is level (table_at x.tables c.args.i)
@@ -35,7 +35,7 @@ returns-in-Table g c =
     let a = c.args.self.now in
     let x = node_read m a.node.part in
     c.cell.ensures
-    ∙ sym (table_role x (cells_of (rows_held m a)) (level_of c.in-Table.level) c.in-Table.index c.args.i)
+    ∙ sym (table_role x (cells_of (rows_held m a)) c.in-Table.level c.in-Table.index c.args.i)
     ∙ sym (ap (λ r. wanted_word m a (role_of r) c.args.i) c.in-Table.is)
 
 pub returns-in-List : goal.returns-in-List

@@ -5,7 +5,7 @@ use Rattle.pip_model.specs.FullRows.{cells_of, row_word}
 use Rattle.pip_model.specs.ReadOff.{node_read}
 use Rattle.pip_model.specs.Tree.{table_at}
 use Rattle.pip_model.proofs.Nodes.Reads.{row_word-none}
-use Rattle.pip_audit.specs.Comparing.{FitsRole, entry_held, level_of, role_of, row_held, rows_held, wanted_word}
+use Rattle.pip_audit.specs.Comparing.{FitsRole, entry_held, role_of, row_held, rows_held, wanted_word}
 use Rattle.pip_audit.specs.Tables.{tables_in, triple_of}
 use Rattle.pip_audit.proofs.PageWords.{directory_role, entry_is, table_role}
 use Rattle.pip_audit.proofs.Rows.{no_row, no_word, row_by_word}
@@ -16,7 +16,7 @@ returns-in-Directory g c on i below =
     let m = g.M.Frames.memory c.args.mem.now in
     let a = c.args.self.now in
     let x = node_read m a.node.part in
-    let level = level_of c.in-Directory.field-0 in
+    let level = c.in-Directory.field-0 in
     let block = c.requires.block in
     let k = 32 * c.args.b + i in
     ap (λ r. wanted_word m a (role_of r) k) c.in-Directory.is
@@ -31,7 +31,7 @@ returns-in-None g c on i below =
     let a = c.args.self.now in
     let x = node_read m a.node.part in
     let ts = tables_in m a.node.part in
-    let level = level_of c.in-Table.level in
+    let level = c.in-Table.level in
     let block = c.requires.block in
     let small : c.in-Table.index < 1024 =
     subst (λ r. FitsRole m a.node.part (role_of r)) c.in-Table.is c.requires.fits in
@@ -52,7 +52,7 @@ returns-in-Some g c on i below =
     let a = c.args.self.now in
     let x = node_read m a.node.part in
     let ts = tables_in m a.node.part in
-    let level = level_of c.in-Table.level in
+    let level = c.in-Table.level in
     let block = c.requires.block in
     let small : c.in-Table.index < 1024 =
     subst (λ r. FitsRole m a.node.part (role_of r)) c.in-Table.is c.requires.fits in

@@ -27,8 +27,8 @@ returns g c =
     let held = sym of ∙ sym c.at.ensures ∙ c.in-Some.is in
     let w = c.word.ensures.word in
     elim (cases_eq (word_at m b.shadow1 (row.at % 1024) % 4096) 1) [
-      | inl e ↦ eq-eqb (c.word.result % 4096) 1 (omega (arith, w, e))
+      | inl e ↦ c.marks_descriptor.ensures ∙ eq-eqb (c.word.result % 4096) 1 (omega (arith, w, e))
           ∙ sym (ap is_some (visit_there m ts row.at (row_seen row) b c.requires.row.2 held e))
-      | inr ne ↦ ne_eqb (c.word.result % 4096) 1 (λ q. ne (omega (arith, w, q)))
+      | inr ne ↦ c.marks_descriptor.ensures ∙ ne_eqb (c.word.result % 4096) 1 (λ q. ne (omega (arith, w, q)))
           ∙ sym (ap is_some (visit_not m ts row.at (row_seen row) b c.requires.row.2 held ne))
     ]

@@ -1,6 +1,6 @@
 use Rattle.std.proofs.Common.{◌+◌, ◌*◌, ◌/◌, ◌^◌, ◌<◌, sym, ◌∙◌, subst, arith, inl, inr}
 use Rattle.std.proofs.lemmas.Bool.{cases_lt}
-use Rattle.pip_audit.specs.declared.tables.Sought.TheVariants as S
+use Rattle.pip_audit.specs.declared.tables.SoughtRows.TheVariants as S
 use Rattle.pip_audit.specs.Tables.{IsFirstRow, tables_in}
 use Rattle.pip_audit.proofs.Rows.{first_later, no_row}
 use Rattle.pip_audit.proofs.tables.Tables.later_row.Goals as goal

@@ -1,5 +1,5 @@
 use Rattle.std.proofs.Common.{◌^◌, Some, arith}
-use Rattle.pip_audit.specs.declared.tables.Sought.TheVariants as S
+use Rattle.pip_audit.specs.declared.tables.SoughtRows.TheVariants as S
 use Rattle.pip_audit.specs.Tables.{tables_in}
 use Rattle.pip_audit.proofs.Inserts.{next_is}
 use Rattle.pip_audit.proofs.Rows.{first_is}

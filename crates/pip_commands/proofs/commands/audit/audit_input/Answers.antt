@@ -11,13 +11,13 @@ use Rattle.pip_commands.proofs.commands.audit.audit_input.Goals as goal
 
 pub judge-requires-clause-shape : goal.judge-requires-clause-shape
 judge-requires-clause-shape g c =
-    text_shape (length c.in-Ok.room.mem.block.frames) c.in-Ok-read_core.ensures.reads.0.bytes
-    c.read_core.new.mem.block.frames c.in-Ok-read_core.ensures.reads.0.text
+    text_shape (length c.in-Ok.room.mem.block.frames) c.in-Ok-read_core_from_joint.ensures.reads.0.bytes
+    c.read_core_from_joint.new.mem.block.frames c.in-Ok-read_core_from_joint.ensures.reads.0.text
 
 pub judge-requires-clause-words : goal.judge-requires-clause-words
 judge-requires-clause-words g c =
-    text_words (length c.in-Ok.room.mem.block.frames) c.in-Ok-read_core.ensures.reads.0.bytes
-    c.read_core.new.mem.block.frames c.in-Ok-read_core.ensures.reads.0.text
+    text_words (length c.in-Ok.room.mem.block.frames) c.in-Ok-read_core_from_joint.ensures.reads.0.bytes
+    c.read_core_from_joint.new.mem.block.frames c.in-Ok-read_core_from_joint.ensures.reads.0.text
 
 pub returns-in_default-clause-ends : goal.returns-in_default-clause-ends
 returns-in_default-clause-ends g c =
@@ -25,23 +25,25 @@ returns-in_default-clause-ends g c =
     ends_memory c.args.frames _ _ _ _ (ap (λ e. e.machine) end) (record { reads = λ not. refl; writes = λ not. refl })
     (λ not. c.requires.none) (ap (λ e. e.status) end) refl (Keeps-refl _)
 
-pub returns-in-Ok-read_core-clause-ends : goal.returns-in-Ok-read_core-clause-ends
-returns-in-Ok-read_core-clause-ends g c =
-    let reads = c.in-Ok-read_core.ensures.reads in
-    let m = c.read_core.new.mem.block.frames in
+pub returns-in-Ok-read_core_from_joint-clause-ends : goal.returns-in-Ok-read_core_from_joint-clause-ends
+returns-in-Ok-read_core_from_joint-clause-ends g c =
+    let reads = c.in-Ok-read_core_from_joint.ensures.reads in
+    let m = c.read_core_from_joint.new.mem.block.frames in
     let end = c.judge.ensures in
     let count = ap length c.in-Ok.ensures.zeros ∙ length-replicate c.args.frames (zeros 1024) in
-    ends_same g.K.Sink.written g.K.Sink.faults (ap (λ s. s.now) c.read_core.ensures.sink) c.requires.none (λ none.
+    ends_same g.K.Sink.written g.K.Sink.faults (ap (λ s. s.now) c.read_core_from_joint.ensures.sink) c.requires.none
+    (λ none.
     ends_judged c.args.frames _ _ _ _ end.machine (record { reads = λ not. reads.1; writes = end.calm }) end.none none m
     (subst (λ n. IsText n (g.S.Source.left c.args.joint.now.source.now)
-    (g.S.Source.left c.read_core.new.joint.source.now) m) count reads.0) end.wrote)
+    (g.S.Source.left c.read_core_from_joint.new.joint.source.now) m) count reads.0) end.wrote)
 
 pub returns-in-Err-Line-clause-ends : goal.returns-in-Err-Line-clause-ends
 returns-in-Err-Line-clause-ends g c =
     let end = c.end_with.ensures in
     let count = ap length c.in-Ok.ensures.zeros ∙ length-replicate c.args.frames (zeros 1024) in
     let refused = refused_as _ _ _ _ count c.in-Err-Line.field-0-is c.in-Err-Line.ensures.reads in
-    ends_same g.K.Sink.written g.K.Sink.faults (ap (λ s. s.now) c.read_core.ensures.sink) c.requires.none (λ none.
+    ends_same g.K.Sink.written g.K.Sink.faults (ap (λ s. s.now) c.read_core_from_joint.ensures.sink) c.requires.none
+    (λ none.
     ends_bad c.args.frames _ _ _ _ end.none (record { reads = λ not. refused.1; writes = end.calm }) end.settled none
     c.in-Err-Line.number refused.0 (c.as_bytes.ensures.value ∙ c.as_str.ensures.value ∙ c.bad_line.ensures) end.wrote)
 
@@ -51,16 +53,17 @@ returns-clause-ends g c =
     let is = ap (λ e. e.status) end in
     let count = ap length c.in-Ok.ensures.zeros ∙ length-replicate c.args.frames (zeros 1024) in
     let refused = refused_as _ _ _ _ count c.in-Err-Read.field-0-is c.in-Err-Read.ensures.reads in
-    ends_same g.K.Sink.written g.K.Sink.faults (ap (λ s. s.now) c.read_core.ensures.sink) c.requires.none (λ none.
+    ends_same g.K.Sink.written g.K.Sink.faults (ap (λ s. s.now) c.read_core_from_joint.ensures.sink) c.requires.none
+    (λ none.
     ends_unread c.args.frames _ _ _ _ (ap (λ e. e.machine) end)
     (record { reads = λ not. absurd (not is); writes = λ not. refl }) (λ not. none) is refused.0 (Keeps-refl _)
     refused.1)
 
-pub read_core-requires-clause-paced : goal.read_core-requires-clause-paced
-read_core-requires-clause-paced g c = λ bytes left taken is.
+pub read_core_from_joint-requires-clause-paced : goal.read_core_from_joint-requires-clause-paced
+read_core_from_joint-requires-clause-paced g c = λ bytes left taken is.
     let count = ap length c.in-Ok.ensures.zeros ∙ length-replicate c.args.frames (zeros 1024) in
     c.requires.paced.1 _ (waits_after _ c.requires.none _ bytes left taken
     (subst (λ n. BeginsLines n bytes) count is, refl) tt)
 
-pub read_core-requires-clause-is_open : goal.read_core-requires-clause-is_open
-read_core-requires-clause-is_open g c = c.requires.paced.0 (audit_waits _ c.requires.none c.args.frames)
+pub read_core_from_joint-requires-clause-is_open : goal.read_core_from_joint-requires-clause-is_open
+read_core_from_joint-requires-clause-is_open g c = c.requires.paced.0 (audit_waits _ c.requires.none c.args.frames)

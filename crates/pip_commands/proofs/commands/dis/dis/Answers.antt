@@ -12,7 +12,7 @@ returns-in-Ok-clause-ends g c =
     g.K.Sink.written g.K.Sink.faults c.disassemble.new.source c.disassemble.new.sink)
     (ap (λ e. e.machine) c.with_status.ensures)
     (λ not. c.in-Ok.ensures.told.none) (ap (λ e. e.status) c.with_status.ensures) c.in-Ok.ensures.told
-    (record { reads = λ not. c.in-Ok.ensures.calm.0; writes = λ not. c.in-Ok.ensures.calm.1 })
+    (record { reads = λ not. c.in-Ok.ensures.calm.reads; writes = λ not. c.in-Ok.ensures.calm.writes })
 
 pub returns-in-Err-Image-clause-ends : goal.returns-in-Err-Image-clause-ends
 returns-in-Err-Image-clause-ends g c =

@@ -2,7 +2,7 @@ use Rattle.std.proofs.Common.{◌∙◌, ◌*◌, ◌/◌, ap, sym}
 use Rattle.std.proofs.lemmas.Result.{err_from_is_err_and}
 use Rattle.pip_base.specs.declared.outcome.Status.TheVariants as S
 use Rattle.pip_model.specs.FullRows.{full_rows, row_word}
-use Rattle.pip_model.specs.NodeWords.{Shadow1}
+use Rattle.pip_model.specs.declared.level.Level.TheVariants.{Shadow1}
 use Rattle.pip_model.proofs.Frames.Laid.{laid_space}
 use Rattle.pip_model.proofs.Trees.Lookup.{found_name}
 use Rattle.pip_kern.proofs.Climb.{part_node, part_rows}

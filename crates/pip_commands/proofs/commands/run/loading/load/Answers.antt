@@ -1,6 +1,6 @@
 use Rattle.std.proofs.Common.{ap}
 use Rattle.pip_commands.proofs.Loading.{pages_paced, stopped_after, stops}
-use Rattle.pip_commands.specs.declared.commands.run.loading.Stop.TheVariants as T
+use Rattle.pip_commands.specs.declared.commands.run.loading.LoadError.TheVariants as T
 use Rattle.pip_commands.proofs.commands.run.loading.load.Goals as goal
 
 pub returns-in_err-head-clause-loads : goal.returns-in_err-head-clause-loads

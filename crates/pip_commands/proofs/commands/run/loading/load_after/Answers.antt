@@ -1,5 +1,5 @@
 use Rattle.std.proofs.Common.{◌∙◌, refl}
-use Rattle.pip_commands.specs.declared.commands.run.loading.Stop.TheVariants as T
+use Rattle.pip_commands.specs.declared.commands.run.loading.LoadError.TheVariants as T
 use Rattle.pip_commands.proofs.Loading.{lacks_memory, loads, stops}
 use Rattle.pip_commands.proofs.commands.run.loading.load_after.Goals as goal
 

@@ -1,6 +1,6 @@
 use Rattle.std.proofs.Common.{Some, Err, subst, ap, refl}
 use Rattle.pip_input.specs.Lines.{HoldsLine, still}
-use Rattle.pip_commands.specs.declared.commands.script.line.Stop.TheVariants.{Bad}
+use Rattle.pip_commands.specs.declared.commands.script.line.ScriptLineError.TheVariants.{Bad}
 use Rattle.pip_commands.specs.declared.commands.script.turn.End.TheVariants.{Finished, Limit}
 use Rattle.pip_io.proofs.Taken.{Keeps-refl}
 use Rattle.pip_commands.proofs.Settled.{ends_settled, has_no_line, no_line_none, not_read}

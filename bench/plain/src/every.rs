@@ -1,0 +1,393 @@
+//! The command `every`: what can happen over all interleavings, breadth first (docs/MODEL.md, "What can happen").
+
+use std::collections::HashSet;
+
+use crate::cpu::{put_line, Line};
+use crate::hash::Keys;
+use crate::image::{load, put_head, Loaded, Plan};
+use crate::machine::{Context, Machine, Processor, PROCESSORS};
+use crate::output::{Input, Output};
+use crate::Stop;
+
+/// Turns after which the words are as in most states, so that these differ from them in few.
+const LATER: u32 = 1000;
+
+pub struct Bounds {
+    pub states: u32,
+    pub from: u32,
+    pub depth: Option<u32>,
+}
+
+/// A line that a choice shows, and the first state and choice that show it.
+struct Found {
+    cpu: u32,
+    line: Line,
+    state: u32,
+    choice: u8,
+    depth: u32,
+}
+
+enum End {
+    Closed,
+    Within,
+    Stopped,
+}
+
+/// The states that were reached. The key of each is a row of bytes; equal states have equal keys.
+struct States {
+    bytes: Vec<u8>,
+    starts: Vec<u64>,
+    /// From which state by which choice each was reached first.
+    parents: Vec<u32>,
+    choices: Vec<u8>,
+    /// An open table: 32 bits of the hash of a key, and the number of its state plus 1.
+    places: Vec<u64>,
+    keys: Keys,
+}
+
+enum Reached {
+    New,
+    Old,
+    Full,
+}
+
+impl States {
+    fn new() -> Self {
+        let keys = Keys::default();
+        States { bytes: vec![], starts: vec![0], parents: vec![], choices: vec![], places: vec![0; 1024], keys }
+    }
+
+    fn count(&self) -> u32 {
+        self.parents.len() as u32
+    }
+
+    fn key(&self, state: u32) -> &[u8] {
+        &self.bytes[self.starts[state as usize] as usize..self.starts[state as usize + 1] as usize]
+    }
+
+    /// Notes the state of a key, unless it was noted before or there are as many as there may be.
+    #[inline]
+    fn reach(&mut self, key: &[u8], parent: u32, choice: u8, most: u32) -> Result<Reached, Stop> {
+        let hash = self.keys.hash(key) >> 32;
+        let mask = self.places.len() - 1;
+        let mut place = hash as usize & mask;
+        while self.places[place] != 0 {
+            let at = self.places[place];
+            if at >> 32 == hash && self.key(at as u32 - 1) == key {
+                return Ok(Reached::Old);
+            }
+            place = (place + 1) & mask;
+        }
+        if self.count() == most {
+            return Ok(Reached::Full);
+        }
+        self.add(key, parent, choice)?;
+        self.places[place] = hash << 32 | u64::from(self.count());
+        if 2 * self.parents.len() > self.places.len() {
+            self.grow()?;
+        }
+        Ok(Reached::New)
+    }
+
+    fn add(&mut self, key: &[u8], parent: u32, choice: u8) -> Result<(), Stop> {
+        self.bytes.try_reserve(key.len())?;
+        self.starts.try_reserve(1)?;
+        self.parents.try_reserve(1)?;
+        self.choices.try_reserve(1)?;
+        self.bytes.extend_from_slice(key);
+        self.starts.push(self.bytes.len() as u64);
+        self.parents.push(parent);
+        self.choices.push(choice);
+        Ok(())
+    }
+
+    fn grow(&mut self) -> Result<(), Stop> {
+        let size = 2 * self.places.len();
+        let mut places = Vec::new();
+        places.try_reserve_exact(size)?;
+        places.resize(size, 0);
+        for &at in self.places.iter().filter(|&&at| at != 0) {
+            let mut place = (at >> 32) as usize & (size - 1);
+            while places[place] != 0 {
+                place = (place + 1) & (size - 1);
+            }
+            places[place] = at;
+        }
+        self.places = places;
+        Ok(())
+    }
+
+    /// The choices that lead to a state.
+    fn way(&self, mut state: u32) -> Vec<u8> {
+        let mut way = Vec::new();
+        while state != 0 {
+            way.push(self.choices[state as usize]);
+            state = self.parents[state as usize];
+        }
+        way.reverse();
+        way
+    }
+}
+
+struct Search {
+    world: Machine<true>,
+    plans: Vec<Plan>,
+    bounds: Bounds,
+    /// The words with which those of a state are compared.
+    base: Vec<u32>,
+    states: States,
+    found: Vec<Found>,
+    shown: HashSet<(u32, Line), Keys>,
+    /// Of the state whose choices are made: turns, processors, the words that differ, and how the key says these.
+    turns: u32,
+    processors: [Processor; PROCESSORS],
+    differing: Vec<(u32, u32)>,
+    tail: Vec<u8>,
+    key: Vec<u8>,
+}
+
+pub fn every(input: &mut Input, output: &mut Output, bounds: Bounds) -> Result<(), Stop> {
+    let loaded = load(input, output, 0)?;
+    let head = loaded.head;
+    let mut search = Search::new(loaded, bounds)?;
+    let (end, depth) = search.search()?;
+    put_head(output, &head)?;
+    for found in &search.found {
+        if matches!(end, End::Closed) || found.depth < depth {
+            search.put_found(output, found)?;
+        }
+    }
+    output.text("states ").number(search.states.count());
+    match end {
+        End::Closed => output.text(" depth ").number(depth).text(" closed"),
+        End::Within => output.text(" within ").number(depth),
+        End::Stopped => output.text(" depth ").number(depth).text(" stopped"),
+    };
+    output.end_line()
+}
+
+impl Search {
+    fn new(loaded: Loaded<true>, bounds: Bounds) -> Result<Self, Stop> {
+        let Loaded { mut world, plans, .. } = loaded;
+        let processors = world.processors;
+        for turn in 0..LATER {
+            world.turn(turn as usize % world.count);
+        }
+        let mut base = Vec::new();
+        base.try_reserve_exact(world.frames.words().len())?;
+        base.extend_from_slice(world.frames.words());
+        world.frames.undo();
+        world.empty_caches();
+        let mut differing = Vec::new();
+        for (place, (&word, &later)) in (0..).zip(world.frames.words().iter().zip(&base)) {
+            if word != later {
+                differing.push((place, word));
+            }
+        }
+        let mut tail = Vec::new();
+        put_words(&mut tail, &differing);
+        let states = States::new();
+        let (found, shown, key) = (Vec::new(), HashSet::default(), Vec::new());
+        Ok(Search { world, plans, bounds, base, states, found, shown, turns: 0, processors, differing, tail, key })
+    }
+
+    fn search(&mut self) -> Result<(End, u32), Stop> {
+        self.world.processors = self.processors;
+        self.put_key(0);
+        self.states.reach(&self.key, 0, 0, self.bounds.states)?;
+        let (mut state, mut depth, mut level) = (0, 0, 1);
+        while state < self.states.count() {
+            if state == level {
+                (depth, level) = (depth + 1, self.states.count());
+            }
+            if Some(depth) == self.bounds.depth {
+                return Ok((End::Within, depth));
+            }
+            self.visit(state);
+            for choice in 0..self.world.count + self.plans.len() {
+                if !self.choose(state, choice, depth)? {
+                    return Ok((End::Stopped, depth));
+                }
+            }
+            state += 1;
+        }
+        Ok((End::Closed, depth))
+    }
+
+    /// The world becomes that of a state.
+    fn visit(&mut self, state: u32) {
+        for &(place, _) in &self.differing {
+            self.world.frames.set_word(place, self.base[place as usize]);
+        }
+        let mut key = Key(self.states.key(state));
+        self.turns = key.number();
+        for cpu in 0..self.world.count {
+            self.processors[cpu] = key.processor();
+        }
+        self.tail.clear();
+        self.tail.extend_from_slice(key.0);
+        self.differing.clear();
+        let mut place = 0u32;
+        while !key.0.is_empty() {
+            place = place.wrapping_add(key.number());
+            let word = key.number();
+            self.differing.push((place, word));
+            self.world.frames.set_word(place, word);
+        }
+        self.world.frames.log.clear();
+    }
+
+    /// Makes a choice of a state. False if it leads to one state more than there may be.
+    #[inline]
+    fn choose(&mut self, state: u32, choice: usize, depth: u32) -> Result<bool, Stop> {
+        self.world.processors = self.processors;
+        self.world.empty_caches();
+        if choice >= self.world.count {
+            if self.turns < self.bounds.from {
+                return Ok(true);
+            }
+            self.world.raise(self.plans[choice - self.world.count].line);
+            self.put_key(self.turns);
+        } else {
+            let line = self.world.turn(choice);
+            let is_idle = self.processors[choice].part == 0 && self.world.processors[choice].part == 0;
+            self.put_key(if is_idle { self.bounds.from } else { self.bounds.from.min(self.turns + 1) });
+            if let Some(line) = line {
+                self.note(Found { cpu: choice as u32, line, state, choice: choice as u8, depth });
+            }
+        }
+        self.world.frames.undo();
+        let reached = self.states.reach(&self.key, state, choice as u8, self.bounds.states)?;
+        Ok(!matches!(reached, Reached::Full))
+    }
+
+    fn note(&mut self, found: Found) {
+        if self.shown.insert((found.cpu, found.line)) {
+            self.found.push(found);
+        }
+    }
+
+    /// The key of the world after a choice.
+    fn put_key(&mut self, turns: u32) {
+        let key = &mut self.key;
+        key.clear();
+        put_number(key, turns);
+        for cpu in 0..self.world.count {
+            put_processor(key, &self.world.processors[cpu]);
+        }
+        if self.world.frames.log.is_empty() {
+            key.extend_from_slice(&self.tail);
+        } else {
+            self.put_changed();
+        }
+    }
+
+    /// The words that differ now: those that did, and those that were changed.
+    fn put_changed(&mut self) {
+        let mut changed: Vec<u32> = self.world.frames.log.iter().map(|&(place, _)| place).collect();
+        changed.sort_unstable();
+        changed.dedup();
+        let mut words = Vec::with_capacity(self.differing.len() + changed.len());
+        let mut before = self.differing.iter().copied().peekable();
+        for place in changed {
+            while let Some(kept) = before.next_if(|kept| kept.0 < place) {
+                words.push(kept);
+            }
+            before.next_if(|kept| kept.0 == place);
+            let word = self.world.frames.word(place);
+            if word != self.base[place as usize] {
+                words.push((place, word));
+            }
+        }
+        words.extend(before);
+        put_words(&mut self.key, &words);
+    }
+
+    fn put_found(&self, output: &mut Output, found: &Found) -> Result<(), Stop> {
+        output.number(found.depth).text(" ").number(found.cpu).text(" ");
+        put_line(output, found.line);
+        output.text(":");
+        let mut way = self.states.way(found.state);
+        way.push(found.choice);
+        for same in way.chunk_by(|one, next| one == next) {
+            let choice = usize::from(same[0]);
+            match choice.checked_sub(self.world.count) {
+                None => output.text(" ").number(choice as u32),
+                Some(plan) => output.text(" raise").number(self.plans[plan].line),
+            };
+            if same.len() > 1 {
+                output.text("x").number(same.len() as u32);
+            }
+        }
+        output.end_line()
+    }
+}
+
+// Keys
+
+/// A number in groups of seven bits, the lowest first.
+#[inline]
+fn put_number(key: &mut Vec<u8>, mut number: u32) {
+    while number >= 0x80 {
+        key.push(number as u8 | 0x80);
+        number >>= 7;
+    }
+    key.push(number as u8);
+}
+
+/// The name, and if it isn't 0 the pc and the registers that aren't 0.
+fn put_processor(key: &mut Vec<u8>, at: &Processor) {
+    put_number(key, at.part);
+    if at.part == 0 {
+        return;
+    }
+    put_number(key, at.context.pc);
+    let registers = &at.context.registers;
+    let mask = registers.iter().rev().fold(0, |mask, &word| mask << 1 | u16::from(word != 0));
+    key.extend_from_slice(&mask.to_le_bytes());
+    registers.iter().filter(|&&word| word != 0).for_each(|&word| put_number(key, word));
+}
+
+/// Words with their places, each by its distance to the one before.
+fn put_words(key: &mut Vec<u8>, words: &[(u32, u32)]) {
+    let mut last = 0;
+    for &(place, word) in words {
+        put_number(key, place - last);
+        put_number(key, word);
+        last = place;
+    }
+}
+
+/// What is left of a key.
+struct Key<'a>(&'a [u8]);
+
+impl Key<'_> {
+    #[inline]
+    fn number(&mut self) -> u32 {
+        let (mut number, mut shift) = (0, 0);
+        loop {
+            let byte = self.0[0];
+            self.0 = &self.0[1..];
+            number |= u32::from(byte & 0x7f) << shift;
+            shift += 7;
+            if byte < 0x80 {
+                return number;
+            }
+        }
+    }
+
+    fn processor(&mut self) -> Processor {
+        let part = self.number();
+        if part == 0 {
+            return Processor::default();
+        }
+        let mut context = Context { pc: self.number(), registers: [0; 16] };
+        let mut mask = u16::from_le_bytes([self.0[0], self.0[1]]);
+        self.0 = &self.0[2..];
+        while mask != 0 {
+            context.registers[mask.trailing_zeros() as usize] = self.number();
+            mask &= mask - 1;
+        }
+        Processor { part, context }
+    }
+}

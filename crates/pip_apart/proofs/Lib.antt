@@ -1,0 +1,13 @@
+pub mod Here
+pub mod Company
+pub mod Running
+pub mod Quiet
+pub mod Root
+pub mod NoLine
+pub mod Testing
+pub mod Kept
+pub mod Marks
+pub mod Searched
+pub mod Machines
+pub mod Turned
+pub mod Telling

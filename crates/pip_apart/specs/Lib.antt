@@ -1,0 +1,4 @@
+pub mod Company
+pub mod Kept
+pub mod Alone
+pub mod Machines

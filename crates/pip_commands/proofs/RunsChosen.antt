@@ -1,0 +1,302 @@
+-- Runs are choices: each step of a run is the raises that are due, and then a turn.
+use Rattle.std.proofs.Common.{◌≡◌, ◌≢◌, ℕ, zero, suc, ◌+◌, ◌-◌, ◌<◌, ◌≤◌, inl, inr, min, List, [], ◌∷◌, ◌++◌}
+use Rattle.std.proofs.Common.{Bool, true, false, length, Option, None, Some, refl, sym, ap, ap₂, ◌∙◌, subst, arith}
+use Rattle.std.proofs.Common.{append-nil, append_assoc, slice_index, nat_lt, if◌then◌else◌}
+use Rattle.std.proofs.lemmas.Bool.Decides.{nat_tests}
+use Rattle.pip_base.specs.Memory.{Memory}
+use Rattle.pip_base.specs.declared.outcome.Outcome.{Outcome}
+use Rattle.pip_base.specs.declared.outcome.Outcome.TheVariants as O
+use Rattle.pip_base.specs.declared.types.Ctx.{Ctx}
+use Rattle.pip_base.specs.declared.types.Plan.{Plan}
+use Rattle.pip_every.specs.Keys.{model_of}
+use Rattle.pip_every.specs.Moments.{Moment, Scope, choice_acts, turns_after}
+use Rattle.pip_every.proofs.Choosing.{more_turns, raise_chosen, same_turns, turn_chosen}
+use Rattle.pip_model.specs.Acts.{Act, Makes, Writes, after_acts, events_made, text_of}
+use Rattle.pip_model.specs.Due.{is_due}
+use Rattle.pip_model.specs.Effects.{word_effect}
+use Rattle.pip_model.specs.Events as E
+use Rattle.pip_model.specs.Events.{Event}
+use Rattle.pip_model.specs.Happens.{after}
+use Rattle.pip_model.specs.InstrRead.{instr_of}
+use Rattle.pip_model.specs.Lists.{In}
+use Rattle.pip_model.specs.Run.{image_world, raises, schedule, step, steps, trace_image_line}
+use Rattle.pip_model.specs.Turn.{acts_after_fetch, acts_after_poll, effect_acts, fetch_acts, load_acts, outcome_of}
+use Rattle.pip_model.specs.Turn.{store_acts, turn, turn_end, word_acts, world_of}
+use Rattle.pip_model.specs.Worlds.{World, runs_on}
+use Rattle.pip_model.specs.declared.effect.Effect.{Effect}
+use Rattle.pip_model.specs.declared.effect.Effect.TheVariants as F
+use Rattle.pip_model.specs.declared.processors.Occupant.{Occupant}
+use Rattle.pip_model.specs.declared.turn_end.TurnEnd.{TurnEnd}
+use Rattle.pip_model.specs.declared.turn_end.TurnEnd.TheVariants as N
+use Rattle.pip_model.proofs.OnLists.Acts.{after-append, after-events, text-append, text-raises, text-trace}
+use Rattle.pip_search.specs.Reached.{IsCovered}
+use Rattle.pip_search.specs.Systems.{after_choices}
+use Rattle.pip_search.specs.declared.searching.Extent.{Extent}
+use Rattle.pip_search.specs.declared.searching.Extent.TheVariants.{Closed}
+use Rattle.pip_commands.specs.Dues.{image_scope}
+use Rattle.pip_commands.specs.RunLaw.{AreChosen, AreLinesOf, ArePlansFrom, CanCome, ClosedNamesRuns}
+use Rattle.pip_commands.specs.RunLaw.{IsNamedBy, RunsAreChoices, acts_chosen, image_moment}
+use Rattle.pip_commands.proofs.EveryLines.{lines_are_of_runs}
+
+-- ---- a turn makes the same events at each step
+
+load_events : (t cpu : ℕ) (x : Ctx) (a : ℕ) (o : Outcome)
+    → events_made (load_acts t cpu x a o) ≡ events_made (load_acts 0 cpu x a o)
+load_events t cpu x a (O.Word v) = refl
+load_events t cpu x a O.Done = refl
+load_events t cpu x a (O.Reply s v) = refl
+load_events t cpu x a (O.Switched from to k) = refl
+load_events t cpu x a (O.Parked from k) = refl
+load_events t cpu x a O.Idle = refl
+
+store_events : (t cpu : ℕ) (x : Ctx) (o : Outcome)
+    → events_made (store_acts t cpu x o) ≡ events_made (store_acts 0 cpu x o)
+store_events t cpu x (O.Word v) = refl
+store_events t cpu x O.Done = refl
+store_events t cpu x (O.Reply s v) = refl
+store_events t cpu x (O.Switched from to k) = refl
+store_events t cpu x (O.Parked from k) = refl
+store_events t cpu x O.Idle = refl
+
+effect_events : (w : World) (t cpu : ℕ) (x : Ctx) (e : Effect)
+    → events_made (effect_acts w t cpu x e) ≡ events_made (effect_acts w 0 cpu x e)
+effect_events w t cpu x (F.Sets a v) = refl
+effect_events w t cpu x (F.Goes pc) = refl
+effect_events w t cpu x (F.Links a pc) = refl
+effect_events w t cpu x (F.Loads a va size) =
+    ap (λ es. E.Load cpu va size ∷ es) (load_events t cpu x a (outcome_of w (E.Load cpu va size)))
+effect_events w t cpu x (F.Stores va v size) =
+    ap (λ es. E.Store cpu va size v ∷ es) (store_events t cpu x (outcome_of w (E.Store cpu va size v)))
+effect_events w t cpu x (F.Traps k a b) = refl
+effect_events w t cpu x (F.Interrupts k) = refl
+effect_events w t cpu x (F.Calls n) = refl
+effect_events w t cpu x (F.Shows v) = refl
+
+word_events : (w : World) (t cpu v : ℕ) (o : Option Occupant)
+    → events_made (word_acts w t cpu v o) ≡ events_made (word_acts w 0 cpu v o)
+word_events w t cpu v None = refl
+word_events w t cpu v (Some r) = effect_events w t cpu r.ctx (word_effect r.ctx v (instr_of v))
+
+fetched_events : (w : World) (t cpu : ℕ) (o : Outcome)
+    → events_made (acts_after_fetch w t cpu o) ≡ events_made (acts_after_fetch w 0 cpu o)
+fetched_events w t cpu (O.Word v) = word_events w t cpu v (runs_on w cpu)
+fetched_events w t cpu O.Done = refl
+fetched_events w t cpu (O.Reply s v) = refl
+fetched_events w t cpu (O.Switched from to k) = refl
+fetched_events w t cpu (O.Parked from k) = refl
+fetched_events w t cpu O.Idle = refl
+
+fetch_events : (w : World) (t cpu : ℕ) → events_made (fetch_acts w t cpu) ≡ events_made (fetch_acts w 0 cpu)
+fetch_events w t cpu = ap (λ es. E.Fetch cpu ∷ es)
+    (fetched_events (world_of w (E.Fetch cpu)) t cpu (outcome_of w (E.Fetch cpu)))
+
+polled_events : (w : World) (t cpu : ℕ) (o : Outcome)
+    → events_made (acts_after_poll w t cpu o) ≡ events_made (acts_after_poll w 0 cpu o)
+polled_events w t cpu (O.Switched from to k) = refl
+polled_events w t cpu O.Idle = refl
+polled_events w t cpu (O.Word v) = fetch_events w t cpu
+polled_events w t cpu O.Done = fetch_events w t cpu
+polled_events w t cpu (O.Reply s v) = fetch_events w t cpu
+polled_events w t cpu (O.Parked from k) = fetch_events w t cpu
+
+turn_events : (w : World) (cpu t : ℕ) → events_made (turn w cpu t) ≡ events_made (turn w cpu 0)
+turn_events w cpu t =
+    ap (λ es. E.Poll cpu ∷ es) (polled_events (world_of w (E.Poll cpu)) t cpu (outcome_of w (E.Poll cpu)))
+
+events-append : (xs ys : List Act) → events_made (xs ++ ys) ≡ events_made xs ++ events_made ys
+events-append [] ys = refl
+events-append (Makes e ∷ xs) ys = ap (λ es. e ∷ es) (events-append xs ys)
+events-append (Writes l ∷ xs) ys = events-append xs ys
+
+-- ---- one choice more
+
+-- where a number stands in a list
+record StandsAt (xs : List ℕ) (x : ℕ) : Type 0 where
+  place : ℕ
+  within : place < length xs
+  is : slice_index xs place ≡ x
+
+place_in : (x : ℕ) (xs : List ℕ) → In x xs → StandsAt xs x
+place_in x [] i = absurd i
+place_in x (y ∷ ys) (inl e) = record { place = 0; within = omega arith; is = sym e }
+place_in x (y ∷ ys) (inr i) =
+    let s : StandsAt ys x = place_in x ys i in
+    record { place = suc s.place; within = omega (arith, s.within); is = s.is }
+
+-- a line that is due is so at its first step or later
+due_late : (p : Plan) (t : ℕ) → is_due p t ≡ true → p.first ≤ t
+due_late p t e = grind (arith, nat_tests)
+
+-- after a turn one more was made, as far as they are counted
+counted : (from n t : ℕ) → min t from ≤ n → min (t + 1) from ≤ (if nat_lt n from then suc n else n)
+counted from n t h = grind (arith, nat_tests)
+
+late_after : (from n t : ℕ) (e : TurnEnd) → min t from ≤ n → min (t + 1) from ≤ turns_after from n e
+late_after from n t (N.Polled O.Idle) h = omega arith
+late_after from n t e h = counted from n t h
+
+module _ (first : Memory) (g : Scope) (m : Moment) where
+  -- the moment after choices
+  abbrev at : List ℕ → Moment
+  at cs = after_choices (model_of first g) m cs
+
+  -- acts up to step t are those of choices, by which as many turns were made as have to be counted
+  record IsAt (acts : List Act) (t : ℕ) : Type 0 where
+    chosen : AreChosen first g m acts
+    late : min t g.from ≤ (at chosen.choices).turns
+
+  -- acts that make the events of one choice more
+  more : (acts new : List Act) (c : ℕ) (h : AreChosen first g m acts) → c < g.cpus + length g.lines
+      → events_made new ≡ events_made (choice_acts g (at h.choices) c) → AreChosen first g m (acts ++ new)
+  more acts new c h can same = record {
+    choices = c ∷ h.choices;
+    can = (can, h.can);
+    events = events-append acts new ∙ (ap₂ (λ a b. a ++ b) h.events same
+        ∙ sym (events-append (acts_chosen first g m h.choices) (choice_acts g (at h.choices) c)));
+    world = after-append m.world acts new ∙ (ap (λ w. after_acts w new) h.world
+        ∙ (after-events (at h.choices).world new ∙ (ap (after (at h.choices).world) same
+        ∙ sym (after-events (at h.choices).world (choice_acts g (at h.choices) c)))));
+  }
+
+  -- a line is raised
+  raised : (acts : List Act) (t j : ℕ) → In j g.lines → g.from ≤ t → IsAt acts t
+      → IsAt (acts ++ Makes (E.Raise j) ∷ []) t
+  unfolding more
+  raised acts t j i time h =
+      let s : StandsAt g.lines j = place_in j g.lines i in
+      let k : ℕ = g.cpus + s.place in
+      let above : g.cpus ≤ k = omega arith in
+      let there : k - g.cpus ≡ s.place = omega arith in
+      let now : g.from ≤ (at h.chosen.choices).turns = omega (arith, time, h.late) in
+      let is : choice_acts g (at h.chosen.choices) k ≡ Makes (E.Raise j) ∷ [] =
+      raise_chosen g (at h.chosen.choices) k above now
+      ∙ ap (λ l. Makes (E.Raise l) ∷ []) (ap (slice_index g.lines) there ∙ s.is) in
+      record {
+        chosen = more acts (Makes (E.Raise j) ∷ []) k h.chosen (omega (arith, s.within)) (ap events_made (sym is));
+        late = subst (λ n. min t g.from ≤ n) (sym (same_turns g (at h.chosen.choices) k above)) h.late;
+      }
+
+  -- the lines that are due are raised
+  all_raised : (ps : List Plan) (acts : List Act) (t : ℕ) → ArePlansFrom g.lines g.from ps → IsAt acts t
+      → IsAt (acts ++ raises ps t) t
+  all_raised [] acts t are h = subst (λ v. IsAt v t) (sym (append-nil acts)) h
+  all_raised (p ∷ ps) acts t are h = by (is_due p t) refl (λ v k. all_raised ps v t are.1 k)
+    where
+      by : (b : Bool) → is_due p t ≡ b → ((v : List Act) → IsAt v t → IsAt (v ++ raises ps t) t)
+          → IsAt (acts ++ (if b then Makes (E.Raise p.line) ∷ raises ps t else raises ps t)) t
+      by true due others =
+          let late : g.from ≤ t = omega (arith, due_late p t due, are.0.1) in
+          subst (λ v. IsAt v t) (append_assoc acts (Makes (E.Raise p.line) ∷ []) (raises ps t))
+          (others (acts ++ Makes (E.Raise p.line) ∷ []) (raised acts t p.line are.0.0 late h))
+      by false due others = others acts h
+
+  -- a processor has its turn
+  turned : (acts : List Act) (t k : ℕ) → k < g.cpus → (h : IsAt acts t)
+      → IsAt (acts ++ turn (after_acts m.world acts) k t) (t + 1)
+  unfolding more
+  turned acts t k lt h =
+      let here = at h.chosen.choices in
+      let is : choice_acts g here k ≡ turn (after_acts m.world acts) k 0 =
+      turn_chosen g here k lt ∙ ap (λ w. turn w k 0) (sym h.chosen.world) in
+      record {
+        chosen = more acts (turn (after_acts m.world acts) k t) k h.chosen (omega (arith, lt))
+            (turn_events (after_acts m.world acts) k t ∙ ap events_made (sym is));
+        late = subst (λ n. min (t + 1) g.from ≤ n) (sym (more_turns g here k lt))
+            (late_after g.from here.turns t (turn_end here.world k) h.late);
+      }
+
+  -- what it shows can come
+  shown : (acts : List Act) (t k : ℕ) → k < g.cpus → (h : IsAt acts t)
+      → CanCome first g m (text_of (turn (after_acts m.world acts) k 0))
+  shown acts t k lt h =
+      let here = at h.chosen.choices in
+      let is : choice_acts g here k ≡ turn (after_acts m.world acts) k 0 =
+      turn_chosen g here k lt ∙ ap (λ w. turn w k 0) (sym h.chosen.world) in
+      (k ∷ h.chosen.choices, ((omega (arith, lt), h.chosen.can), ap text_of (sym is)))
+
+  -- ---- the steps
+
+  module _ (ps : List Plan) (seed : ℕ) (are : ArePlansFrom g.lines g.from ps) (some : 1 ≤ g.cpus) where
+    -- after some acts: n steps more
+    on : (n t : ℕ) (acts : List Act) → IsAt acts t
+        → AreChosen first g m (acts ++ steps (after_acts m.world acts) ps seed g.cpus n t)
+        × AreLinesOf (CanCome first g m) t n (text_of (steps (after_acts m.world acts) ps seed g.cpus n t))
+    on zero t acts h = (subst (AreChosen first g m) (sym (append-nil acts)) h.chosen, refl)
+    on (suc n) t acts h =
+        let w : World = after_acts m.world acts in
+        let k : ℕ = schedule seed g.cpus t in
+        let lt : k < g.cpus = omega (arith, some) in
+        let rs : List Act = raises ps t in
+        let r : IsAt (acts ++ rs) t = all_raised ps acts t are h in
+        let w' : World = after_acts w rs in
+        let same : after_acts m.world (acts ++ rs) ≡ w' = after-append m.world acts rs in
+        let turn_is : List Act = turn w' k t in
+        let one : IsAt ((acts ++ rs) ++ turn_is) (t + 1) =
+        subst (λ v. IsAt ((acts ++ rs) ++ turn v k t) (t + 1)) same (turned (acts ++ rs) t k lt r) in
+        let st : List Act = step w ps k t in
+        let all : (acts ++ rs) ++ turn_is ≡ acts ++ st = append_assoc acts rs turn_is in
+        let next : IsAt (acts ++ st) (t + 1) = subst (λ v. IsAt v (t + 1)) all one in
+        let there : after_acts m.world (acts ++ st) ≡ after_acts w st = after-append m.world acts st in
+        let rest = on n (t + 1) (acts ++ st) next in
+        let others : List Act = steps (after_acts w st) ps seed g.cpus n (t + 1) in
+        let label : CanCome first g m (text_of (turn w' k 0)) =
+        subst (λ v. CanCome first g m (text_of (turn v k 0))) same (shown (acts ++ rs) t k lt r) in (
+          subst (AreChosen first g m) (append_assoc acts st others)
+              (subst (λ v. AreChosen first g m ((acts ++ st) ++ steps v ps seed g.cpus n (t + 1))) there rest.0),
+          record {
+            label = text_of (turn w' k 0);
+            line = text_of turn_is;
+            rest = text_of others;
+            whole = text-append st others ∙ ap (λ v. v ++ text_of others)
+                (text-append rs turn_is ∙ ap (λ v. v ++ text_of turn_is) (text-raises ps t));
+            same = lines_are_of_runs w' k t;
+            known = λ _. label;
+            goes_on = subst (λ v. AreLinesOf (CanCome first g m) (t + 1) n
+                (text_of (steps v ps seed g.cpus n (t + 1)))) there rest.1;
+          },
+        )
+
+pub runs_are_choices : RunsAreChoices
+runs_are_choices i from ps seed n first some are =
+    let g : Scope = image_scope i from in
+    let m : Moment = image_moment i in
+    on first g m ps seed are some n 0 [] (record {
+      chosen = record { choices = []; can = tt; events = refl; world = refl };
+      late = omega arith;
+    })
+
+-- ---- a search that closed
+
+lines_known : (P Q : List ℕ → Type 0) (n t : ℕ) (text : List ℕ)
+    → ((label : List ℕ) → label ≢ [] → P label → Q label) → AreLinesOf P t n text → AreLinesOf Q t n text
+lines_known P Q zero t text f h = h
+lines_known P Q (suc n) t text f h = record {
+  label = h.label;
+  line = h.line;
+  rest = h.rest;
+  whole = h.whole;
+  same = h.same;
+  known = λ some. f h.label some (h.known some);
+  goes_on = lines_known P Q n (t + 1) h.rest f h.goes_on;
+}
+
+pub closed_names_runs : ClosedNamesRuns
+closed_names_runs states from depth most i v s closed ps seed n are =
+    let g : Scope = image_scope i from in
+    let m : Moment = image_moment i in
+    let k = s.told.counted.all [] tt (covered s.verdict 0 closed) in
+    let some : 1 ≤ i.cpus = omega (arith, k.stands.stands.sound.at_least_one, k.stands.cpus) in
+    let r = runs_are_choices i from ps seed n s.first some are in
+    record {
+      lines = text_of (steps (image_world i) ps seed i.cpus n 0);
+      whole = text-trace (image_world i) (trace_image_line i.frames i.cpus (length ps) (length i.pages)) ps seed i.cpus
+          n;
+      steps_are = lines_known (CanCome s.first g m) (IsNamedBy s.found) n 0
+          (text_of (steps (image_world i) ps seed i.cpus n 0))
+          (λ label nonempty can.
+          let w = s.told.all label can.0 can.1 nonempty (covered s.verdict (length can.0) closed) in
+          record { place = w.place; witness = w.witness; at = w.at; same = w.same }) r.1;
+    }
+  where
+    covered : (d : Extent) (k : ℕ) → d ≡ Closed depth → IsCovered d k
+    covered d k e = subst (λ x. IsCovered x k) (sym e) tt

@@ -1,0 +1,138 @@
+-- That what a run does, by any seed and with lines at any steps, is among the choices of `every`; and what a search
+-- that closed says of it.
+use Rattle.std.specs.Prelude.{◌≡◌, ◌≢◌, ℕ, zero, suc, ◌+◌, ◌-◌, ◌<◌, ◌≤◌, List, [], ◌∷◌, ◌++◌, length, Option, Some}
+use Rattle.std.specs.Prelude.{if◌then◌else◌, nat_lt, slice_get, slice_index}
+use Rattle.std.specs.List.{AllByRecursion}
+use Rattle.pip_base.specs.Memory.{Memory}
+use Rattle.pip_base.specs.declared.types.Plan.{Plan}
+use Rattle.pip_every.specs.Keys.{model_of}
+use Rattle.pip_every.specs.Moments.{Moment, Scope, choice_acts, first_moment}
+use Rattle.pip_model.specs.Acts.{Act, Makes, after_acts, events_made, text_of}
+use Rattle.pip_model.specs.Events as E
+use Rattle.pip_model.specs.Images.{Image, image_word}
+use Rattle.pip_model.specs.Lists.{In}
+use Rattle.pip_model.specs.Run.{end_line, image_world, run_text, steps, trace_image_line}
+use Rattle.pip_model.specs.Turn.{turn}
+use Rattle.pip_model.specs.Worlds.{World}
+use Rattle.pip_search.specs.Reached.{AreChoices}
+use Rattle.pip_search.specs.Summary.{IsShownOn, Witness}
+use Rattle.pip_search.specs.Systems.{after_choices}
+use Rattle.pip_search.specs.declared.searching.Extent.TheVariants.{Closed}
+use Rattle.pip_commands.specs.Dues.{IsSearched, image_scope}
+use Rattle.pip_commands.specs.EndsBy.{Response}
+use Rattle.pip_commands.specs.EveryLaw.{IsLineAt}
+use Rattle.pip_commands.specs.EveryText.{lines_planned}
+
+-- ---- acts as choices
+
+-- plans that raise these lines alone, and none before the step `from`
+abbrev pub ArePlansFrom : List ℕ → ℕ → List Plan → Type 0
+ArePlansFrom lines from plans = AllByRecursion (λ p. In p.line lines × (from ≤ p.first)) plans
+
+-- what choices do one after another, the last of which stands first
+abbrev pub acts_chosen : Memory → Scope → Moment → List ℕ → List Act
+acts_chosen first g m [] = []
+acts_chosen first g m (c ∷ cs) = acts_chosen first g m cs ++ choice_acts g (after_choices (model_of first g) m cs) c
+
+-- choices from a moment on make the same events as these acts, and lead to the world after them
+pub record AreChosen (first : Memory) (g : Scope) (m : Moment) (acts : List Act) : Type 0 where
+  pub choices : List ℕ
+  pub can : AreChoices (model_of first g) choices
+  pub events : events_made acts ≡ events_made (acts_chosen first g m choices)
+  pub world : after_acts m.world acts ≡ (after_choices (model_of first g) m choices).world
+
+-- ---- texts, step by step
+
+-- a text begins with nothing, or with the line at step t of a label of which P holds; of what comes after it Q holds
+pub record BeginsAtStep (P : List ℕ → Type 0) (t : ℕ) (Q : List ℕ → Type 0) (text : List ℕ) : Type 0 where
+  pub label : List ℕ
+  pub line : List ℕ
+  pub rest : List ℕ
+  pub whole : text ≡ line ++ rest
+  pub same : IsLineAt t label line
+  pub known : label ≢ [] → P label
+  pub goes_on : Q rest
+
+-- a text is that of n steps from step t on: each shows nothing, or a label of which P holds
+abbrev pub AreLinesOf : (List ℕ → Type 0) → ℕ → ℕ → List ℕ → Type 0
+AreLinesOf P t zero text = text ≡ []
+AreLinesOf P t (suc n) text = BeginsAtStep P t (AreLinesOf P (t + 1) n) text
+
+-- a text is a trace of n steps of an image, of whose labels P holds
+pub record IsTraceOf (P : List ℕ → Type 0) (i : Image) (n : ℕ) (text : List ℕ) : Type 0 where
+  pub lines : List ℕ
+  pub whole : text ≡ trace_image_line i.frames i.cpus (length i.plans) (length i.pages) ++ (lines ++ end_line n)
+  pub steps_are : AreLinesOf P 0 n lines
+
+-- ---- the laws
+
+-- some choices from a moment on show a label
+abbrev pub CanCome : Memory → Scope → Moment → List ℕ → Type 0
+CanCome first g m label = (cs : List ℕ) × IsShownOn (model_of first g) m label cs
+
+-- the first moment of an image
+abbrev pub image_moment : Image → Moment
+image_moment i = first_moment (image_word i.frames i.pages) i.frames i.cpus
+
+-- what any number of steps of an image do, by any seed and with any plans of its lines that raise none before the step
+-- `from`, choices do; and what they write are, step by step, lines that choices show. (The frames are only those with
+-- which keys of moments compare.)
+abbrev pub RunsAreChoices : Type 0
+RunsAreChoices = (i : Image) (from : ℕ) (plans : List Plan) (seed n : ℕ) (first : Memory) → 1 ≤ i.cpus
+    → ArePlansFrom (lines_planned i.plans) from plans
+    → AreChosen first (image_scope i from) (image_moment i) (steps (image_world i) plans seed i.cpus n 0)
+    × AreLinesOf (CanCome first (image_scope i from) (image_moment i)) 0 n
+    (text_of (steps (image_world i) plans seed i.cpus n 0))
+
+-- how many of these choices are turns
+abbrev pub turns_made_by : ℕ → List ℕ → ℕ
+turns_made_by cpus [] = 0
+turns_made_by cpus (c ∷ cs) = if nat_lt c cpus then suc (turns_made_by cpus cs) else turns_made_by cpus cs
+
+-- no line is raised before that many turns, each counted alone, also that of a processor that runs nothing. The last
+-- choice stands first
+abbrev pub KeepsTime : Scope → List ℕ → Type 0
+KeepsTime g [] = Unit {0}
+KeepsTime g (c ∷ cs) = (g.cpus ≤ c → g.from ≤ turns_made_by g.cpus cs) × KeepsTime g cs
+
+-- what a choice does in a world, whatever the time
+abbrev pub acts_in : Scope → World → ℕ → List Act
+acts_in g w k = if nat_lt k g.cpus then turn w k 0 else Makes (E.Raise (slice_index g.lines (k - g.cpus))) ∷ []
+
+-- the world after choices
+abbrev pub world_in : Scope → World → List ℕ → World
+world_in g w [] = w
+world_in g w (c ∷ cs) = after_acts (world_in g w cs) (acts_in g (world_in g w cs) c)
+
+-- a label is shown by turns and raises that keep the time
+pub record IsShownInTime (g : Scope) (w : World) (label : List ℕ) : Type 0 where
+  pub last : ℕ
+  pub before : List ℕ
+  pub can : AllByRecursion (λ c. c < g.cpus + length g.lines) (last ∷ before)
+  pub keeps : KeepsTime g (last ∷ before)
+  pub shows : label ≡ text_of (acts_in g (world_in g w before) last)
+
+-- the other way: what choices show is shown by turns and raises that keep the time. So it does no harm that an idle
+-- turn stands for all that are left
+abbrev pub ChoicesKeepTime : Type 0
+ChoicesKeepTime = (g : Scope) (w : World) (first : Memory) (label : List ℕ) → label ≢ []
+    → CanCome first g (record { world = w; turns = 0 }) label → IsShownInTime g w label
+
+-- a label is among those that a search names
+pub record IsNamedBy (ws : List Witness) (label : List ℕ) : Type 0 where
+  pub place : ℕ
+  pub witness : Witness
+  pub at : slice_get ws place ≡ Some witness
+  pub same : witness.label ≡ label
+
+-- an image with other plans
+abbrev pub with_plans : Image → List Plan → Image
+with_plans i plans = record i { plans = plans }
+
+-- where `every` closes on an image, it names each line of each run, by any seed, of any number of steps and with any
+-- plans of the image's lines that raise none before the step `from`
+abbrev pub ClosedNamesRuns : Type 0
+ClosedNamesRuns = (states from depth : ℕ) (most : Option ℕ) (i : Image) (v : Response)
+    (s : IsSearched states from most i v) → s.verdict ≡ Closed depth → (plans : List Plan) (seed n : ℕ)
+    → ArePlansFrom (lines_planned i.plans) from plans
+    → IsTraceOf (IsNamedBy s.found) (with_plans i plans) n (run_text (with_plans i plans) n seed)

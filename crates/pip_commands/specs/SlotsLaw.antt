@@ -1,0 +1,40 @@
+-- That what `slots` writes of a child is a matter of that child alone: two inputs that agree on the child have the same
+-- bytes in its slots.
+use Rattle.std.specs.List.{concat}
+use Rattle.std.specs.Prelude.{◌≡◌, ℕ, ◌+◌, ◌*◌, ◌%◌, ◌≤◌, ◌<◌, List, ◌++◌, length, Ok, Some, slice_get}
+use Rattle.pip_asm.specs.Laws.{AreBytes}
+use Rattle.pip_model.specs.Images.{Image, image}
+use Rattle.pip_model.specs.Run.{end_line, trace_image_line}
+use Rattle.pip_slots.specs.Images.{AgreeOnChild, steps_in_turn}
+use Rattle.pip_watch.specs.Watching.{addresses, built_from}
+use Rattle.pip_commands.specs.Dues.{slots_due}
+use Rattle.pip_commands.specs.EndsBy.{Response}
+use Rattle.pip_commands.specs.RunLaw.{AreLinesOf}
+
+-- a text of n children with slots of this many turns in turn, cut into what its slots write: after the image line and
+-- the lines of the children the texts of all slots, in which each line is of a step of its slot, and then the last line
+pub record AreSlotTexts (i : Image) (n turns c : ℕ) (texts : List (List ℕ)) (text : List ℕ) : Type 0 where
+  pub count : length texts ≡ c * n
+  pub whole : text ≡ trace_image_line i.frames i.cpus (length i.plans) (length i.pages)
+      ++ (built_from 0 (addresses n n) ++ (concat texts ++ end_line (steps_in_turn n turns c)))
+  pub lines : (j : ℕ) (slot : List ℕ) → slice_get texts j ≡ Some slot
+      → AreLinesOf (λ label. Unit {0}) (j * (turns + 2)) (turns + 2) slot
+
+-- two answers are such texts, and what the slots of child k write is the same in both
+pub record AreSameForChild (a b : Image) (n k turns c : ℕ) (v u : Response) : Type 0 where
+  pub text : List ℕ
+  pub other : List ℕ
+  pub text_is : v.last ≡ Some text
+  pub other_is : u.last ≡ Some other
+  pub texts : List (List ℕ)
+  pub others : List (List ℕ)
+  pub are : AreSlotTexts a n turns c texts text
+  pub others_are : AreSlotTexts b n turns c others other
+  pub same : (j : ℕ) → j < c * n → j % n ≡ k → slice_get texts j ≡ slice_get others j
+
+-- of two inputs that have child k in common `slots` writes the same for it, whatever they have for the other children
+abbrev pub ChildrenAreSeparate : Type 0
+ChildrenAreSeparate = (input other : List ℕ) (a b : Image) (n k turns c : ℕ) (v u : Response) → AreBytes input
+    → AreBytes other → image input ≡ Ok a → image other ≡ Ok b → k < n → n ≤ 8 → AgreeOnChild n k a b
+    → (slots_due n turns c).answer input v → (slots_due n turns c).answer other u → v.status ≡ 0 → u.status ≡ 0
+    → AreSameForChild a b n k turns c v u

@@ -1,0 +1,40 @@
+//! The command `slots`: children of the root of an image, each of which has time slots.
+ghost use Rattle.std.specs.Prelude.{◌≡◌, ◌≢◌, ◌≤◌, ◌<◌, ◌^◌, []};
+ghost use Rattle.pip_slots.specs.Images.{steps_in_turn};
+ghost use Rattle.pip_commands.specs.EndsBy.{EndsBy};
+ghost use Rattle.pip_commands.specs.Dues.{slots_due};
+ghost use Rattle.pip_commands.specs.Pacing.{IsPaced};
+ghost use Rattle.pip_commands.specs.Streams.{streams};
+
+use super::children::children;
+use super::children::scheduling::Scheduling;
+use crate::ended::Ended;
+use pip_io::{Sink, Source};
+use std::alloc::Global;
+use std::marker::Brand;
+use std::sync::ledger::Blank;
+
+/// Builds `n` children of the root of an image, 1 to 8, and writes the trace of `rounds` rounds in which each has a
+/// slot of `turns` turns in turn (docs/FORMATS.md, "slots"). At status 0 the machine is handed back.
+pub fn slots<S: Source, K: Sink>(
+    alloc: Global,
+    n: u32,
+    turns: u32,
+    rounds: u32,
+    source: &mut S,
+    sink: &mut K,
+) -> Ended
+    requires none { (K.written sink.old).held ≡ [] }
+    requires least { 1 ≤ n }
+    requires most { n ≤ 8 }
+    requires steps { steps_in_turn n turns rounds < 2 ^ 32 }
+    requires paced { IsPaced (slots_due n turns rounds) (S.is_open source.old) S.allows
+        (streams S.left S.faults K.written K.faults source.old sink.old) }
+    ensures ends { EndsBy (slots_due n turns rounds) result.status result.machine
+        (streams S.left S.faults K.written K.faults source.old sink.old)
+        (streams S.left S.faults K.written K.faults source.new sink.new) }
+    ensures none { result.status ≢ 4 → (K.written sink.new).held ≡ [] }
+{
+    let scheduling = Scheduling::Slots { turns, rounds };
+    children::<S, K, Brand>(alloc, n, scheduling, source, sink, Blank::new(1))
+}

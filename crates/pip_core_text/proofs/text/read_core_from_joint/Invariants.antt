@@ -1,0 +1,21 @@
+use Rattle.std.proofs.Common.{◌≡◌, ◌+◌, ◌-◌, ◌*◌, ◌^◌, ◌≤◌, length}
+use Rattle.pip_input.specs.Lines.{still}
+use Rattle.pip_core_text.specs.CoreRead.{state_at}
+use Rattle.pip_core_text.proofs.Reading.{IsAt}
+use Rattle.pip_core_text.proofs.Rising.{IsPlaced, weight}
+use Rattle.pip_core_text.proofs.text.read_core_from_joint.Given as goal
+
+abbrev pub invariant-loop-k : goal.invariant-loop-k
+invariant-loop-k g l = let n = length (g.M.Frames.memory l.fn.mem) in record {
+  at : IsAt n l.k (state_at l.place (g.M.Frames.memory l.mem)) l.input.bytes (g.S.Source.left l.fn.joint.source.now)
+      (g.S.Source.left l.joint.source.now);
+  placed : IsPlaced n l.place.frame l.place.group;
+  rose : 8 * (l.k - 1) ≤ weight l.place.frame l.place.group;
+  first : 1 ≤ l.k;
+  room : 2 ^ 26 ≤ still l.input + 121 * (l.k - 1);
+  count : length (g.M.Frames.memory l.mem) ≡ n;
+  name : l.joint.source.ghost_name ≡ l.fn.joint.source.ghost_name;
+  sink : l.joint.sink ≡ l.fn.joint.sink;
+  is_open : g.S.Source.is_open l.joint.source.now;
+  calm : g.S.Source.faults l.joint.source.now ≡ g.S.Source.faults l.fn.joint.source.now;
+}

@@ -1,0 +1,62 @@
+use Rattle.std.proofs.Common.{arith, sym, subst, ap, ◌∙◌, ◌≡◌, ◌≤◌, ◌+◌, ◌∷◌, []}
+use Rattle.std.specs.Prelude.{length}
+use Rattle.pip_search.specs.Certificates.{IsClosedPart}
+use Rattle.pip_search.specs.Parts.{IsGrowing, portion_of, stop_at, stops}
+use Rattle.pip_search.specs.Systems.{IsKey}
+use Rattle.pip_search.proofs.Parting.{all_closed, first_grows, has_new}
+use Rattle.pip_search.proofs.parts.check_part.Goals as goal
+
+pub meet_all-requires-clause-key : goal.meet_all-requires-clause-key
+meet_all-requires-clause-key g c = subst (λ b. IsKey (g.S.System.model b) c.args.start.now)
+    (sym c.loop-i.invariant.base) c.requires.key
+
+pub meet_all-requires-clause-growing : goal.meet_all-requires-clause-growing
+meet_all-requires-clause-growing g c = subst
+    (λ b. IsGrowing (g.S.System.model b) c.args.start.now c.loop-i.part c.loop-i.i 0)
+    (sym c.loop-i.invariant.base) c.loop-i.invariant.growing
+
+pub returns-clause-closed : goal.returns-clause-closed
+returns-clause-closed g c = λ p e.
+    let m = g.S.System.model (g.S.System.base c.args.system.now) in
+    let part = c.loop-i.part in
+    let same : part ≡ p = cc in
+    let whole : length part.keys.items ≤ c.loop-i.i = omega (
+      arith,
+      c.loop-i-test.false,
+      c.len.ensures,
+      part.keys.ok.0,
+    ) in
+    subst (λ q. IsClosedPart m (portion_of q)) same
+    (all_closed m c.args.start.now part c.loop-i.i c.loop-i.invariant.growing whole)
+
+pub loop-i-init : goal.loop-i-init
+loop-i-init g c =
+    let m = g.S.System.model (g.S.System.base c.args.system.now) in
+    let start = c.args.start.now in
+    let p = c.in_ok-part.part in
+    let from = c.walk.new.buffers.from.items in
+    let n = length c.args.way.now in
+    let keys : stops p.keys.items ≡ stop_at from n ∷ [] = c.in_ok-part.ensures.keys in
+    record {
+      base = c.in_ok-walk.ensures.base;
+      growing = first_grows m start p (stop_at from n) (c.in_ok-walk.ensures.reached c.if-not-branch.false) keys
+          c.in_ok-part.ensures.found c.in_ok-part.ensures.labels;
+      within = omega arith;
+      begins = λ none.
+          let few : n ≡ 0 = ap length none in
+          has_new [] (stops p.keys.items) start 0
+          (keys ∙ ap (λ k. stop_at k n ∷ []) (c.in_ok-walk.ensures.stays none) ∙ ap (λ k. stop_at start k ∷ []) few);
+      few = let one = c.in_ok-part.ensures.count in omega arith;
+    }
+
+pub loop-i-preserved : goal.loop-i-preserved
+loop-i-preserved g c =
+    let m = g.S.System.model (g.S.System.base c.args.system.now) in
+    record {
+      base = c.in_ok-at.ensures.base ∙ c.loop-i.invariant.base;
+      growing = subst (λ b. IsGrowing (g.S.System.model b) c.args.start.now c.meet_all.new.part (c.loop-i.i + 1) 0)
+          c.loop-i.invariant.base c.in_ok-at.ensures.growing;
+      within = c.in_ok-at.ensures.within;
+      begins = λ none. c.in_ok-at.ensures.keeps c.args.start.now 0 (c.loop-i.invariant.begins none);
+      few = let a = c.in_ok-at.ensures.few in let b = c.loop-i.invariant.few in omega arith;
+    }

@@ -1,0 +1,15 @@
+pub mod Kids
+pub mod Roots
+pub mod Ready
+pub mod Walk
+pub mod Own
+pub mod Opening
+pub mod Closing
+pub mod Others
+pub mod Slots
+pub mod Sounds
+pub mod Stages
+pub mod Twins
+pub mod Images
+pub mod Making
+pub mod Progressing

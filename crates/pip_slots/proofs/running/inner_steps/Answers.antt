@@ -1,0 +1,38 @@
+use Rattle.std.proofs.Common.{◌≡◌, ◌+◌, ◌-◌, arith, rules, subst}
+use Rattle.std.proofs.lemmas.Result.{MatchResult-from_err}
+use Rattle.pip_lines.proofs.Progress.{Progress, progress_end}
+use Rattle.pip_slots.specs.Slots.{slot_turns}
+use Rattle.pip_switch.specs.Standing.{StandsAs}
+use Rattle.pip_slots.proofs.Progressing.{inners_begun, inners_cut, inners_on}
+use Rattle.pip_slots.proofs.running.inner_steps.Goals as goal
+
+pub loop-k-init : goal.loop-k-init
+loop-k-init g c = record {
+  count = search rules;
+  calm = search rules;
+  progress = λ w h. inners_begun (StandsAs c.args.machine.now) (g.K.Sink.written c.args.sink.now) w c.args.turns
+      c.args.t h;
+}
+
+pub returns-in_err-inner_once-clause-acts : goal.returns-in_err-inner_once-clause-acts
+returns-in_err-inner_once-clause-acts g c = λ w h.
+    MatchResult-from_err c.from_residual.result _ _ c.from_residual.ensures.0 (λ _.
+    inners_cut _ _ _ w _ c.args.turns c.args.t c.loop-k.k c.loop-k-test.true _ _ (c.loop-k.invariant.progress w h)
+    c.in_err-inner_once.ensures.acts)
+
+pub loop-k-preserved : goal.loop-k-preserved
+loop-k-preserved g c = record {
+  count = search rules;
+  calm = search rules;
+  progress = λ w h. inners_on _ _ _ w _ c.args.turns c.args.t c.loop-k.k c.loop-k-test.true _ _
+      (c.loop-k.invariant.progress w h) c.in_ok-inner_once.ensures.acts;
+}
+
+pub returns-clause-acts : goal.returns-clause-acts
+returns-clause-acts g c = λ w h.
+    let past = c.loop-k-test.false in
+    let e : c.args.turns - c.loop-k.k ≡ 0 = omega (arith, past) in
+    progress_end _ _ _ w _ (subst (λ n. Progress (StandsAs c.loop-k.machine) (g.K.Sink.written c.args.sink.now)
+    (g.K.Sink.written c.loop-k.sink) w (slot_turns w c.args.turns c.args.t) (λ v. slot_turns v n (c.args.t +
+    c.loop-k.k))) e
+    (c.loop-k.invariant.progress w h))

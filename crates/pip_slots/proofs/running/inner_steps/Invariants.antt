@@ -1,0 +1,15 @@
+use Rattle.std.proofs.Common.{◌≡◌, ◌-◌, ◌+◌, length}
+use Rattle.pip_lines.proofs.Progress.{Progress}
+use Rattle.pip_model.specs.Worlds.{World}
+use Rattle.pip_slots.specs.Slots.{slot_turns}
+use Rattle.pip_switch.specs.Standing.{StandsAs}
+use Rattle.pip_slots.proofs.running.inner_steps.Given as goal
+
+abbrev pub invariant-loop-k : goal.invariant-loop-k
+invariant-loop-k g l = record {
+  count : length l.machine.cpus ≡ length l.fn.machine.cpus;
+  calm : g.K.Sink.faults l.sink ≡ g.K.Sink.faults l.fn.sink;
+  progress : (w : World) → StandsAs l.fn.machine w
+      → Progress (StandsAs l.machine) (g.K.Sink.written l.fn.sink) (g.K.Sink.written l.sink) w
+      (slot_turns w l.turns l.t) (λ v. slot_turns v (l.turns - l.k) (l.t + l.k));
+}

@@ -1,0 +1,77 @@
+use Rattle.std.proofs.Common.{arith, get_or, rules}
+use Rattle.std.proofs.Math.Seq.{drop-cons}
+use Rattle.std.proofs.lemmas.Result.{MatchResult-from_err}
+use Rattle.pip_slots.specs.declared.time_slot.TimeSlot.{TimeSlot}
+use Rattle.pip_slots.proofs.Progressing.{none_left, slots_begun, slots_cut, slots_end, slots_on, steps_left}
+use Rattle.pip_switch.specs.Standing.{StandsAs}
+use Rattle.pip_slots.proofs.running.run_slots.Goals as goal
+
+abbrev none : TimeSlot
+none = record { child = 0; turns = 0 }
+
+pub returns-in_err-one_slot-clause-acts : goal.returns-in_err-one_slot-clause-acts
+returns-in_err-one_slot-clause-acts g c = λ w h.
+    MatchResult-from_err c.from_residual.result _ _ c.from_residual.ensures.0 (λ _.
+    let ss = c.args.slots.now in
+    let i = c.loop-i.i in
+    slots_cut _ _ _ w _ ss i c.loop-i.t (get_or ss i none) (drop-cons ss i none c.loop-i-test.true) _ _
+    (c.loop-i.invariant.progress w h) c.in_err-one_slot.ensures.acts)
+
+pub overflow_add-t : goal.overflow_add-t
+overflow_add-t g c =
+    let t = c.loop-i.invariant.left in
+    let ss = c.args.slots.now in
+    let i = c.loop-i.i in
+    let e = steps_left ss i (get_or ss i none) (drop-cons ss i none c.loop-i-test.true) in
+    let few = c.requires.few in
+    omega (arith, t, e, few)
+
+pub one_slot-requires-clause-small : goal.one_slot-requires-clause-small
+one_slot-requires-clause-small g c =
+    let t = c.loop-i.invariant.left in
+    let ss = c.args.slots.now in
+    let i = c.loop-i.i in
+    let e = steps_left ss i (get_or ss i none) (drop-cons ss i none c.loop-i-test.true) in
+    let few = c.requires.few in
+    omega (arith, t, e, few)
+
+pub loop-i-init : goal.loop-i-init
+loop-i-init g c = record {
+  count = search rules;
+  calm = search rules;
+  left = search rules;
+  progress = λ w h. slots_begun (StandsAs c.args.machine.now) (g.K.Sink.written c.args.sink.now) w c.args.slots.now
+      c.args.first h;
+}
+
+pub loop-i-preserved : goal.loop-i-preserved
+loop-i-preserved g c = record {
+  count = search rules;
+  calm = search rules;
+  left =
+      let t = c.loop-i.invariant.left in
+      let ss = c.args.slots.now in
+      let i = c.loop-i.i in
+      let e = steps_left ss i (get_or ss i none) (drop-cons ss i none c.loop-i-test.true) in
+      omega (arith, t, e);
+  progress = λ w h.
+      let ss = c.args.slots.now in
+      let i = c.loop-i.i in
+      slots_on _ _ _ w _ ss i c.loop-i.t (get_or ss i none) (drop-cons ss i none c.loop-i-test.true) _ _
+      (c.loop-i.invariant.progress w h) c.in_ok-one_slot.ensures.acts;
+}
+
+pub returns-clause-acts : goal.returns-clause-acts
+returns-clause-acts g c = λ w h.
+    let at_end = c.loop-i.auto.i-end in
+    let over = c.loop-i-test.false in
+    slots_end _ _ _ w _ c.args.slots.now c.loop-i.i c.loop-i.t (omega (arith, at_end, over))
+    (c.loop-i.invariant.progress w h)
+
+pub returns-clause-next : goal.returns-clause-next
+returns-clause-next g c =
+    let at_end = c.loop-i.auto.i-end in
+    let over = c.loop-i-test.false in
+    let e = none_left c.args.slots.now c.loop-i.i (omega (arith, at_end, over)) in
+    let t = c.loop-i.invariant.left in
+    omega (arith, t, e)

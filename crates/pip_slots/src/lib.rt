@@ -1,0 +1,28 @@
+//! Time slots: which steps each child of the root has is fixed before the run (docs/MODEL.md, "Time slots").
+//!
+//! specs/Slots says what a plan of slots does (`slot_run`), and what of it happens in the slots of one child
+//! (`acts_of_child`). [`law_slots`] says that this is a matter of the child alone, in any two worlds that have it in
+//! common (`SlotsSeparate`), and so for images whose children are built as pip_watch builds them (specs/Images).
+//! [`run_slots`] and [`run_rounds`] run a plan on a machine, and what they do and write is `slot_run`.
+#![tactic(auto)]
+
+mod edges;
+mod running;
+mod time_slot;
+
+ghost use Rattle.pip_slots.specs.Images.{ImagesBegin, ImagesSeparate, ImagesSeparateInTurn};
+ghost use Rattle.pip_slots.specs.Images.{ImagesSeparateSlots};
+ghost use Rattle.pip_slots.specs.Slots.{SlotsSeparate};
+
+pub use running::{run_rounds, run_slots};
+pub use time_slot::TimeSlot;
+
+/// What a child does in its slots, and at which steps, depends on that child alone. The law computes nothing: what it
+/// says is its contract.
+pub fn law_slots()
+    ensures separate { SlotsSeparate }
+    ensures images { ImagesSeparate }
+    ensures slots { ImagesSeparateSlots }
+    ensures in_turn { ImagesSeparateInTurn }
+    ensures begins { ImagesBegin }
+{}

@@ -1,0 +1,72 @@
+//! Tests of the command `slots`.
+ghost use Rattle.std.specs.Prelude.{◌≤◌, ◌<◌, ◌^◌};
+ghost use Rattle.pip_slots.specs.Images.{steps_in_turn};
+
+use crate::native::image_of;
+use pip_commands::slots;
+use pip_io::{MemSink, MemSource};
+use std::process::Abort;
+use std::test::Fail;
+
+// Rounds of slots of children of an image, where these calls of the sink fail, and the status and the text that are
+// wanted.
+fn check(
+    rt: &(impl Abort + AllocGlobal),
+    lines: &str,
+    words: (u32, u32, u32),
+    fails: &[u32],
+    status: u8,
+    text: &str,
+) -> Result<(), Fail>
+    requires least { 1 ≤ words.0 }
+    requires most { words.0 ≤ 8 }
+    requires steps { steps_in_turn words.0 words.1 words.2 < 2 ^ 32 }
+{
+    let image = image_of(rt, lines)?;
+    let mut source = MemSource::new(image.bytes(), &[]);
+    let mut sink = MemSink::new(rt.alloc(), 16384, fails)?;
+    let ended = slots(
+        rt.alloc(),
+        words.0,
+        words.1,
+        words.2,
+        &mut source,
+        &mut sink,
+    );
+    assert_eq!(rt; sink.bytes(), text.as_bytes());
+    assert_eq!(rt; ended.status, status, "of {text}");
+    assert_eq!(rt; ended.machine.is_some(), status == 0);
+    Ok(())
+}
+
+#[test]
+fn a_slot_ends_by_a_line(rt: HostRuntime) -> Result<(), Fail> {
+    let image = ".frames 26\n.cpus 1\n.page 0x00400000\nbeq r0 r0 -1\n";
+    let text =
+        "image 26 1 0 1\nbuilt 0 0x00401000\n0 0 call 8 switch 1 13 63\n4 0 switch 13 1 32\n5 0 call 8 switch 1 13 63\n9 0 switch 13 1 32\nend 10\n";
+    check(&rt, image, (1, 3, 2), &[], 0, text)?;
+    check(&rt, image, (1, 3, 2), &[1], 4, "")
+}
+
+#[test]
+fn a_slot_that_its_child_leaves_is_as_long(rt: HostRuntime) -> Result<(), Fail> {
+    let image = ".frames 39\n.cpus 1\n.page 0x00400000\nint 64\n.page 0x00401000\nldw r1 r0 0\n";
+    let text =
+        "image 39 1 0 2\nbuilt 0 0x00402000\nbuilt 1 0x0040e000\n0 0 call 8 switch 1 14 63\n1 0 switch 14 1 64\n5 0 call 8 switch 1 26 63\n6 0 switch 26 1 14\nend 10\n";
+    check(&rt, image, (2, 3, 1), &[], 0, text)
+}
+
+#[test]
+fn a_child_that_cannot_be_entered_keeps_its_slots(rt: HostRuntime) -> Result<(), Fail> {
+    let image =
+        ".frames 26\n.cpus 1\n.page 0x00400000\nlih r1 65535\nori r1 r1 61692\nstw r0 r1 0\nint 64\n";
+    let text =
+        "image 26 1 0 1\nbuilt 0 0x00401000\n0 0 call 8 switch 1 13 63\n4 0 switch 13 1 64\n11 0 call 8 reply 16 0x00000000\nend 22\n";
+    check(&rt, image, (1, 9, 2), &[], 0, text)
+}
+
+#[test]
+fn frames_may_be_too_few(rt: HostRuntime) -> Result<(), Fail> {
+    let image = ".frames 25\n.cpus 1\n.page 0x00400000\nint 64\n";
+    check(&rt, image, (1, 9, 1), &[], 8, "short 12 13\n")
+}

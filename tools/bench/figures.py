@@ -1,0 +1,223 @@
+"""The figures of bench/run: the instructions that a program takes for each thing, as callgrind counts them."""
+
+from __future__ import annotations
+
+import os
+from collections.abc import Iterator
+
+from ..common.calling import REPOSITORY
+from . import deletions
+from .count import Counted
+
+MONITOR = os.path.join(REPOSITORY, "examples", "monitor.s")
+NATIVE = os.path.join(REPOSITORY, "examples", "native.s")
+Figure = tuple[str, int]
+
+BOOT = "boot 32 1"
+FIVE = "0x401000 0x402000 0x403000 0x404000 0x405000"
+LINES = ("ld 0 0x400000", "ld 0 0xfffffffc", "lb 0 0x400003", "st 0 0x400000 7", "st 0 0x401ffc 0x89abcdef", "peek 6 0",
+         "# a remark", "",
+         "ld 0 4194304", "sb 0 0x400003 0xaa", "fetch 0", "peek 32 0", "reg 0 0", "pc 0 0x400000", "raise 3", "poll 0",
+         "call 0 7",
+         "call 0 7 0x400000", "#")
+DELETED = ("bare", "rows0", "rows1000", "tables10", "tables100", "chain5", "chain100", "children200")
+
+# The root lends its child six pages, of which the child makes its own.
+FAMILY = f"""boot 64 1
+call 0 0 {FIVE}
+st 0 0x406000 0x407000
+st 0 0x407000 0x408000
+call 0 3 0x401000 0xfffff000 0x406000
+st 0 0x409100 0xfffff400
+st 0 0x409400 0x10000000
+call 0 5 0x409000 0x401000 0xfffff000 3
+call 0 5 0x40a000 0x401000 0xffc0a000 3
+call 0 5 0x40b000 0x401000 0xffc0b000 3
+call 0 5 0x40c000 0x401000 0xffc0c000 3
+call 0 5 0x40d000 0x401000 0xffc0d000 3
+call 0 5 0x40e000 0x401000 0xffc0e000 3
+call 0 8 0x401000 64 256"""
+
+# A child with a handler for vector 64; the root has handlers for the vectors 14 and 65, and for line 1. Both have a
+# block for 63.
+CHILD = f"""boot 32 1
+call 0 0 {FIVE}
+st 0 0x406000 0x407000
+st 0 0x407000 0x408000
+call 0 3 0x401000 0xfffff000 0x406000
+st 0 0x409100 0xfffff400
+st 0 0x409400 0x10000000
+st 0 0x4090fc 0xfffff444
+call 0 5 0x409000 0x401000 0xfffff000 3
+st 0 0xfffff038 0xfffff400
+st 0 0xfffff400 0x00400300
+st 0 0xfffff104 0xfffff444
+st 0 0xfffff444 0x00400100
+st 0 0xfffff084 0xfffff488
+st 0 0xfffff488 0x00400200
+st 0 0xfffff0fc 0xfffff4cc"""
+
+# The lines of assembly texts, of pages with a thousand lines each
+HEAD = ".frames 64\n.cpus 1\n.page 0x00400000\nhere:\n"
+ASSEMBLY = ("li r1 7", "sltu r10 r11 r12", "bltu r1 r2 here", ".word 7", ".zero 1",
+            "# counts how many pages are left in the list", "")
+
+
+# Programs of the root: one that computes, and one that loads and stores
+COMPUTES = """.frames 16
+.cpus 1
+.page 0x400000
+again:
+addi r1 r1 1
+add r2 r2 r1
+xor r3 r2 r1
+shli r4 r3 3
+sub r5 r4 r2
+and r6 r5 r3
+sltu r7 r6 r5
+beq r0 r0 again
+"""
+ACCESSES = """.frames 16
+.cpus 1
+.page 0x400000
+li r1 0x1000
+lih r1 0x40
+again:
+ldw r2 r1 0
+stw r2 r1 4
+ldw r3 r1 8
+stw r3 r1 12
+ldb r4 r1 16
+stb r4 r1 17
+ldw r5 r1 20
+beq r0 r0 again
+"""
+
+
+def script(setup: str, lines: str, count: int) -> bytes:
+    """The lines of the setup, and then the other lines that many times."""
+    return (setup + "\n" + (lines + "\n") * count).encode()
+
+
+def creations(count: int) -> bytes:
+    """The boot line, and that many partitions of five pages each."""
+    pages = [" ".join(hex(0x400000 + 4096 * (5 * k + page)) for page in range(5)) for k in range(count)]
+    return ("boot 4096 1\n" + "".join(f"call 0 0 {five}\n" for five in pages)).encode()
+
+
+def pages_of(pages: int, line: str) -> bytes:
+    """A text of that many pages, each of a thousand such lines."""
+    further = "".join(f".page {0x400000 + 4096 * page:#x}\n" + f"{line}\n" * 1000 for page in range(1, pages))
+    return (HEAD + f"{line}\n" * 1000 + further).encode()
+
+
+def empty_pages(count: int) -> bytes:
+    return (".frames 4096\n.cpus 1\n" + "".join(f".page {0x400000 + 4096 * k:#x}\n" for k in range(count))).encode()
+
+
+class Figures:
+    """What a program takes for each thing."""
+
+    def __init__(self, program: Counted) -> None:
+        self.program = program
+
+    def more(self, less: bytes, greater: bytes, *words: str) -> int:
+        """The instructions that the second input takes beyond those of the first."""
+        return self.program.instructions(greater, *words) - self.program.instructions(less, *words)
+
+    def per(self, setup: str, lines: str, events: int = 1) -> int:
+        """The instructions of the lines, by the number of events in them; some ten thousand events are counted."""
+        few, many = 1000 // events, 11000 // events
+        return self.more(script(setup, lines, few), script(setup, lines, many)) // (many - few) // events
+
+    def once(self, setup: str, line: str) -> int:
+        """The instructions of one line after the others."""
+        return self.more(script(setup, "", 0), script(setup, line, 1))
+
+    def figures(self) -> Iterator[Figure]:
+        for part in (self.of_starts, self.of_lines, self.of_partitions, self.of_switches, self.of_texts, self.of_runs,
+                     self.of_steps,
+                     self.of_frames, self.of_load):
+            yield from part()
+
+    def of_starts(self) -> Iterator[Figure]:
+        yield "start, with the boot line", self.program.instructions(script(BOOT, "", 0))
+        yield "start, with 4096 frames", self.program.instructions(script("boot 4096 1", "", 0))
+
+    def of_lines(self) -> Iterator[Figure]:
+        for line in LINES:
+            yield f"a line '{line}'", self.per(BOOT, line)
+        yield "a line 'call 0 12' with five addresses", self.per(BOOT, f"call 0 12 {FIVE}")
+        # Loads of the root from that many pages in turn: up to 64 of them have a place each in the cache; of 100, two
+        # have one place.
+        for pages in 1, 4, 64, 100:
+            lines = "\n".join(f"ld 0 {0x400000 + 4096 * k:#x}" for k in range(pages))
+            yield f"a line 'ld', of {pages} pages in turn", self.per("boot 256 1", lines, pages)
+
+    def of_partitions(self) -> Iterator[Figure]:
+        yield "a line with an accepted createPartition of the root", self.more(creations(100), creations(700)) // 600
+        makes = "call 0 0 0xffc0a000 0xffc0b000 0xffc0c000 0xffc0d000 0xffc0e000"
+        yield "the line with which a child makes a partition", self.once(FAMILY, makes)
+        yield "the line with which the root deletes that child", self.once(f"boot 64 1\ncall 0 0 {FIVE}",
+                                                                           "call 0 1 0x401000")
+        for case in DELETED:
+            before, with_it = deletions.scripts(case)
+            yield f"the line that deletes, {case}", self.more(before.encode(), with_it.encode())
+
+    def of_switches(self) -> Iterator[Figure]:
+        yield "a switch, as the half of a yield to a child and one back, both saved", \
+            self.per(CHILD, "call 0 8 0x401000 64 63\ncall 0 8 0 65 63", 2)
+        yield "a fault of a child that is delivered, as the half of it and of the yield after it", \
+            self.per(f"{CHILD}\ncall 0 8 0x401000 64 256", "ld 0 0x20000000\ncall 0 8 0x401000 63 256", 2)
+        # A poll that takes a line of the root masks it, so the line before is vsti; these two are taken off.
+        yield "a poll that takes a line", self.per(CHILD, "call 0 11\nraise 1\npoll 0") - self.per(CHILD, "call 0 11\n"
+                                                                                                          "raise 1")
+
+    def of_texts(self) -> Iterator[Figure]:
+        for line in ASSEMBLY:
+            yield f"a line '{line}' of a text", self.more(pages_of(1, line), pages_of(11, line), "asm") // 10000
+        few, many = (self.program.written(pages_of(pages, ASSEMBLY[0]), "asm") for pages in (1, 11))
+        yield "a word of an image, disassembled", self.more(few, many, "dis") // 10000
+        for size in 1000, 10000, 100000:
+            labels = HEAD + "".join(f"label_{k}:\n" for k in range(size))
+            yield f"a label, of {size}", self.program.instructions(labels.encode(), "asm") // size
+        yield "a page without words, of 4000", self.more(empty_pages(1000), empty_pages(4000), "asm") // 3000
+
+    def of_runs(self) -> Iterator[Figure]:
+        """The steps of a run: of the sample monitor with and without its trace."""
+        with open(MONITOR, "rb") as file:
+            monitor = self.program.written(file.read(), "asm")
+        for command in "run", "tree":
+            few, many = (self.program.instructions(monitor, command, steps, "1") for steps in ("10000", "110000"))
+            yield f"a step of the monitor, by {command}", (many - few) // 100000
+
+    def of_steps(self) -> Iterator[Figure]:
+        """The steps of programs that compute, and that load and store; of children that a monitor runs, and of slots.
+        """
+        for what, text in (("that computes", COMPUTES), ("of seven loads and stores and a branch", ACCESSES)):
+            image = self.program.written(text.encode(), "asm")
+            few, many = (self.program.instructions(image, "run", steps, "1") for steps in ("10000", "110000"))
+            yield f"a step {what}", (many - few) // 100000
+        with open(NATIVE, "rb") as file:
+            children = self.program.written(file.read(), "asm")
+        few, many = (self.program.instructions(children, "native", "3", steps) for steps in ("10000", "110000"))
+        yield "a step by native", (many - few) // 100000
+        few, many = (self.program.instructions(children, "slots", "2", "3", rounds) for rounds in ("1000", "11000"))
+        yield "a step by slots", (many - few) // 100000
+
+    def of_frames(self) -> Iterator[Figure]:
+        """A row of a tree and a frame of zeros, by machines of two sizes beside the same run without a text; and a
+        frame of an audit.
+        """
+        few, many = (self.program.written(f".frames {frames}\n.cpus 1\n".encode(), "asm") for frames in (16, 4096))
+        runs = self.more(few, many, "run", "0", "1")
+        yield "a row, by tree", (self.more(few, many, "tree", "0", "1") - runs) // 4080
+        yield "a frame of zeros or of rows, by core", (self.more(few, many, "core", "0", "1") - runs) // 4080
+        cores = (self.program.written(image, "core", "0", "1") for image in (few, many))
+        small, large = (self.program.instructions(core, "audit", frames) for core, frames in zip(cores, ("16", "4096")))
+        yield "a frame of a booted machine, by audit", (large - small) // 4080
+
+    def of_load(self) -> Iterator[Figure]:
+        few, many = (self.program.instructions(b"", "soak", count, "7") for count in ("0", "100000"))
+        first = self.program.written(b"", "soak", "100000", "7").splitlines()[0]
+        yield "an event of a load", (many - few) // int(first.removeprefix(b"events "))

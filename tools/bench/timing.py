@@ -1,0 +1,158 @@
+"""The times of bench/run: of long inputs, two programs alternately, and of the worst inputs, once each."""
+
+from __future__ import annotations
+
+import os
+import statistics
+import struct
+import subprocess
+import tempfile
+from collections.abc import Callable
+from typing import NamedTuple
+
+from ..authors import asmx
+from ..common.calling import REPOSITORY, Failed
+from . import worst
+from .count import Counted
+from .figures import ACCESSES, BOOT, COMPUTES, FIVE, HEAD, MONITOR, script
+
+ROUNDS = 50              # runs of each program
+PART = 5                 # of the size that is given that is run
+Input = Callable[[Counted], bytes]
+
+
+class Timed(NamedTuple):
+    what: str
+    words: tuple[str, ...]
+    text: Input
+
+
+def example(*names: str) -> Input:
+    """The image of an example."""
+    def image(program: Counted) -> bytes:
+        with open(os.path.join(REPOSITORY, *names), "rb") as file:
+            return program.written(file.read(), "asm")
+    return image
+
+
+def assembled(text: str) -> Input:
+    return lambda program: program.written(text.encode(), "asm")
+
+
+def generated(*words: str) -> Input:
+    """What bench/worst.py writes."""
+    return lambda program: "".join(line + "\n" for line in worst.lines(*words)).encode()
+
+
+def image_of(*words: str) -> Input:
+    """The image of what bench/worst.py writes."""
+    return lambda program: program.written(generated(*words)(program), "asm")
+
+
+def macros(name: str) -> Input:
+    """The image of a text with macros, of the folder bench."""
+    def image(program: Counted) -> bytes:
+        lines, _ = asmx.processed(os.path.join(REPOSITORY, "bench", name))
+        return asmx.assembled(program.path, lines)
+    return image
+
+
+def full_image(line: str) -> Input:
+    """An image of all the pages that there are, each word that of a line."""
+    def image(program: Counted) -> bytes:
+        first = program.written((HEAD + f"{line}\n" * 1024).encode(), "asm")
+        pages = [0x400 + k for k in range(4074)] + [0xFFFFF]
+        head = first[:8] + struct.pack("<4I", 4096, 1, 0, len(pages))
+        return head + b"".join(struct.pack("<I", page) + first[28:] for page in pages)
+    return image
+
+
+def core_of_all(program: Counted) -> bytes:
+    """The text of a machine of 4096 frames that has booted."""
+    return program.written(program.written(b".frames 4096\n.cpus 1\n", "asm"), "core", "0", "1")
+
+
+def remarks(program: Counted) -> bytes:
+    return b".frames 16\n.cpus 1\n" + b"#\n" * 8388000
+
+
+def many_lines(program: Counted) -> bytes:
+    pages = (f".page {0x401000 + 4096 * k:#x}\n" + "li r1 7\n" * 1000 for k in range(400))
+    return (HEAD.replace(".frames 64", ".frames 4096") + "".join(pages)).encode()
+
+
+def nothing(program: Counted) -> bytes:
+    return b""
+
+
+TIMES = [
+    Timed("ten million steps of the monitor by `run`", ("run", "2000000", "1"), example("examples", "monitor.s")),
+    Timed("ten million steps of a loop of eight instructions by `run`", ("run", "2000000", "1"), assembled(COMPUTES)),
+    Timed("of seven loads and stores and a branch", ("run", "2000000", "1"), assembled(ACCESSES)),
+    Timed("100,000 pairs of createPartition and deletePartition", ("script",),
+          lambda program: script(BOOT, f"call 0 0 {FIVE}\ncall 0 1 0x401000", 100000 // PART)),
+    Timed("two million lines `li` assembled", ("asm",), many_lines),
+    Timed("five audits of 4096 frames, whole", ("audit", "4096"), core_of_all),
+    Timed("a million events of `soak`", ("soak", str(1000000 // PART), "1"), nothing),
+    Timed("a million lines `ld 0 0x400000`", ("script",),
+          lambda program: script(BOOT, "ld 0 0x400000", 1000000 // PART)),
+]
+CHAIN = ("chain", "111", "16777216")
+WORST = [
+    Timed("`names prefixes 100000`, names that differ only in their last letters", ("asm",),
+          generated("names", "prefixes", "100000")),
+    Timed("16 MB of remarks, where the pass over all bytes costs most by comparison", ("asm",), remarks),
+    Timed("`chain 111 16777216 create`: the lowest of 111 partitions makes and ends a child, 168,000 times",
+          ("script",),
+          generated(*CHAIN, "create")),
+    Timed("`chain 111 16777216 prepare`: it gives a child tables and takes them back", ("script",),
+          generated(*CHAIN, "prepare")),
+    Timed("`build 240 500`: the events by which `build` makes a child with 240 wants, each in a directory of its own, "
+          "500 times", ("script",), generated("build", "240", "500")),
+    Timed("`audit`: 3,000 descriptors that share 1,024 tables, with two alternating sets of first shadows",
+          ("audit", "4096"), generated("audit")),
+    Timed("`calls`: an image whose root makes and ends a child in a loop", ("run", "10000000", "1"), image_of("calls")),
+    Timed("`faults`: an image whose children fault at each instruction", ("native", "8", "10000000"),
+          image_of("faults")),
+    Timed("the same image: slots without turns, so that each step is a switch", ("slots", "8", "0", "625000"),
+          image_of("faults")),
+    Timed("it reads nothing", ("soak", "1000000", "1"), nothing),
+    Timed("an image of 16 MB without a word of 0, all of them instructions", ("dis",), full_image("addi r10 r11 -12")),
+    Timed("the same with words that are none", ("dis",), full_image(".word 0xfedcba98")),
+    Timed("the first of these images", ("tree", "0", "1"), full_image("addi r10 r11 -12")),
+    Timed("the same", ("core", "0", "1"), full_image("addi r10 r11 -12")),
+    Timed("`fill`: an image that stores a word in one place after the other", ("every", "20000"), image_of("fill")),
+    Timed("`bench/collide.asmx`, chosen against hashes without folded products", ("every", "200000"),
+          macros("collide.asmx")),
+    Timed("`bench/spread.asmx`, the same with other registers", ("every", "200000"), macros("spread.asmx")),
+    Timed("`examples/monitor.s`", ("every", "1000000"), example("examples", "monitor.s")),
+    Timed("`examples/retry.s`, on two processors", ("every", "1000000"), example("examples", "retry.s")),
+]
+
+
+def used(program: Counted, text: bytes, words: tuple[str, ...]) -> float:
+    """The seconds of a processor that a run takes, the system's included."""
+    with tempfile.TemporaryFile() as file:
+        file.write(text)
+        file.seek(0)
+        process = subprocess.Popen([program.path, *words], stdin=file, stdout=subprocess.DEVNULL)
+        _, status, usage = os.wait4(process.pid, 0)
+        process.returncode = os.waitstatus_to_exitcode(status)
+    if process.returncode not in (0, 9):
+        raise Failed(f"{' '.join(words)} ends with status {process.returncode}")
+    return float(usage.ru_utime + usage.ru_stime)
+
+
+def row_of_times(row: Timed, ours: Counted, plain: Counted) -> str:
+    """The least time of each program by the size that is named, and the median of the ratios of neighbouring runs."""
+    text = row.text(ours)
+    pairs = [(used(ours, text, row.words), used(plain, text, row.words)) for _ in range(ROUNDS)]
+    least = [PART * min(times) for times in zip(*pairs)]
+    ratio = statistics.median(first / second for first, second in pairs)
+    return f"| {row.what} | {least[0]:.3f} | {least[1]:.3f} | {ratio:.2f} |"
+
+
+def row_of_worst(case: Timed, ours: Counted, plain: Counted) -> str:
+    text = case.text(ours)
+    first, second = used(ours, text, case.words), used(plain, text, case.words)
+    return f"| `{' '.join(case.words)}` | {case.what} | {first:.2f} | {second:.2f} |"

@@ -1,0 +1,485 @@
+"""A debugger of runs, without a face: stops, steps forward and back, and what is told of a state."""
+
+from __future__ import annotations
+
+import os
+import re
+import tempfile
+from collections.abc import Callable, Iterator
+from dataclasses import dataclass, field
+from typing import NamedTuple
+
+from ..authors import asmx, every
+from ..common import calling, plans
+from ..common.calling import Failed
+from ..reference import instructions
+from . import sources
+from .client import EVERY, At, Coming, Refused, States, Stopped, Stops, Turn
+from .sources import Named, Word
+
+CHUNK = 1_000_000                # steps of a run between two looks at whether it shall pause
+MOST_STEPS = 10_000_000
+TEMPORARY = 0                    # the number of a stop that isn't the user's
+PATTERNS = {
+    "fault": ("^ switch * * 0|6|14|17", "^ park * 0|6|14|17"),
+    "park": ("park",),
+    "refused": ("reply " + "|".join(map(str, range(1, 19))), "drop"),
+    "interrupt": ("^ switch * * " + "|".join(map(str, range(32, 48))),),
+}
+CONDITION = re.compile(r"(\S+)\s*(==|!=|<=|>=|<|>)\s*(\S+)")
+REGISTER = re.compile(r"r([0-9]|1[0-5])|pc")
+
+
+@dataclass
+class Stop:
+    """Something at which a run stops: its number, its text, and what the process is told, without the number."""
+
+    number: int
+    text: str
+    kind: str                                    # break, line or watch
+    parts: list[str]
+    condition: str | None = None
+    after: int = 1                               # a run stops when it holds for this time since the run began
+    hits: int = 0                                # how often it stopped a run
+
+    def told(self) -> str:
+        when = f" if {self.condition}" if self.condition else ""
+        return f"{self.text}{when}{f' after {self.after}' if self.after > 1 else ''}"
+
+
+class Target(NamedTuple):
+    """What an expression names: an address of a partition, a word of a frame, or both."""
+
+    part: int | None
+    address: int | None
+    word: Word | None
+
+
+class Row(NamedTuple):
+    """A page of a partition, by the line of `tree`."""
+
+    address: int
+    frame: int
+    rights: str
+    view: str
+    use: str
+
+
+@dataclass
+class Part:
+    """A partition, by the lines of `tree`."""
+
+    name: int
+    depth: int
+    up: int
+    born: int
+    rows: list[Row] = field(default_factory=list)
+
+
+class Debugger:
+    """One image with its source, and a run of it: by `seed SEED`, `native CHILDREN` or `slots CHILDREN TURNS`."""
+
+    def __init__(self, program: str, process: States, path: str, schedule: str = "seed 1",
+                 every_step: int = EVERY) -> None:
+        self.program, self.states, self.path = program, process, path
+        self.data, origin = asmx.image_of(program, path)
+        self.source = sources.read(self.data, origin)
+        self.stops: dict[int, Stop] = {}
+        self.last_number = 0
+        self.shall_pause: Callable[[], bool] = lambda: False
+        self.on_way = False
+        self.checks = program != calling.UNPROVED        # whether the program is asked at each stop
+        self.cpu: int | None = None                      # the processor that is looked at, where one was chosen
+        self.every_step = every_step
+        self.load(schedule)
+
+    def load(self, schedule: str) -> None:
+        """Begins, and forgets all changes by hand."""
+        with tempfile.NamedTemporaryFile(suffix=".img") as file:
+            file.write(self.data)
+            file.flush()
+            self.states.load(file.name, schedule, self.every_step)
+        self.schedule, self.on_way = schedule, False
+
+    # Where it is
+
+    @property
+    def step(self) -> int:
+        return self.states.now.step
+
+    def processor(self) -> int:
+        """The processor that is looked at: the chosen one, else the one whose turn is next."""
+        if self.cpu is not None:
+            return self.cpu
+        return self.states.next().cpu or 0
+
+    def here(self) -> At | None:
+        return self.states.registers()[self.processor()]
+
+    def partition(self) -> int:
+        at = self.here()
+        return at.part if at else 1
+
+    def word_at(self, part: int, address: int) -> Word | None:
+        """The word of a frame at an address of a partition, if it has a page there."""
+        try:
+            place = self.states.translate(part, address)["place"]
+        except Refused:                          # there is no such partition now
+            return None
+        return (place[0], place[1]) if place else None
+
+    def instruction(self, word: int | None) -> str:
+        if word is None:
+            return "no page to fetch from"
+        found = instructions.decode(word)
+        return instructions.text(found) if found else f".word 0x{word:08x}"
+
+    def name_at(self, part: int, address: int) -> str:
+        return self.source.nearest(self.word_at(part, address))
+
+    def next_place(self) -> asmx.Place | None:
+        """The line of the source whose instruction is next."""
+        coming = self.states.next()
+        if coming.part is None or coming.pc is None:
+            return None
+        return self.source.place(self.word_at(coming.part, coming.pc), coming.word)
+
+    # Expressions
+
+    def number(self, text: str) -> int:
+        """A number, a name or a constant of the source, or a sum of them."""
+        total = 0
+        for sign, term in re.findall(r"([+-]?)([^+-]+)", text):
+            total += -self.term(term) if sign == "-" else self.term(term)
+        return total % (1 << 32)
+
+    def term(self, text: str) -> int:
+        if re.fullmatch(r"0x[0-9a-fA-F]+|[0-9]+", text):
+            return int(text, 0)
+        if text in self.source.constants:
+            return self.source.constants[text]
+        if text in self.source.names:
+            return self.source.names[text].address
+        raise Failed(f"{text!r} is no number and no name of the source")
+
+    def target(self, text: str) -> Target:
+        """`NAME`, `NAME+4`, an address of what runs, `P:ADDRESS` of a partition, `fF:I` of a frame, or a register's
+        address."""
+        found = re.fullmatch(r"f(\d+):(\d+)", text)
+        if found:
+            return Target(None, None, (int(found[1]), int(found[2])))
+        first, colon, rest = text.partition(":")
+        if colon:
+            part, address = self.number(first), self.number(rest)
+            return Target(part, address, self.word_at(part, address))
+        named = self.source.names.get(re.split(r"[+-]", text)[0])
+        if named:
+            return of_name(named, self.number(text))
+        part, address = self.partition(), self.value(text)
+        return Target(part, address, self.word_at(part, address))
+
+    def value(self, text: str) -> int:
+        """A register of the processor that is looked at, the word at `[PLACE]`, or a number."""
+        if REGISTER.fullmatch(text):
+            at = self.here()
+            if at is None:
+                raise Failed(f"processor {self.processor()} runs nothing")
+            return at.pc if text == "pc" else at.registers[int(text[1:])]
+        if text.startswith("[") and text.endswith("]"):
+            return self.words(text[1:-1], 1)[0][1]
+        return self.number(text)
+
+    def words(self, text: str, count: int) -> list[tuple[Word, int]]:
+        """Words from a place on, to the end of its frame."""
+        place = self.target(text).word
+        if place is None:
+            raise Failed(f"{text}: the partition has no page there")
+        frame, index = place
+        found = self.states.words(frame, index, min(count, 1024 - index))
+        return [((frame, index + k), word) for k, word in enumerate(found)]
+
+    # Stops
+
+    def add(self, text: str, kind: str, parts: list[str], condition: str | None = None, after: int = 1) -> Stop:
+        if after < 1:
+            raise Failed("a count of times is at least 1")
+        self.last_number += 1
+        stop = Stop(self.last_number, text, kind, parts, condition, after)
+        self.stops[stop.number] = stop
+        return stop
+
+    def add_break(self, text: str, part: int | None = None, condition: str | None = None, after: int = 1) -> Stop:
+        """A break at a name, a line of the source, or an address."""
+        limits = ("" if part is None else f" part {part}") + (f" if {self.condition(condition)}" if condition else "")
+        line = re.fullmatch(r"(?:(.+):)?(\d+)", text)
+        if line and self.source.path and (line[1] is None or os.path.exists(line[1])):
+            number, words = self.source.starts_at(line[1] or self.source.path, int(line[2]))
+            if not words:
+                raise Failed(f"no line from {line[2]} on has words")
+            text = f"{line[1] or self.source.path}:{number}"
+            return self.add(text, "break", [f"place {frame}:{index}{limits}" for frame, index in words], condition,
+                            after)
+        target = self.target(text)
+        if target.word is not None and target.part is None:
+            return self.add(text, "break", [f"place {target.word[0]}:{target.word[1]}{limits}"], condition, after)
+        if ":" in text and part is None:
+            limits = f" part {target.part}" + limits
+        return self.add(text, "break", [f"pc {target.address}{limits}"], condition, after)
+
+    def condition(self, text: str) -> str:
+        """A == B, with a register, [PLACE] or a number on each side, as the process takes it."""
+        found = CONDITION.fullmatch(text)
+        if not found:
+            raise Failed(f"{text!r} isn't A == B, with a register, [PLACE] or a number on each side")
+        return f"{self.operand(found[1])} {found[2]} {self.operand(found[3])}"
+
+    def operand(self, text: str) -> str:
+        if REGISTER.fullmatch(text):
+            return "r16" if text == "pc" else text
+        if text.startswith("[") and text.endswith("]"):
+            frame, index = self.words(text[1:-1], 1)[0][0]
+            return f"{frame}:{index}"
+        return str(self.number(text))
+
+    def add_line(self, text: str, after: int = 1) -> Stop:
+        """A stop after a turn with such a line."""
+        return self.add(text, "line", list(PATTERNS.get(text, (text,))), None, after)
+
+    def add_watch(self, text: str, count: int = 1, after: int = 1) -> Stop:
+        """A stop after a turn that changed a word: of a frame, or at an address of a partition, whichever page is
+        there."""
+        target = self.target(text)
+        if target.part is not None:
+            part = f"address {target.part} {target.address} {count}"
+        else:
+            assert target.word
+            frame, index = target.word
+            part = f"word {frame}:{index} {min(count, 1024 - index)}"
+        return self.add(text, "watch", [part], None, after)
+
+    def told_stops(self) -> Stops:
+        told = Stops()
+        told.add("idle")
+        for stop in self.stops.values():
+            for part in stop.parts:
+                told.add(stop.kind, stop.number, part)
+        return told
+
+    # Moves
+
+    def run(self, stops: Stops, to: int | None = None) -> Stopped:
+        """On to what stops it, and at most to a step."""
+        end = self.states.now.end if to is None else min(to, self.states.now.end)
+        return self.moved(lambda: self.states.run(min(self.step + CHUNK, end), stops) if self.step < end else None)
+
+    def back(self, stops: Stops, to: int = 0) -> Stopped:
+        return self.moved(lambda: self.states.back(max(self.step - CHUNK, to), stops) if self.step > to else None)
+
+    def moved(self, move: Callable[[], Stopped | None]) -> Stopped:
+        """Moves until a stop holds often enough, or there is nothing left to do."""
+        times = {number: 0 for number in self.stops}
+        while not self.shall_pause():
+            now = move()
+            if now is None:
+                break
+            if now.stops and self.is_due(now, times):
+                return now
+        return Stopped(self.step, [], self.states.now.end, self.states.now.edited)
+
+    def is_due(self, now: Stopped, times: dict[int, int]) -> bool:
+        """Counts the stops that hold; whether one of them, or one that isn't the user's, stops the run."""
+        due = any(number not in self.stops for _, number in now.stops)
+        for _, number in now.stops:
+            if number in self.stops:
+                times[number] += 1
+                if times[number] >= self.stops[number].after:
+                    self.stops[number].hits += 1
+                    due = True
+        return due
+
+    def forward(self, count: int) -> Stopped:
+        """That many turns, of whichever processors."""
+        return self.states.go(min(self.step + count, self.states.now.end))
+
+    def turn_of(self, cpu: int) -> Stopped:
+        """To the end of the next turn of a processor."""
+        stops = self.told_stops()
+        stops.add("turn_of", cpu)
+        return self.run(stops)
+
+    def backward(self, count: int) -> Stopped:
+        return self.states.go(max(self.step - count, 0))
+
+    def back_turn_of(self, cpu: int) -> Stopped:
+        """To before the last turn of a processor."""
+        turn = self.states.turn()
+        if turn is None:
+            return self.states.now
+        if turn.cpu != cpu:
+            stops = Stops()
+            stops.add("turn_of", cpu)
+            self.back(stops)
+        return self.backward(1)
+
+    def over(self, cpu: int | None = None) -> Stopped:
+        """To where the same partition has its next turn: after `jal` at the next instruction, after a yield where it is
+        entered."""
+        at = self.states.registers()[self.processor() if cpu is None else cpu]
+        if at is None:
+            return self.forward(1)
+        stops = self.told_stops()
+        place = self.word_at(at.part, at.pc)
+        word = self.states.words(place[0], place[1], 1)[0] if place else None
+        returns = f" pc {(at.pc + 4) % (1 << 32)}" if self.instruction(word).split()[0] == "jal" else ""
+        stops.add("break", TEMPORARY, f"part {at.part}{returns}")
+        return self.run(stops)
+
+    def until(self, text: str) -> Stopped:
+        """To a step, where it is a number alone, else to a name or an address."""
+        if re.fullmatch(r"\d+", text):
+            return self.run(self.told_stops(), int(text)) if int(text) > self.step else self.states.go(int(text))
+        stops, target = self.told_stops(), self.target(text)
+        of_frame = target.word and target.part is None
+        stops.add("break", TEMPORARY,
+                  f"place {target.word[0]}:{target.word[1]}" if target.word and of_frame else f"pc {target.address}")
+        return self.run(stops)
+
+    # Changes by hand, and ways
+
+    def set_seed(self, seed: int) -> Stopped:
+        """Another schedule: at step 0 from the beginning, else from here on."""
+        if self.step == 0:
+            self.load(f"seed {seed}")
+            return self.states.now
+        return self.states.edit("seed", seed)
+
+    def search(self, words: list[str]) -> every.Search:
+        """What the program's `every` finds for this image."""
+        return every.read(every.searched(self.program, ["every", *words], self.data))
+
+    def take_way(self, text: str) -> Stopped:
+        """The choices of a way in the place of the schedule, from the beginning."""
+        found = [choice for word in text.split() for choice in choices(word)]
+        self.on_way = True
+        return self.states.way(found)
+
+    # What is told
+
+    def partitions(self) -> list[Part]:
+        return list(parts_of(self.states.tree()[0]))
+
+    def check(self) -> str:
+        """Whether the program has the same state after as many steps."""
+        if self.on_way or self.states.now.edited:
+            return "no command of the program has this state: it came by a way, or by a change"
+        what = "tree and core" if self.schedule.startswith("seed") else "trace"
+        return self.differing() or f"the program has the same {what} after step {self.step}, by {self.schedule}"
+
+    def differing(self) -> str:
+        """What the program has otherwise, if anything: tree or core of a run, or the trace of a monitor outside the
+        machine."""
+        kind, *numbers = self.schedule.split()
+        told, last = [("tree", self.states.tree()[0]), ("core", self.states.core())], self.step
+        words = [str(last), *numbers]
+        if kind != "seed":
+            words, last = words_of(kind, numbers, last)
+            told = [(kind, self.states.trace(0, self.step))]
+        for command, found in told:
+            due = calling.text_of(self.program, [command, *words], self.data)[:-1]
+            if kind != "seed":
+                due, found = before(due, last), before(found, last)
+            if due != found:
+                return f"{command} {' '.join(words)} of the program differs from what is shown here"
+        return ""
+
+    def warning(self) -> str:
+        """Where each stop is checked, and a command has this state: what differs."""
+        return self.differing() if self.checks and not self.on_way and not self.states.now.edited else ""
+
+    def told_turn(self, turn: Turn | None) -> str:
+        """The step that led here, in a line."""
+        if turn is None:
+            return "the beginning"
+        raised = "".join(f" [line {line} raised]" for line in turn.raised)
+        if turn.cpu is None:
+            return f"{turn.step}{raised}"
+        did = self.instruction(turn.word) if turn.did == "ran" else turn.did
+        where = f"{turn.part:>4} 0x{turn.pc:08x}" if turn.part is not None and turn.pc is not None else "   -"
+        shown = turn.line.split(" ", 2)[2] if turn.line else ""
+        return f"{turn.step:>6} {turn.cpu} {where} {did:24} {shown}{raised}".rstrip()
+
+    def told_coming(self, coming: Coming) -> str:
+        """Whose turn comes, and where."""
+        raised = "".join(f" [line {line} is raised before]" for line in coming.raised)
+        if coming.cpu is None:
+            return f"{self.step}{raised or ' the way ends here'}"
+        if coming.part is None or coming.pc is None:
+            return f"{self.step:>6} {coming.cpu}    - runs nothing{raised}"
+        name = self.name_at(coming.part, coming.pc)
+        place = f"{self.step:>6} {coming.cpu} {coming.part:>4} 0x{coming.pc:08x} {name:24}"
+        return f"{place} {self.instruction(coming.word)}{raised}"
+
+    def reasons(self, now: Stopped) -> list[str]:
+        """Why a run stopped, in sentences."""
+        told = []
+        for kind, number in now.stops:
+            if kind == "idle":
+                told.append("no processor runs anything any more")
+            elif number in self.stops:
+                told.append(f"{kind} {number}: {self.stops[number].text}")
+        return told
+
+
+def words_of(kind: str, numbers: list[str], step: int) -> tuple[list[str], int]:
+    """By which numbers the program goes to a step, and where that ends: `slots` makes whole rounds, and no more than it
+    can."""
+    if kind == "native":
+        return [*numbers, str(step)], step
+    length = int(numbers[0]) * (int(numbers[1]) + 2)
+    rounds = min(-(-step // length), MOST_STEPS // length)
+    return [*numbers, str(rounds)], min(step, rounds * length)
+
+
+def before(lines: list[str], step: int) -> list[str]:
+    """The lines of the steps before one."""
+    numbered = [(line.split(" ")[0], line) for line in lines]
+    return [line for number, line in numbered if number.isdecimal() and int(number) < step]
+
+
+def of_name(named: Named, address: int) -> Target:
+    index = named.word[1] + (address - named.address) // 4
+    if not 0 <= index < 1024:
+        raise Failed("that is outside of the name's page")
+    return Target(None, address, (named.word[0], index))
+
+
+def choices(word: str) -> list[str]:
+    """A word of a way: a choice, as often as it says."""
+    found = re.fullmatch(r"(\d|raise\d+)(?:x(\d+))?", word)
+    if not found:
+        raise Failed(f"{word!r} is no choice of a way")
+    return [found[1]] * int(found[2] or "1")
+
+
+def parts_of(lines: list[str]) -> Iterator[Part]:
+    """The partitions of the text of `tree`."""
+    part: Part | None = None
+    for line in lines:
+        words = line.split(" ")
+        if words[0] == "part":
+            if part:
+                yield part
+            part = Part(int(words[1]), int(words[3]), int(words[5]), int(words[7], 16))
+        elif part and words[0] == "row":
+            part.rows.append(Row(int(words[1], 16), int(words[2]), words[3], words[4], " ".join(words[5:])))
+    if part:
+        yield part
+
+
+def ancestors(parts: list[Part], name: int) -> list[Part]:
+    """A partition and its ancestors, up to the root."""
+    by_name = {part.name: part for part in parts}
+    found = [by_name[name]] if name in by_name else []
+    while found and found[-1].depth:
+        found.append(by_name[found[-1].up])
+    return found

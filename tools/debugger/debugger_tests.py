@@ -1,0 +1,361 @@
+"""The process and the debugger beside the program and the reference; back as forward; changes, ways, and a session of
+the terminal."""
+
+from __future__ import annotations
+
+import os
+import random
+import subprocess
+import sys
+import tempfile
+import unittest
+from typing import Any
+
+from ..authors import trace
+from ..common import calling, plans
+from ..common.calling import Failed
+from ..reference import image as images
+from . import building
+from .client import States, Stops
+from .debugger import Debugger
+
+PROGRAM = os.environ.get("PIP") or calling.PROVED
+EXAMPLES = os.path.join(calling.REPOSITORY, "examples")
+MONITOR, RETRY, GUESTS = (os.path.join(EXAMPLES, name) for name in ("monitor.s", "retry.s", "two_guests.s"))
+RACE = os.path.join(calling.REPOSITORY, "tools", "authors", "race.asmx")
+LONGEST = 2000                   # steps of a comparison
+Edit = tuple[object, ...]
+SESSION = """break child
+continue
+delete 1
+watch SEEN+4096
+words SEEN+4096
+translate SEEN+4096
+continue
+catch park
+continue
+reverse
+nonsense
+words nowhere
+reg 1
+every 100000
+way 1
+continue
+check
+until 0
+seed 5
+tree
+check
+"""
+
+
+def stops_of(*lines: str) -> Stops:
+    return Stops(list(lines))
+
+
+class WithStates(unittest.TestCase):
+    def setUp(self) -> None:
+        self.states = States(building.program())
+        self.addCleanup(self.states.end)
+
+
+class Compared(WithStates):
+    """States in random order: tree, core and lines are the program's, registers the reference's."""
+
+    def test_runs(self) -> None:
+        drawn = random.Random(1)
+        for path in (MONITOR, RETRY, GUESTS, RACE):
+            seed = drawn.randrange(1, 1 << 32)
+            debugger = Debugger(PROGRAM, self.states, path, f"seed {seed}", drawn.choice([1, 7, 100, 10_000]))
+            for _ in range(8):
+                step = drawn.randrange(drawn.choice([50, LONGEST]))
+                self.states.go(step)
+                self.assertEqual(debugger.differing(), "")
+                due = calling.text_of(PROGRAM, ["run", str(step), str(seed)], debugger.data)[1:-1]
+                self.assertEqual(self.states.trace(0, step), due)
+                self.of_reference(debugger, seed, step)
+
+    def of_reference(self, debugger: Debugger, seed: int, step: int) -> None:
+        made: list[trace.Watched] = []
+        world = trace.steps(images.read(debugger.data), step, seed, lambda turn, raised, lines: made.append(turn))
+        due = [(at.name, at.context.pc, list(at.context.registers)) if at else None for at in world.processors]
+        self.assertEqual([(at.part, at.pc, list(at.registers)) if at else None for at in self.states.registers()], due)
+        turn = self.states.turn()
+        if turn and made[-1].did:
+            self.assertEqual((turn.part, turn.pc), made[-1].where)
+
+    def test_monitors_outside_the_machine(self) -> None:
+        """The lines of `native` and `slots`, forward and back."""
+        for schedule in ("native 1", "native 2", "native 8", "slots 2 5", "slots 3 0", "slots 8 40"):
+            debugger = Debugger(PROGRAM, self.states, GUESTS, schedule, 100)
+            for step in (1500, 3, 0, 777, 776, 1):
+                self.states.go(step)
+                self.assertEqual(debugger.differing(), "", (schedule, step))
+        self.assertRaises(Failed, Debugger, PROGRAM, self.states, RETRY.replace("retry.s", "tutorial/11_sum.s"),
+                          "native 8")
+
+
+# A child with a page at 0x10000000, which is taken away and given again.
+REMAPPED = """.frames 64
+.cpus 1
+.page 0x400000
+ la r1 0x404000
+ la r2 0x405000
+ la r3 0x406000
+ la r4 0x407000
+ la r5 0x408000
+ sys 0
+ la r3 0x409000
+ la r7 0x40a000
+ stw r7 r3 0
+ la r8 0x40b000
+ stw r8 r7 0
+ la r1 0x404000
+ la r2 0x10000000
+ sys 3
+ la r1 0x410000
+ la r2 0x404000
+ la r3 0x10000000
+ li r4 3
+ sys 5
+ la r1 0x404000
+ la r2 0x10000000
+ sys 6
+ la r1 0x411000
+ la r2 0x404000
+ la r3 0x10000000
+ li r4 3
+ sys 5
+stop: j stop
+.page 0x410000
+ .word 7
+.page 0x411000
+ .word 8
+"""
+
+
+class BackAsForward(unittest.TestCase):
+    """Where a run goes back to is the last state at which it was stopped on its way forward."""
+
+    def test_all_stops(self) -> None:
+        drawn = random.Random(1)
+        states = States(building.program())
+        self.addCleanup(states.end)
+        for path in (MONITOR, RETRY, RACE):
+            debugger = Debugger(PROGRAM, states, path, f"seed {drawn.randrange(1, 1000)}", drawn.choice([3, 50, 400]))
+            for stops in self.some_stops(debugger, drawn):
+                self.compare(states, stops, drawn)
+
+    def some_stops(self, debugger: Debugger, drawn: random.Random) -> list[Stops]:
+        names = [one for one in debugger.source.names.values() if one.word[1] < 1024]
+        found = [stops_of("line 1 call"), stops_of("idle"), stops_of(f"turn_of {debugger.states.cpus - 1}")]
+        for _ in range(6):
+            name, other = drawn.choice(names), drawn.choice(names)
+            at, watched = f"break 1 place {name.word[0]}:{name.word[1]}", f"watch 2 word {other.word[0]}:{other.word[1]} 1"
+            found += [stops_of(at), stops_of(watched), stops_of(f"watch 4 address 1 {other.address} 2"),
+                      stops_of(at, watched, "line 3 out")]
+        return found
+
+    def compare(self, states: States, stops: Stops, drawn: random.Random) -> None:
+        end = 1500
+        states.go(0)
+        found = []
+        while states.now.step < end:
+            now = states.run(end, stops)
+            if now.stops:
+                found.append((now.step, now.stops))
+        for _ in range(10):
+            here = drawn.randrange(1, end + 1)
+            states.go(here)
+            now = states.back(1, stops)
+            before = [one for one in found if one[0] < here]
+            self.assertEqual((now.step, now.stops), before[-1] if before else (1, []), (here, stops))
+
+
+class Walks(unittest.TestCase):
+    """However a state was reached, it is the one that a new process reaches straight on, with the same changes by
+    hand."""
+
+    def test_random_walks(self) -> None:
+        drawn = random.Random(7)
+        walker, straight = States(building.program()), States(building.program())
+        self.addCleanup(walker.end)
+        self.addCleanup(straight.end)
+        for path in (MONITOR, RETRY, RACE):
+            seed = drawn.randrange(1, 1 << 32)
+            Debugger(PROGRAM, walker, path, f"seed {seed}", drawn.choice([1, 13, 200]))
+            edits: list[tuple[int, Edit]] = []
+            for _ in range(60):
+                self.move(walker, edits, drawn)
+                if drawn.randrange(4) == 0:
+                    self.compare(walker, straight, path, seed, edits)
+
+    def move(self, walker: States, edits: list[tuple[int, Edit]], drawn: random.Random) -> None:
+        here, step = walker.now.step, drawn.randrange(0, 2000)
+        stops = stops_of(f"line 1 {drawn.choice(['call', 'out', 'switch', 'reply'])}", *["idle"] * drawn.randrange(2))
+        what = drawn.randrange(8)
+        if what < 2:
+            walker.go(step)
+        elif what == 2:
+            walker.run(max(step, here), stops)
+        elif what == 3:
+            walker.back(min(step, here), stops)
+        elif what == 4:
+            walker.turn()
+        elif what == 5:
+            walker.changed(min(step, here))
+        elif what == 6:
+            walker.trace(min(step, here), here)
+        elif here:
+            edit = self.some_edit(walker, drawn)
+            edits[:] = [one for one in edits if one[0] <= here] + [(here, edit)]
+            walker.edit(*edit)
+
+    def some_edit(self, walker: States, drawn: random.Random) -> Edit:
+        cpu, word = drawn.randrange(walker.cpus), drawn.choice([0, 1, 0x400000, 0xFFFFFFFF])
+        edits: list[Edit] = [("seed", drawn.randrange(1, 1000)), ("plan", 0, drawn.randrange(2000), 50),
+                             ("no_plan", 0), ("raise", drawn.randrange(16)),
+                             ("register", cpu, drawn.randrange(17), word),
+                             ("store", cpu, drawn.choice([0, 0x400002, 0x403000, 0xFFFFF000]), word)]
+        return drawn.choice(edits)
+
+    def compare(self, walker: States, straight: States, path: str, seed: int, edits: list[tuple[int, Edit]]) -> None:
+        here = walker.now.step
+        Debugger(PROGRAM, straight, path, f"seed {seed}")
+        for step, edit in edits:
+            if step <= here:
+                straight.go(step)
+                straight.edit(*edit)
+        straight.go(here)
+        for ask in ("registers", "core", "tree", "next", "turn"):
+            self.assertEqual(walker.ask(ask), straight.ask(ask), (path, here, ask, edits))
+
+
+class Requests(WithStates):
+    """What makes no sense is refused, and the process stays."""
+
+    def test_refusals(self) -> None:
+        wrong = ("", "nothing", "go", "go -1", "go 10000001", "load seed 1 100 /nowhere", "load seed 1 100 /",
+                 "load seed 0 100 x", "load seed 1 0 x",
+                 "load native 9 100 x", "load slots 1 10000001 100 x", f"load seed 1 100 {RACE}", "words 64 0 1",
+                 "words 0 1000 25",
+                 "words 2147483648 4294967295 4294967295", "translate 2 0", "changed 5", "way 4", "way raise16",
+                 "way x", "edit seed 0", "edit raise 16",
+                 "edit plan 16 0 0", "edit register 2 0 0", "edit register 0 17 0", "edit store 9 0 0", "break x",
+                 "break 1 place 3", "break 1 if r1 ~ 2",
+                 "watch 1 word 1:1 1025", "watch 1 frame 1 1")
+        self.assertRaises(Failed, self.states.ask, "go", 1)
+        Debugger(PROGRAM, self.states, RACE)
+        for words in wrong:
+            with self.subTest(words=words):
+                self.assertRaises(Failed, self.states.ask, words)
+        self.assertEqual(self.states.go(100).step, 100)
+        odd = stops_of("watch 1 word 5000:0 3", "watch 2 address 999 0 3", "watch 4 word 0:4294967295 2",
+                       "line 3 ^ " + "* " * 40)
+        self.assertEqual(self.states.run(110, odd).step, 110)
+
+
+class Changes(WithStates):
+    def test_changes_are_made_again(self) -> None:
+        """What was changed by hand on the way is there again after the way back and forward."""
+        debugger = Debugger(PROGRAM, self.states, MONITOR, "seed 1", 10)
+        states = debugger.states
+        states.go(300)
+        states.edit("register", 0, 1, 1000)
+        states.go(450)
+        due = states.registers(), states.core()
+        states.go(299)
+        self.assertFalse(states.now.edited)
+        states.go(450)
+        self.assertTrue(states.now.edited)
+        self.assertEqual((states.registers(), states.core()), due)
+
+    def test_plans_go_back(self) -> None:
+        Debugger(PROGRAM, self.states, MONITOR)
+        self.states.go(300)
+        self.states.edit("plan", 3, 400, 50)
+        self.assertEqual(self.states.plans, [[0, 500, 40], [3, 400, 50]])
+        self.states.go(299)
+        self.assertEqual(self.states.plans, [[0, 500, 40]])
+        self.states.go(401)
+        turn = self.states.turn()
+        assert turn
+        self.assertEqual((turn.step, turn.raised), (400, [3]))
+
+    def test_check_sees_a_difference(self) -> None:
+        """A program whose words are others is told apart."""
+        with tempfile.TemporaryDirectory() as folder:
+            other = os.path.join(folder, "other")
+            with open(other, "w", encoding="utf-8") as file:
+                program = calling.direct(PROGRAM)
+                file.write(f'#!/bin/sh\nif [ "$1" = core ]; then "{program}" "$@" | sed "s/^0000: 0/0000: 1/"; else '
+                           f'exec "{program}" "$@"; fi\n')
+            os.chmod(other, 0o755)
+            for program, due in ((PROGRAM, ""), (other, "core 100 1 of the program differs from what is shown here")):
+                debugger = Debugger(program, self.states, MONITOR)
+                debugger.checks = True
+                debugger.states.go(100)
+                self.assertEqual(debugger.warning(), due)
+
+    def test_a_stop_the_nth_time(self) -> None:
+        debugger = Debugger(PROGRAM, self.states, MONITOR)
+        found = []
+        debugger.add_break("next_turn")
+        for _ in range(5):
+            found.append(debugger.run(debugger.told_stops()).step)
+        debugger.stops.clear()
+        debugger.add_break("next_turn", after=5)
+        self.states.go(0)
+        self.assertEqual(debugger.run(debugger.told_stops()).step, found[4])
+        self.states.go(found[4] + 1)
+        self.assertEqual(debugger.back(debugger.told_stops()).step, found[0])
+
+    def test_a_watch_follows_a_mapping(self) -> None:
+        """A page that is taken away and given again at an address changes what is there; the word of the frame
+        stays."""
+        with tempfile.NamedTemporaryFile("w", suffix=".asmx") as file:
+            file.write(REMAPPED)
+            file.flush()
+            debugger = Debugger(PROGRAM, self.states, file.name)
+            debugger.run(debugger.told_stops(), 200)
+            child = debugger.partitions()[1].name
+            self.states.go(0)
+            debugger.add_watch(f"{child}:0x10000000")
+            steps = []
+            while (now := debugger.run(debugger.told_stops(), 200)).stops:
+                turn = self.states.turn()
+                assert turn
+                steps.append(turn.line.split(" ", 2)[2])
+        self.assertEqual(steps, ["call 5 reply 0 0x00000000", "call 6 reply 0 0x00000000", "call 5 reply 0 0x00000000"])
+
+    def test_ways(self) -> None:
+        """The line that `every` has for a way is shown by the last step of that way."""
+        for name in ("race.asmx", "asked_again.asmx", "turns.asmx"):
+            debugger = Debugger(PROGRAM, self.states, os.path.join(calling.REPOSITORY, "examples", "every", name))
+            search = debugger.search(["100000"])
+            for line in search.lines:
+                end = debugger.take_way(line.way).end
+                self.states.go(end)
+                turn = self.states.turn()
+                assert turn
+                self.assertEqual(turn.line, f"{line.step} {line.cpu} {line.text}")
+            self.assertTrue(search.lines)
+
+
+class Typed(unittest.TestCase):
+    def test_session(self) -> None:
+        words = [sys.executable, "-B", os.path.join(calling.REPOSITORY, "tools", "debug"), RACE, "3", "--program",
+                 calling.direct(PROGRAM)]
+        done = subprocess.run(words, input=SESSION, stdout=subprocess.PIPE, stderr=subprocess.STDOUT, text=True,
+                              timeout=60)
+        self.assertEqual(done.returncode, 0, done.stdout)
+        for text in ("1: break at child", "break 1: child", "watch 2: SEEN+4096", "stw r1 r4 0", "0xffc01000",
+                     "'nonsense' is no word",
+                     "is no number and no name", "states ", "this is the end of the way",
+                     "no command of the program has this state",
+                     "the program has the same tree and core after step 0, by seed 5"):
+            self.assertIn(text, done.stdout)
+
+
+if __name__ == "__main__":
+    unittest.main()

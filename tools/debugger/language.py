@@ -1,0 +1,363 @@
+"""The Language Server Protocol over standard streams, for scripts (.pip), assembly texts (.s) and sources (.asmx).
+
+    tools/language_server
+
+It says what is wrong, in the words of tools/why and tools/asmx, what a word means, in those of docs/FORMATS.md, where a
+name is defined, and what can be typed. Where no program is built, what is wrong comes from the reference.
+"""
+
+from __future__ import annotations
+
+import argparse
+import functools
+import os
+import re
+import sys
+from collections.abc import Iterator
+from dataclasses import dataclass
+from typing import IO, Any
+from urllib.parse import unquote, urlparse
+
+from ..authors import asmx, why
+from ..common import calling, meanings
+from ..common.calling import Failed
+from ..reference import instructions, script
+from . import wire
+from .wire import Message
+
+MOST = 20                        # wrong lines that are told of a text
+WORD = re.compile(r"[<>]?[.A-Za-z0-9_]+:?")
+NAME_IN = re.compile(r"[A-Za-z_][A-Za-z0-9_]*")
+FORMATS = os.path.join(calling.REPOSITORY, "docs", "FORMATS.md")
+TOOLS = os.path.join(calling.REPOSITORY, "tools", "README.md")
+LINK = re.compile(r"\[([^\]]*)\]\([^)]*\)")
+KEYWORD, NAME, CONSTANT, REGISTER = 14, 6, 21, 10        # kinds of completions, by the protocol's numbers
+
+
+@dataclass(frozen=True)
+class Wrong:
+    """A line that is wrong, from 0 on, from a column on, and why."""
+
+    line: int
+    column: int
+    why: str
+
+
+@dataclass(frozen=True)
+class Defined:
+    """Where a name is defined."""
+
+    file: str
+    line: int
+    text: str
+
+
+class Texts(asmx.Files):
+    """The files of a source, of which an editor may have some with another text."""
+
+    def __init__(self, open_texts: dict[str, str]) -> None:
+        super().__init__()
+        self.open = open_texts                   # by real path
+
+    def contents(self, path: str) -> bytes:
+        real = os.path.realpath(path)
+        return self.open[real].encode() if real in self.open else super().contents(path)
+
+
+# What is wrong
+
+def wrong_of(program: str, path: str, texts: Texts) -> list[Wrong]:
+    """All lines that are wrong; those of an included file are told at the first line."""
+    if not path.endswith(".asmx"):
+        return list(wrong_lines(program, texts.contents(path), path.endswith(".s")))
+    try:
+        asmx.processed(path, texts)
+    except asmx.AllWrong as wrong:
+        return [of_asmx(path, one) for one in wrong.wrongs[:MOST]]
+    except (asmx.Wrong, Failed) as wrong:
+        return [of_asmx(path, wrong) if isinstance(wrong, asmx.Wrong) else Wrong(0, 0, str(wrong))]
+    return []
+
+
+def of_asmx(path: str, wrong: asmx.Wrong) -> Wrong:
+    return Wrong(wrong.place.line - 1, 0, wrong.why) if wrong.place.file == path else Wrong(0, 0, str(wrong))
+
+
+def wrong_lines(program: str, text: bytes, is_assembly: bool) -> Iterator[Wrong]:
+    lines = list(script.lines(text))
+    for place, cause in why.wrong_lines(program, lines, is_assembly):
+        line = lines[place - 1] if place <= len(lines) else b""
+        yield Wrong(place - 1, len(line[:max(cause.column - 1, 0)].decode("utf-8", "replace")), told(cause))
+
+
+def told(cause: why.Cause) -> str:
+    """What is there, and the rule."""
+    row = meanings.causes()[cause.name]
+    if cause.name.startswith("asm"):
+        return f"{cause.here}\nrule: {row[1]}"
+    return "\n".join([cause.here, f"rule: {row[0]}"] + [f"why: {row[1]}"] * bool(row[1:]))
+
+
+# What words mean
+
+def rows(page: str, heading: str) -> list[list[str]]:
+    """The cells of the table rows of a page below a heading, up to the next one, without links."""
+    with open(page, encoding="utf-8") as file:
+        part = file.read().split(heading + "\n", 1)[-1].split("\n#", 1)[0]
+    lines = [line for line in part.split("\n") if line.startswith("| ")]
+    return [[LINK.sub(r"\1", cell.strip("| ")) for cell in line.split(" | ")] for line in lines]
+
+
+@functools.lru_cache(maxsize=None)
+def forms() -> dict[str, str]:
+    """Of each first word of a script's line: its form and what it does."""
+    return first_words(rows(FORMATS, "### Forms"))
+
+
+@functools.lru_cache(maxsize=None)
+def assembly_words() -> dict[str, str]:
+    """The same of assembly texts, with the lines of tools/asmx."""
+    found = first_words(rows(TOOLS, "## asmx"))
+    found.update(first_words(rows(FORMATS, "## Assembly")))
+    for row in rows(FORMATS, "## Instructions"):
+        if row[0].startswith("0x"):
+            name = row[1].strip("`").split()[0]
+            found[name] = f"{row[1]}, {row[0]}: {row[3] if len(row) > 3 else ''}"
+    return found
+
+
+def first_words(table: list[list[str]]) -> dict[str, str]:
+    found: dict[str, str] = {}
+    for row in table:
+        meaning = f"{row[0]}: {'; '.join(cell for cell in row[1:] if cell)}"
+        for code in re.findall(r"`([^`]+)`", row[0]) if row[0].startswith("`") else []:
+            name = code.split()[0]
+            found[name] = found[name] + "\n\n" + meaning if name in found else meaning
+    return found
+
+
+def of_call(number: str, values: list[str]) -> str:
+    """A call by its number, with its arguments beside their names."""
+    try:
+        name, arguments = meanings.calls()[int(number, 0)]
+    except (KeyError, ValueError):
+        return f"no call has the number {number}"
+    given = f"\n\nhere: {', '.join(values)}" if values else ""
+    return f"call {number}, **{name}**: {arguments}{given}"
+
+
+# Names
+
+def definitions(path: str, texts: Texts) -> dict[str, Defined]:
+    """Each name of a text and of what it includes."""
+    found: dict[str, Defined] = {}
+    try:
+        for place, words in asmx.lines_of(path, texts):
+            if words and words[0].endswith(":"):
+                found.setdefault(words[0][:-1], Defined(place.file, place.line - 1, " ".join(words)))
+            elif words[:1] == [".equ"] and len(words) > 2:
+                found.setdefault(words[1], Defined(place.file, place.line - 1, " ".join(words)))
+    except (Failed, asmx.Wrong):
+        pass
+    return found
+
+
+def addresses(path: str, texts: Texts) -> dict[str, int]:
+    """Of each name its address or number, where the text is right."""
+    try:
+        _, text = asmx.processed(path, texts)
+    except (Failed, asmx.Wrong):
+        return {}
+    return {**text.constants, **{name: label.address for name, label in text.labels.items()}}
+
+
+# The server
+
+class Server:
+    """An editor's texts, and what is asked about them."""
+
+    def __init__(self, source: IO[bytes], sink: IO[bytes], program: str) -> None:
+        self.source, self.sink, self.program = source, sink, program
+        self.texts: dict[str, str] = {}          # by path
+        self.uris: dict[str, str] = {}
+
+    def serve(self) -> None:
+        while True:
+            message = wire.read(self.source)
+            if message is None or message.get("method") == "exit":
+                return
+            self.take(message)
+
+    def take(self, message: Message) -> None:
+        name = message.get("method", "").replace("/", "_").replace("$", "").lower()
+        work = getattr(self, "on_" + name, None)
+        try:
+            result = work(message.get("params") or {}) if work else None
+            if "id" in message:
+                self.send(id=message["id"],
+                          **({"result": result} if work else {"error": {"code": -32601, "message": name}}))
+        except (Failed, LookupError, ValueError) as failed:
+            if "id" in message:
+                self.send(id=message["id"], error={"code": -32603, "message": str(failed)})
+
+    def send(self, **words: Any) -> None:
+        wire.write(self.sink, {"jsonrpc": "2.0", **words})
+
+    def files(self) -> Texts:
+        return Texts(self.texts)
+
+    def on_initialize(self, given: Any) -> Any:
+        return {"serverInfo": {"name": "pip"}, "capabilities": {
+            "textDocumentSync": 1, "hoverProvider": True, "definitionProvider": True, "documentSymbolProvider": True,
+            "completionProvider": {"triggerCharacters": [".", "<", ">"]}}}
+
+    def on_shutdown(self, given: Any) -> Any:
+        return None
+
+    def on_textdocument_didopen(self, given: Any) -> None:
+        self.changed(given["textDocument"]["uri"], given["textDocument"]["text"])
+
+    def on_textdocument_didchange(self, given: Any) -> None:
+        self.changed(given["textDocument"]["uri"], given["contentChanges"][-1]["text"])
+
+    def on_textdocument_didclose(self, given: Any) -> None:
+        self.texts.pop(path_of(given["textDocument"]["uri"]), None)
+
+    def changed(self, uri: str, text: str) -> None:
+        path = path_of(uri)
+        self.texts[path], self.uris[path] = text, uri
+        lines = text.split("\n")
+        found = [diagnostic(lines, wrong) for wrong in wrong_of(self.program, path, self.files())]
+        self.send(method="textDocument/publishDiagnostics", params={"uri": uri, "diagnostics": found})
+
+    # What is asked at a place
+
+    def place(self, given: Any) -> tuple[str, str, int]:
+        """The path, the line and the column."""
+        path = path_of(given["textDocument"]["uri"])
+        lines = self.files().contents(path).decode("utf-8", "replace").split("\n")
+        at = given["position"]
+        line = lines[at["line"]] if at["line"] < len(lines) else ""
+        return path, line, index_of(line, at["character"])
+
+    def on_textdocument_hover(self, given: Any) -> Any:
+        path, line, column = self.place(given)
+        found = next((found for found in WORD.finditer(line) if found.start() <= column <= found.end()), None)
+        if not found or line.lstrip().startswith("#"):
+            return None
+        told = self.meaning(path, line.split("#")[0].split(), found[0])
+        return {"contents": {"kind": "markdown", "value": told}} if told else None
+
+    def meaning(self, path: str, words: list[str], word: str) -> str:
+        if path.endswith(".pip"):
+            if words[0] == "call" and len(words) > 2:
+                return forms().get("call", "") if word == "call" else of_call(words[2], words[3:])
+            return forms().get(words[0], "")
+        if words[0] in ("sys",) or words[-2:-1] == ["sys"]:
+            if word == words[-1]:
+                return of_call(word, [])
+        if word in assembly_words() and word == words[0] or word in instructions.OPCODES:
+            return assembly_words().get(word, "")
+        return self.meaning_of_name(path, word.strip("<>:"))
+
+    def meaning_of_name(self, path: str, name: str) -> str:
+        defined = definitions(path, self.files()).get(name)
+        if defined is None:
+            return ""
+        value = addresses(path, self.files()).get(name)
+        where = "" if os.path.realpath(defined.file) == path else f" of {os.path.basename(defined.file)}"
+        told = "" if value is None else f": 0x{value % (1 << 32):08x}"
+        return f"`{defined.text}`, line {defined.line + 1}{where}{told}"
+
+    def on_textdocument_definition(self, given: Any) -> Any:
+        path, line, column = self.place(given)
+        name = next((found[0] for found in NAME_IN.finditer(line) if found.start() <= column <= found.end()), "")
+        defined = definitions(path, self.files()).get(name) if not path.endswith(".pip") else None
+        if defined is None:
+            return None
+        real = os.path.realpath(defined.file)
+        uri = self.uris.get(real, "file://" + real)
+        return {"uri": uri, "range": range_of(defined.line, 0, len(defined.text))}
+
+    def on_textdocument_documentsymbol(self, given: Any) -> Any:
+        path = path_of(given["textDocument"]["uri"])
+        if path.endswith(".pip"):
+            return []
+        return [{"name": name, "kind": 12 if one.text.startswith(name) else 14,
+                 "range": range_of(one.line, 0, len(one.text)),
+                 "selectionRange": range_of(one.line, 0, len(one.text))}
+                for name, one in definitions(path, self.files()).items() if os.path.realpath(one.file) == path]
+
+    def on_textdocument_completion(self, given: Any) -> Any:
+        path, line, column = self.place(given)
+        before = line[:column].split(" ")
+        if path.endswith(".pip"):
+            return [item(*one) for one in script_items(before)]
+        return [item(*one) for one in self.assembly_items(path, before)]
+
+    def assembly_items(self, path: str, before: list[str]) -> Iterator[tuple[str, int, str]]:
+        if len([word for word in before if word]) < 2 or before[-2:-1] and before[-2].endswith(":"):
+            known = ((name, text) for name, text in assembly_words().items() if NAME_IN.search(name))
+            yield from ((name, KEYWORD, text) for name, text in known if name != "NAME:")
+        elif before[-2:-1] == ["sys"]:
+            yield from ((str(number), KEYWORD, f"{name}: {told}") for number, (name, told) in meanings.calls().items())
+        else:
+            yield from ((f"r{number}", REGISTER, "") for number in range(16))
+            for name, one in definitions(path, self.files()).items():
+                yield name, CONSTANT if one.text.startswith(".equ") else NAME, one.text
+
+
+def script_items(before: list[str]) -> Iterator[tuple[str, int, str]]:
+    """First words of a script's line; after `call P` the calls."""
+    if len(before) == 1:
+        yield from ((name, KEYWORD, text) for name, text in forms().items())
+    elif before[0] == "call" and len(before) == 3:
+        yield from ((str(number), KEYWORD, f"{name}: {told}") for number, (name, told) in meanings.calls().items())
+
+
+def item(label: str, kind: int, told: str) -> dict[str, Any]:
+    return {"label": label, "kind": kind, "documentation": {"kind": "markdown", "value": told}}
+
+
+def path_of(uri: str) -> str:
+    return os.path.realpath(unquote(urlparse(uri).path))
+
+
+def units(text: str) -> int:
+    """How long a text is to the protocol, which counts units of UTF-16."""
+    return len(text.encode("utf-16-le")) // 2
+
+
+def index_of(line: str, character: int) -> int:
+    """The place in a line of a number of such units."""
+    return len(line.encode("utf-16-le")[:2 * character].decode("utf-16-le", "ignore"))
+
+
+def range_of(line: int, first: int, end: int) -> dict[str, Any]:
+    return {"start": {"line": line, "character": first}, "end": {"line": line, "character": max(end, first)}}
+
+
+def diagnostic(lines: list[str], wrong: Wrong) -> dict[str, Any]:
+    """A wrong line for the editor, from its column to the end of the word there."""
+    text = lines[wrong.line] if wrong.line < len(lines) else ""
+    found = re.compile(r"\S+").match(text, wrong.column)
+    end = found.end() if found and wrong.column else len(text)
+    return {"range": range_of(wrong.line, units(text[:wrong.column]), units(text[:end])), "severity": 1,
+            "source": "pip", "message": wrong.why}
+
+
+def built(program: str) -> str:
+    """The program, or the reference where it isn't built."""
+    try:
+        return calling.direct(program)
+    except Failed:
+        return os.path.join(calling.REPOSITORY, "tools", "reference", "program.py")
+
+
+def main() -> None:
+    parser = argparse.ArgumentParser(description="The Language Server Protocol over standard streams, for editors.")
+    calling.take_program(parser)
+    given = parser.parse_args()
+    sink = os.fdopen(os.dup(1), "wb")
+    os.dup2(2, 1)                    # nothing else gets among the messages
+    calling.guarded("language_server", lambda: Server(sys.stdin.buffer, sink, built(given.program)).serve())

@@ -1,0 +1,94 @@
+"""What a source says of an image: names, and the line of each word of the root's pages."""
+
+from __future__ import annotations
+
+from bisect import bisect_right
+from collections.abc import Sequence
+from dataclasses import dataclass, field
+from typing import NamedTuple
+
+from ..authors import asmx
+from ..authors.asmx import Place
+from ..common.calling import Failed
+from ..reference import image as images
+
+PAGE = 4096
+Word = tuple[int, int]              # a frame and an index in it
+
+
+class Named(NamedTuple):
+    """A name of the source: the address as its partition sees it, and the word of the frame."""
+
+    address: int
+    word: Word
+
+
+@dataclass
+class Source:
+    """The names and lines of a source. An image without one has none."""
+
+    path: str | None = None
+    names: dict[str, Named] = field(default_factory=dict)
+    constants: dict[str, int] = field(default_factory=dict)
+    line_of: dict[Word, Place] = field(default_factory=dict)
+    starts_of: dict[Place, list[Word]] = field(default_factory=dict)     # of a line its first word, in each page
+    by_frame: dict[int, list[tuple[int, str]]] = field(default_factory=dict)
+    words: dict[int, Sequence[int]] = field(default_factory=dict)            # of each frame, as the image has them
+
+    def nearest(self, word: Word | None) -> str:
+        """The last name at or before a word of its frame, and how many words after it."""
+        if word is None or word[0] not in self.by_frame:
+            return ""
+        frame, index = word
+        names = self.by_frame[frame]
+        at = bisect_right(names, (index, "\U0010ffff")) - 1
+        if at < 0:
+            return ""
+        start, name = names[at]
+        return name + (f"+{index - start}" if index > start else "")
+
+    def place(self, word: Word | None, holds: int | None) -> Place | None:
+        """The line that a word is from, as long as it holds what the image has there."""
+        if word is None or word not in self.line_of or self.words[word[0]][word[1]] != holds:
+            return None
+        return self.line_of[word]
+
+    def starts_at(self, file: str, line: int) -> tuple[int, list[Word]]:
+        """The first line from this one on that has words, and the first word of it; several, where pages include one
+        file."""
+        lines = sorted(place.line for place in self.starts_of if place.file == file and place.line >= line)
+        return (lines[0], self.starts_of[Place(file, lines[0])]) if lines else (line, [])
+
+
+def read(image: bytes, path: str | None) -> Source:
+    """What a source says of an image."""
+    if path is None:
+        return Source()
+    try:
+        _, text = asmx.processed(path)
+        read_image = images.read(image)
+        rows = images.world(read_image._replace(pages=[])).tree.nodes[1].rows
+    except (asmx.Wrong, images.BadImage) as wrong:
+        raise Failed(str(wrong)) from None
+    found = Source(path, constants=dict(text.constants))
+    found.words = {rows[vpage].page: words for vpage, words in read_image.pages}
+    for page in text.pages:
+        row = rows.get(page.address // PAGE)
+        if row is not None:
+            add_page(found, text, page, row.page)
+    for names in found.by_frame.values():
+        names.sort()
+    return found
+
+
+def add_page(found: Source, text: asmx.Text, page: asmx.Page, frame: int) -> None:
+    for item in page.items:
+        if item.size:
+            found.starts_of.setdefault(item.place, []).append((frame, item.at))
+        for index in range(item.at, item.at + item.size):
+            found.line_of[frame, index] = item.place
+    for name, label in text.labels.items():
+        if label.page is page:
+            index = (label.address - page.seen) % (1 << 32) // 4
+            found.names[name] = Named(label.address, (frame, index))
+            found.by_frame.setdefault(frame, []).append((index, name))

@@ -1,0 +1,31 @@
+"""Messages of JSON, each after a header with its length, as the Debug Adapter and the Language Server Protocol have
+them."""
+
+from __future__ import annotations
+
+import json
+from typing import IO, Any
+
+Message = dict[str, Any]
+
+
+def read(source: IO[bytes]) -> Message | None:
+    """The next message, or None at the end."""
+    length = 0
+    while True:
+        line = source.readline()
+        if not line:
+            return None
+        if not line.strip():
+            break
+        name, _, value = line.partition(b":")
+        if name.strip().lower() == b"content-length":
+            length = int(value)
+    found: Message = json.loads(source.read(length))
+    return found
+
+
+def write(sink: IO[bytes], message: Message) -> None:
+    body = json.dumps(message).encode()
+    sink.write(b"Content-Length: %d\r\n\r\n" % len(body) + body)
+    sink.flush()

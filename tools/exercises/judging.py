@@ -1,0 +1,174 @@
+"""The judge of tools/judge, as tools/exercise and tools/grade ask it, and what it says of a work."""
+
+from __future__ import annotations
+
+import os
+import secrets
+import subprocess
+from dataclasses import dataclass, field
+
+from ..authors import asmx, why
+from ..common import calling, meanings
+from ..common.calling import Failed
+from ..judge import building
+
+SECRET_BYTES = 8
+
+
+def ask(act: str, name: str = "", seed: str | None = None, secret: str = "", text: bytes = b"") -> str:
+    """What the judge answers: tools/judge/src/lib.rs says which lines."""
+    if any("\n" in word for word in (name, seed or "", secret)):
+        raise Failed("a name and a seed have one line")
+    head = "\n".join((act, name, seed or "", secret, ""))
+    try:
+        done = subprocess.run([building.program()], input=head.encode() + text, stdout=subprocess.PIPE)
+    except OSError as error:
+        raise Failed(f"the judge can't be run: {error.strerror}") from None
+    if done.returncode:
+        raise Failed(f"the judge ends with status {done.returncode}")
+    return done.stdout.decode("utf-8", "replace")
+
+
+@dataclass(frozen=True)
+class Exercise:
+    is_program: bool
+    goals: int
+
+
+def exercises() -> dict[str, Exercise]:
+    """The exercises in their order."""
+    lines = [line.split() for line in ask("list").splitlines()]
+    return {name: Exercise(kind == "program", int(goals)) for _, name, kind, goals in lines}
+
+
+def values(name: str, seed: str | None) -> dict[str, tuple[int, str]]:
+    """The values of an exercise, each as a number and as its text has it."""
+    lines = [line.split(" ", 3) for line in ask("values", name, seed).splitlines()]
+    return {value: (int(number), told) for _, value, number, told in lines}
+
+
+def drawn() -> str:
+    """A secret for one verdict."""
+    return secrets.token_hex(SECRET_BYTES)
+
+
+@dataclass
+class Judged:
+    """What is said of a work: of each claim whether it holds, with its hint where it doesn't; or why it is refused."""
+
+    name: str
+    secret: str
+    claims: list[tuple[bool, str, str]] = field(default_factory=list)
+    remarks: list[str] = field(default_factory=list)
+    refused: list[str] = field(default_factory=list)
+    plain: bytes = b""               # the text that was judged: of a source of tools/asmx what it becomes
+
+    @property
+    def count(self) -> int:
+        return sum(good for good, _, _ in self.claims)
+
+    @property
+    def is_whole(self) -> bool:
+        return bool(self.claims) and self.count == len(self.claims)
+
+    def missing(self) -> list[str]:
+        """The claims that don't hold."""
+        return [told for good, told, _ in self.claims if not good]
+
+    def lines(self, all_hints: bool) -> list[str]:
+        if self.refused:
+            return self.refused
+        found = [f"{self.name}: {self.count} of {len(self.claims)} goals are reached"]
+        hinted = False
+        for good, told, hint in self.claims:
+            found.append(f"  {'yes' if good else 'no '}  {told}")
+            if not good and (all_hints or not hinted):
+                found.append(f"       hint: {hint}")
+                hinted = True
+        return found + [f"  {remark}" for remark in self.remarks]
+
+
+def judged(name: str, path: str, text: bytes, is_program: bool, seed: str | None = None, secret: str | None = None,
+           files: asmx.Files | None = None) -> Judged:
+    """What a work reaches. A program may be a source of tools/asmx, which includes what `files` allows."""
+    found = Judged(name, secret or drawn(), plain=text)
+    answer = ask("judge", name, seed, found.secret, text)
+    source: tuple[list[tuple[asmx.Place, str]], asmx.Text] | None = None
+    used: list[tuple[asmx.Place, str]] = []
+    if is_program and path != "-":
+        try:
+            source = asmx.processed(path, files)
+        except asmx.Wrong as wrong:
+            if answer.startswith("refused "):
+                found.refused = [f"{name}: the text is refused", str(wrong)]
+                return found
+        if source and answer.startswith("refused "):
+            used = source[0]
+            found.plain = "".join(line + "\n" for _, line in used).encode()
+            answer = ask("judge", name, seed, found.secret, found.plain)
+    read(found, answer, path, is_program, Places(source[1]) if source else None, used)
+    return found
+
+
+def read(found: Judged, answer: str, path: str, is_program: bool, places: Places | None,
+         lines: list[tuple[asmx.Place, str]]) -> None:
+    """Takes the judge's answer apart."""
+    trouble: list[str] = []
+    for line in answer.splitlines():
+        word, _, rest = line.partition(" ")
+        if word == "cant":
+            raise Failed(rest)
+        if word == "refused":
+            found.refused = refusal(found, rest, path, is_program, lines)
+        elif word in ("yes", "no"):
+            found.claims.append((word == "yes", rest, ""))
+        elif word == "hint":
+            found.claims[-1] = (*found.claims[-1][:2], rest)
+        elif word == "say":
+            found.remarks.append(rest)
+        elif word == "trouble":
+            trouble.append(of_program(rest.split("\t"), places) if is_program else of_script(rest.split("\t")))
+        elif word == "more":
+            trouble.append(f"and {rest} more")
+    found.remarks += ["what was refused or parked:", *trouble] if trouble else []
+
+
+def refusal(found: Judged, rest: str, path: str, is_program: bool, lines: list[tuple[asmx.Place, str]]) -> list[str]:
+    place, _, kind = rest.partition(" ")
+    if len(lines) >= int(place):
+        at, text = lines[int(place) - 1]
+        return [f"{found.name}: the text is refused", f"{at.file}:{at.line}: {kind}, in {text!r}"
+                + asmx.reason([line.encode() for _, line in lines], int(place), kind)]
+    told = why.refused(path, found.plain, int(place), kind if is_program else None)
+    return [f"{found.name}: line {place} is refused", *told]
+
+
+def of_script(parts: list[str]) -> str:
+    number, line, answer = parts
+    return f"line {number}: {line} -> {answer} ({meanings.of_answer(answer, line)})"
+
+
+def of_program(parts: list[str], places: Places | None) -> str:
+    step, cpu, partition, address, line = parts
+    where = places.told(int(address, 16)) if places and address != "-" else ""
+    return f"{where}step {step}: processor {cpu}, partition {partition}: {line} ({meanings.of_answer(line)})"
+
+
+class Places:
+    """The lines of a source, by the root's addresses of what they fill."""
+
+    def __init__(self, text: asmx.Text) -> None:
+        self.lines = {page.address + 4 * word: item.place
+                      for page in text.pages for item in page.items for word in range(item.at, item.at + item.size)}
+        self.names = sorted((label.page.address + (label.address - label.page.seen) % (1 << 32), name)
+                            for name, label in text.labels.items())
+
+    def told(self, address: int) -> str:
+        """The line that an instruction is from, and the name at or before it; nothing where it isn't in the source."""
+        place = self.lines.get(address)
+        if place is None:
+            return ""
+        before = [(at, name) for at, name in self.names if at <= address and at // 4096 == address // 4096]
+        at, name = before[-1] if before else (0, "")
+        label = f" ({name}{f'+{(address - at) // 4}' if address > at else ''})" if name else ""
+        return f"{os.path.basename(place.file)}:{place.line}{label}, "

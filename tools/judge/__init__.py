@@ -1,0 +1,1 @@
+"""The judge of the exercises: it is written in Rust, in src, and building.py builds it."""

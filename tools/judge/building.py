@@ -1,0 +1,38 @@
+"""The judge as a program, which cargo builds where a source is newer."""
+
+from __future__ import annotations
+
+import argparse
+import os
+import shutil
+from pathlib import Path
+
+from ..common import calling
+from ..exporter.building import Program
+
+HERE = Path(__file__).resolve().parent
+NAME = "pip_judge"
+SHIPPED = HERE / NAME            # where a release has it
+JUDGE = Program(NAME, "the judge", HERE, ("pip_asm", "pip_cpu", "pip_image", "pip_kern", "pip_script", "pip_switch"),
+                ("host",),
+                ", or copy the file that tools/judge/make_judge --to FILE writes on a machine like this, and name it "
+                "by "
+                "the environment's PIP_JUDGE")
+USES, own_files = JUDGE.uses, JUDGE.files
+
+
+def main() -> None:
+    parser = argparse.ArgumentParser(prog="make_judge",
+                                     description="The judge of the exercises as a program, which cargo builds.")
+    parser.add_argument("--to", type=Path, required=True, metavar="FILE", help="a copy of it")
+    given = parser.parse_args()
+    calling.guarded("make_judge", lambda: make(given.to))
+
+
+def make(to: Path) -> None:
+    shutil.copy(program(), to)
+
+
+def program() -> str:
+    """The path of the judge."""
+    return os.environ.get("PIP_JUDGE") or (str(SHIPPED) if SHIPPED.exists() else JUDGE.path())

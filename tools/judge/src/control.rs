@@ -1,0 +1,204 @@
+//! The exercises about control: who runs, who is entered, and what is saved.
+
+use crate::memory::{after, child_at, has_handlers};
+use crate::script::Script;
+use crate::values::Values;
+use crate::verdict::Verdict;
+use crate::world::{Act, At, Call, Event, Id, Moved, ROOT, SAVED, Why, World};
+use pip_base::{Outcome, Size, Status};
+
+fn moved(event: &Event) -> Option<&Moved> {
+    event.moved.as_deref()
+}
+
+/// Whether what an event entered still runs there, at that pc.
+fn runs_since(world: &World, number: usize) -> bool {
+    let event = &world.events[number];
+    let cpu = event.cpu.unwrap_or(0);
+    let is_sent = |(_, later): (usize, &Event)| later.cpu == Some(cpu) && later.act == Act::SetPc;
+    world.last_moved(cpu) == Some(number)
+        && moved(event).is_some_and(|moved| moved.to.is_some())
+        && !after(world, number).any(is_sent)
+}
+
+fn pc_of(world: &World, event: &Event) -> Option<u32> {
+    Some(world.ctx(event.cpu?)?.pc)
+}
+
+fn register_of(world: &World, event: &Event, number: usize) -> Option<u32> {
+    Some(world.ctx(event.cpu?)?.regs[number])
+}
+
+fn is_child(world: &World, id: Option<Id>) -> bool {
+    id.is_some_and(|id| id != ROOT && world.parts[id].parent == ROOT)
+}
+
+// enter
+
+pub fn enter(v: &Values, script: &Script, verdict: &mut Verdict) {
+    let (world, pc, word) = (&script.world, v.get("pc"), v.get("word"));
+    let Some(id) = child_at(world, v.get("child")) else { return };
+    verdict.story(&[true, has_handlers(world, id), false, false, false]);
+    for (k, event, moved) in world.moves() {
+        let is_entry = event.cpu == Some(0)
+            && moved.to == Some(id)
+            && moved.from == Some(ROOT)
+            && moved.vector == 64
+            && moved.why == Why::Yield;
+        if is_entry && runs_since(world, k) {
+            let is_at = moved.entered.pc == pc && pc_of(world, event) == Some(pc);
+            let has = moved.entered.regs[1] == word && register_of(world, event, 1) == Some(word);
+            verdict.story(&[true, has_handlers(world, id), true, is_at, has]);
+        }
+    }
+}
+
+// call-home
+
+pub fn call_home(v: &Values, script: &Script, verdict: &mut Verdict) {
+    let (world, pc, word) = (&script.world, v.get("pc"), v.get("word"));
+    for (k, event, moved) in world.moves() {
+        let is_it = matches!(event.call(), Some(Call::Yield { target: 0, .. }))
+            && is_child(world, moved.from)
+            && moved.to == Some(ROOT);
+        if !is_it || world.last_moved(event.cpu.unwrap_or(0)) != Some(k) {
+            continue;
+        }
+        let is_at = moved.entered.pc == pc && pc_of(world, event) == Some(pc) && runs_since(world, k);
+        let had = event.before.is_some_and(|ctx| ctx.regs[5] == word);
+        let is_saved =
+            matches!(event.call(), Some(Call::Yield { save: SAVED, .. })) && world.is_kept(k) && is_there(world, moved);
+        verdict.story(&[true, is_at, had, had && is_saved]);
+    }
+}
+
+// Whether the partition that was left still has its block for 63 where it was saved.
+fn is_there(world: &World, moved: &Moved) -> bool {
+    moved
+        .from
+        .is_some_and(|id| world.alive(id) && world.block(id, SAVED).is_some() && world.block(id, SAVED) == moved.saved)
+}
+
+// fault
+
+pub fn fault(v: &Values, script: &Script, verdict: &mut Verdict) {
+    let (world, child) = (&script.world, v.get("child"));
+    let Some(id) = child_at(world, child) else { return };
+    for (k, event, moved) in world.moves() {
+        let is_load = matches!(event.act, Act::Load { size: Size::Word, .. })
+            && moved.from == Some(id)
+            && moved.to == Some(ROOT)
+            && moved.vector == 17;
+        if is_load && world.last_moved(event.cpu.unwrap_or(0)) == Some(k) {
+            let has = |number: usize, word: u32| register_of(world, event, number) == Some(word);
+            verdict.story(&[true, has(0, 17), has(3, child), world.is_kept(k) && is_there(world, moved)]);
+        }
+    }
+}
+
+// interrupt
+
+pub fn interrupt(v: &Values, script: &Script, verdict: &mut Verdict) {
+    let (world, line, pc) = (&script.world, v.get("line"), v.get("pc"));
+    let is_calm = !world.is_masked() && world.pending() == 0;
+    for (k, event, moved) in world.moves() {
+        if moved.why != Why::Line
+            || moved.to != Some(ROOT)
+            || moved.vector != 32 + line
+            || !is_child(world, moved.from)
+            || !is_raised(world, k, line)
+        {
+            continue;
+        }
+        let was_at = event.before.is_some_and(|ctx| ctx.pc == pc);
+        let back = world
+            .moves()
+            .find(|(_, _, later)| later.to == moved.from && later.from == Some(ROOT) && later.resumed == Some(k));
+        let back = back.filter(|(number, later, _)| world.last_moved(later.cpu.unwrap_or(0)) == Some(*number));
+        let is_same = back.is_some_and(|(_, later, _)| later.cpu.and_then(|cpu| world.ctx(cpu)) == event.before);
+        verdict.story(&[true, was_at, moved.saved.is_some(), back.is_some(), is_same, is_calm]);
+    }
+}
+
+// Whether the line that an event takes was raised while what it interrupts ran there.
+fn is_raised(world: &World, taken: usize, line: u32) -> bool {
+    let raised = world.events[..taken]
+        .iter()
+        .rposition(|event| matches!(event.act, Act::Raise { line: other, pending: false } if other == line));
+    raised.is_some_and(|raised| world.stays(world.events[taken].cpu.unwrap_or(0), raised, taken))
+}
+
+// forged
+
+pub fn forged(v: &Values, script: &Script, verdict: &mut Verdict) {
+    let (world, line, vector) = (&script.world, v.get("line"), v.get("vector"));
+    let entries = || world.moves().filter(|(_, _, moved)| moved.to == Some(ROOT) && moved.vector == vector);
+    let once = entries().filter(|(_, _, moved)| moved.why == Why::Line).count() == 1;
+    for id in world.children() {
+        let of = |why: Why| entries().filter(move |(_, _, moved)| moved.from == Some(id) && moved.why == why);
+        let shows = |k: usize, numbers: &[u32]| {
+            numbers.iter().all(|number| looks(world, k).any(|event| event.act == Act::Reg { number: *number }))
+        };
+        let is_shown = |why: Why, numbers: &[u32]| of(why).any(|(k, _, _)| shows(k, numbers));
+        let differs = |(_, _, moved): (usize, &Event, &Moved)| moved.entered.regs[1..4] != [0; 3];
+        let is_free = |event: &Event| match event.act {
+            Act::Peek { at: At { frame: 1, index: 15 }, word: Some(lines), .. } => lines >> line & 1 == 0,
+            _ => false,
+        };
+        verdict.story(&[
+            once && is_shown(Why::Line, &[0, 3]),
+            is_shown(Why::Trap, &[0, 3]),
+            is_shown(Why::Yield, &[0, 1, 2, 3]),
+            of(Why::Yield).next().is_some() && of(Why::Yield).all(differs),
+            [Why::Trap, Why::Yield].into_iter().any(|why| of(why).any(|(k, _, _)| looks(world, k).any(is_free))),
+        ]);
+    }
+}
+
+// What follows an entry as long as the registers there are those of the entry.
+fn looks(world: &World, number: usize) -> impl Iterator<Item = &Event> {
+    let cpu = world.events[number].cpu;
+    let changes = move |event: &Event| {
+        event.cpu == cpu && (event.moved.is_some() || matches!(event.act, Act::Call { .. } | Act::SetPc))
+    };
+    after(world, number)
+        .map(|(_, event)| event)
+        .take_while(move |event| !changes(event))
+        .filter(move |event| event.cpu == cpu || event.cpu.is_none())
+}
+
+// two-processors
+
+pub fn two_processors(v: &Values, script: &Script, verdict: &mut Verdict) {
+    let (world, word) = (&script.world, v.get("word"));
+    let two = script.boot.1 == 2;
+    verdict.story(&[two, false, false, false]);
+    for id in world.children().filter(|id| world.alive(*id)) {
+        let both = two && world.runs(0) == Some(id) && world.runs(1) == Some(ROOT);
+        let stored = |event: &Event| event.who == Some(id) && event.cpu == Some(0);
+        let is_loaded = |event: &Event| match event.act {
+            Act::Load { size: Size::Word, writers, .. } if event.who == Some(ROOT) && event.cpu == Some(1) => {
+                event.outcome == Outcome::Word(word) && world.stored_by(word, &writers, stored)
+            }
+            _ => false,
+        };
+        let is_refused = |(k, event): (usize, &Event)| {
+            event.cpu == Some(1)
+                && world.parts[id].made < k
+                && event.of_root(Status::Running) == Some(Call::Delete { child: world.parts[id].born })
+                && ran(world, 0, k) == Some(id)
+        };
+        verdict.story(&[
+            two,
+            both,
+            world.events.iter().any(is_loaded),
+            world.events.iter().enumerate().any(is_refused),
+        ]);
+    }
+}
+
+// What ran on a processor before an event.
+fn ran(world: &World, cpu: u32, before: usize) -> Option<Id> {
+    let last = world.events[..before].iter().rev().find(|event| event.cpu == Some(cpu) && event.moved.is_some());
+    last.and_then(moved).map_or((cpu == 0).then_some(ROOT), |moved| moved.to)
+}

@@ -1,0 +1,245 @@
+//! A student's program: its image, and its runs with timers, words and children that the judge chooses.
+
+use crate::random::Random;
+use crate::script::{Refused, memory};
+use crate::world::{Act, Hostile, Id, ROOT, Why, World, steps};
+use alloc::format;
+use alloc::string::{String, ToString};
+use alloc::vec::Vec;
+use pip_asm::{AsmError, assemble};
+use pip_base::{Outcome, Plan};
+use pip_cpu::turn;
+use pip_frames::RawFrames;
+use pip_image::{ImageReader, load_image};
+use pip_io::{Discard, SureSource};
+use pip_isa::{Instr, Register, encode};
+use pip_kern::boot_zeros;
+use pip_model::{Port, due};
+use pip_script::{Generator, outcome_text};
+use pip_switch::Machine;
+use rattle_std::alloc::Global;
+use rattle_std::marker::Brand;
+
+const HEAD: usize = 24;
+const PLAN: usize = 12;
+const PAGE: usize = 4100;
+
+/// An image, as `asm` writes it.
+#[derive(Clone)]
+pub struct Image(Vec<u8>);
+
+/// When interrupt lines are raised.
+#[derive(Clone)]
+pub enum Timer {
+    /// By the plans of the text.
+    Own,
+    /// This line alone, first at a step and then at distances that are drawn between two bounds; and, where it strikes,
+    /// also at some of the steps that follow the entry of the root by a trap or a yield.
+    Drawn { line: u32, first: u32, least: u32, most: u32, strikes: bool, seed: u64 },
+}
+
+/// What is different from the run of the text alone.
+pub struct Course {
+    pub timer: Timer,
+    pub steps: u32,
+    pub hostile: Option<Hostile>,
+    /// Children stay where they are in some of their steps, by this seed.
+    pub stalls: Option<u64>,
+    /// After this event a register of what runs then gets a word.
+    pub edit: Option<(usize, u32, u32)>,
+}
+
+impl Course {
+    pub fn plain(steps: u32) -> Course {
+        Course { timer: Timer::Own, steps, hostile: None, stalls: None, edit: None }
+    }
+}
+
+impl Image {
+    pub fn assembled(text: &[u8]) -> Result<Image, Refused> {
+        match assemble(Global, text) {
+            Ok(bytes) => Ok(Image(bytes.as_slice().into())),
+            Err(AsmError::Line(number, kind)) => Err(Refused::Line(number, kind.to_string())),
+            Err(AsmError::Memory) => Err(memory()),
+        }
+    }
+
+    fn field(&self, at: usize) -> u32 {
+        self.0.get(at..at + 4).map_or(0, |bytes| u32::from_le_bytes([bytes[0], bytes[1], bytes[2], bytes[3]]))
+    }
+
+    pub fn frames(&self) -> u32 {
+        self.field(8)
+    }
+
+    // Where the word at an address of the root is; None where the image has no such page.
+    fn place(&self, address: u32) -> Option<usize> {
+        let first = HEAD + PLAN * self.field(16) as usize;
+        let page = (first..self.0.len()).step_by(PAGE).find(|at| self.field(*at) == address / 4096)?;
+        Some(page + 4 + address as usize % 4096)
+    }
+
+    pub fn has(&self, address: u32) -> bool {
+        self.place(address).is_some()
+    }
+
+    pub fn put(&mut self, address: u32, word: u32) {
+        if let Some(at) = self.place(address) {
+            self.0[at..at + 4].copy_from_slice(&word.to_le_bytes());
+        }
+    }
+
+    /// The machine after some steps.
+    pub fn run(&self, course: Course) -> Result<World, Refused> {
+        let (mut world, plans) = self.load()?;
+        world.hostile = course.hostile;
+        world.stalls = course.stalls.map(Random::new);
+        let mut lines = Lines::new(&course.timer, plans);
+        let mut generator = Generator::new(1);
+        for step in 0..course.steps {
+            lines.raise(&mut world, step);
+            let cpu = if world.cpus() == 1 { 0 } else { generator.draw(world.cpus()) };
+            world.place = step;
+            let known = world.events.len();
+            _ = turn::<World, _, _, Brand>(&mut world, cpu, u64::from(step), &mut Discard::new(), &mut steps());
+            lines.strike(&mut world, known);
+            if let Some((event, register, word)) = course.edit
+                && known <= event
+                && event < world.events.len()
+            {
+                let pc = world.ctx(cpu).map_or(0, |ctx| ctx.pc);
+                world.set_register(cpu, Register::new(register), word, pc);
+            }
+            if world.events.len() > known && (0..world.cpus()).all(|cpu| world.runs(cpu).is_none()) && lines.is_over() {
+                break;
+            }
+        }
+        Ok(world)
+    }
+
+    fn load(&self) -> Result<(World, Vec<Plan>), Refused> {
+        let cant = |_| Refused::Cant("the image can't be read".into());
+        let mut source = SureSource::new(&self.0);
+        let mut reader = ImageReader::new(&mut source);
+        let head = reader.header().map_err(cant)?;
+        let mut mem = RawFrames::new(Global, head.frames).map_err(|_| memory())?;
+        boot_zeros(&mut mem, &mut steps());
+        load_image(&mut reader, &head, &mut mem).map_err(cant)?;
+        let plans = head.plans.iter().copied().collect();
+        Ok((World::new(Machine::new(mem, head.cpus), head.frames, true), plans))
+    }
+}
+
+// The lines that are raised.
+enum Lines {
+    Plans(Vec<Plan>),
+    Drawn { line: u32, next: u32, least: u32, most: u32, strikes: bool, random: Random },
+}
+
+impl Lines {
+    fn new(timer: &Timer, plans: Vec<Plan>) -> Lines {
+        match *timer {
+            Timer::Own => Lines::Plans(plans),
+            Timer::Drawn { line, first, least, most, strikes, seed } => {
+                Lines::Drawn { line, next: first, least, most, strikes, random: Random::new(seed) }
+            }
+        }
+    }
+
+    fn raise(&mut self, world: &mut World, step: u32) {
+        match self {
+            Lines::Plans(plans) => {
+                for plan in plans.iter().filter(|plan| due(plan, u64::from(step))) {
+                    world.raise(plan.line, &mut steps());
+                }
+            }
+            Lines::Drawn { line, next, least, most, random, .. } => {
+                if step == *next {
+                    world.raise(*line, &mut steps());
+                    *next += random.within(*least, *most);
+                }
+            }
+        }
+    }
+
+    // Raises the line at some of the steps that follow the entry of the root by a child's own act.
+    fn strike(&mut self, world: &mut World, known: usize) {
+        let Lines::Drawn { line, strikes: true, random, .. } = self else { return };
+        let entered = world.events.get(known).and_then(|event| event.moved.as_ref());
+        let is_act = entered.is_some_and(|moved| moved.to == Some(ROOT) && matches!(moved.why, Why::Trap | Why::Yield));
+        if is_act && random.within(0, 2) == 0 {
+            world.raise(*line, &mut steps());
+        }
+    }
+
+    // Whether no line can wake a processor any more.
+    fn is_over(&self) -> bool {
+        matches!(self, Lines::Plans(plans) if plans.is_empty())
+    }
+}
+
+// What is read off a run
+
+/// The words that were shown: step, partition, word.
+pub fn outs(world: &World) -> Vec<(u32, Id, u32)> {
+    let shown = world.events.iter().filter_map(|event| match event.act {
+        Act::Out { word } => Some((event.place, event.who?, word)),
+        _ => None,
+    });
+    shown.collect()
+}
+
+pub fn has_parked(world: &World) -> bool {
+    world.events.iter().any(|event| matches!(event.outcome, Outcome::Parked { .. }))
+}
+
+pub fn has_refused(world: &World) -> bool {
+    world.events.iter().any(|event| event.status().is_some_and(|status| status.number() != 0))
+}
+
+/// What was refused or parked: step, processor, partition, the root's address of the instruction, and the line of the
+/// trace.
+pub fn trouble(world: &World) -> Vec<String> {
+    let mut found = Vec::new();
+    for event in world.events.iter().filter(|event| event.is_trouble()) {
+        let call = if let Act::Call { no, .. } = event.act { format!("call {no} ") } else { String::new() };
+        // A call and a trap leave the pc of the next instruction.
+        let back = if matches!(event.act, Act::Call { .. } | Act::Trap { vector: 64.. }) { 4 } else { 0 };
+        let place = event.before.zip(event.who).and_then(|(ctx, who)| world.at(who, ctx.pc.wrapping_sub(back)));
+        let address =
+            place.and_then(|at| world.root_address(at)).map_or("-".into(), |address| format!("{address:#010x}"));
+        let name = event.who.map_or(0, |who| world.parts[who].name);
+        let answer = outcome_text(&event.outcome);
+        found.push(format!(
+            "{}\t{}\t{name}\t{address}\t{call}{}",
+            event.place,
+            event.cpu.unwrap_or(0),
+            answer.as_str()
+        ));
+    }
+    found
+}
+
+// Children that the judge puts in the place of a program's own
+
+/// Instructions that set registers and wait, with some others between them.
+pub fn restless(random: &mut Random, acts: &[Vec<Instr>], waits: (u32, u32)) -> Vec<u32> {
+    let mut text = Vec::new();
+    for _ in 0..40 {
+        for _ in 0..random.within(waits.0, waits.1) {
+            let a = random.within(0, 15);
+            text.push(encode(&li(a, random.word() as u16)));
+        }
+        let act = &acts[random.within(0, acts.len() as u32 - 1) as usize];
+        text.extend(act.iter().map(encode));
+    }
+    text
+}
+
+pub fn lih(register: u32, value: u16) -> Instr {
+    Instr::LiHigh { a: Register::new(register), value }
+}
+
+pub fn li(register: u32, value: u16) -> Instr {
+    Instr::Li { a: Register::new(register), value }
+}

@@ -1,0 +1,54 @@
+"""Time slots of an image: children of the root are built as for `native`, and each has a slot of so many turns in turn.
+"""
+
+from __future__ import annotations
+
+from .image import Image, world as image_world
+from .model import NOWHERE, ROOT, SAVED, World
+from .native import children
+from .runs import Turn
+from .script import outcome_text, word_text
+
+LINE = 0                 # the interrupt line that ends a slot
+
+
+def steps_of(n: int, turns: int, rounds: int) -> int:
+    return rounds * n * (turns + 2)
+
+
+class Slots:
+    """Slots on processor 0, one after another, and the lines that are told of them."""
+
+    def __init__(self, world: World, told: list[str]) -> None:
+        self.world, self.told, self.step = world, told, 0
+
+    def root_runs(self) -> bool:
+        at = self.world.processors[0]
+        return at is not None and at.name == ROOT
+
+    def slot(self, child: int, turns: int) -> None:
+        """The root yields into the child, the processor has its turns while the root doesn't run, and line 0 ends the
+        slot.
+        """
+        outcome = self.world.call(0, 8, [child, SAVED, NOWHERE, 0, 0])
+        self.told.append(f"{self.step} 0 call 8 {outcome_text(outcome)}")
+        for step in range(self.step + 1, self.step + 1 + turns):
+            if not self.root_runs():
+                Turn(self.world, 0, step, self.told.append).take()
+        if not self.root_runs():
+            self.world.raise_line(LINE)
+            Turn(self.world, 0, self.step + 1 + turns, self.told.append).tell_switch(self.world.poll(0))
+        self.step += turns + 2
+
+
+def slots(image: Image, n: int, turns: int, rounds: int) -> tuple[list[str], World]:
+    """The text, line by line, and the last world."""
+    told = [f"image {image.frames} {image.cpus} {len(image.plans)} {len(image.pages)}"]
+    world = image_world(image)
+    built = children(world, n)
+    told += [f"built {i} {word_text(address)}" for i, address in enumerate(built)]
+    run = Slots(world, told)
+    for _ in range(rounds):
+        for child in built:
+            run.slot(child, turns)
+    return told + [f"end {steps_of(n, turns, rounds)}"], world
