@@ -108,6 +108,8 @@ def adapt(classroom: str) -> None:
         for file in files:
             path = os.path.join(folder, file)
             write(path, examples.contents(path).replace(b"CHECKOUT", REPOSITORY.encode()))
+    example = examples.contents(os.path.join(REPOSITORY, "examples", "monitor.s"))
+    write(os.path.join(classroom, "ada", "monitor.s"), example)
     for student in ("fifo", "link", "own", "folder/map.pip", "slow", "wide"):
         os.makedirs(os.path.join(classroom, student))
     os.mkfifo(os.path.join(classroom, "fifo", "map.pip"))
@@ -115,7 +117,7 @@ def adapt(classroom: str) -> None:
     os.symlink(os.path.join(classroom, "ada"), os.path.join(classroom, "link", "inner"))
     write(os.path.join(classroom, "link", "monitor.asmx"), b".include inner/monitor.s\n")
     write(os.path.join(classroom, "own", "monitor.asmx"), b".include helper.s\n")
-    write(os.path.join(classroom, "own", "helper.s"), examples.contents(os.path.join(classroom, "ada", "monitor.s")))
+    write(os.path.join(classroom, "own", "helper.s"), example)
     write(os.path.join(classroom, "slow", "monitor.asmx"), b"".join(b".include f%d.s\n" % k for k in range(20)))
     for k in range(20):
         write(os.path.join(classroom, "slow", f"f{k}.s"), b"x: .word x*x*x*x*x*x*x*x\n" * 20000)
