@@ -1,12 +1,12 @@
 """Writes inputs that cost a command most, as far as such were found.
 
-    bench/worst.py names KIND COUNT         an assembly text of that many labels bench/worst.py chain DEPTH BYTES KIND
-    a script that works at the end of a chain of partitions bench/worst.py audit                    a text of 4096
-    frames bench/worst.py build WANTS COUNT        a script: a child is built with that many wants and ended, again and
-    again bench/worst.py calls                    an assembly text, for `run`: its root makes and ends a child in a loop
-    bench/worst.py faults                   an assembly text, for `native` and `slots`: each child faults at each
-    instruction bench/worst.py fill                     an assembly text, for `every`: it stores a word in one place
-    after the other
+    bench/worst.py names KIND COUNT         an assembly text of that many labels
+    bench/worst.py chain DEPTH BYTES KIND   a script that works at the end of a chain of partitions
+    bench/worst.py audit                    a text of 4096 frames
+    bench/worst.py build WANTS COUNT        a script: a child is built with that many wants and ended, again and again
+    bench/worst.py calls                    an assembly text, for `run`: its root makes and ends a child in a loop
+    bench/worst.py faults                   an assembly text, for `native`, `slots`: children fault at each instruction
+    bench/worst.py fill                     an assembly text, for `every`: it stores a word in one place after the other
 
 KIND of names: `numbers` are ordinary names and `drawn` are 32 random letters; `prefixes` begin with the same 26
 letters; `chosen` would fall into one part in 64 of the assembler's table, were its hash to begin with 0. KIND of a
