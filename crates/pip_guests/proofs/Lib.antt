@@ -21,5 +21,6 @@ pub mod Programs
 pub mod OnInputs
 pub mod Limits
 mod Premises
+pub mod AncestorPremises
 mod TurnPremises
 pub mod Machines

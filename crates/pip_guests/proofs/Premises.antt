@@ -127,7 +127,7 @@ born_are a l = (
 names : names_of (nodes made.tree) ≡ 1 ∷ 22 ∷ 13 ∷ []
 names = refl
 
-made_sound : IsSoundWorld made
+pub made_sound : IsSoundWorld made
 made_sound =
     let boot = boot_world-sound_with (λ g i. 0xfffff000) 64 2 (omega arith) (omega arith) (omega arith) (omega arith)
     (λ g i l. omega arith) in
@@ -268,16 +268,16 @@ same_13 = record {
     off (suc (suc i)) r h e = cc
 
 -- in both it writes a word of 13's page, and yields to 13, which then makes a call
-abbrev gives : Event
+abbrev pub gives : Event
 gives = E.Store 0 0x409008 Word 5
 
-abbrev enters : Five
+abbrev pub enters : Five
 enters = five 0x401000 64 256 0 0
 
 abbrev given : World → World
 given w = (event w gives).world
 
-gives_are : IsEvent gives
+pub gives_are : IsEvent gives
 gives_are = (omega arith, omega arith)
 
 other_sound : IsSoundWorld other
@@ -323,7 +323,7 @@ made_enters = enters_13 (given made) refl refl (inl refl) refl
 other_enters : Enters 13 13 64 (given other) 0 8 enters
 other_enters = enters_13 (given other) refl refl (inl refl) refl
 
-enters_are : IsEvent (E.Call 0 8 enters)
+pub enters_are : IsEvent (E.Call 0 8 enters)
 enters_are = let z = words 0 (omega arith) in
     (words 8 (omega arith), (omega arith, (words 64 (omega arith), (words 256 (omega arith), (z, (z, tt))))))
 
