@@ -11,6 +11,7 @@ from .count import Counted
 
 MONITOR = os.path.join(REPOSITORY, "examples", "monitor.s")
 NATIVE = os.path.join(REPOSITORY, "examples", "native.s")
+PREEMPTED = os.path.join(REPOSITORY, "examples", "preempted_beside_a_loop.s")
 Figure = tuple[str, int]
 
 BOOT = "boot 32 1"
@@ -202,7 +203,11 @@ class Figures:
             children = self.program.written(file.read(), "asm")
         few, many = (self.program.instructions(children, "native", "3", steps) for steps in ("10000", "110000"))
         yield "a step by native", (many - few) // 100000
-        few, many = (self.program.instructions(children, "slots", "2", "3", rounds) for rounds in ("1000", "11000"))
+        with open(PREEMPTED, "rb") as file:
+            children = self.program.written(file.read(), "asm")
+        few, many = (self.program.instructions(children, "native", "2", steps) for steps in ("10000", "110000"))
+        yield "a step by native, of turns that a line ends", (many - few) // 100000
+        few, many = (self.program.instructions(children, "slots", "2", "48", rounds) for rounds in ("100", "1100"))
         yield "a step by slots", (many - few) // 100000
 
     def of_frames(self) -> Iterator[Figure]:
