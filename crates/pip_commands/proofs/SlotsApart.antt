@@ -2,7 +2,7 @@
 use Rattle.std.proofs.Common.{◌≡◌, ℕ, zero, suc, ◌+◌, ◌-◌, ◌*◌, ◌%◌, ◌<◌, ◌≤◌, ◌⊎◌, inl, inr, Bool, true, false}
 use Rattle.std.proofs.Common.{cond, List, [], ◌∷◌, ◌++◌, length, Some, refl, sym, ap, ◌∙◌, subst}
 use Rattle.std.proofs.Common.{append-nil, append_assoc, arith, length-append}
-use Rattle.std.specs.List.{AllByRecursion, concat}
+use Rattle.std.specs.List.{AllByRecursion}
 use Rattle.std.specs.Prelude.{Ok, slice_get}
 use Rattle.std.proofs.lemmas.Bool.{cases_lt}
 use Rattle.std.proofs.Math.Nat.{mod-eq-sub-mod, mod-eq_of_lt}
@@ -16,8 +16,9 @@ use Rattle.pip_model.proofs.OnLists.Acts.{after-append, text-append}
 use Rattle.pip_slots.specs.declared.time_slot.TimeSlot.{TimeSlot}
 use Rattle.pip_slots.specs.Images.{HasRooms, in_turn, round, slots_text, steps_in_turn}
 use Rattle.pip_slots.specs.Slots.{after_slot, closing, next_step, opening, polling, rest_acts, rounds, slot_acts}
-use Rattle.pip_slots.specs.Slots.{slot_entry, slot_run, slot_texts, slot_turn, slot_turns}
+use Rattle.pip_slots.specs.Slots.{slot_entry, slot_texts, slot_turn, slot_turns}
 use Rattle.pip_slots.proofs.Images.{images_separate_slots, in_turn_words}
+use Rattle.pip_slots.proofs.Texts.{texts_count, texts_joined}
 use Rattle.pip_watch.specs.Watching.{addresses, built_from, fresh, ready_world, root_runs}
 use Rattle.pip_commands.specs.Dues.{IsChildrenAnswer, IsRoomy, slots_due}
 use Rattle.pip_commands.specs.EndsBy.{Response}
@@ -135,16 +136,6 @@ each_slot turns w (s ∷ ss) t (suc j) slot all at =
     subst (λ x. AreLinesOf Any x (turns + 2) slot) e
     (subst (λ n. AreLinesOf Any ((t + (n + 2)) + j * (turns + 2)) (turns + 2) slot) all.0
     (each_slot turns (after_slot w s t) ss (next_step s t) j slot all.1 at))
-
-texts_joined : (w : World) (ss : List TimeSlot) (t : ℕ) → concat (slot_texts w ss t) ≡ text_of (slot_run w ss t)
-texts_joined w [] t = refl
-texts_joined w (s ∷ ss) t =
-    ap (λ l. text_of (slot_acts w s t) ++ l) (texts_joined (after_slot w s t) ss (next_step s t))
-    ∙ sym (text-append (slot_acts w s t) (slot_run (after_slot w s t) ss (next_step s t)))
-
-texts_count : (w : World) (ss : List TimeSlot) (t : ℕ) → length (slot_texts w ss t) ≡ length ss
-texts_count w [] t = refl
-texts_count w (s ∷ ss) t = ap suc (texts_count (after_slot w s t) ss (next_step s t))
 
 -- ---- the plan in turn
 
