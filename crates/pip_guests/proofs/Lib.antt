@@ -13,6 +13,7 @@ pub mod Together
 pub mod Asking
 pub mod Inputs
 pub mod Interrupts
+pub mod Lending
 pub mod Ancestors
 pub mod Turns
 pub mod TurnsLeaving

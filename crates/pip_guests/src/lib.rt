@@ -7,7 +7,7 @@ ghost use Rattle.pip_guests.specs.Guests.{EventsAreKnown, GuestsAreLeftAlike, Gu
 ghost use Rattle.pip_guests.specs.Guests.{GuestsLeaveOthersAlone, GuestsRunAsAlone, IsInside};
 ghost use Rattle.pip_guests.specs.Guests.{OthersDoNotMatterToGuests, OthersLeaveGuestsAlone};
 ghost use Rattle.pip_guests.specs.Inputs.{CallsAreInputs, EntriesAreInputs, GuestsDependOnInputs, InterruptsAreInputs};
-ghost use Rattle.pip_guests.specs.Inputs.{StoresAreInputs};
+ghost use Rattle.pip_guests.specs.Inputs.{LendingsAreInputs, StoresAreInputs};
 ghost use Rattle.pip_guests.specs.Limits.{AsksIsNotInside, CallsMatter, FaultsMatter, OutcomesDepend};
 ghost use Rattle.pip_guests.specs.Limits.{ParkedIsNotInside, PlacesMatter, PollsAreNotApart, StoresMatter};
 ghost use Rattle.pip_guests.specs.Limits.{TargetsMatter};
@@ -37,6 +37,7 @@ pub fn law_inputs()
     ensures entries { EntriesAreInputs }
     ensures stores { StoresAreInputs }
     ensures calls { CallsAreInputs }
+    ensures lends { LendingsAreInputs }
     ensures interrupts { InterruptsAreInputs }
 {}
 
