@@ -24,7 +24,8 @@ use Rattle.pip_every.specs.declared.menus.Deed.{Deed}
 use Rattle.pip_every.proofs.Unseen.{IsBut, acts_same, end_same, hostile_same, other, turn_same}
 
 -- frames and processors that stand for a world stand for one that differs in its caches
-pub but_stands : (n : Memory) (cs : List (Option Occupant)) (v w : World) → IsBut v w → StandsFor n cs w → StandsFor n cs v
+pub but_stands : (n : Memory) (cs : List (Option Occupant)) (v w : World) → IsBut v w → StandsFor n cs w
+    → StandsFor n cs v
 but_stands n cs v w b s = subst (StandsFor n cs) (other w v (record { tree = sym b.tree; cpus = sym b.cpus }))
     (bare_with n cs w v.caches s)
 
@@ -121,7 +122,8 @@ chosen_from_menu g m k p q cpu d turns after old new same is none made =
     let (front, grew, whole) = made.text.sends in
     record {
       world = subst (λ es. StandsFor q.memory q.cpus (after_acts m.world es)) (sym are)
-          (but_stands q.memory q.cpus (after_acts m.world acts) (after_acts v acts) (acts_same acts m.world v (bare m p))
+          (but_stands q.memory q.cpus (after_acts m.world acts) (after_acts v acts) (acts_same acts m.world v
+          (bare m p))
           made.world.bare);
       turns_are = is ∙ ap (λ n. turns_after g.scope.from n N.Ran) same;
       label_is = grew ∙ (ap (λ x. x ++ front) none ∙ (sym (append-nil front) ∙ (whole ∙ ap text_of (sym are))));

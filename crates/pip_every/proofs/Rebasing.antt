@@ -139,7 +139,8 @@ module _ (a b : Memory) (g : Menu) (s : Moment) (ks os : List (List ℕ)) (of_a 
     count = h.count;
     stands = carried a b g.scope key other (after_choices (menu_model a g) s h.choices) of_a count p h.stands;
     fewest = λ cs can at. h.fewest cs can
-        (carried b a g.scope other key (after_choices (menu_model b g) s cs) of_b (sym count) (swapped a b g.scope key other p) at);
+        (carried b a g.scope other key (after_choices (menu_model b g) s cs) of_b (sym count)
+        (swapped a b g.scope key other p) at);
   }
 
   has_away : (n : ℕ) → HasAway (menu_model a g) s ks n → HasAway (menu_model b g) s os n

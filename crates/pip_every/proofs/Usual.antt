@@ -1,5 +1,6 @@
 -- A search with an empty menu is the search without one.
-use Rattle.std.proofs.Common.{◌≡◌, ℕ, ◌+◌, ◌*◌, ◌&&◌, nat_lt, Bool, true, false, if◌then◌else◌, List, [], length, Option}
+use Rattle.std.proofs.Common.{◌≡◌, ℕ, ◌+◌, ◌*◌, ◌&&◌, nat_lt, Bool, true, false, if◌then◌else◌, List, [], length}
+use Rattle.std.proofs.Common.{Option}
 use Rattle.std.proofs.Common.{None, refl, ap, subst, ◌∙◌, arith}
 use Rattle.pip_base.specs.Memory.{Memory}
 use Rattle.pip_model.specs.Acts.{text_of}
@@ -21,7 +22,13 @@ record Acting : Type 0 where
   label : Moment → ℕ → List ℕ
 
 abbrev system : Memory → Scope → Acting → Model
-system first s a = record { State = Moment; choices = a.choices; act = a.act; label = a.label; stands = IsKeyOf first s }
+system first s a = record {
+  State = Moment;
+  choices = a.choices;
+  act = a.act;
+  label = a.label;
+  stands = IsKeyOf first s;
+}
 
 abbrev bare_menu : Scope → Menu
 bare_menu s = record { scope = s; may = [] }

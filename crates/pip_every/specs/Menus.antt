@@ -113,6 +113,7 @@ abbrev pub picked_by : Menu → World → ℕ → Option May → Pick
 picked_by g w k None = usual_pick g w k
 picked_by g w k (Some d) = deed_pick w (deed_cpu g k) d
 
+-- what a choice is at a world
 abbrev pub picked : Menu → World → ℕ → Pick
 picked g w k = picked_by g w k (deed_at g k)
 

@@ -21,8 +21,8 @@ use std::alloc::{AllocError, Global};
 use std::marker::Brand;
 use std::sync::ledger::{Blank, Ledger};
 
-// `search_against` over a journal whose first words are those of the frames `later`, as many as the machine's. The type `F`
-// stands for these words, and `L` for the ledger that counts the steps.
+// `search_against` over a journal whose first words are those of the frames `later`, as many as the machine's. The
+// type `F` stands for these words, and `L` for the ledger that counts the steps.
 fn search_from<F: First, L: Ledger>(
     alloc: Global,
     mem: RawFrames,
@@ -65,10 +65,10 @@ fn search_from<F: First, L: Ledger>(
     explore(&mut explorer, alloc, start.as_slice(), most, limit)
 }
 
-/// Searches what can happen to a machine over these frames as `search` does, whatever the partitions that have deeds on a
-/// menu do of it: in the place of the turns of their programs they wait for a line, or do one of these deeds. A menu has
-/// 1024 deeds at most. A choice after those of `search` is a deed: each on all processors, before the next. The only error
-/// is that memory is out.
+/// Searches what can happen to a machine over these frames as `search` does, whatever the partitions that have deeds on
+/// a menu do of it: in the place of the turns of their programs they wait for a line, or do one of these deeds. A menu
+/// has 1024 deeds at most. A choice after those of `search` is a deed: each on all processors, before the next. The
+/// only error is that memory is out.
 pub fn search_against(
     alloc: Global,
     mem: RawFrames,

@@ -31,7 +31,8 @@ returns-clause-closed g c = if_ok c.check_part.result _ _ (λ r e p is.
     let q = c.add_key.new.self in
     let t : Menu = machine_menu q.machine q.lines.items q.from q.may.items in
     let machine : q.machine ≡ c.new-machine.result = c.in_ok-add_key.ensures.machine ∙ c.new-explorer.ensures.machine in
-    let scope : t.scope ≡ s = scope_is (length q.machine.cpus) c.args.cpus q.lines.items c.args.lines.now q.from c.args.from
+    let scope : t.scope ≡ s = scope_is
+    (length q.machine.cpus) c.args.cpus q.lines.items c.args.lines.now q.from c.args.from
     (ap (λ y. length y.cpus) machine ∙ c.new-machine.ensures.count)
     (ap (λ v. v.items) (c.in_ok-add_key.ensures.lines ∙ c.new-explorer.ensures.lines) ∙
     (c.in_ok-extend_from_slice.ensures.items ∙ ap (λ v. v ++ c.args.lines.now) c.new-raised.ensures.items))
@@ -48,7 +49,8 @@ returns-clause-reached g c = if_ok c.check_part.result _ _ (λ r e p n words is 
     let q = c.add_key.new.self in
     let t : Menu = machine_menu q.machine q.lines.items q.from q.may.items in
     let machine : q.machine ≡ c.new-machine.result = c.in_ok-add_key.ensures.machine ∙ c.new-explorer.ensures.machine in
-    let scope : t.scope ≡ s = scope_is (length q.machine.cpus) c.args.cpus q.lines.items c.args.lines.now q.from c.args.from
+    let scope : t.scope ≡ s = scope_is
+    (length q.machine.cpus) c.args.cpus q.lines.items c.args.lines.now q.from c.args.from
     (ap (λ y. length y.cpus) machine ∙ c.new-machine.ensures.count)
     (ap (λ v. v.items) (c.in_ok-add_key.ensures.lines ∙ c.new-explorer.ensures.lines) ∙
     (c.in_ok-extend_from_slice.ensures.items ∙ ap (λ v. v ++ c.args.lines.now) c.new-raised.ensures.items))
@@ -60,7 +62,8 @@ returns-clause-reached g c = if_ok c.check_part.result _ _ (λ r e p n words is 
     (sym c.in_ok-journal.ensures) b) in
     let count : length c.new-explorer.result.machine.cpus ≡ length q.machine.cpus =
     ap (λ y. length y.cpus) (sym c.in_ok-add_key.ensures.machine) in
-    let key : IsKeyOf first t.scope c.as_slice.result.now m = begun n c.args.cpus words stands c.new-explorer.ensures.machine
+    let key : IsKeyOf first t.scope c.as_slice.result.now m =
+    begun n c.args.cpus words stands c.new-explorer.ensures.machine
     c.in_ok-add_key.ensures.count count c.new-start.ensures.items
     (c.as_slice.ensures.value ∙ c.in_ok-add_key.ensures.key) in
     reached_usual first s m (portion_of p)
@@ -73,7 +76,8 @@ returns-clause-begins g c = if_ok c.check_part.result _ _ (λ r e p n words is b
     let q = c.add_key.new.self in
     let t : Menu = machine_menu q.machine q.lines.items q.from q.may.items in
     let machine : q.machine ≡ c.new-machine.result = c.in_ok-add_key.ensures.machine ∙ c.new-explorer.ensures.machine in
-    let scope : t.scope ≡ s = scope_is (length q.machine.cpus) c.args.cpus q.lines.items c.args.lines.now q.from c.args.from
+    let scope : t.scope ≡ s = scope_is
+    (length q.machine.cpus) c.args.cpus q.lines.items c.args.lines.now q.from c.args.from
     (ap (λ y. length y.cpus) machine ∙ c.new-machine.ensures.count)
     (ap (λ v. v.items) (c.in_ok-add_key.ensures.lines ∙ c.new-explorer.ensures.lines) ∙
     (c.in_ok-extend_from_slice.ensures.items ∙ ap (λ v. v ++ c.args.lines.now) c.new-raised.ensures.items))
@@ -85,7 +89,8 @@ returns-clause-begins g c = if_ok c.check_part.result _ _ (λ r e p n words is b
     (sym c.in_ok-journal.ensures) b) in
     let count : length c.new-explorer.result.machine.cpus ≡ length q.machine.cpus =
     ap (λ y. length y.cpus) (sym c.in_ok-add_key.ensures.machine) in
-    let key : IsKeyOf first t.scope c.as_slice.result.now m = begun n c.args.cpus words stands c.new-explorer.ensures.machine
+    let key : IsKeyOf first t.scope c.as_slice.result.now m =
+    begun n c.args.cpus words stands c.new-explorer.ensures.machine
     c.in_ok-add_key.ensures.count count c.new-start.ensures.items
     (c.as_slice.ensures.value ∙ c.in_ok-add_key.ensures.key) in
     (c.as_slice.result.now, (subst (λ v. IsKeyOf first v c.as_slice.result.now m) scope key, e p is none)))
