@@ -1,31 +1,35 @@
 -- The guests of a world: each is a child of the root, no two are above each other, and each processor runs one of them,
 -- the root, or nothing.
-use Rattle.std.proofs.Common.{◌≡◌, ◌≢◌, ℕ, zero, suc, ◌<◌, ◌≤◌, ◌==◌, ◌&&◌, not, ◌⊎◌, inl, inr, Bool, true, false, cond}
-use Rattle.std.proofs.Common.{List, [], ◌∷◌, ◌++◌, map, length, refl, sym, ap, ap₂, ◌∙◌, subst, arith, eqb-true, eq-eqb}
+use Rattle.std.proofs.Common.{◌≡◌, ◌≢◌, ℕ, zero, suc, ◌<◌, ◌≤◌, ◌==◌, ◌&&◌, not, ◌⊎◌, inl, inr, Bool, true, false}
+use Rattle.std.proofs.Common.{cond}
+use Rattle.std.proofs.Common.{List, [], ◌∷◌, ◌++◌, map, length, refl, sym, ap, ap₂, ◌∙◌, subst, arith, eqb-true}
+use Rattle.std.proofs.Common.{eq-eqb}
 use Rattle.std.proofs.Common.{Option, Some, None, slice_index}
 use Rattle.std.specs.Prelude.{find, option_map, slice_get, unwrap_or}
 use Rattle.std.proofs.lemmas.Bool.{ne_eqb}
 use Rattle.pip_model.specs.Events as E
 use Rattle.pip_model.specs.Lists.{In, has}
-use Rattle.pip_model.specs.Local.{IsAside, actor}
+use Rattle.pip_model.specs.Local.{IsAside}
 use Rattle.pip_model.specs.Midway.{find_other}
 use Rattle.pip_model.specs.Poll.{occupant_name}
 use Rattle.pip_model.specs.Sound.{IsRooted, IsSound}
-use Rattle.pip_model.specs.Tree.{Node, Tree, ancestry, chain, chain_in, find_node, names_of, nodes}
+use Rattle.pip_model.specs.Tree.{Node, Tree, ancestry, chain, chain_in, names_of, nodes}
 use Rattle.pip_model.specs.Worlds.{IsSoundWorld, World, runs_on}
 use Rattle.pip_model.specs.declared.processors.Occupant.{Occupant}
 use Rattle.pip_model.proofs.Events.Soundness.{runs_named}
-use Rattle.pip_model.proofs.OnLists.Members.{In-append_cases, In-append_left, In-append_right, In-map, find_in, has_in}
+use Rattle.pip_model.proofs.OnLists.Members.{In-append_cases, In-append_left, In-append_right, In-map, find_in}
+use Rattle.pip_model.proofs.OnLists.Members.{has_in}
 use Rattle.pip_model.proofs.OnLists.Members.{in_has}
 use Rattle.pip_model.proofs.Trees.Ancestors.{chain-node, name_in, not_root}
 use Rattle.pip_model.proofs.Trees.Ancestry.{chain_members}
 use Rattle.pip_model.proofs.Trees.Lookup.{by_parents, name_found, other_in, other_name}
 use Rattle.pip_apart.specs.Alone.{AreProcessors}
-use Rattle.pip_apart.specs.Company.{IsOfGuests, runs_below}
-use Rattle.pip_apart.specs.Tops.{all_before, first_before, first_some, is_root, is_top, processors_of, root_on, top_at}
+use Rattle.pip_apart.specs.Company.{runs_below}
+use Rattle.pip_apart.specs.Tops.{all_before, first_before, first_some, names_root, is_top, processors_of, root_on}
+use Rattle.pip_apart.specs.Tops.{top_at}
 use Rattle.pip_apart.specs.Tops.{top_by, top_of, tops, tops_before, with_top}
 use Rattle.pip_apart.proofs.Company.{none_below}
-use Rattle.pip_apart.proofs.Testing.{and_both, both, not_true, true_not}
+use Rattle.pip_apart.proofs.Testing.{and_both, both, not_true}
 
 -- ---- the climb
 
@@ -42,7 +46,8 @@ root_chain t s = go t.others s.parents_come_first
 -- the root is no guest
 pub root_no_top : (t : Tree) → is_top t t.root ≡ false
 root_no_top t =
-    ap (λ b. (t.root.up == t.root.name) && not b) (eq-eqb t.root.name t.root.name refl) ∙ second (t.root.up == t.root.name)
+    ap (λ b. (t.root.up == t.root.name) && not b) (eq-eqb t.root.name t.root.name refl)
+    ∙ second (t.root.up == t.root.name)
   where
     second : (b : Bool) → (b && false) ≡ false
     second true = refl
@@ -113,7 +118,8 @@ some_top t s a i n =
     step : (b : ℕ) (y : Node) → find_other t b ≡ Some y
         → (y.up ≡ t.root.name) ⊎ ((q : ℕ) × (top_of t y.up ≡ Some q))
         → (b ≡ t.root.name) ⊎ ((q : ℕ) × (top_of t b ≡ Some q))
-    step b y e o = inr (subst (λ k. (q : ℕ) × (top_of t k ≡ Some q)) (other_name t b y e) (go (y.up == t.root.name) refl o))
+    step b y e o = inr (subst (λ k. (q : ℕ) × (top_of t k ≡ Some q)) (other_name t b y e) (go
+        (y.up == t.root.name) refl o))
       where
         j : In y t.others
         j = other_in t b y e
@@ -337,10 +343,10 @@ of_guests w cpu s none = go (runs_on w cpu) refl
     go None k = inr k
     go (Some r) k =
         let l : cpu < length w.cpus = within r k (below_or_not cpu (length w.cpus)) in
-        let off : is_root w.tree (runs_on w cpu) ≡ false =
-        first_none (λ c. is_root w.tree (runs_on w c)) (length w.cpus) cpu none l in
+        let off : names_root w.tree (runs_on w cpu) ≡ false =
+        first_none (λ c. names_root w.tree (runs_on w c)) (length w.cpus) cpu none l in
         let differs : r.name ≢ w.tree.root.name = λ e. not_true (r.name == w.tree.root.name)
-        (ap not (sym (ap (is_root w.tree) k) ∙ off)) (eq-eqb r.name w.tree.root.name e) in
+        (ap not (sym (ap (names_root w.tree) k) ∙ off)) (eq-eqb r.name w.tree.root.name e) in
         let (q, is) = some_top w.tree s.tree r.name (s.names_nodes r.name (runs_named w cpu r s k)) differs in
         let at : top_at w cpu ≡ Some q = ap (top_by w.tree) k ∙ is in
         inl (

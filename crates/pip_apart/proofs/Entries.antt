@@ -1,5 +1,6 @@
 -- What the root's row and its load of an entry say of the line.
-use Rattle.std.proofs.Common.{◌≡◌, ℕ, zero, suc, ◌+◌, ◌-◌, ◌*◌, ◌<◌, ◌==◌, arith, Bool, true, false, not, cond, inl, inr, refl, sym, ap, ◌∙◌, subst}
+use Rattle.std.proofs.Common.{◌≡◌, ℕ, zero, suc, ◌+◌, ◌-◌, ◌<◌, ◌==◌, arith, Bool, true, false, not, cond, refl, sym}
+use Rattle.std.proofs.Common.{ap, ◌∙◌, subst}
 use Rattle.std.proofs.Common.{Option, Some, None, Result, Ok, Err}
 use Rattle.std.specs.Prelude.{is_none}
 use Rattle.pip_base.specs.declared.types.Access.TheVariants.{Load}
@@ -57,7 +58,8 @@ loaded : (t : Tree) (q : Reached) (va : ℕ) (w : ℕ) → Ok w ≡ load_answer 
 loaded t (Place g i) va w e = cc
 loaded t (Faulted f) va w e = cc
 
-faulted : (t : Tree) (q : Reached) (va : ℕ) (f : AccessFault) → Err f ≡ load_answer t va Word q → word_reached t q ≡ None
+faulted : (t : Tree) (q : Reached) (va : ℕ) (f : AccessFault) → Err f ≡ load_answer t va Word q
+    → word_reached t q ≡ None
 faulted t (Place g i) va f e = cc
 faulted t (Faulted f') va f e = refl
 
@@ -73,13 +75,15 @@ module _ (t : Tree) (s : IsSound t) (line va : ℕ) (is : va ≡ entry_at (32 + 
 
   pub word_tells : (w : ℕ) → o ≡ Ok w → not (w == 0) ≡ might_take t line
   word_tells w e =
-      sym (ap (λ b. cond b true (is_set (word_reached t (reach t t.root.name (entry_at (32 + line)) Load Word)))) none_lent
+      sym (ap (λ b. cond b true (is_set (word_reached t (reach t t.root.name (entry_at
+      (32 + line)) Load Word)))) none_lent
       ∙ ap is_set (ap (word_reached t) (sym of_entry)
       ∙ loaded t (reach t n va Load Word) va w (sym e ∙ answer)))
 
   pub fault_tells : (f : AccessFault) → o ≡ Err f → false ≡ might_take t line
   fault_tells f e =
-      sym (ap (λ b. cond b true (is_set (word_reached t (reach t t.root.name (entry_at (32 + line)) Load Word)))) none_lent
+      sym (ap (λ b. cond b true (is_set (word_reached t (reach t t.root.name (entry_at
+      (32 + line)) Load Word)))) none_lent
       ∙ ap is_set (ap (word_reached t) (sym of_entry)
       ∙ faulted t (reach t n va Load Word) va f (sym e ∙ answer)))
 

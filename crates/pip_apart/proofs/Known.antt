@@ -1,38 +1,37 @@
 -- What is known of the guests of a world says what all of them can show together.
-use Rattle.std.proofs.Common.{arith, ◌≡◌, ◌≢◌, ℕ, ◌+◌, zero, suc, ◌<◌, ◌==◌, ◌&&◌, not, inl, inr, Bool, true, false, cond}
+use Rattle.std.proofs.Common.{arith, ◌≡◌, ℕ, ◌+◌, suc, ◌<◌, ◌==◌, not, inl, inr, Bool, true, false, cond}
 use Rattle.std.proofs.Common.{List, [], ◌∷◌, ◌++◌, map, length, refl, sym, ap, ◌∙◌, subst, eqb-true, eq-eqb}
-use Rattle.std.proofs.Common.{Option, Some, None, append-nil, append_assoc}
+use Rattle.std.proofs.Common.{Option, Some, None}
 use Rattle.std.specs.Prelude.{is_none, slice_get}
 use Rattle.std.specs.List.{AllByRecursion, list_any}
 use Rattle.pip_base.specs.Memory.{Memory}
 use Rattle.pip_base.specs.declared.types.Plan.{Plan}
-use Rattle.pip_model.specs.Acts.{Act, after_acts, text_of}
+use Rattle.pip_model.specs.Acts.{Act, after_acts}
 use Rattle.pip_model.specs.Lists.{In}
 use Rattle.pip_model.specs.Run.{raises, steps}
-use Rattle.pip_model.specs.Turn.{turn}
 use Rattle.pip_model.specs.Worlds.{IsSoundWorld, World}
 use Rattle.pip_model.proofs.OnLists.Acts.{after-append}
-use Rattle.pip_model.proofs.OnLists.Members.{any_none}
 use Rattle.pip_guests.specs.Programs.{Slot, all_steps, next_world, ready, run_slots, turn_of}
 use Rattle.pip_guests.proofs.Programs.{runs_are_steps, runs_go_on}
 use Rattle.pip_search.specs.Summary.{IsTold, Witness}
 use Rattle.pip_search.specs.declared.searching.Extent.{Extent}
 use Rattle.pip_search.specs.declared.searching.Extent.TheVariants.{Closed, Stopped, Within}
-use Rattle.pip_apart.specs.Alone.{AreProcessors, AreSearched, IsFoundAlone, IsSearchedAlone, NoneLeaves, guest_model, mark}
+use Rattle.pip_apart.specs.Alone.{AreProcessors, AreSearched, IsSearchedAlone, guest_model}
 use Rattle.pip_apart.specs.Company.{IsOfGuests}
-use Rattle.pip_apart.specs.Found.{AreFound, GoesOnKnown, GuestAlone, IsFoundAt, IsKnown, IsLineOf, Known, KnownLinesSuffice}
-use Rattle.pip_apart.specs.Found.{RunsShowKnown, ShowOnly, SlotsShowKnown, all_stay, hold_apart, is_closed, is_marked, stays}
-use Rattle.pip_apart.specs.Tops.{first_taken, processors_of, root_on, tops}
+use Rattle.pip_apart.specs.Found.{GuestAlone, IsFoundAt, IsKnownAt, IsLineOf, Known, KnownLinesSuffice}
+use Rattle.pip_apart.specs.Found.{RunsShowKnown, ShowOnly, SlotsShowKnown, all_stay, hold_apart, has_closed}
+use Rattle.pip_apart.specs.Found.{is_marked, stays}
+use Rattle.pip_apart.specs.Tops.{root_on, tops}
 use Rattle.pip_apart.proofs.Searched.{searches_add}
 use Rattle.pip_apart.proofs.Telling.{none_marked}
 use Rattle.pip_apart.proofs.Testing.{both, not_true}
-use Rattle.pip_apart.proofs.Children.{IsTop, Runs, of_guests, processors_are, top_named, top_not_root, tops_are, tops_aside}
+use Rattle.pip_apart.proofs.Children.{of_guests, processors_are, top_named, top_not_root, tops_are, tops_aside}
 use Rattle.pip_apart.proofs.Untaken.{takes_no_line}
 
 -- ---- one guest
 
 -- where a search closed, it ended at a depth
-closed_depth : (e : Extent) → is_closed e ≡ true → (depth : ℕ) × (e ≡ Closed depth)
+closed_depth : (e : Extent) → has_closed e ≡ true → (depth : ℕ) × (e ≡ Closed depth)
 closed_depth (Closed depth) c = (depth, refl)
 closed_depth (Within depth) c = cc
 closed_depth (Stopped depth) c = cc
@@ -41,7 +40,7 @@ closed_depth (Stopped depth) c = cc
 searched_alone : (w : World) (first : Memory) (most limit : ℕ) (g : GuestAlone) → IsSoundWorld w
     → IsFoundAt first w most limit g → stays g.end g.lines ≡ true → IsSearchedAlone w g.top g.lines
 searched_alone w first most limit g s f on =
-    let b = both (is_closed g.end) _ on in
+    let b = both (has_closed g.end) _ on in
     let (depth, e) = closed_depth g.end b.0 in
     record {
       first = first;
@@ -107,7 +106,7 @@ is_nothing : (o : Option ℕ) → is_none o ≡ true → o ≡ None
 is_nothing None e = refl
 is_nothing (Some k) e = cc
 
-are_searched : (w : World) (most limit : ℕ) (k : Known) → IsKnown w most limit k → hold_apart k ≡ true
+are_searched : (w : World) (most limit : ℕ) (k : Known) → IsKnownAt w most limit k → hold_apart k ≡ true
     → AreSearched w (tops w) (lines_of k.guests)
 are_searched w most limit k is on =
     let s = is.sound in
@@ -165,7 +164,7 @@ one_more plans w (x ∷ ss) s =
     (all_steps plans (next_world plans w x) ss)
     ∙ ap (λ v. after_acts v (all_steps plans (next_world plans w x) ss)) (next plans w x)))
 
-show_from : (w : World) (most limit : ℕ) (k : Known) (plans : List Plan) → IsKnown w most limit k
+show_from : (w : World) (most limit : ℕ) (k : Known) (plans : List Plan) → IsKnownAt w most limit k
     → hold_apart k ≡ true → AllByRecursion (λ x. x.line < 16) plans → (before ss : List Slot)
     → ShowOnly (IsLineOf k.guests) plans (after_acts w (all_steps plans w before)) ss
 show_from w most limit k plans is on below before [] = tt

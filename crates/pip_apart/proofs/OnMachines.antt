@@ -1,11 +1,9 @@
 -- What a machine tells of the guests that run on its processors.
-use Rattle.std.proofs.Common.{◌≡◌, ◌≢◌, ℕ, zero, suc, ◌+◌, ◌<◌, ◌≤◌, ◌==◌, arith, Bool, true, false, not, cond, refl}
-use Rattle.std.proofs.Common.{sym, ap, ◌∙◌, subst, Option, Some, None, List, [], ◌∷◌, ◌++◌, length, eqb-true, eq-eqb}
+use Rattle.std.proofs.Common.{◌≡◌, ℕ, ◌==◌, Bool, false, refl}
+use Rattle.std.proofs.Common.{sym, ap, ◌∙◌, subst, Option, Some, None, length}
 use Rattle.std.specs.Prelude.{option_map}
-use Rattle.std.proofs.lemmas.Bool.{ne_eqb}
 use Rattle.pip_base.specs.Memory.{Memory}
 use Rattle.pip_model.specs.Layout.{LaysOut}
-use Rattle.pip_model.specs.Lists.{has}
 use Rattle.pip_model.specs.Partitions.{HasPartition, InEach}
 use Rattle.pip_model.specs.Tree.{find_node}
 use Rattle.pip_model.specs.Worlds.{World, runs_on}
@@ -13,8 +11,8 @@ use Rattle.pip_model.specs.declared.processors.Occupant.{Occupant}
 use Rattle.pip_model.proofs.Trees.Ancestry.{root_is_one}
 use Rattle.pip_model.proofs.Trees.Lookup.{root_found}
 use Rattle.pip_switch.specs.Standing.{StandsAs, State}
-use Rattle.pip_apart.specs.Tops.{first_taken, is_root, top_at, top_by, top_of, tops_before, with_top}
-use Rattle.pip_apart.proofs.Machines.{part_node, part_stands}
+use Rattle.pip_apart.specs.Tops.{first_taken, names_root, top_at, top_by, top_of}
+use Rattle.pip_apart.proofs.Machines.{part_node}
 
 -- the guest of what runs there
 pub top_tells : (p : State) (w : World) (m : Memory) (cpu part : ℕ) (o : Option ℕ) → StandsAs p w → m ≡ p.memory
@@ -40,20 +38,20 @@ none_tells w cpu e = sym (go (runs_on w cpu) e)
 -- whether it is the root
 pub root_tells : (p : State) (w : World) (cpu part n : ℕ) (b : Bool) → StandsAs p w
     → option_map (λ r. r.name) (runs_on w cpu) ≡ Some part → n ≡ part → b ≡ (n == 1)
-    → b ≡ is_root w.tree (runs_on w cpu)
+    → b ≡ names_root w.tree (runs_on w cpu)
 root_tells p w cpu part n b s e same is = is ∙ sym (go (runs_on w cpu) e)
   where
-    go : (r : Option Occupant) → option_map (λ r. r.name) r ≡ Some part → is_root w.tree r ≡ (n == 1)
+    go : (r : Option Occupant) → option_map (λ r. r.name) r ≡ Some part → names_root w.tree r ≡ (n == 1)
     go None q = cc
     go (Some r) q =
         let name : r.name ≡ part = cc in
         ap (λ k. k == w.tree.root.name) (name ∙ sym same) ∙ ap (λ k. n == k) (root_is_one w.tree s.bare.sound.tree)
 
 pub no_root : (w : World) (cpu : ℕ) → option_map (λ r. r.name) (runs_on w cpu) ≡ None
-    → false ≡ is_root w.tree (runs_on w cpu)
+    → false ≡ names_root w.tree (runs_on w cpu)
 no_root w cpu e = sym (go (runs_on w cpu) e)
   where
-    go : (r : Option Occupant) → option_map (λ r. r.name) r ≡ None → is_root w.tree r ≡ false
+    go : (r : Option Occupant) → option_map (λ r. r.name) r ≡ None → names_root w.tree r ≡ false
     go None q = refl
     go (Some r) q = cc
 

@@ -1,24 +1,23 @@
 -- Where the test of each line says no, the root takes no line.
-use Rattle.std.proofs.Common.{◌≡◌, ◌≢◌, ℕ, suc, ◌+◌, ◌*◌, ◌<◌, ◌%◌, ◌/◌, ◌==◌, ◌&&◌, not, inl, inr, Bool, true, false, cond}
-use Rattle.std.proofs.Common.{List, [], ◌∷◌, refl, sym, ap, ◌∙◌, subst, arith, eqb-true, eq-eqb, Option, Some, None}
-use Rattle.std.specs.Prelude.{find, is_none}
+use Rattle.std.proofs.Common.{◌≡◌, ℕ, suc, ◌+◌, ◌<◌, ◌==◌, not, inl, inr, Bool, true, false, cond}
+use Rattle.std.proofs.Common.{List, [], ◌∷◌, refl, sym, ap, ◌∙◌, subst, eqb-true, Option, Some, None}
+use Rattle.std.specs.Prelude.{is_none}
 use Rattle.std.specs.List.{AllByRecursion}
 use Rattle.pip_base.specs.declared.types.Access.TheVariants.{Load}
 use Rattle.pip_base.specs.declared.types.Size.TheVariants.{Word}
 use Rattle.pip_model.specs.Handlers.{block_at, handler, handler_at, is_reached}
 use Rattle.pip_model.specs.Lists.{In}
-use Rattle.pip_model.specs.Reach.{Alignment, Faulted, Reached, Unmapped, is_misaligned, reach, reach_by_row, word_reached}
+use Rattle.pip_model.specs.Reach.{Alignment, Faulted, is_misaligned, reach, reach_by_row, word_reached}
 use Rattle.pip_model.specs.Sound.{AreLines, IsSound}
 use Rattle.pip_model.specs.Tree.{Node, Row, Tree, config, holder, node, row_at, row_pages, vpage}
 use Rattle.pip_model.specs.Worlds.{IsSoundWorld, World}
 use Rattle.pip_model.proofs.OnLists.Members.{In-append_right, find_in}
 use Rattle.pip_model.proofs.Trees.Ancestry.{named_node}
 use Rattle.pip_model.proofs.Trees.Children.{holder_none}
-use Rattle.pip_model.proofs.Trees.Lookup.{cases_option, in_other}
+use Rattle.pip_model.proofs.Trees.Lookup.{in_other}
 use Rattle.pip_apart.specs.Company.{HasNone, IsNoGuests, TakesNoLine, entry_at}
 use Rattle.pip_apart.specs.Tops.{first_taken, is_lent, is_set, might_take}
 use Rattle.pip_apart.proofs.Root.{root_reach}
-use Rattle.pip_apart.proofs.Testing.{not_true}
 use Rattle.pip_apart.proofs.Children.{IsTop, first_none}
 
 -- neither part of such a test says yes
@@ -73,9 +72,11 @@ unset a e = eqb-true a 0 (on (a == 0) e)
     on false z = cc
 
 -- an entry that is 0, or can't be read, names no handler
-unset_none : (t : Tree) (k : ℕ) → IsSound t → is_set (word_reached t (reach t t.root.name (entry_at k) Load Word)) ≡ false
+unset_none : (t : Tree) (k : ℕ) → IsSound t
+    → is_set (word_reached t (reach t t.root.name (entry_at k) Load Word)) ≡ false
     → handler t t.root.name k ≡ None
-unset_none t k s off = ap (handler_at t t.root.name) (go (word_reached t (reach t t.root.name (entry_at k) Load Word)) off)
+unset_none t k s off = ap (handler_at t t.root.name) (go (word_reached t (reach t t.root.name
+    (entry_at k) Load Word)) off)
   where
     go : (o : Option ℕ) → is_set o ≡ false → block_at t t.root.name o ≡ None
     go None e = refl

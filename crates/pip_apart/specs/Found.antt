@@ -1,6 +1,7 @@
 -- What searches of all guests of a world found, each alone; and what it says of all of them together.
-use Rattle.std.specs.Prelude.{◌≡◌, ◌≢◌, ℕ, ◌+◌, ◌<◌, ◌&&◌, ◌==◌, Bool, true, false, not, List, [], ◌∷◌, ◌++◌, length, map}
-use Rattle.std.specs.Prelude.{Option, None, Some, is_none, slice_get}
+use Rattle.std.specs.Prelude.{◌≡◌, ◌≢◌, ℕ, ◌+◌, ◌<◌, ◌&&◌, ◌==◌, Bool, true, false, not, List, [], ◌∷◌, ◌++◌, length}
+use Rattle.std.specs.Prelude.{map}
+use Rattle.std.specs.Prelude.{Option, Some, is_none, slice_get}
 use Rattle.std.specs.List.{AllByRecursion, list_any}
 use Rattle.pip_base.specs.Memory.{Memory}
 use Rattle.pip_base.specs.declared.types.Plan.{Plan}
@@ -36,10 +37,10 @@ pub record AreFound (w : World) (most limit : ℕ) (gs : List GuestAlone) : Type
   pub each : AllByRecursion (IsFoundAt first w most limit) gs
 
 -- the search closed
-abbrev pub is_closed : Extent → Bool
-is_closed (Closed depth) = true
-is_closed (Within depth) = false
-is_closed (Stopped depth) = false
+abbrev pub has_closed : Extent → Bool
+has_closed (Closed depth) = true
+has_closed (Within depth) = false
+has_closed (Stopped depth) = false
 
 -- a label begins with the mark of a turn that leaves
 abbrev pub is_marked : List ℕ → Bool
@@ -48,7 +49,7 @@ is_marked (c ∷ cs) = c == mark
 
 -- a search that ended so and found these lines closed, and found no turn that leaves
 abbrev pub stays : Extent → List Witness → Bool
-stays end lines = is_closed end && not (list_any (λ x. is_marked x.label) lines)
+stays end lines = has_closed end && not (list_any (λ x. is_marked x.label) lines)
 
 -- each guest stays inside
 abbrev pub all_stay : List GuestAlone → Bool
@@ -62,7 +63,7 @@ pub record Known : Type 0 where
   pub line : Option ℕ
 
 -- it is found by searches of the guests of this world, which is sound
-pub record IsKnown (w : World) (most limit : ℕ) (k : Known) : Type 0 where
+pub record IsKnownAt (w : World) (most limit : ℕ) (k : Known) : Type 0 where
   pub sound : IsSoundWorld w
   pub found : AreFound w most limit k.guests
   pub root_is : k.root ≡ root_on w
@@ -86,7 +87,7 @@ pub record IsLineOf (gs : List GuestAlone) (line : List ℕ) : Type 0 where
 -- one of these searches has found
 abbrev pub KnownLinesSuffice : Type 0
 KnownLinesSuffice = (w : World) (most limit : ℕ) (k : Known) (plans : List Plan) (ss : List Slot) (s : Slot)
-    → IsKnown w most limit k → hold_apart k ≡ true → AllByRecursion (λ x. x.line < 16) plans
+    → IsKnownAt w most limit k → hold_apart k ≡ true → AllByRecursion (λ x. x.line < 16) plans
     → text_of (turn (ready plans (after_acts w (all_steps plans w ss)) s) s.cpu 0) ≢ []
     → IsLineOf k.guests (text_of (turn (ready plans (after_acts w (all_steps plans w ss)) s) s.cpu 0))
 
@@ -100,7 +101,7 @@ ShowOnly P plans w (s ∷ ss) =
 -- so it is of all steps of any slots
 abbrev pub SlotsShowKnown : Type 0
 SlotsShowKnown = (w : World) (most limit : ℕ) (k : Known) (plans : List Plan) (ss : List Slot)
-    → IsKnown w most limit k → hold_apart k ≡ true → AllByRecursion (λ x. x.line < 16) plans
+    → IsKnownAt w most limit k → hold_apart k ≡ true → AllByRecursion (λ x. x.line < 16) plans
     → ShowOnly (IsLineOf k.guests) plans w ss
 
 -- a run of m steps comes to a world whose guests hold in company: it goes on with steps of which each shows nothing, or
@@ -113,5 +114,5 @@ pub record GoesOnKnown (w : World) (plans : List Plan) (seed c m n : ℕ) (k : K
 -- that is so where that world is known
 abbrev pub RunsShowKnown : Type 0
 RunsShowKnown = (w : World) (plans : List Plan) (seed c m n most limit : ℕ) (k : Known)
-    → IsKnown (after_acts w (steps w plans seed c m 0)) most limit k → hold_apart k ≡ true
+    → IsKnownAt (after_acts w (steps w plans seed c m 0)) most limit k → hold_apart k ≡ true
     → AllByRecursion (λ x. x.line < 16) plans → GoesOnKnown w plans seed c m n k

@@ -1,5 +1,5 @@
 -- Which guests a world has: the children of the root below which something runs, and the processors of each.
-use Rattle.std.specs.Prelude.{◌≡◌, ℕ, zero, suc, ◌+◌, ◌==◌, ◌&&◌, Bool, true, false, not, cond, List, [], ◌∷◌, ◌++◌, find}
+use Rattle.std.specs.Prelude.{ℕ, zero, suc, ◌+◌, ◌==◌, ◌&&◌, Bool, true, false, not, cond, List, [], ◌∷◌, ◌++◌, find}
 use Rattle.std.specs.Prelude.{length, Option, Some, None, is_none, option_map}
 use Rattle.pip_base.specs.declared.types.Access.TheVariants.{Load}
 use Rattle.pip_base.specs.declared.types.Size.TheVariants.{Word}
@@ -65,13 +65,13 @@ first_before f zero = None
 first_before f (suc n) = first_some (first_before f n) (cond (f n) (Some n) None)
 
 -- what runs is the root
-abbrev pub is_root : Tree → Option Occupant → Bool
-is_root t None = false
-is_root t (Some r) = r.name == t.root.name
+abbrev pub names_root : Tree → Option Occupant → Bool
+names_root t None = false
+names_root t (Some r) = r.name == t.root.name
 
 -- the first processor on which the root runs, if there is one
 abbrev pub root_on : World → Option ℕ
-root_on w = first_before (λ cpu. is_root w.tree (runs_on w cpu)) (length w.cpus)
+root_on w = first_before (λ cpu. names_root w.tree (runs_on w cpu)) (length w.cpus)
 
 -- a child of the root has the page of this row
 abbrev pub is_lent : Tree → Option Row → Bool

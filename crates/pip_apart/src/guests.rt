@@ -119,7 +119,7 @@ pub fn processors_of<M: Frames, L: Ledger>(
 // Whether the root runs on a processor.
 fn runs_root<M: Frames>(machine: &Machine<M>, cpu: u32) -> bool
     requires cpu { cpu < length machine.now.cpus }
-    ensures { (w : World) → StandsAs machine.now w → result ≡ defined.is_root w.tree (runs_on w cpu) }
+    ensures { (w : World) → StandsAs machine.now w → result ≡ defined.names_root w.tree (runs_on w cpu) }
 {
     match machine.runs(cpu) {
         Some(part) => part.number() == ROOT,

@@ -1,5 +1,5 @@
 //! Searches of guests, each alone.
-ghost use Rattle.std.specs.Prelude.{◌≡◌, ◌∷◌, ◌<◌, ℕ, List, true, IfOk, length, map};
+ghost use Rattle.std.specs.Prelude.{◌≡◌, ◌<◌, ℕ, true, IfOk, length, map};
 ghost use Rattle.std.specs.List.{AllByRecursion, list_any};
 ghost use Rattle.pip_base.specs.Memory.{IsMemory};
 ghost use Rattle.pip_model.specs.Worlds.{World};
@@ -9,8 +9,8 @@ ghost use Rattle.pip_switch.specs.Standing.{StandsAs};
 ghost use Rattle.pip_search.specs.declared.searching.Extent.TheVariants.{Closed};
 ghost use Rattle.pip_apart.specs.Alone.{NoneLeaves, guest_model};
 ghost use Rattle.pip_apart.specs.Found as found;
-ghost use Rattle.pip_apart.specs.Found.{AreFound, IsFoundAt, IsKnown};
-ghost use Rattle.pip_apart.specs.Searches.{IsGuestKey, CanBeShown, alone_of, known_of};
+ghost use Rattle.pip_apart.specs.Found.{AreFound, IsFoundAt, IsKnownAt};
+ghost use Rattle.pip_apart.specs.Searches.{CanBeShown, IsGuestKey, alone_of, known_of};
 
 use crate::guest::{Guest, MARK};
 use crate::guests::{root_on, tops};
@@ -213,7 +213,7 @@ pub fn find_out<F: First, L: Ledger>(
     requires shape { IsMemory F.words }
     requires stands { (w : World) × StandsAs machine w }
     requires limit { 0 < limit }
-    ensures known { IfOk result (λ r. (w : World) → StandsAs machine w → IsKnown w most limit (known_of r)) }
+    ensures known { IfOk result (λ r. (w : World) → StandsAs machine w → IsKnownAt w most limit (known_of r)) }
     ensures shown { IfOk result (λ r. AllByRecursion CanBeShown r.guests.items) }
 {
     let mut steps = steps;

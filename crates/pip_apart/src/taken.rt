@@ -15,7 +15,7 @@ use std::sync::ledger::Ledger;
 const ENTRIES: u32 = 0xfffff080;
 
 /// The interrupt lines.
-const LINES: u32 = 16;
+const INTERRUPT_LINES: u32 = 16;
 
 // Whether a child has the page at an address of the root.
 fn is_lent<M: Frames, L: Ledger>(mem: &M, va: u32, steps: &mut Steps<L>) -> bool
@@ -49,7 +49,7 @@ pub fn first_taken<M: Frames, L: Ledger>(mem: &M, steps: &mut Steps<L>) -> Optio
     requires { HasPartition (M.memory mem.now) 1 }
     ensures { InEach (M.memory mem.now) 1 (λ t x. result ≡ defined.first_taken t) }
 {
-    for line in 0..LINES {
+    for line in 0..INTERRUPT_LINES {
         if might_take(mem, line, steps) {
             return Some(line);
         }

@@ -1,4 +1,4 @@
-use Rattle.std.proofs.Common.{◌∙◌, arith, sym}
+use Rattle.std.proofs.Common.{arith}
 use Rattle.pip_kern.proofs.Climb.{climb_full}
 use Rattle.pip_apart.proofs.Climbing.{at_root, climbs_met, climbs_on, climbs_start}
 use Rattle.pip_apart.proofs.guests.top_of.Goals as goal

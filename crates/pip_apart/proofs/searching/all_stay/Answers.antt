@@ -1,4 +1,3 @@
-use Rattle.std.proofs.Common.{◌∙◌, ap, arith, sym}
 use Rattle.pip_apart.proofs.Telling.{all_stay_on, not_all_stay}
 use Rattle.pip_apart.proofs.searching.all_stay.Goals as goal
 

@@ -1,4 +1,4 @@
-use Rattle.std.proofs.Common.{◌≡◌, ◌∙◌, ◌++◌, [], ◌∷◌, ap, length, map, subst, sym, take}
+use Rattle.std.proofs.Common.{◌∙◌, ap, map, subst, sym}
 use Rattle.std.specs.List.{AllByRecursion}
 use Rattle.pip_apart.specs.Found.{IsFoundAt}
 use Rattle.pip_apart.specs.Searches.{CanBeShown, IsGuestKey, alone_of}

@@ -15,7 +15,8 @@ returns-in-Closed-clause-leaves c e =
       (
         c.in-Closed.is,
         subst (λ v. NoneLeaves (witnesses_of v vs fs)) (sym c.in-Closed.is)
-            (none_marked (witnesses_of (Closed d) vs fs) (unmarked d vs fs c.some_marked.result c.some_marked.ensures e)),
+            (none_marked (witnesses_of (Closed d) vs fs)
+            (unmarked d vs fs c.some_marked.result c.some_marked.ensures e)),
       ),
     )
 

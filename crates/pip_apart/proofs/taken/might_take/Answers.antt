@@ -7,10 +7,12 @@ pub returns-in-Ok : goal.returns-in-Ok
 returns-in-Ok g c t x s lays is =
     word_tells t s c.args.line _ (omega arith) c.is_lent.result c.if-is_lent.false
     (c.is_lent.ensures t x s lays is) c.new.result c.new.ensures c.load.result
-    (c.load.ensures.answer t x s lays (subst (λ n. find_node t n ≡ Some x) (sym c.new.ensures) is)) c.in-Ok.word c.in-Ok.is
+    (c.load.ensures.answer t x s lays (subst (λ n. find_node t n ≡ Some x)
+    (sym c.new.ensures) is)) c.in-Ok.word c.in-Ok.is
 
 pub returns-in-Err : goal.returns-in-Err
 returns-in-Err g c t x s lays is =
     fault_tells t s c.args.line _ (omega arith) c.is_lent.result c.if-is_lent.false
     (c.is_lent.ensures t x s lays is) c.new.result c.new.ensures c.load.result
-    (c.load.ensures.answer t x s lays (subst (λ n. find_node t n ≡ Some x) (sym c.new.ensures) is)) c.in-Err.field-0 c.in-Err.is
+    (c.load.ensures.answer t x s lays (subst (λ n. find_node t n ≡ Some x)
+    (sym c.new.ensures) is)) c.in-Err.field-0 c.in-Err.is
