@@ -249,7 +249,7 @@ def same_reason(program: str, text: bytes, told: Any, as_assembly: bool) -> bool
     if good:
         return False
     page = [f"text:{told['place']}:{told['column']}: {told['here']}", f"rule: {told['rule']}"]
-    page += [f"{head}: {told[key]}" for head, key in (("why", "why"), ("what to do", "act")) if told[key]]
+    page += [f"what to do: {told['act']}"] * bool(told["act"])
     if page != [sentence for sentence in sentences if not sentence.startswith("    ")]:
         raise Differs(f"the page, {text!r}: {page}, where {sentences} is due")
     return True

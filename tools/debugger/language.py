@@ -92,10 +92,7 @@ def wrong_lines(program: str, text: bytes, is_assembly: bool) -> Iterator[Wrong]
 
 def told(cause: why.Cause) -> str:
     """What is there, and the rule."""
-    row = meanings.causes()[cause.name]
-    if cause.name.startswith("asm"):
-        return f"{cause.here}\nrule: {row[1]}"
-    return "\n".join([cause.here, f"rule: {row[0]}"] + [f"why: {row[1]}"] * bool(row[1:]))
+    return f"{cause.here}\nrule: {meanings.causes()[cause.name][1]}"
 
 
 # What words mean
