@@ -62,12 +62,12 @@ def preprocessor(program: str) -> None:
             file.write("li r1 70000   # too large\n")
         last = SOURCE.count("\n") + 1
         ends("tools/asmx", tool(program, "asmx", source, "--image", built), 2,
-             f"source.s:{last}: range, in 'li r1 70000': '70000' is outside")
+             f"source.s:{last}:7: range, in 'li r1 70000': '70000' is outside")
         with open(source, "a") as file:
             file.write("out r1\nlb r1 r2 0\n")
         told = tool(program, "asmx", source, "--image", built)
-        ends("tools/asmx of two wrong lines", told, 2, f"source.s:{last}: range",
-             f"source.s:{last + 2}: 'lb' is no instruction; did you mean ldb?")
+        ends("tools/asmx of two wrong lines", told, 2, f"source.s:{last}:7: range",
+             f"source.s:{last + 2}:1: 'lb' is no instruction; did you mean ldb?")
         ends("tools/asmx to a full device", tool(program, "asmx", programs()[0], "--image", "/dev/full"), 2,
              "/dev/full: No space left")
         for words, due in ((("/nonexistent",), "can't be read"), ((place,), "can't be read"),
@@ -76,7 +76,7 @@ def preprocessor(program: str) -> None:
             ends(f"tools/asmx {' '.join(words)}", tool(program, "asmx", *words), 2, due)
         for text, due in ((b"\xff\x00\n.page \xfe\n", "- is no text: it has the byte 0x00 at offset 1"),
                           (b"PIPIMG2\n", "- is an image, and no text"),
-                          (b"\xff\n", "-:1: ")):
+                          (b"\xff\n", "-:1:1: ")):
             ends("tools/asmx of bytes", tool(program, "asmx", "-", text=text), 2, due)
 
 

@@ -151,7 +151,8 @@ class BackAsForward(unittest.TestCase):
         found = [stops_of("line 1 call"), stops_of("idle"), stops_of(f"turn_of {debugger.states.cpus - 1}")]
         for _ in range(6):
             name, other = drawn.choice(names), drawn.choice(names)
-            at, watched = f"break 1 place {name.word[0]}:{name.word[1]}", f"watch 2 word {other.word[0]}:{other.word[1]} 1"
+            at = f"break 1 place {name.word[0]}:{name.word[1]}"
+            watched = f"watch 2 word {other.word[0]}:{other.word[1]} 1"
             found += [stops_of(at), stops_of(watched), stops_of(f"watch 4 address 1 {other.address} 2"),
                       stops_of(at, watched, "line 3 out")]
         return found

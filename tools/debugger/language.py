@@ -80,7 +80,8 @@ def wrong_of(program: str, path: str, texts: Texts) -> list[Wrong]:
 
 
 def of_asmx(path: str, wrong: asmx.Wrong) -> Wrong:
-    return Wrong(wrong.place.line - 1, 0, wrong.why) if wrong.place.file == path else Wrong(0, 0, str(wrong))
+    is_here = wrong.place.file == path
+    return Wrong(wrong.place.line - 1, wrong.column - 1, wrong.why) if is_here else Wrong(0, 0, str(wrong))
 
 
 def wrong_lines(program: str, text: bytes, is_assembly: bool) -> Iterator[Wrong]:
