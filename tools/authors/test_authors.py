@@ -131,8 +131,9 @@ class Preprocessor(unittest.TestCase):
                                 "7:7: no line defines the name gone", "8:7: .zero has a number from 0 to 1024"])
 
     def test_columns_are_those_of_the_source(self) -> None:
-        for text, column in (("  li  r1  r99", 11), (" a:  la r1 gone+4", 12), ("la r1 4+gone", 9), ("la r1 -4-gone", 10),
-                             ("  not r1 r1", 10), ("a: out r1 r2", 11), ("  li   r1   65536   # here", 13),
+        for text, column in (("  li  r1  r99", 11), (" a:  la r1 gone+4", 12), ("la r1 4+gone", 9),
+                             ("la r1 -4-gone", 10), ("  not r1 r1", 10), ("a: out r1 r2", 11),
+                             ("  li   r1   65536   # here", 13),
                              ("  call r16 3", 8), ("add r1 r2 # gone", 8), (".handler 1 0x400 0  r1=zz", 24),
                              ("b: jmp b", 4), ("li r1 <gone", 8), ("  mov r1, r2", 7), (".word\t99999999999", 7)):
             with self.subTest(text=text), self.assertRaises(asmx.Wrong) as found:

@@ -20,10 +20,14 @@ CASES = 300
 
 
 def tool(program: str, name: str, *words: str, text: bytes = b"") -> Told:
-    """Output, messages and status of a tool."""
+    """Output, messages and status of a tool that needs a program."""
+    return told(name, *words, "--program", program, text=text)
+
+
+def told(name: str, *words: str, text: bytes = b"") -> Told:
     path = os.path.join(REPOSITORY, "tools", name)
-    done = subprocess.run([sys.executable, "-B", path, *words, "--program", program], input=text, timeout=SECONDS,
-                          stdout=subprocess.PIPE, stderr=subprocess.PIPE)
+    done = subprocess.run([sys.executable, "-B", path, *words], input=text, timeout=SECONDS, stdout=subprocess.PIPE,
+                          stderr=subprocess.PIPE)
     messages = done.stderr.decode()
     if "Traceback" in messages:
         raise Differs(f"tools/{name} {' '.join(words)}: {messages[-400:]}")

@@ -2,9 +2,9 @@
 
     tools/debug_adapter
 
-Arguments of `launch`: `program`, an image, a source or a script; `source`, that of an image; `seed`, or `native`, a number of
-children, or `slots`, that and the turns of a slot, or `way`, choices of `every`; `stopOnEntry`; `check`, whether each
-stop is compared with the program, as is done without it where the program is proved.
+Arguments of `launch`: `program`, an image, a source or a script; `source`, that of an image; `seed`, or `native`, a
+number of children, or `slots`, that and the turns of a slot, or `way`, choices of `every`; `stopOnEntry`; `check`,
+whether each stop is compared with the program, as is done without it where the program is proved.
 """
 
 from __future__ import annotations
@@ -543,6 +543,5 @@ def main() -> None:
     parser = argparse.ArgumentParser(description="The Debug Adapter Protocol over standard streams, for editors.")
     calling.take_program(parser)
     given = parser.parse_args()
-    sink = os.fdopen(os.dup(1), "wb")
-    os.dup2(2, 1)                    # nothing else gets among the messages
+    sink = wire.own_output()
     calling.guarded("debug_adapter", lambda: Adapter(sys.stdin.buffer, sink, given.program).serve())

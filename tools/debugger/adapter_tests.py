@@ -128,7 +128,8 @@ class Session(unittest.TestCase):
         client = self.client
         self.launch(FIRST)
         told = client.ask("setBreakpoints", source={"path": FIRST}, breakpoints=[{"line": 5}, {"line": 99}])
-        self.assertEqual([(one["verified"], one.get("line")) for one in told["breakpoints"]], [(True, 6), (False, None)])
+        self.assertEqual([(one["verified"], one.get("line")) for one in told["breakpoints"]],
+                         [(True, 6), (False, None)])
         client.stopped("configurationDone")
         self.assertEqual((client.top()["line"], client.top()["source"]["path"]), (3, FIRST))
         stop = client.stopped("continue", threadId=1)

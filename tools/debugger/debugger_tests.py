@@ -101,7 +101,8 @@ class Compared(WithStates):
         """Lines as steps: the answers are the program's, registers and trees the reference's, in any order."""
         drawn = random.Random(3)
         for name in SCRIPTS:
-            debugger = Debugger(PROGRAM, self.states, os.path.join(EXAMPLES, name), every_step=drawn.choice([1, 3, 10_000]))
+            path, every_step = os.path.join(EXAMPLES, name), drawn.choice([1, 3, 10_000])
+            debugger = Debugger(PROGRAM, self.states, path, every_step=every_step)
             end = len(debugger.events)
             for step in [end, 0, *(drawn.randrange(end + 1) for _ in range(6))]:
                 self.states.go(step)

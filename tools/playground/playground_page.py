@@ -130,4 +130,4 @@ def exercises() -> Iterator[dict[str, str]]:
         is_script = solution.suffix == ".pip"
         yield {"name": "exercise " + name, "exercise": name, "group": "Exercises",
                "kind": "script" if is_script else "assembly", "text": "" if is_script else BEGINNING,
-               "task": re.sub(r"\[([^\]]*)\]\([^)]*\)", r"\1", told.partition("\n")[2].strip())}
+               "task": meanings.plain(told.partition("\n")[2].strip())}

@@ -21,7 +21,7 @@ from .model import World
 USAGE = b"usage: pip script | run STEPS SEED | asm | dis | tree STEPS SEED | core STEPS SEED | soak COUNT SEED" \
     b" | native N STEPS | slots N TURNS ROUNDS | audit FRAMES | every STATES [FROM [DEPTH]]\n"
 Ended = tuple[bytes, int, Optional[World]]       # output and status, and the world that the command leaves
-OnImage = Callable[[image.Image, int, int], tuple[list[str], World]]
+OnImage = Callable[[image.Image], tuple[Iterable[str], Optional[World]]]
 MOST_STEPS, MOST_COUNT = 10000000, 1000000
 ON_IMAGES = {"run": runs.run, "tree": runs.tree, "core": runs.core}
 
@@ -96,7 +96,8 @@ def ended(words: Sequence[str], text: bytes) -> Ended:
     if words and words[0] in ON_IMAGES:
         given = numbers(words[1:], MOST_STEPS)
         if given:
-            return on_image(ON_IMAGES[words[0]], *given, text)
+            run, (count, seed) = ON_IMAGES[words[0]], given
+            return on_image(lambda machine: run(machine, count, seed), text)
     if words and words[0] == "soak":
         given = numbers(words[1:], MOST_COUNT)
         if given:
@@ -105,12 +106,12 @@ def ended(words: Sequence[str], text: bytes) -> Ended:
     if words and words[0] == "native":
         given = children_and_steps(words[1:])
         if given:
-            return of_children(functools.partial(native.native, n=given[0], count=given[1]), given[0], text)
+            return on_image(functools.partial(native.native, n=given[0], count=given[1]), text, given[0])
     if words and words[0] == "slots":
         shares = slots_of(words[1:])
         if shares:
             n, turns, rounds = shares
-            return of_children(functools.partial(slots.slots, n=n, turns=turns, rounds=rounds), n, text)
+            return on_image(functools.partial(slots.slots, n=n, turns=turns, rounds=rounds), text, n)
     if words and words[0] == "audit":
         frames = frames_of(words[1:])
         if frames:
@@ -119,7 +120,8 @@ def ended(words: Sequence[str], text: bytes) -> Ended:
     if words and words[0] == "every":
         asked = search_of(words[1:])
         if asked:
-            return searched(*asked, text)
+            states, first, deepest = asked
+            return on_image(lambda machine: (every.every(machine, states, first, deepest), None), text)
     return USAGE, 1, None
 
 
@@ -152,12 +154,15 @@ def dis(data: bytes) -> Ended:
     return in_lines(told), 0, None
 
 
-def on_image(command: OnImage, count: int, seed: int, data: bytes) -> Ended:
+def on_image(command: OnImage, data: bytes, children: int = 0) -> Ended:
+    """What a command says of an image, which has room for that many children."""
     try:
-        machine = image.read(data)
+        machine = image.read(data, native.frames_needed(children) if children else 0)
     except image.BadImage as bad:
         return in_lines([f"bad image {bad.kind} {bad.at}"]), 2, None
-    told, world = command(machine, count, seed)
+    except image.TooFew as few:
+        return in_lines([native.short_line(few.frames, children)]), 8, None
+    told, world = command(machine)
     return in_lines(told), 0, world
 
 
@@ -182,25 +187,6 @@ def typed(read: Callable[[], bytes], write: Callable[[bytes], object]) -> int:
 def shown(text: bytes) -> None:
     sys.stdout.buffer.write(text)
     sys.stdout.buffer.flush()
-
-
-def of_children(command: Callable[[image.Image], tuple[list[str], World]], n: int, data: bytes) -> Ended:
-    try:
-        machine = image.read(data, native.frames_needed(n))
-    except image.BadImage as bad:
-        return in_lines([f"bad image {bad.kind} {bad.at}"]), 2, None
-    except image.TooFew as few:
-        return in_lines([native.short_line(few.frames, n)]), 8, None
-    told, world = command(machine)
-    return in_lines(told), 0, world
-
-
-def searched(states: int, first: int, deepest: int | None, data: bytes) -> Ended:
-    try:
-        machine = image.read(data)
-    except image.BadImage as bad:
-        return in_lines([f"bad image {bad.kind} {bad.at}"]), 2, None
-    return in_lines(every.every(machine, states, first, deepest)), 0, None
 
 
 def main() -> None:

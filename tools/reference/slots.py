@@ -1,13 +1,12 @@
-"""Time slots of an image: children of the root are built as for `native`, and each has a slot of so many turns in turn.
-"""
+"""Time slots of an image: children of the root are built as for `native`, and each has a slot of some turns in turn."""
 
 from __future__ import annotations
 
-from .image import Image, world as image_world
+from .image import Image
 from .model import NOWHERE, ROOT, SAVED, World
-from .native import children
+from .native import begun
 from .runs import Turn
-from .script import outcome_text, word_text
+from .script import outcome_text
 
 LINE = 0                 # the interrupt line that ends a slot
 
@@ -43,10 +42,7 @@ class Slots:
 
 def slots(image: Image, n: int, turns: int, rounds: int) -> tuple[list[str], World]:
     """The text, line by line, and the last world."""
-    told = [f"image {image.frames} {image.cpus} {len(image.plans)} {len(image.pages)}"]
-    world = image_world(image)
-    built = children(world, n)
-    told += [f"built {i} {word_text(address)}" for i, address in enumerate(built)]
+    told, world, built = begun(image, n)
     run = Slots(world, told)
     for _ in range(rounds):
         for child in built:
