@@ -406,6 +406,10 @@ def exercise(shown: browser.Browser) -> None:
     shown.value("document.getElementById('student').value = 'ada'")
     judged(shown, solution, "document.getElementById('judge').click()", "store: 1 of 5 goals are reached")
     judged(shown, "boot 64 1\nld 0 00\n", "document.getElementById('judge').click()", "store: line 2 is refused")
+    choose(shown, "exercise break-in")
+    judged(shown, "ld 0 0x10000020\n", "document.getElementById('judge').click()", "break-in: 0 of 6 goals are reached")
+    due(shown, "what is said of lines that the judge alone runs", f"[{text_of('#why')}, {text_of('#status')}]",
+        ["", "judged"])
     choose(shown, "exercise no-loss")
     for width in (1400, 400):
         shown.size(width, 900)

@@ -1,6 +1,7 @@
 // An exercise, and what the judge says of the text.
 "use strict";
 const exerciseOf = () => examples.find(({name, exercise}) => exercise && name === by("choice").value);
+const isPart = () => Boolean((exerciseOf() || {}).isPart);
 const chosenExercise = () => (exerciseOf() || {}).exercise;
 
 // What the chosen exercise asks for, beside the text; with the numbers of the student who is named

@@ -7,7 +7,7 @@ const parts = {
   progress(told) { say("busy: " + Math.floor(100 * told.count / told.all) + " % of the text was read"); },
   answers(told, {text}) {
     const answered = told.answers.flatMap((answer, k) => answer ? [k + 1] : []);
-    shown = {lines: text.split("\n"), answers: told.answers, answered, why: told.why, run: null};
+    shown = {lines: text.split("\n"), answers: told.answers, answered, why: isPart() ? null : told.why, run: null};
     drawText(told.status);
   },
   state(told) {

@@ -121,8 +121,10 @@ def example(path: Path) -> dict[str, str]:
     return {**made, "words": words, "out": out}
 
 
-def exercises() -> Iterator[dict[str, str]]:
-    """Each exercise with what it asks, and the text with which one begins: of a program the lines that each has."""
+def exercises() -> Iterator[dict[str, str | bool]]:
+    """Each exercise with what it asks, and the text with which one begins: of a program the lines that each has. Some
+    scripts are a part of what the judge runs.
+    """
     for name, told in exercise.sections().items():
         solution = next(EXAMPLES.joinpath("solutions").glob(f"{name}.*"), None)
         if solution is None:
@@ -130,4 +132,5 @@ def exercises() -> Iterator[dict[str, str]]:
         is_script = solution.suffix == ".pip"
         yield {"name": "exercise " + name, "exercise": name, "group": "Exercises",
                "kind": "script" if is_script else "assembly", "text": "" if is_script else BEGINNING,
+               "isPart": is_script and "\nboot " not in solution.read_text(encoding="utf-8"),
                "task": meanings.plain(told.partition("\n")[2].strip())}

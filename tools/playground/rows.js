@@ -11,7 +11,9 @@ function say(text, isRefused = false) {
   by("status").classList.toggle("refused", isRefused);
 }
 function sayStatus(status, more = "") {
-  ended = isHalfTyped() ? ["line " + typed + " isn't whole yet: " + shown.why.here, false] : ["status " + status + ": " + STATUSES[status] + more, status !== 0];
+  ended = ["status " + status + ": " + STATUSES[status] + more, status !== 0];
+  if (isPart()) ended = ["the judge runs these lines, on a machine of its own", false];
+  else if (isHalfTyped()) ended = ["line " + typed + " isn't whole yet: " + shown.why.here, false];
   say(...ended);
 }
 
