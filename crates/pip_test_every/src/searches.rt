@@ -155,7 +155,7 @@ fn check_deed(
 }
 
 #[test]
-fn a_free_root_does_its_deeds_alone(rt: HostRuntime) -> Result<(), Fail> {
+fn a_hostile_root_does_its_deeds_alone(rt: HostRuntime) -> Result<(), Fail> {
     let root = Some(1);
     let (va, size) = (0x400004, Size::Word);
     check_deed(&rt, root, Deed::Load { va, size }, 1, None)?;
