@@ -29,7 +29,8 @@ root_alone i = elim i [ inl e ↦ omega (arith, e) | inr j ↦ j ]
 runs_root : (w : World) (e : Event) → actor w e ≡ 1 → w.tree.root.name ≡ 1 → In (actor w e) (names_of (nodes w.tree))
 runs_root w e who root = inl (who ∙ sym root)
 
-off_root : (w : World) (e : Event) → actor w e ≡ 1 → ancestry w.tree 1 ≡ 1 ∷ [] → In 13 (ancestry w.tree (actor w e)) → ⊥
+off_root : (w : World) (e : Event) → actor w e ≡ 1 → ancestry w.tree 1 ≡ 1 ∷ [] → In 13 (ancestry w.tree (actor w e))
+    → ⊥
 off_root w e who line h = root_alone (subst (In 13) (ap (ancestry w.tree) who ∙ line) h)
 
 -- ---- the root deletes 13
@@ -45,8 +46,9 @@ is_call = record { cpu = 0; number = 1; arguments = deletes; call = DeletePartit
 
 pub calls_matter : CallsMatter
 calls_matter law =
-    let g = law made 13 (E.Call 0 1 deletes) made_sound deletes_are (inr (inr (inl refl))) (not_root made refl) (runs_root made (E.Call 0 1 deletes) refl refl) (off_root made (E.Call 0 1 deletes) refl refl)
-    is_call in
+    let e = E.Call 0 1 deletes in
+    let g = law made 13 e made_sound deletes_are (inr (inr (inl refl))) (not_root made refl)
+    (runs_root made e refl refl) (off_root made e refl refl) is_call in
     let there : IsBelow (event made (E.Call 0 1 deletes)).world.tree 13 (node made.tree 13) =
     (g.below.nodes (node made.tree 13)).0 (inr (inr (inl refl)), inl refl) in
     elim there.0 [
@@ -81,7 +83,8 @@ targets_matter law = go (runs_on entered 0) refl refl
 
 pub stores_matter : StoresMatter
 stores_matter law =
-    let g = law made 13 gives made_sound gives_are (inr (inr (inl refl))) (not_root made refl) (runs_root made gives refl refl) (off_root made gives refl refl) (record {
+    let g = law made 13 gives made_sound gives_are (inr (inr (inl refl))) (not_root made refl)
+    (runs_root made gives refl refl) (off_root made gives refl refl) (record {
       cpu = 0;
       va = 0x409008;
       size = Word;
@@ -110,8 +113,9 @@ leaves_are = let z = words 0 (omega arith) in
 
 pub places_matter : PlacesMatter
 places_matter law =
-    let g = law placed 13 (E.Call 0 8 leaves) placed_sound leaves_are (inr (inr (inl refl))) (not_root placed refl) (runs_root placed (E.Call 0 8 leaves) refl refl) (off_root placed (E.Call 0 8 leaves) refl refl)
-    (record {
+    let e = E.Call 0 8 leaves in
+    let g = law placed 13 e placed_sound leaves_are (inr (inr (inl refl))) (not_root placed refl)
+    (runs_root placed e refl refl) (off_root placed e refl refl) (record {
       cpu = 0;
       number = 8;
       arguments = leaves;
@@ -125,6 +129,9 @@ places_matter law =
 -- it loads where it has no page, and is saved there
 pub faults_matter : FaultsMatter
 faults_matter law =
-    let g = law placed 13 (E.Load 0 0x20000000 Word) placed_sound (omega arith) (inr (inr (inl refl))) (not_root placed refl) (runs_root placed (E.Load 0 0x20000000 Word) refl refl) (off_root placed (E.Load 0 0x20000000 Word) refl refl) (record { cpu = 0; va = 0x20000000; size = Word; is = refl }) in
+    let e = E.Load 0 0x20000000 Word in
+    let g = law placed 13 e placed_sound (omega arith) (inr (inr (inl refl))) (not_root placed refl)
+    (runs_root placed e refl refl) (off_root placed e refl refl)
+    (record { cpu = 0; va = 0x20000000; size = Word; is = refl }) in
     let word : ◌≡◌ {A = ℕ} 0x400000 0x22100000 = g.below.words 21 0 (inl refl) (omega arith) in
     omega (arith, word)

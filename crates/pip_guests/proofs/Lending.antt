@@ -1,5 +1,6 @@
 -- A page that is lent to a guest is an input.
-use Rattle.std.proofs.Common.{◌≡◌, ℕ, ◌<◌, ◌⊎◌, inl, inr, Bool, true, false, cond, List, [], ◌∷◌, map, refl, sym, ap, ◌∙◌}
+use Rattle.std.proofs.Common.{◌≡◌, ℕ, ◌<◌, ◌⊎◌, inl, inr, Bool, true, false, cond, List, [], ◌∷◌, map, refl}
+use Rattle.std.proofs.Common.{sym, ap, ◌∙◌}
 use Rattle.std.proofs.Common.{subst, Option, Some, None}
 use Rattle.std.specs.Prelude.{nat_lt}
 use Rattle.pip_base.specs.declared.outcome.Status.{Status}
@@ -21,7 +22,7 @@ use Rattle.pip_model.proofs.Trees.Ancestors.{name_in}
 use Rattle.pip_model.proofs.Trees.Ancestry.{ancestry_in, named_node}
 use Rattle.pip_model.proofs.Trees.ChangeNode.{change-here, change-keeps}
 use Rattle.pip_model.proofs.Trees.Free.{IsName, node_found}
-use Rattle.pip_guests.specs.Inputs.{CallsOn, Lends, LendingsAreInputs}
+use Rattle.pip_guests.specs.Inputs.{CallsOn, LendsPage, LendingsAreInputs}
 use Rattle.pip_guests.proofs.Elsewhere.{name_after}
 use Rattle.pip_guests.proofs.Inputs.{calls_are_inputs}
 use Rattle.pip_guests.proofs.Inside.{actor_runs}
@@ -110,7 +111,8 @@ unless_none t None b e = refl
 unless_none t (Some s) b e = cc
 
 -- after it the guest has one row more
-lent_tree : (w : World) (p g cv rights cpu number : ℕ) (a : Five) → IsSoundWorld w → Lends p g cv rights w cpu number a
+lent_tree : (w : World) (p g cv rights cpu number : ℕ) (a : Five) → IsSoundWorld w
+    → LendsPage p g cv rights w cpu number a
     → (event w (E.Call cpu number a)).world.tree ≡ tree_with_row w.tree p (row_of_page g cv rights)
 lent_tree w p g cv rights cpu number a s l =
     let e = E.Call cpu number a in
@@ -128,7 +130,7 @@ lent_tree w p g cv rights cpu number a s l =
     ∙ ap (λ n. tree_with_row w.tree p (row_of_page g cv n)) l.rights_are
 
 calls_on : (w : World) (p g cv rights cpu number : ℕ) (a : Five) → IsSoundWorld w → IsName w.tree p
-    → Lends p g cv rights w cpu number a → CallsOn p w cpu number a
+    → LendsPage p g cv rights w cpu number a → CallsOn p w cpu number a
 calls_on w p g cv rights cpu number a s n l = record {
   plain = λ h. subst (λ c. IsSwitching c) l.adds h;
   outside = l.outside;

@@ -166,8 +166,8 @@ turn_left : HasSameEvents 13 0 0 busy alone
 turn_left = turns_leave_alike busy alone 13 0 0 busy_sound alone_sound not_root same (poll_vain busy 0 child refl refl)
     (poll_vain alone 0 child refl refl) turn_leaves
 
--- ---- the premise of the law of turns on inputs, of a turn that is alike: line 0 is taken, and in the second world line
--- 2 is pending, too
+-- ---- the premise of the law of turns on inputs, of a turn that is alike: line 0 is taken, and in the second world
+-- line 2 is pending, too
 abbrev lines : World
 lines = (event (line 0) (E.Raise 2)).world
 

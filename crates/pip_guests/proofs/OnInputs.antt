@@ -17,7 +17,8 @@ use Rattle.pip_model.proofs.Trees.Free.{IsName}
 use Rattle.pip_guests.specs.Guests.{IsSameGuest}
 use Rattle.pip_guests.specs.Programs.{Item, Other, ProgramsDependOnInputs, RunOnInputs, Slot, StepsAreItems}
 use Rattle.pip_guests.specs.Programs.{StepsDependOnInputs, Turn, acts_of, alike, all_steps, as_others, ended, first}
-use Rattle.pip_guests.specs.Programs.{input, items_of, items_of_step, next_world, own, own_turns, ready, second, turn_of}
+use Rattle.pip_guests.specs.Programs.{input, items_of, items_of_step, next_world, own}
+use Rattle.pip_guests.specs.Programs.{own_turns, ready, second, turn_of}
 use Rattle.pip_guests.specs.Programs.{turns_among}
 use Rattle.pip_guests.proofs.Lines.{not_top}
 use Rattle.pip_guests.proofs.Words.{turn_are}

@@ -24,7 +24,7 @@ use Rattle.pip_model.specs.Worlds.{IsSoundWorld, World, boot_world_with, with_ru
 use Rattle.pip_model.specs.declared.processors.Occupant.{Occupant}
 use Rattle.pip_model.proofs.Events.Soundness.{after-sound, boot_world-sound_with, cpu_runs, event-sound}
 use Rattle.pip_guests.specs.Guests.{AsksParent, IsApart, IsInside, IsSameGuest, StaysBelow, is_own, learns_own}
-use Rattle.pip_guests.specs.Inputs.{CallsOn, Enters, IsInput, Lends, RunAlike, StoresTo, ended, input, own, second}
+use Rattle.pip_guests.specs.Inputs.{CallsOn, Enters, IsInput, LendsPage, RunAlike, StoresTo, ended, input, own, second}
 use Rattle.pip_guests.specs.Programs.{AmongSlots, AreInsideTurns, IsRunAsAlone, Slot, left, none, right, run_slots}
 use Rattle.pip_guests.specs.Programs.{turns}
 use Rattle.pip_guests.proofs.Elsewhere.{same_world}
@@ -403,12 +403,13 @@ lends = five 0x413000 0x401000 0xffffe000 7 0
 
 lends_are : IsEvent (E.Call 0 5 lends)
 lends_are =
-    (words 5 (omega arith), (omega arith, (omega arith, (omega arith, (words 7 (omega arith), (words 0 (omega arith), tt))))))
+    let z = words 0 (omega arith) in
+    (words 5 (omega arith), (omega arith, (omega arith, (omega arith, (words 7 (omega arith), (z, tt))))))
 
 lent_by : (w : World) → actor w (E.Call 0 5 lends) ≡ 1 → ancestry w.tree 1 ≡ 1 ∷ [] → In 1 (names_of (nodes w.tree))
     → child_name w.tree 1 0x401000 ≡ 13 → page_of w.tree 1 0x413000 ≡ 31
     → first_met (add_refusals w.tree 1 0x413000 0x401000 0xffffe000 7) ≡ None
-    → Lends 13 31 0xffffe000 7 w 0 5 lends
+    → LendsPage 13 31 0xffffe000 7 w 0 5 lends
 lent_by w who line root child page accepted = record {
   adds = refl;
   outside = λ h.
@@ -422,10 +423,10 @@ lent_by w who line root child page accepted = record {
   accepted = ap (λ n. first_met (add_refusals w.tree n 0x413000 0x401000 0xffffe000 7)) who ∙ accepted;
 }
 
-made_lends : Lends 13 31 0xffffe000 7 made 0 5 lends
+made_lends : LendsPage 13 31 0xffffe000 7 made 0 5 lends
 made_lends = lent_by made refl refl (inl refl) refl refl refl
 
-other_lends : Lends 13 31 0xffffe000 7 other 0 5 lends
+other_lends : LendsPage 13 31 0xffffe000 7 other 0 5 lends
 other_lends = lent_by other refl refl (inl refl) refl refl refl
 
 lends_13 : IsInput 13 (E.Call 0 5 lends) (E.Call 0 5 lends) made other

@@ -10,7 +10,8 @@ use Rattle.pip_model.specs.Local.{IsAside, actor}
 use Rattle.pip_model.specs.Tree.{ancestry}
 use Rattle.pip_model.specs.Turn.{turn}
 use Rattle.pip_model.specs.Worlds.{IsSoundWorld, World}
-use Rattle.pip_guests.specs.Guests.{IsApart, IsAsAlone, IsInside, PollsInVain, learns_all, learns_own, left, none, only_guest}
+use Rattle.pip_guests.specs.Guests.{IsApart, IsAsAlone, IsInside, PollsInVain, learns_all}
+use Rattle.pip_guests.specs.Guests.{learns_own, left, none, only_guest}
 use Rattle.pip_guests.specs.Guests.{right}
 use Rattle.pip_guests.specs.Programs.{AllStayApart, AreOwnOrApartTurns, IsInsideTurn, Other, RunOnInputs, Slot, Turn}
 use Rattle.pip_guests.specs.Programs.{ended, own, own_slots, own_turns, second, turn_of, turns, turns_among}

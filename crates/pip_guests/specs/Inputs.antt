@@ -112,7 +112,7 @@ CallsAreInputs = (w v : World) (p cpu cpu2 number number2 : ℕ) (a b : Five) �
 
 -- a partition that is not of the guest lends it page g, by an addVAddr that no test refuses: for this address of the
 -- guest, and with these rights
-pub record Lends (p g cv rights : ℕ) (w : World) (cpu number : ℕ) (a : Five) : Type 0 where
+pub record LendsPage (p g cv rights : ℕ) (w : World) (cpu number : ℕ) (a : Five) : Type 0 where
   pub adds : call_named number ≡ OnMemory AddVAddr
   pub outside : In p (ancestry w.tree (actor w (E.Call cpu number a))) → ⊥
   pub runs : In (actor w (E.Call cpu number a)) (names_of (nodes w.tree))
@@ -127,7 +127,7 @@ pub record Lends (p g cv rights : ℕ) (w : World) (cpu number : ℕ) (a : Five)
 abbrev pub LendingsAreInputs : Type 0
 LendingsAreInputs = (w v : World) (p g cv rights cpu cpu2 number number2 : ℕ) (a b : Five) → IsSoundWorld w
     → IsSoundWorld v → IsEvent (E.Call cpu number a) → IsEvent (E.Call cpu2 number2 b) → In p (names_of (nodes w.tree))
-    → IsSameGuest p w v → Lends p g cv rights w cpu number a → Lends p g cv rights v cpu2 number2 b
+    → IsSameGuest p w v → LendsPage p g cv rights w cpu number a → LendsPage p g cv rights v cpu2 number2 b
     → ((i : ℕ) → i < 1024 → word_of (v.tree.words g) i ≡ word_of (w.tree.words g) i)
     → IsInput p (E.Call cpu number a) (E.Call cpu2 number2 b) w v
 
