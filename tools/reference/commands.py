@@ -19,7 +19,8 @@ from . import assembly, audit, every, image, native, runs, script, slots
 from .model import World
 
 USAGE = b"usage: pip script | run STEPS SEED | asm | dis | tree STEPS SEED | core STEPS SEED | soak COUNT SEED" \
-    b" | native N STEPS | slots N TURNS ROUNDS | audit FRAMES | every STATES [FROM [DEPTH]]\n"
+    b" | native N STEPS | slots N TURNS ROUNDS | slots N ROUNDS K:TURNS .. | audit FRAMES" \
+    b" | every STATES [FROM [DEPTH]]\n"
 Ended = tuple[bytes, int, Optional[World]]       # output and status, and the world that the command leaves
 OnImage = Callable[[image.Image], tuple[Iterable[str], Optional[World]]]
 MOST_STEPS, MOST_COUNT = 10000000, 1000000
@@ -56,15 +57,28 @@ def children_and_steps(words: Sequence[str]) -> tuple[int, int] | None:
     return given if given and 1 <= given[0] <= native.MOST_CHILDREN and given[1] <= MOST_STEPS else None
 
 
-def slots_of(words: Sequence[str]) -> tuple[int, int, int] | None:
-    """How many children, the turns of a slot, and the rounds, or None where the words don't say it."""
+def slots_of(words: Sequence[str]) -> tuple[int, slots.Round, int] | None:
+    """How many children, the slots of a round, and the rounds, or None where the words don't say it."""
     try:
-        n, turns, rounds = [script.number(word.encode()) for word in words]
+        if len(words) == 3 and ":" not in words[2]:
+            n, turns, rounds = [script.number(word.encode()) for word in words]
+            round = slots.in_turn(min(n, native.MOST_CHILDREN + 1), turns)
+        else:
+            n, rounds = [script.number(word.encode()) for word in words[:2]]
+            round = [given_slot(word) for word in words[2:]]
     except (ValueError, script.Bad):
         return None
-    if not 1 <= n <= native.MOST_CHILDREN or max(turns, rounds, slots.steps_of(n, turns, rounds)) > MOST_STEPS:
+    if not 1 <= n <= native.MOST_CHILDREN or not 1 <= len(round) <= slots.MOST_SLOTS:
         return None
-    return n, turns, rounds
+    if any(child >= n or turns > MOST_STEPS for child, turns in round):
+        return None
+    return (n, round, rounds) if max(rounds, slots.steps_of(round, rounds)) <= MOST_STEPS else None
+
+
+def given_slot(word: str) -> tuple[int, int]:
+    """The child and the turns of a slot that a word gives."""
+    child, turns = word.split(":")
+    return script.number(child.encode()), script.number(turns.encode())
 
 
 def search_of(words: Sequence[str]) -> tuple[int, int, int | None] | None:
@@ -110,8 +124,8 @@ def ended(words: Sequence[str], text: bytes) -> Ended:
     if words and words[0] == "slots":
         shares = slots_of(words[1:])
         if shares:
-            n, turns, rounds = shares
-            return on_image(functools.partial(slots.slots, n=n, turns=turns, rounds=rounds), text, n)
+            n, round, rounds = shares
+            return on_image(functools.partial(slots.slots, n=n, round=round, rounds=rounds), text, n)
     if words and words[0] == "audit":
         frames = frames_of(words[1:])
         if frames:

@@ -35,6 +35,7 @@ pub mod Bounds
 pub mod Monitored
 pub mod Monitoring
 pub mod Rounds
+pub mod RoundWords
 -- `audit`
 pub mod Audited
 pub mod LayoutWords

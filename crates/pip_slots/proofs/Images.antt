@@ -173,7 +173,7 @@ round_words : (turns : ℕ) (ds : List ℕ) → AllByRecursion IsWord ds
 round_words turns [] h = tt
 round_words turns (d ∷ ds) h = (h.0, round_words turns ds h.1)
 
-rounds_words : (ss : List TimeSlot) (c : ℕ) → AllByRecursion (λ s. IsWord s.child) ss
+pub rounds_words : (ss : List TimeSlot) (c : ℕ) → AllByRecursion (λ s. IsWord s.child) ss
     → AllByRecursion (λ s. IsWord s.child) (rounds ss c)
 rounds_words ss zero h = tt
 rounds_words ss (suc c) h = words_append ss (rounds ss c) h (rounds_words ss c h)
@@ -182,7 +182,7 @@ one_more : (xs : List ℕ) (d : ℕ) → AllByRecursion IsWord xs → IsWord d �
 one_more [] d h k = (k, tt)
 one_more (x ∷ xs) d h k = (h.0, one_more xs d h.1 k)
 
-addresses_words : (n i : ℕ) → n ≤ 8 → i ≤ n → AllByRecursion IsWord (addresses n i)
+pub addresses_words : (n i : ℕ) → n ≤ 8 → i ≤ n → AllByRecursion IsWord (addresses n i)
 addresses_words n zero most l = tt
 addresses_words n (suc i) most l = one_more (addresses n i) (fresh n i 0) (addresses_words n i most (omega (arith, l)))
     (omega (arith, most, l))

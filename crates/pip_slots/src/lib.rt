@@ -19,7 +19,7 @@ ghost use Rattle.pip_slots.specs.Machines.{MachinesBegin, MachinesSeparate};
 ghost use Rattle.pip_slots.specs.Slots.{SlotsSeparate};
 
 pub use running::{run_rounds, run_slots};
-pub use time_slot::TimeSlot;
+pub use time_slot::{RoundSlot, TimeSlot};
 
 /// What a child does in its slots, and at which steps, depends on that child alone. The law computes nothing: what it
 /// says is its contract.

@@ -3,8 +3,10 @@ ghost use Rattle.std.specs.Prelude.{◌≤◌, ◌<◌, ◌^◌};
 ghost use Rattle.pip_slots.specs.Images.{steps_in_turn};
 
 use crate::native::image_of;
-use pip_commands::slots;
+use arrayvec::ArrayVec;
+use pip_commands::{given_slots, slots};
 use pip_io::{MemSink, MemSource};
+use pip_slots::RoundSlot;
 use std::process::Abort;
 use std::test::Fail;
 
@@ -131,4 +133,24 @@ fn a_planted_sibling_does_not_change_a_childs_slots(rt: HostRuntime) -> Result<(
         "14 0 call 8 switch 1 14 63\n15 0 switch 14 1 6\n",
         "28 0 call 8 switch 1 14 63\n29 0 switch 14 1 6\n",
     )
+}
+
+#[test]
+fn a_child_has_the_slots_that_a_round_gives_it(rt: HostRuntime) -> Result<(), Fail> {
+    let image = image_of(
+        &rt,
+        ".frames 39\n.cpus 1\n.page 0x00400000\nint 64\n.page 0x00401000\nldw r1 r0 0\n",
+    )?;
+    let mut source = MemSource::new(image.bytes(), &[]);
+    let mut sink = MemSink::new(rt.alloc(), 16384, &[])?;
+    let mut round = ArrayVec::new();
+    round.push(RoundSlot { child: 1, turns: 1 });
+    round.push(RoundSlot { child: 0, turns: 2 });
+    round.push(RoundSlot { child: 1, turns: 0 });
+    let ended = given_slots(rt.alloc(), 2, 2, round, &mut source, &mut sink);
+    let text =
+        "image 39 1 0 2\nbuilt 0 0x00402000\nbuilt 1 0x0040e000\n0 0 call 8 switch 1 26 63\n1 0 switch 26 1 14\n3 0 call 8 switch 1 14 63\n4 0 switch 14 1 64\n7 0 call 8 switch 1 26 63\n8 0 switch 26 1 32\n9 0 call 8 switch 1 26 63\n10 0 switch 26 1 14\n12 0 call 8 switch 1 14 63\n13 0 switch 14 1 6\n16 0 call 8 switch 1 26 63\n17 0 switch 26 1 32\nend 18\n";
+    assert_eq!(&rt; sink.bytes(), text.as_bytes());
+    assert_eq!(&rt; ended.status, 0);
+    Ok(())
 }
