@@ -28,6 +28,7 @@ REGISTER = re.compile(r"r([0-9]|1[0-5])")
 NUMBER = re.compile(r"0x[0-9a-f]{1,8}|0|[1-9][0-9]{0,9}")
 TERM = re.compile(r"0x[0-9a-f]{1,8}|[0-9]+|[A-Za-z_][A-Za-z0-9_]*")
 REMARK = re.compile(r"(^|\s)#.*$")
+WORD = re.compile(r"\S+")
 BRANCHES = {"beq": 2, "bne": 2, "blt": 2, "bltu": 2, "jal": 1}     # which operand is branched to
 # What is written by other instructions: how many operands it has, and what it becomes
 WRITTEN = {
@@ -58,12 +59,43 @@ class Label(NamedTuple):
     page: Page
 
 
-class Wrong(Exception):
-    """A line is wrong: where, and why."""
+class Word(str):
+    """A word of a line, and the column at which it begins, from 1 on."""
 
-    def __init__(self, place: Place, why: str) -> None:
-        super().__init__(f"{place.file}:{place.line}: {why}")
-        self.place, self.why = place, why
+    column = 1
+
+    @classmethod
+    def at(cls, column: int, text: str) -> Word:
+        word = cls(text)
+        word.column = column
+        return word
+
+
+class Line(str):
+    """A line of the assembly text, and the columns from which its words come."""
+
+    columns: tuple[int, ...] = ()
+
+    @classmethod
+    def of(cls, words: list[Word]) -> Line:
+        line = cls(" ".join(words))
+        line.columns = tuple(word.column for word in words)
+        return line
+
+    def column(self, at: int) -> int:
+        """The column from which that of this line comes."""
+        return self.columns[min(self.count(" ", 0, at - 1), len(self.columns) - 1)] if self.columns else 1
+
+
+Lines = list[tuple[Place, Line]]
+
+
+class Wrong(Exception):
+    """A line is wrong: where, from which column on, and why."""
+
+    def __init__(self, place: Place, why: str, column: int = 1) -> None:
+        super().__init__(f"{place.file}:{place.line}:{column}: {why}")
+        self.place, self.column, self.why = place, column, why
 
 
 class AllWrong(Wrong):
@@ -73,7 +105,7 @@ class AllWrong(Wrong):
         told = [str(wrong) for wrong in wrongs[:MOST_TOLD]]
         more = [f"and {len(wrongs) - MOST_TOLD} lines more"] if len(wrongs) > MOST_TOLD else []
         Exception.__init__(self, "\n".join(told + more))
-        self.place, self.why, self.wrongs = wrongs[0].place, wrongs[0].why, wrongs
+        self.place, self.column, self.why, self.wrongs = wrongs[0].place, wrongs[0].column, wrongs[0].why, wrongs
 
 
 class Collected:
@@ -108,11 +140,11 @@ class Files:
     def __init__(self) -> None:
         self.count = 0
 
-    def inner(self, place: Place, path: str) -> str:
+    def inner(self, place: Place, path: Word) -> str:
         """The file that a line includes."""
         inner = os.path.join(os.path.dirname(place.file) if place.file != "-" else "", path)
         if not os.path.isfile(inner):
-            raise Wrong(place, f"there is no file {inner}")
+            raise Wrong(place, f"there is no file {inner}", path.column)
         return inner
 
     def contents(self, path: str) -> bytes:
@@ -122,7 +154,7 @@ class Files:
         return calling.contents(path)
 
 
-def lines_of(path: str, files: Files, above: tuple[str, ...] = ()) -> Iterator[tuple[Place, list[str]]]:
+def lines_of(path: str, files: Files, above: tuple[str, ...] = ()) -> Iterator[tuple[Place, list[Word]]]:
     """The lines of a file and of those that it includes, without remarks: a place and its words each."""
     if len(above) > DEEPEST:
         raise Failed(f"{path}: files are included more than {DEEPEST} deep")
@@ -132,15 +164,15 @@ def lines_of(path: str, files: Files, above: tuple[str, ...] = ()) -> Iterator[t
     text = data.decode("utf-8", "replace").removeprefix("\ufeff")
     for number, line in enumerate(text.split("\n"), 1):
         place = Place(path, number)
-        words = REMARK.sub("", line).split()
+        words = [Word.at(found.start() + 1, found[0]) for found in WORD.finditer(REMARK.sub("", line))]
         if words[:1] != [".include"]:
             yield place, words
             continue
         if len(words) != 2:
-            raise Wrong(place, ".include has one path, without spaces")
+            raise Wrong(place, ".include has one path, without spaces", words[0].column)
         inner = files.inner(place, words[1])
         if os.path.realpath(inner) in [os.path.realpath(file) for file in (*above, path)]:
-            raise Wrong(place, f"{inner} includes itself")
+            raise Wrong(place, f"{inner} includes itself", words[1].column)
         yield from lines_of(inner, files, above + (path,))
 
 
@@ -154,7 +186,7 @@ class Item:
     place: Place
     at: int
     size: int
-    write: Callable[[], list[str]]
+    write: Callable[[], list[Line]]
 
 
 @dataclass
@@ -167,7 +199,7 @@ class Page:
     items: list[Item] = field(default_factory=list)
     next: int = 0
 
-    def add(self, place: Place, size: int, write: Callable[[], list[str]], at: int | None = None) -> None:
+    def add(self, place: Place, size: int, write: Callable[[], list[Line]], at: int | None = None) -> None:
         item = Item(place, self.next if at is None else at, size, write)
         if item.at + size > WORDS:
             raise Wrong(place, "the page has no room for this: it has 1024 words")
@@ -195,107 +227,110 @@ class Text:
         self.constants: dict[str, int] = {}
         self.labels: dict[str, Label] = {}
         self.pages: list[Page] = []
-        self.head: list[tuple[Place, str]] = []
+        self.head: Lines = []
 
-    def take(self, place: Place, words: list[str]) -> None:
+    def take(self, place: Place, words: list[Word]) -> None:
         """One line."""
         first = words[0]
         if first.startswith((";", "//")):
-            raise Wrong(place, f"{first!r} begins no line{why.hint(first)}")
+            raise Wrong(place, f"{first!r} begins no line{why.hint(first)}", first.column)
         if first == ".equ":
             self.take_constant(place, words[1:])
         elif first == ".page":
             self.take_page(place, words[1:])
         elif first in (".frames", ".cpus", ".line"):
-            self.head.append((place, " ".join([first] + [self.number_text(place, word) for word in words[1:]])))
+            self.head.append((place, Line.of([first] + [self.number_text(place, word) for word in words[1:]])))
         elif not self.pages:
             self.pages.append(Page(place, 0, 0))            # lest all lines after it be told, too
-            raise Wrong(place, f"{first!r} stands before the first page")
+            raise Wrong(place, f"{first!r} stands before the first page", first.column)
         elif first == ".handler":
             self.take_handler(place, words[1:])
         elif first == ".zero":
             size = self.number(place, self.one(place, words))
             if not 0 <= size <= WORDS:
-                raise Wrong(place, ".zero has a number from 0 to 1024")
-            self.pages[-1].add(place, size, lambda: [f".zero {size}"])
+                raise Wrong(place, ".zero has a number from 0 to 1024", words[1].column)
+            self.pages[-1].add(place, size, lambda: [Line(f".zero {size}")])
         elif first.endswith(":") and NAME.fullmatch(first[:-1]):
             self.take_label(place, words)
         else:
             self.take_instruction(place, words)
 
-    def one(self, place: Place, words: list[str]) -> str:
+    def one(self, place: Place, words: list[Word]) -> Word:
         if len(words) != 2:
-            raise Wrong(place, f"{words[0]} has one operand")
+            raise Wrong(place, f"{words[0]} has one operand", words[0].column)
         return words[1]
 
-    def take_constant(self, place: Place, words: list[str]) -> None:
+    def take_constant(self, place: Place, words: list[Word]) -> None:
         if len(words) != 2 or not NAME.fullmatch(words[0]) or REGISTER.fullmatch(words[0]):
-            raise Wrong(place, ".equ has a name and a number, and no register is a name here")
+            raise Wrong(place, ".equ has a name and a number, and no register is a name here", first_of(words))
         self.new_name(place, words[0])
         self.constants[words[0]] = 0                        # lest each line that uses it be told, too
         self.constants[words[0]] = self.number(place, words[1])
 
-    def new_name(self, place: Place, name: str) -> None:
+    def new_name(self, place: Place, name: Word) -> None:
         if name in self.constants or name in self.labels:
-            raise Wrong(place, f"{name} has a meaning already")
+            raise Wrong(place, f"{name} has a meaning already", name.column)
 
-    def take_page(self, place: Place, words: list[str]) -> None:
+    def take_page(self, place: Place, words: list[Word]) -> None:
         if len(words) not in (1, 3) or words[1:2] not in ([], ["at"]):
-            raise Wrong(place, ".page has an address, and after it 'at' and the address at which a child has the page")
-        address = self.number(place, words[0])
-        seen = self.number(place, words[2]) if len(words) == 3 else address
-        for number in (address, seen):
-            if number % PAGE or not 0 <= number < 1 << 32:
-                raise Wrong(place, "a page begins at a multiple of 4096 below 2^32")
+            raise Wrong(place, ".page has an address, and after it 'at' and the address at which a child has the page",
+                        first_of(words))
+        address, seen = (self.page_number(place, word) for word in (words[0], words[-1]))
         if any(page.address == address for page in self.pages):
-            raise Wrong(place, f"the page at 0x{address:08x} was defined before")
+            raise Wrong(place, f"the page at 0x{address:08x} was defined before", words[0].column)
         self.pages.append(Page(place, address, seen))
 
-    def take_label(self, place: Place, words: list[str]) -> None:
-        name, page = words[0][:-1], self.pages[-1]
+    def page_number(self, place: Place, word: Word) -> int:
+        number = self.number(place, word)
+        if number % PAGE or not 0 <= number < 1 << 32:
+            raise Wrong(place, "a page begins at a multiple of 4096 below 2^32", word.column)
+        return number
+
+    def take_label(self, place: Place, words: list[Word]) -> None:
+        name, page = Word.at(words[0].column, words[0][:-1]), self.pages[-1]
         self.new_name(place, name)
         elsewhere = page.seen != page.address
         self.labels[name] = Label(page.here(), elsewhere, page)
-        page.add(place, 0, lambda: [f"# {name}:" if elsewhere else f"{name}:"])
+        page.add(place, 0, lambda: [Line(f"# {name}:" if elsewhere else f"{name}:")])
         if words[1:]:
             if words[1].endswith(":"):
-                raise Wrong(place, "a line has one name")
+                raise Wrong(place, "a line has one name", words[1].column)
             self.take(place, words[1:])
 
-    def take_handler(self, place: Place, words: list[str]) -> None:
+    def take_handler(self, place: Place, words: list[Word]) -> None:
         """`.handler K BLOCK [LABEL [rN=X ..]]`: the entry of vector K, and what stands in its block."""
         if len(words) < 2:
-            raise Wrong(place, ".handler has a vector, a block, and where it begins")
+            raise Wrong(place, ".handler has a vector, a block, and where it begins", first_of(words))
         page, vector = self.pages[-1], self.number(place, words[0])
         if not 0 <= vector < 256:
-            raise Wrong(place, "a vector is below 256")
+            raise Wrong(place, "a vector is below 256", words[0].column)
         block = words[1]
         if NAME.fullmatch(block) and block not in self.constants:
             if words[2:]:
-                raise Wrong(place, "a block with a name is filled where the name stands")
-            page.add(place, 1, lambda: [f".word {self.address_text(place, block, True)}"], vector)
+                raise Wrong(place, "a block with a name is filled where the name stands", words[2].column)
+            page.add(place, 1, functools.partial(self.address_word, place, block), vector)
             return
         offset = self.number(place, block)
         if offset % 4 or not 0 <= offset <= 4028:
-            raise Wrong(place, "a block is a multiple of 4, at most 4028")
-        page.add(place, 1, lambda: [f".word 0x{page.seen + offset:08x}"], vector)
+            raise Wrong(place, "a block is a multiple of 4, at most 4028", block.column)
+        page.add(place, 1, lambda: [Line(f".word 0x{page.seen + offset:08x}")], vector)
         for at, value in self.block(place, words[2:]):
             page.add(place, 1, functools.partial(self.address_word, place, value), offset // 4 + at)
 
-    def address_word(self, place: Place, word: str) -> list[str]:
-        return [f".word {self.address_text(place, word, True)}"]
+    def address_word(self, place: Place, word: Word) -> list[Line]:
+        return [Line.of([Word(".word"), self.address_text(place, word, True)])]
 
-    def block(self, place: Place, words: list[str]) -> list[tuple[int, str]]:
+    def block(self, place: Place, words: list[Word]) -> list[tuple[int, Word]]:
         """The words of a block that aren't 0, by their places: the pc, and the registers that are named."""
         found = [(0, words[0])] if words else []
         for word in words[1:]:
             register, equals, value = word.partition("=")
             if not REGISTER.fullmatch(register) or not equals or not value:
-                raise Wrong(place, f"{word!r} isn't rN=X")
-            found.append((1 + int(register[1:]), value))
+                raise Wrong(place, f"{word!r} isn't rN=X", word.column)
+            found.append((1 + int(register[1:]), Word.at(word.column + len(register) + 1, value)))
         return found
 
-    def take_instruction(self, place: Place, words: list[str]) -> None:
+    def take_instruction(self, place: Place, words: list[Word]) -> None:
         page = self.pages[-1]
         at = page.here()
         size = len(WRITTEN[words[0]][1]) if words[0] in WRITTEN else 1
@@ -303,90 +338,92 @@ class Text:
 
     # What becomes of words, once all names are known
 
-    def instruction(self, place: Place, words: list[str], at: int, elsewhere: bool) -> list[str]:
+    def instruction(self, place: Place, words: list[Word], at: int, elsewhere: bool) -> list[Line]:
         name, operands = words[0], words[1:]
-        hints = "".join(dict.fromkeys(why.hint(word) for word in operands))
+        hinted = [word for word in operands if why.hint(word)]
+        hints = "".join(dict.fromkeys(why.hint(word) for word in hinted))
         if name not in KNOWN and name != ".word":
-            raise Wrong(place, why.no_instruction(name, KNOWN, LIKE) + hints)
+            raise Wrong(place, why.no_instruction(name, KNOWN, LIKE) + hints, name.column)
         if hints:
-            raise Wrong(place, f"{' '.join(words)!r} isn't an instruction here{hints}")
+            raise Wrong(place, f"{' '.join(words)!r} isn't an instruction here{hints}", hinted[0].column)
         count, forms = WRITTEN.get(name, (len(operands), ()))
         if len(operands) != count:
-            raise Wrong(place, f"{name} has {count} operand{'' if count == 1 else 's'}")
+            raise Wrong(place, f"{name} has {count} operand{'' if count == 1 else 's'}", beyond(words, count))
         if name in ("neg", "not") and operands[0] == operands[1]:
             raise Wrong(place, f"{name} has two different registers: it puts 0 into the first, since no register is "
-                               "always 0")
-        written = [form.format(*operands) for form in forms] or [" ".join(words)]
-        return [self.plain(place, line.split(), at, elsewhere) for line in written]
+                               "always 0", operands[1].column)
+        return [self.plain(place, line, at, elsewhere) for line in [in_form(form, words) for form in forms] or [words]]
 
-    def plain(self, place: Place, words: list[str], at: int, elsewhere: bool) -> str:
+    def plain(self, place: Place, words: list[Word], at: int, elsewhere: bool) -> Line:
         """A line with what names become in it."""
         name, operands = words[0], words[1:]
         if name in BRANCHES:
             place_of = BRANCHES[name]
             if len(operands) != place_of + 1:
-                raise Wrong(place, f"{name} has {place_of + 1} operands")
-            operands = operands[:place_of] + [self.distance(place, operands[place_of], at, elsewhere)]
-            return " ".join([name] + operands)
-        return " ".join([name] + [self.operand(place, word, name == ".word") for word in operands])
+                raise Wrong(place, f"{name} has {place_of + 1} operands", beyond(words, place_of + 1))
+            return Line.of([*words[:-1], self.distance(place, words[-1], at, elsewhere)])
+        return Line.of([name] + [self.operand(place, word, name == ".word") for word in operands])
 
-    def operand(self, place: Place, word: str, is_address: bool) -> str:
+    def operand(self, place: Place, word: Word, is_address: bool) -> Word:
         if word[:1] in ("<", ">"):
             if self.is_plain(word[1:]):
                 return word
-            number = self.number(place, word[1:], True) % (1 << 32)
-            return str(number % (1 << 16) if word[0] == "<" else number >> 16)
+            number = self.number(place, Word.at(word.column + 1, word[1:]), True) % (1 << 32)
+            return Word.at(word.column, str(number % (1 << 16) if word[0] == "<" else number >> 16))
         if REGISTER.fullmatch(word) or NUMBER.fullmatch(word):
             return word
         if re.fullmatch(r"r[0-9]+", word) and word not in self.labels:
-            raise Wrong(place, f"there is no register {word}: they are r0 to r15")
+            raise Wrong(place, f"there is no register {word}: they are r0 to r15", word.column)
         return self.address_text(place, word, is_address)
 
-    def address_text(self, place: Place, word: str, is_address: bool) -> str:
+    def address_text(self, place: Place, word: Word, is_address: bool) -> Word:
         """A name of the root's pages stays a name; all else becomes a number."""
         if is_address and self.is_plain(word):
             return word
         number = self.number(place, word, is_address)
-        return f"0x{number % (1 << 32):08x}" if is_address else str(number)
+        return Word.at(word.column, f"0x{number % (1 << 32):08x}" if is_address else str(number))
 
     def is_plain(self, word: str) -> bool:
         return word in self.labels and not self.labels[word].elsewhere
 
-    def distance(self, place: Place, word: str, at: int, elsewhere: bool) -> str:
+    def distance(self, place: Place, word: Word, at: int, elsewhere: bool) -> Word:
         """What is branched to: a name of the root's pages stays one, where the branch stands in such a page, too."""
         if re.fullmatch(r"-?[0-9]+|0x[0-9a-f]{1,8}", word):
             return word
         if word in self.constants:
-            return str(self.constants[word])
+            return Word.at(word.column, str(self.constants[word]))
         to = self.labels.get(word)
         if to is None:
-            raise Wrong(place, f"no line defines the name {word}")
+            raise Wrong(place, f"no line defines the name {word}", word.column)
         number = (to.address - (at + 4) % (1 << 32)) // 4
         if not -32768 <= number <= 32767:
-            raise Wrong(place, f"{word} is {number} words away: a branch reaches from -32768 to 32767")
-        return str(number) if elsewhere or to.elsewhere else word
+            raise Wrong(place, f"{word} is {number} words away: a branch reaches from -32768 to 32767", word.column)
+        return Word.at(word.column, str(number)) if elsewhere or to.elsewhere else word
 
-    def number_text(self, place: Place, word: str) -> str:
-        return word if NUMBER.fullmatch(word) else str(self.number(place, word))
+    def number_text(self, place: Place, word: Word) -> Word:
+        return word if NUMBER.fullmatch(word) else Word.at(word.column, str(self.number(place, word)))
 
-    def number(self, place: Place, word: str, with_labels: bool = False) -> int:
+    def number(self, place: Place, word: Word, with_labels: bool = False) -> int:
         """The value of a sum of products of numbers and names."""
         signs = re.split(r"([+-])", word if word[:1] in ("+", "-") else "+" + word)
         if signs[0] or len(signs) > 64:
-            raise Wrong(place, f"{word!r} is no number")
-        value = sum((1 if sign == "+" else -1) * self.product(place, part, with_labels)
-                    for sign, part in zip(signs[1::2], signs[2::2]))
+            raise Wrong(place, f"{word!r} is no number", word.column)
+        value, column = 0, word.column + len(word) - sum(map(len, signs))
+        for sign, part in zip(signs[1::2], signs[2::2]):
+            column += 1
+            value += (1 if sign == "+" else -1) * self.product(place, Word.at(column, part), with_labels)
+            column += len(part)
         if abs(value) >= MOST_NUMBER:
-            raise Wrong(place, f"{word!r} has more than 32 bits")
+            raise Wrong(place, f"{word!r} has more than 32 bits", word.column)
         return value
 
-    def product(self, place: Place, text: str, with_labels: bool) -> int:
+    def product(self, place: Place, text: Word, with_labels: bool) -> int:
         value, terms = 1, text.split("*")
         if len(terms) > 8:
-            raise Wrong(place, "a product has at most eight factors")
+            raise Wrong(place, "a product has at most eight factors", text.column)
         for term in terms:
             if not TERM.fullmatch(term):
-                raise Wrong(place, f"{text!r} is no number and no name")
+                raise Wrong(place, f"{text!r} is no number and no name", text.column)
             if NUMBER.fullmatch(term):
                 value *= int(term, 0)
             elif term in self.constants:
@@ -394,31 +431,31 @@ class Text:
             elif with_labels and term in self.labels:
                 value *= self.labels[term].address
             elif term in self.labels:
-                raise Wrong(place, f"{term} is an address, and here a number stands")
+                raise Wrong(place, f"{term} is an address, and here a number stands", text.column)
             else:
                 raise Wrong(place, f"no line defines the name {term}" if NAME.fullmatch(term)
-                            else f"{term!r} is no number")
+                            else f"{term!r} is no number", text.column)
             if abs(value) >= MOST_NUMBER:
-                raise Wrong(place, f"{text!r} has more than 32 bits")
+                raise Wrong(place, f"{text!r} has more than 32 bits", text.column)
         return value
 
-    def written(self, collected: Collected) -> list[tuple[Place, str]]:
+    def written(self, collected: Collected) -> Lines:
         """The lines of the assembly text, each with its place in the source."""
         lines = list(self.head)
         for page in self.pages:
-            lines.append((page.place, f".page 0x{page.address:08x}"))
+            lines.append((page.place, Line(f".page 0x{page.address:08x}")))
             with collected:
                 lines += self.written_page(page, collected)
         return lines
 
-    def written_page(self, page: Page, collected: Collected) -> list[tuple[Place, str]]:
-        lines: list[tuple[Place, str]] = []
+    def written_page(self, page: Page, collected: Collected) -> Lines:
+        lines: Lines = []
         end = 0
         for item in page.in_order():
             if item.at > end:
-                lines.append((item.place, f".zero {item.at - end}"))
+                lines.append((item.place, Line(f".zero {item.at - end}")))
             # of a line that is wrong, so that what is after it stays in its place
-            told = [".word 0"] * item.size
+            told = [Line(".word 0")] * item.size
             with collected:
                 told = item.write()
             lines += [(item.place, line) for line in told]
@@ -426,7 +463,7 @@ class Text:
         return lines
 
 
-def processed(path: str, files: Files | None = None) -> tuple[list[tuple[Place, str]], Text]:
+def processed(path: str, files: Files | None = None) -> tuple[Lines, Text]:
     """The lines of the assembly text of a file, each with its place in the source. `files` says what may be included.
     """
     text, collected = Text(), Collected()
@@ -446,13 +483,33 @@ def processed(path: str, files: Files | None = None) -> tuple[list[tuple[Place, 
     return lines, text
 
 
-def take_line(text: Text, collected: Collected, place: Place, words: list[str]) -> None:
+def take_line(text: Text, collected: Collected, place: Place, words: list[Word]) -> None:
     with collected:
         if words:
             text.take(place, words)
 
 
-def refused(lines: list[tuple[Place, str]]) -> list[Wrong]:
+def first_of(words: list[Word]) -> int:
+    """The column of the first word, if there is one."""
+    return words[0].column if words else 1
+
+
+def beyond(words: list[Word], count: int) -> int:
+    """The column of the first operand that is too much, or of the name of an instruction that lacks some."""
+    return words[count + 1].column if len(words) > count + 1 else words[0].column
+
+
+def in_form(form: str, words: list[Word]) -> list[Word]:
+    """An instruction of those that others are written by, each word with the column of what it is made of."""
+    found = []
+    for word in form.split():
+        of = re.search("{(.)}", word)
+        column = words[int(of[1]) + 1].column - of.start() if of else words[0].column
+        found.append(Word.at(column, word.format(*words[1:])))
+    return found
+
+
+def refused(lines: Lines) -> list[Wrong]:
     """What the reference's assembler refuses, by the places in the source. After each line the text is tried again,
     with a word in that line's place."""
     texts = [line.encode() for _, line in lines]
@@ -463,15 +520,15 @@ def refused(lines: list[tuple[Place, str]]) -> list[Wrong]:
             break
         except assembly.BadLine as bad:
             at = min(bad.line, len(lines)) - 1
-            place, line = lines[at] if lines else (Place("the text", 1), "")
-            found.append(Wrong(place, f"{bad.kind}, in {line!r}{reason(texts, bad.line, bad.kind)}"))
+            line = lines[at][1] if lines else Line()
+            found.append(refusal(lines, texts, bad.line, bad.kind))
             if bad.line > len(lines) or line.startswith(".") and not line.startswith(".word"):
                 break
             texts[at] = b".word 0"
     return found
 
 
-def assembled(program: str, lines: list[tuple[Place, str]]) -> bytes:
+def assembled(program: str, lines: Lines) -> bytes:
     """The image, by the program."""
     image, status = calling.output(program, ["asm"], "".join(line + "\n" for _, line in lines).encode())
     if status == 2:
@@ -498,14 +555,17 @@ def image_of(program: str, path: str) -> tuple[bytes, str | None]:
         raise Failed(wrong) from None
 
 
-def reason(texts: list[bytes], number: int, kind: str) -> str:
-    """What tools/why says of the line."""
+def refusal(lines: Lines, texts: list[bytes], number: int, kind: str) -> Wrong:
+    """What tools/why says of a line of the assembly text that is refused, at its place in the source. `texts` are the
+    lines as they were assembled.
+    """
+    place, line = lines[min(number, len(lines)) - 1] if lines else (Place("the text", 1), Line())
     try:
         why.judge_assembly(texts, number, kind)
     except why.Cause as cause:
-        return f": {cause.here}"
+        return Wrong(place, f"{kind}, in {line!r}: {cause.here}", line.column(cause.column))
     except Failed:
-        return ""
+        return Wrong(place, f"{kind}, in {line!r}")
 
 
 def main() -> None:

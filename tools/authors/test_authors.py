@@ -31,7 +31,7 @@ class Preprocessor(unittest.TestCase):
     def refused(self, text: str, why: str, line: int = 4, **more: str) -> None:
         with self.assertRaises(asmx.Wrong) as found:
             self.of_page(text, **more)
-        self.assertRegex(str(found.exception), rf":{line}: .*{why}")
+        self.assertRegex(str(found.exception), rf":{line}:\d+: .*{why}")
 
     def test_spaces_and_remarks(self) -> None:
         self.assertEqual(self.of_page("  li\tr1  3   # three\n\n#\n"), ["li r1 3"])
@@ -98,14 +98,14 @@ class Preprocessor(unittest.TestCase):
             os.symlink("inner.s", os.path.join(real, "link.s"))
             os.mkfifo(os.path.join(real, "fifo.s"))
             files, at = alone.OwnFiles(["monitor.s"]), asmx.Place(os.path.join(real, "work.asmx"), 1)
-            self.assertEqual(files.contents(files.inner(at, "inner.s")), b"li r1 1\n")
-            self.assertIn(b".line 0", files.contents(files.inner(at, "monitor.s")))
+            self.assertEqual(files.contents(files.inner(at, asmx.Word("inner.s"))), b"li r1 1\n")
+            self.assertIn(b".line 0", files.contents(files.inner(at, asmx.Word("monitor.s"))))
             for path in ("/etc/passwd", "../other/map.pip", "a/../../b"):
                 with self.assertRaisesRegex(asmx.Wrong, "includes files of its own folder"):
-                    files.inner(at, path)
+                    files.inner(at, asmx.Word(path))
             for path in ("link.s", "fifo.s", "nothing.s", "."):
                 with self.assertRaises(calling.Failed):
-                    files.contents(files.inner(at, path))
+                    files.contents(files.inner(at, asmx.Word(path)))
 
     def test_what_is_refused(self) -> None:
         for text, told in ((".equ r1 3", "no register"), (".equ a 3 4", "a name and a number"),
@@ -125,9 +125,20 @@ class Preprocessor(unittest.TestCase):
         with self.assertRaises(asmx.Wrong) as found:
             self.of_page("j gone\nli r17 1\n.equ r1 2\nli r1 gone\n.zero 9999\n")
         told = [line.split(":", 1)[1] for line in str(found.exception).split("\n")]
-        self.assertEqual(told, ["4: no line defines the name gone", "5: there is no register r17: they are r0 to r15",
-                                "6: .equ has a name and a number, and no register is a name here",
-                                "7: no line defines the name gone", "8: .zero has a number from 0 to 1024"])
+        self.assertEqual(told, ["4:3: no line defines the name gone",
+                                "5:4: there is no register r17: they are r0 to r15",
+                                "6:6: .equ has a name and a number, and no register is a name here",
+                                "7:7: no line defines the name gone", "8:7: .zero has a number from 0 to 1024"])
+
+    def test_columns_are_those_of_the_source(self) -> None:
+        for text, column in (("  li  r1  r99", 11), (" a:  la r1 gone+4", 12), ("la r1 4+gone", 9),
+                             ("la r1 -4-gone", 10), ("  not r1 r1", 10), ("a: out r1 r2", 11),
+                             ("  li   r1   65536   # here", 13),
+                             ("  call r16 3", 8), ("add r1 r2 # gone", 8), (".handler 1 0x400 0  r1=zz", 24),
+                             ("b: jmp b", 4), ("li r1 <gone", 8), ("  mov r1, r2", 7), (".word\t99999999999", 7)):
+            with self.subTest(text=text), self.assertRaises(asmx.Wrong) as found:
+                self.of_page(text)
+            self.assertEqual((found.exception.place.line, found.exception.column), (4, column))
 
     def test_no_more_than_twenty_are_told(self) -> None:
         with self.assertRaises(asmx.Wrong) as found:

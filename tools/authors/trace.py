@@ -79,7 +79,7 @@ class Names:
         return label + (f"+{place.index - at}" if place.index > at else "")
 
 
-def is_made_of(image: images.Image, lines: list[tuple[asmx.Place, str]]) -> bool:
+def is_made_of(image: images.Image, lines: asmx.Lines) -> bool:
     """Whether these lines of assembly become this image."""
     try:
         return images.read(assembly.assemble("".join(line + "\n" for _, line in lines).encode())) == image

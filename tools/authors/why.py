@@ -96,7 +96,9 @@ def judge_script(lines: list[bytes], place: int) -> NoReturn:
     if name not in forms:
         if re.search(rb"[A-Z]", name):
             raise Cause("case", 1, f"{shown(name)} has a letter in upper case")
-        raise Cause("form", 1, f"no line begins with {shown(name)}")
+        near = difflib.get_close_matches(name.decode("utf-8", "replace"), [form.decode() for form in forms], 2, 0.6)
+        meant = f"; did you mean {' or '.join(near)}?" if near else ""
+        raise Cause("form", 1, f"no line begins with {shown(name)}{meant}")
     for column, word in operands:
         judge_number(column, word)
     if (name == b"boot") == (booted is not None):
@@ -106,12 +108,18 @@ def judge_script(lines: list[bytes], place: int) -> NoReturn:
     raise Failed(f"line {place} is bad, and this tool doesn't see why")
 
 
+def and_here(due: str, what: str, count: int) -> str:
+    """`2 numbers, and here is 1`."""
+    told = {0: "is none", 1: "is 1"}.get(count, f"are {count}")
+    return f"{due} {what}{'' if due == '1' else 's'}, and here {told}"
+
+
 def judge_count(name: bytes, operands: list[tuple[int, bytes]], form: Form | None, end: int) -> None:
     least, most = (2, 7) if form is None else (len(form), len(form))
     if not least <= len(operands) <= most:
         due = f"{least}" if least == most else f"{least} to {most}"
         raise Cause("count", operands[most][0] if len(operands) > most else end + 1,
-                    f"{name.decode()} has {due} numbers, and here are {len(operands)}")
+                    f"{name.decode()} has {and_here(due, 'number', len(operands))}")
 
 
 def judge_values(name: bytes, values: list[tuple[int, int]], form: Form | None, booted: bytes | None) -> None:
@@ -211,9 +219,8 @@ def wrong_operand(words: list[tuple[int, bytes]], line: bytes) -> tuple[int, str
     for (column, word), what in zip(operands, due):
         if not IS[what](word):
             return column, f"{shown(word)} isn't {CALLED[what]}{hint(word.decode('utf-8', 'replace'))}"
-    if len(operands) > len(due):
-        return operands[len(due)][0], f"{name.decode()} has {len(due)} operands, and here are {len(operands)}"
-    return len(line) + 1, f"{name.decode()} has {len(due)} operands, and here are {len(operands)}"
+    column = operands[len(due)][0] if len(operands) > len(due) else len(line) + 1
+    return column, f"{name.decode()} has {and_here(str(len(due)), 'operand', len(operands))}"
 
 
 LIMITS = {b".frames": "16 to 4096", b".cpus": "1 to 4", b".line": "0 to 15, and above that of the plan before",
@@ -310,14 +317,11 @@ def refused(name: str, text: bytes, place: int, kind: str | None) -> list[str]:
 
 def told(name: str, place: int, lines: list[bytes], cause: Cause) -> list[str]:
     row = meanings.causes()[cause.name]
-    rule = row[1] if cause.name.startswith("asm") else row[0]
-    reason = "" if cause.name.startswith("asm") else row[1]
     line = lines[place - 1].decode("utf-8", "replace") if place <= len(lines) else ""
     sentences = [f"{name}:{place}:{cause.column}: {cause.here}"]
     if line.isprintable() and line and cause.column <= 121:
         sentences += ["    " + line[:120], "    " + " " * (cause.column - 1) + "^"]
-    sentences.append(f"rule: {rule}")
-    sentences += [f"why: {reason}"] if reason else []
+    sentences.append(f"rule: {row[1]}")
     sentences += [f"what to do: {row[2]}"] if len(row) > 2 and row[2] else []
     return sentences
 

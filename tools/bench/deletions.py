@@ -23,12 +23,12 @@ def table(pages: list[int], first: int, place: int) -> list[str]:
 
 
 def lend(pages: list[int], first: int, count: int, place: int) -> list[str]:
-    """So many pages from the one at `first` on are lent to the child, from an address on."""
+    """That many pages from the one at `first` on are lent to the child, from an address on."""
     return [call(5, pages[first + k], pages[0], place + 4096 * k, 3) for k in range(count)]
 
 
 def family(pages: list[int], count: int) -> list[str]:
-    """A child with a handler for vector 64 and so many pages of its own."""
+    """A child with a handler for vector 64 and that many pages of its own, and the root's handler for 65."""
     lines = ["st 0 0xfffff104 0xfffff400", "st 0 0xfffff400 0x00400100", call(0, *pages[:5])]
     lines += table(pages, 5, 0xFFFFF000)
     lines += [f"st 0 {hex(pages[8] + 0x100)} 0xfffff400", f"st 0 {hex(pages[8] + 0x400)} 0x10000000"]

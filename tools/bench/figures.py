@@ -11,6 +11,7 @@ from .count import Counted
 
 MONITOR = os.path.join(REPOSITORY, "examples", "monitor.s")
 NATIVE = os.path.join(REPOSITORY, "examples", "native.s")
+PREEMPTED = os.path.join(REPOSITORY, "examples", "preempted_beside_a_loop.s")
 Figure = tuple[str, int]
 
 BOOT = "boot 32 1"
@@ -23,39 +24,13 @@ LINES = ("ld 0 0x400000", "ld 0 0xfffffffc", "lb 0 0x400003", "st 0 0x400000 7",
 DELETED = ("bare", "rows0", "rows1000", "tables10", "tables100", "chain5", "chain100", "children200")
 
 # The root lends its child six pages, of which the child makes its own.
-FAMILY = f"""boot 64 1
-call 0 0 {FIVE}
-st 0 0x406000 0x407000
-st 0 0x407000 0x408000
-call 0 3 0x401000 0xfffff000 0x406000
-st 0 0x409100 0xfffff400
-st 0 0x409400 0x10000000
-call 0 5 0x409000 0x401000 0xfffff000 3
-call 0 5 0x40a000 0x401000 0xffc0a000 3
-call 0 5 0x40b000 0x401000 0xffc0b000 3
-call 0 5 0x40c000 0x401000 0xffc0c000 3
-call 0 5 0x40d000 0x401000 0xffc0d000 3
-call 0 5 0x40e000 0x401000 0xffc0e000 3
-call 0 8 0x401000 64 256"""
+FAMILY = "\n".join(["boot 64 1", *deletions.family(deletions.ROOT_PAGES, 5), deletions.call(8, 0x401000, 64, 256)])
 
 # A child with a handler for vector 64; the root has handlers for the vectors 14 and 65, and for line 1. Both have a
 # block for 63.
-CHILD = f"""boot 32 1
-call 0 0 {FIVE}
-st 0 0x406000 0x407000
-st 0 0x407000 0x408000
-call 0 3 0x401000 0xfffff000 0x406000
-st 0 0x409100 0xfffff400
-st 0 0x409400 0x10000000
-st 0 0x4090fc 0xfffff444
-call 0 5 0x409000 0x401000 0xfffff000 3
-st 0 0xfffff038 0xfffff400
-st 0 0xfffff400 0x00400300
-st 0 0xfffff104 0xfffff444
-st 0 0xfffff444 0x00400100
-st 0 0xfffff084 0xfffff488
-st 0 0xfffff488 0x00400200
-st 0 0xfffff0fc 0xfffff4cc"""
+CHILD = "\n".join(["boot 32 1", *deletions.family(deletions.ROOT_PAGES, 0), "st 0 0x4090fc 0xfffff444",
+                   "st 0 0xfffff038 0xfffff444", "st 0 0xfffff444 0x00400300", "st 0 0xfffff084 0xfffff488",
+                   "st 0 0xfffff488 0x00400200", "st 0 0xfffff0fc 0xfffff4cc"])
 
 # The lines of assembly texts, of pages with a thousand lines each
 HEAD = ".frames 64\n.cpus 1\n.page 0x00400000\nhere:\n"
@@ -156,7 +131,7 @@ class Figures:
 
     def of_partitions(self) -> Iterator[Figure]:
         yield "a line with an accepted createPartition of the root", self.more(creations(100), creations(700)) // 600
-        makes = "call 0 0 0xffc0a000 0xffc0b000 0xffc0c000 0xffc0d000 0xffc0e000"
+        makes = deletions.call(0, *deletions.CHILD_PAGES[:5])
         yield "the line with which a child makes a partition", self.once(FAMILY, makes)
         yield "the line with which the root deletes that child", self.once(f"boot 64 1\ncall 0 0 {FIVE}",
                                                                            "call 0 1 0x401000")
@@ -202,7 +177,11 @@ class Figures:
             children = self.program.written(file.read(), "asm")
         few, many = (self.program.instructions(children, "native", "3", steps) for steps in ("10000", "110000"))
         yield "a step by native", (many - few) // 100000
-        few, many = (self.program.instructions(children, "slots", "2", "3", rounds) for rounds in ("1000", "11000"))
+        with open(PREEMPTED, "rb") as file:
+            children = self.program.written(file.read(), "asm")
+        few, many = (self.program.instructions(children, "native", "2", steps) for steps in ("10000", "110000"))
+        yield "a step by native, of turns that a line ends", (many - few) // 100000
+        few, many = (self.program.instructions(children, "slots", "2", "48", rounds) for rounds in ("100", "1100"))
         yield "a step by slots", (many - few) // 100000
 
     def of_frames(self) -> Iterator[Figure]:

@@ -101,7 +101,7 @@ CHAIN = ("chain", "111", "16777216")
 WORST = [
     Timed("`names prefixes 100000`, names that differ only in their last letters", ("asm",),
           generated("names", "prefixes", "100000")),
-    Timed("16 MB of remarks, where the pass over all bytes costs most by comparison", ("asm",), remarks),
+    Timed("16 MB of bare remarks", ("asm",), remarks),
     Timed("`chain 111 16777216 create`: the lowest of 111 partitions makes and ends a child, 168,000 times",
           ("script",),
           generated(*CHAIN, "create")),

@@ -20,10 +20,14 @@ CASES = 300
 
 
 def tool(program: str, name: str, *words: str, text: bytes = b"") -> Told:
-    """Output, messages and status of a tool."""
+    """Output, messages and status of a tool that needs a program."""
+    return told(name, *words, "--program", program, text=text)
+
+
+def told(name: str, *words: str, text: bytes = b"") -> Told:
     path = os.path.join(REPOSITORY, "tools", name)
-    done = subprocess.run([sys.executable, "-B", path, *words, "--program", program], input=text, timeout=SECONDS,
-                          stdout=subprocess.PIPE, stderr=subprocess.PIPE)
+    done = subprocess.run([sys.executable, "-B", path, *words], input=text, timeout=SECONDS, stdout=subprocess.PIPE,
+                          stderr=subprocess.PIPE)
     messages = done.stderr.decode()
     if "Traceback" in messages:
         raise Differs(f"tools/{name} {' '.join(words)}: {messages[-400:]}")
@@ -62,12 +66,12 @@ def preprocessor(program: str) -> None:
             file.write("li r1 70000   # too large\n")
         last = SOURCE.count("\n") + 1
         ends("tools/asmx", tool(program, "asmx", source, "--image", built), 2,
-             f"source.s:{last}: range, in 'li r1 70000': '70000' is outside")
+             f"source.s:{last}:7: range, in 'li r1 70000': '70000' is outside")
         with open(source, "a") as file:
             file.write("out r1\nlb r1 r2 0\n")
         told = tool(program, "asmx", source, "--image", built)
-        ends("tools/asmx of two wrong lines", told, 2, f"source.s:{last}: range",
-             f"source.s:{last + 2}: 'lb' is no instruction; did you mean ldb?")
+        ends("tools/asmx of two wrong lines", told, 2, f"source.s:{last}:7: range",
+             f"source.s:{last + 2}:1: 'lb' is no instruction; did you mean ldb?")
         ends("tools/asmx to a full device", tool(program, "asmx", programs()[0], "--image", "/dev/full"), 2,
              "/dev/full: No space left")
         for words, due in ((("/nonexistent",), "can't be read"), ((place,), "can't be read"),
@@ -76,7 +80,7 @@ def preprocessor(program: str) -> None:
             ends(f"tools/asmx {' '.join(words)}", tool(program, "asmx", *words), 2, due)
         for text, due in ((b"\xff\x00\n.page \xfe\n", "- is no text: it has the byte 0x00 at offset 1"),
                           (b"PIPIMG2\n", "- is an image, and no text"),
-                          (b"\xff\n", "-:1: ")):
+                          (b"\xff\n", "-:1:1: ")):
             ends("tools/asmx of bytes", tool(program, "asmx", "-", text=text), 2, due)
 
 

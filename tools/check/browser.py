@@ -11,8 +11,8 @@ import tempfile
 from typing import Any
 
 NAMES = ("chromium", "chromium-browser", "google-chrome", "google-chrome-stable")
-CODES = {"ArrowRight": 39, "ArrowLeft": 37, "ArrowDown": 40, "Home": 36, "End": 35, "PageDown": 34, "PageUp": 33,
-         "Tab": 9, "Enter": 13}
+CODES = {"ArrowRight": 39, "ArrowLeft": 37, "ArrowDown": 40, "ArrowUp": 38, "Home": 36, "End": 35, "PageDown": 34,
+         "PageUp": 33, "Tab": 9, "Enter": 13}
 SECONDS = 30
 
 

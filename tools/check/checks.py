@@ -21,11 +21,9 @@ from types import FrameType
 
 from ..common import calling
 from . import (answering, audits, authors, cheats, counters, counts, debugging, devices, documents, edits, endings,
-               examples,
-               exercises, exporting, grading, guests, hints, house, links, meanings, memory, pages, playground,
-               playground_judge,
-               playground_runs, playing, public_calls, releasing, separate, shells, sources, tools,
-               tutorial, unbuilt, wrapper)
+               examples, exercises, exporting, grading, guests, hints, house, links, meanings, memory, pages, plain,
+               playground, playground_judge, playground_runs, playing, public_calls, releasing, separate, shells,
+               sources, tools, tutorial, unbuilt, wrapper)
 from .running import Check, Differs, Skipped
 
 # A name, and its parts: functions that are given the program's path and raise Differs if something is wrong, or Skipped
@@ -70,6 +68,7 @@ CHECKS: dict[str, Check | tuple[Check, ...]] = {
     "release": releasing.works,
     "commands": tuple(tools.compared(command, cases) for command, cases in tools.CASES.items()),
     "audits": (audits.round_trips, audits.each_word),
+    "plain-program": plain.plain,
     "counts": counts.agree(scripts=100, runs=60, loads=40),
 }
 

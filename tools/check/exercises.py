@@ -12,24 +12,13 @@ from types import SimpleNamespace
 
 from ..exercises import exercise, judging
 from . import cheats, examples, seeded
-from .authors import Told, ends
+from .authors import ends, told as tool
 from .running import REPOSITORY, SECONDS, Differs, run
 
 TIMES = 3                # that each solution is judged, each time with another secret
 SEEDS = ("ada", "grace hopper", "\u00e9")
 BOOT, HEAD = b"boot 64 1\n", b".frames 16\n.cpus 1\n.page 0x400000\n"
 INCLUDED = {"monitor": "monitor.s", "no-loss": "timer_and_services.s"}     # what the solution includes
-
-
-def tool(name: str, *words: str) -> Told:
-    """Output, messages and status of a tool that judges."""
-    path = os.path.join(REPOSITORY, "tools", name)
-    done = subprocess.run([sys.executable, "-B", path, *words], stdin=subprocess.DEVNULL, timeout=SECONDS,
-                          stdout=subprocess.PIPE, stderr=subprocess.PIPE)
-    messages = done.stderr.decode()
-    if "Traceback" in messages:
-        raise Differs(f"tools/{name} {' '.join(words)}: {messages[-400:]}")
-    return done.stdout.decode("utf-8", "replace"), messages, done.returncode
 
 
 def solutions(program: str) -> None:

@@ -13,9 +13,9 @@ import time
 from ..exercises import alone
 from ..judge import building
 from . import cheats, examples
-from .authors import ends
+from .authors import ends, told as tool
 from .checkout import heed_interrupts
-from .exercises import tool, write
+from .exercises import write
 from .running import REPOSITORY, Differs
 
 HOSTILE = os.path.join(REPOSITORY, "tools", "exercises", "hostile")

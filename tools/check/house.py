@@ -15,7 +15,7 @@ from dataclasses import dataclass, field
 
 from .links import documents, without_code
 from .running import REPOSITORY, Differs
-from .sources import write
+from .sources import sources, texts, write
 
 LIST = os.path.join(os.path.dirname(os.path.abspath(__file__)), "allowances.txt")
 MOST = 120                              # columns of a line
@@ -61,7 +61,7 @@ def found_in(top: str) -> Allowances:
             bare[crate] += is_bare
             files[name].add(path)
     items: collections.defaultdict[str, set[str]] = collections.defaultdict(set)
-    for crate, path, text in sources_of(top):
+    for crate, path, text in sources(top):
         for name in () if crate.startswith(TESTS) else ITEM_LINES.findall(text):
             items[name].add(path)
         wide[crate] += sum(len(line) > MOST and not IS_LEFT.search(line) for line in text.split("\n"))
@@ -84,24 +84,6 @@ def several(files: dict[str, set[str]]) -> set[str]:
 def logic(top: str) -> Iterator[tuple[str, str, str]]:
     """Each crate's files of definitions and proofs: the crate, the path, and the text."""
     return texts(top, ("specs", "proofs"), ".antt")
-
-
-def sources_of(top: str) -> Iterator[tuple[str, str, str]]:
-    """Each crate's sources: the crate, the path, and the text."""
-    return texts(top, ("src",), ".rt")
-
-
-def texts(top: str, parts: tuple[str, ...], ending: str) -> Iterator[tuple[str, str, str]]:
-    """The files of this ending in these folders of each crate: the crate, the path, and the text."""
-    crates = os.path.join(top, "crates")
-    for crate in sorted(os.listdir(crates)):
-        for part in parts:
-            for folder, _, names in os.walk(os.path.join(crates, crate, part)):
-                for name in sorted(names):
-                    if name.endswith(ending):
-                        path = os.path.join(folder, name)
-                        with open(path, encoding="utf-8") as file:
-                            yield crate, os.path.relpath(path, top), file.read()
 
 
 def definitions(text: str) -> Iterator[tuple[str, bool]]:

@@ -4,13 +4,12 @@ from __future__ import annotations
 
 import json
 import os
-import re
 from typing import Any
 
 from ..common import meanings
+from ..common.meanings import rows
 from .running import REPOSITORY, Differs
 
-LINK = re.compile(r"\[([^\]]*)\]\([^)]*\)")
 # numbers that need a row
 STATUSES, CALLS, ENDS = range(19), range(12), ("0", "1", "2", "3", "4", "5", "6", "8", "9", "10", "11")
 # Causes for which a line of a script is bad, by how the first cell of its row begins
@@ -81,10 +80,3 @@ def causes(text: str) -> dict[str, list[str]]:
     if lacks:
         raise Differs(f"docs/FORMATS.md hasn't one row for {', '.join(lacks)}")
     return {name: row for name, (row,) in told.items()}
-
-
-def rows(text: str, heading: str) -> list[list[str]]:
-    """The cells of the table rows below a heading, up to the next one."""
-    _, _, below = text.partition(f"\n{heading}\n")
-    lines = [line for line in below.split("\n#", 1)[0].split("\n") if line.startswith("| ")]
-    return [[LINK.sub(r"\1", cell.strip("| ")) for cell in line.split(" | ")] for line in lines]

@@ -30,6 +30,7 @@ def cases() -> Iterator[tuple[list[str], bytes]]:
     native, _ = reference.pip(["asm"], ASSEMBLY.replace(b".frames 16", b".frames 26"))
     yield ["native", "1", "6"], native
     yield ["slots", "1", "4", "1"], native
+    yield ["slots", "1", "1", "0:4"], native
     frames, _ = reference.pip(["core", "6", "1"], image)
     yield ["audit", "16"], frames
     yield ["every", "8"], image

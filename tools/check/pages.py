@@ -241,8 +241,8 @@ def keys(shown: browser.Browser, address: str) -> None:
     shown.size(1280, 900)
     shown.open(address)
     for key, step, partition, page in (
-            ("", 0, 1, "0x00400000"), ("ArrowRight", 1, 1, "0x00400000"), ("ArrowRight", 2, 1, "0x00400000"),
-            ("ArrowLeft", 1, 1, "0x00400000"), ("n", 1, 13, ""), ("End", 27, 13, "0xffc0a000"),
+            ("", 0, 1, "0x00400000"), ("ArrowRight", 1, 1, "0x00401000"), ("ArrowRight", 2, 1, "0x00406000"),
+            ("ArrowLeft", 1, 1, "0x00401000"), ("n", 1, 13, ""), ("End", 27, 13, "0xffc0a000"),
             ("j", 27, 13, "0xffc0b000"), ("n", 27, 22, ""), ("n", 27, 1, "0x00400000"), ("p", 27, 22, ""),
             ("p", 27, 13, "0xffc0a000"), ("b", 17, 13, "0xffc0a000"), ("l", 17, 13, "0xffc0a000"),
             ("c", 18, 13, "0xffc0a000"),
@@ -279,7 +279,7 @@ def frames(shown: browser.Browser) -> None:
     if told != ("Words of frame 18: a page that is nobody's configuration of partition 1", "00407000",
                 "frame 18, word 0 (0x00406000 of partition 1): 0x00000000 \u2192 0x00407000"):
         raise Differs(f"tools/step in a browser: frame 18 after a store is {told}")
-    for key, due in ((".", "19"), (",", "18"), ("j", "13"), ("k", "12")):
+    for key, due in ((".", "19"), (",", "18"), ("j", "19"), ("k", "18")):
         shown.key(key)
         if (got := shown.value("document.body.dataset.frame")) != due:
             raise Differs(f"tools/step in a browser: after '{key}' frame {got} is shown, where {due} is due")

@@ -25,6 +25,7 @@ from .running import REPOSITORY, Differs, Skipped, expect, part
 PLAYGROUND = os.path.join(REPOSITORY, "tools", "playground")
 CASES = 20               # of each command
 CASES_OF_REASONS = 300
+MOST_BYTES = 460_000     # of the page
 FIRST_SEED = 900_000     # no other check has these
 # A sum that wraps and a broken requirement end a run: a usize has 32 bits in a module.
 CHECKED = {"CARGO_PROFILE_RELEASE_OVERFLOW_CHECKS": "true", "CARGO_PROFILE_RELEASE_DEBUG_ASSERTIONS": "true"}
@@ -58,6 +59,8 @@ def made() -> str:
                           stdout=subprocess.PIPE, stderr=subprocess.STDOUT)
     if done.returncode:
         raise Differs(f"the page isn't made: {done.stdout.decode('utf-8', 'replace')}")
+    if (size := os.path.getsize(page_of(path))) > MOST_BYTES:
+        raise Differs(f"the page has {size} bytes, and at most {MOST_BYTES} are wanted")
     return path
 
 
@@ -249,7 +252,7 @@ def same_reason(program: str, text: bytes, told: Any, as_assembly: bool) -> bool
     if good:
         return False
     page = [f"text:{told['place']}:{told['column']}: {told['here']}", f"rule: {told['rule']}"]
-    page += [f"{head}: {told[key]}" for head, key in (("why", "why"), ("what to do", "act")) if told[key]]
+    page += [f"what to do: {told['act']}"] * bool(told["act"])
     if page != [sentence for sentence in sentences if not sentence.startswith("    ")]:
         raise Differs(f"the page, {text!r}: {page}, where {sentences} is due")
     return True

@@ -49,14 +49,20 @@ def without_remarks(text: str) -> str:
 
 def sources(top: str) -> Iterator[tuple[str, str, str]]:
     """Each crate's files of code: the crate, the path from the top, and the text."""
+    return texts(top, ("src",), ".rt")
+
+
+def texts(top: str, parts: tuple[str, ...], ending: str) -> Iterator[tuple[str, str, str]]:
+    """The files of this ending in these folders of each crate: the crate, the path, and the text."""
     crates = os.path.join(top, "crates")
     for crate in sorted(os.listdir(crates)):
-        for folder, _, files in os.walk(os.path.join(crates, crate, "src")):
-            for name in sorted(files):
-                if name.endswith(".rt"):
-                    path = os.path.join(folder, name)
-                    with open(path, encoding="utf-8") as file:
-                        yield crate, os.path.relpath(path, top), file.read()
+        for part in parts:
+            for folder, _, names in os.walk(os.path.join(crates, crate, part)):
+                for name in sorted(names):
+                    if name.endswith(ending):
+                        path = os.path.join(folder, name)
+                        with open(path, encoding="utf-8") as file:
+                            yield crate, os.path.relpath(path, top), file.read()
 
 
 def write(top: str, name: str, text: str) -> None:

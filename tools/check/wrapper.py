@@ -23,12 +23,15 @@ WRONG = ((), ("help",), ("--help", "script"), ("script", "x"), ("run", "06", "1"
          ("run", "10000001", "1"), ("tree", "1", "4294967296"), ("core", "1", "99999999999"), ("soak", "1000001", "1"),
          ("native", "1"), ("native", "0", "1"), ("native", "9", "1"), ("native", "1", "10000001"),
          ("slots", "1", "1"), ("slots", "9", "1", "1"), ("slots", "1", "9999999", "1"), ("slots", "8", "8", "125001"),
+         ("slots", "2", "1", "2:0"), ("slots", "1", "1", "0:9999999"), ("slots", "1", "1", "0:1", "1"),
+         ("slots", "1", "1", "0:01"), ("slots", "1", "0", *65 * ("0:0",)),
          ("audit",), ("audit", "15"), ("audit", "4097"), ("audit", "016"), ("audit", "16", "1"),
          ("every",), ("every", "0"), ("every", "1", ""), ("every", "1", "10000001"), ("every", "1", "0", "0"),
          ("every", "1", "0", "1", "1"),
          ("run", "0x123456789", "1"), ("run", "1"), ("dis", ""), ("script:1",), ("run", "-1", "1"), ("run", "1", "0xA"))
 RIGHT = (("script",), ("run", "0", "1"), ("run", "0x989680", "4294967295"), ("soak", "1000000", "0xffffffff"),
-         ("native", "0x8", "10000000"), ("slots", "8", "8", "125000"), ("audit", "16"), ("audit", "0x1000"),
+         ("native", "0x8", "10000000"), ("slots", "8", "8", "125000"), ("slots", "2", "5", "0:48", "1:0x5"),
+         ("audit", "16"), ("audit", "0x1000"),
          ("every", "1"), ("every", "0x5f5e100", "0"), ("every", "1", "10000000", "10000000"))
 BUILDS = "proving and building pip; this takes a quarter of an hour or more, and what the prover says goes into "
 BY_CARGO = "building pip of its export by cargo; this takes about a minute, and what cargo says goes into "
@@ -44,6 +47,9 @@ EXPLAINED = ((("script", "crates.txt"), "pip reads standard input: ./pip script 
              (("run", "1", "0"), "SEED is at least 1\n"),
              (("run", "1"), "./pip run STEPS SEED < IMAGE "),
              (("slots", "8", "8", "125001"), "N * (TURNS + 2) * ROUNDS is at most 10000000\n"),
+             (("slots", "1", "2", "0:4999999"),
+              "a round has at most 10000000 / ROUNDS steps, TURNS + 2 for each slot\n"),
+             (("slots", "2", "2", "0:1", "2:1"), "K is at most 1\n"),
              (("evry",), "evry: did you mean every?\n"),
              (("--unprovd", "script"), "--unprovd: did you mean --unproved?\n"),
              (("[a-z]*",), "[a-z]*: there is no such command\n./pip script < FILE "), ((), "./pip script < FILE "))

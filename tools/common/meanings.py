@@ -7,10 +7,24 @@ from __future__ import annotations
 import functools
 import json
 import os
+import re
 from typing import Any
 
 DATA = os.path.join(os.path.dirname(os.path.abspath(__file__)), "meanings.json")
 LINES = range(32, 48)            # the vectors of the interrupt lines
+LINK = re.compile(r"\[([^\]]*)\]\([^)]*\)")
+
+
+def plain(text: str) -> str:
+    """A text of the documents without its links."""
+    return LINK.sub(r"\1", text)
+
+
+def rows(page: str, heading: str) -> list[list[str]]:
+    """The cells of the table rows of a page below a heading, up to the next one, without links."""
+    _, _, below = page.partition(f"\n{heading}\n")
+    lines = [line for line in below.split("\n#", 1)[0].split("\n") if line.startswith("| ")]
+    return [[plain(cell.strip("| ")) for cell in line.split(" | ")] for line in lines]
 
 
 @functools.lru_cache(maxsize=None)

@@ -2,9 +2,9 @@
 
     tools/debug_adapter
 
-Arguments of `launch`: `program`, an image or a source; `source`, that of an image; `seed`, or `native`, a number of
-children, or `slots`, that and the turns of a slot, or `way`, choices of `every`; `stopOnEntry`; `check`, whether each
-stop is compared with the program, as is done without it where the program is proved.
+Arguments of `launch`: `program`, an image, a source or a script; `source`, that of an image; `seed`, or `native`, a
+number of children, or `slots`, that and the turns of a slot, or `way`, choices of `every`; `stopOnEntry`; `check`,
+whether each stop is compared with the program, as is done without it where the program is proved.
 """
 
 from __future__ import annotations
@@ -26,7 +26,7 @@ from ..common import calling
 from ..common.calling import Failed
 from . import building, sources, wire
 from .client import At, States, Stopped
-from .debugger import Debugger, ancestors
+from .debugger import OF_PARTITION, Debugger, ancestors
 from .sources import PAGE
 from .terminal import Terminal, schedule_of
 from .wire import Message
@@ -136,7 +136,7 @@ class Adapter:
     def on_launch(self, given: Arguments) -> Any:
         self.launched = given
         if not given.get("program"):
-            raise Failed("launch has a program: an image or a source")
+            raise Failed("launch has a program: an image, a source or a script")
         calling.direct(self.program)
         native, slots = given.get("native"), given.get("slots")
         schedule = schedule_of(str(given.get("seed", 1)), None if native is None else str(native),
@@ -224,6 +224,8 @@ class Adapter:
             name = known.get(name)
         if not name:
             return {"dataId": None, "description": "no word of a frame holds it"}
+        if OF_PARTITION.fullmatch(name):
+            return {"dataId": name, "description": f"register {name}", "accessTypes": ["write"]}
         place = self.on.target(name).word
         if place is None:
             return {"dataId": None, "description": f"{name}: there is no page now"}
@@ -248,7 +250,7 @@ class Adapter:
 
     def tell_lines(self, before: int, after: int) -> None:
         if after > before:
-            lines = self.on.states.trace(max(before, after - MOST_LOOKED), after)
+            lines = self.on.told_lines(max(before, after - MOST_LOOKED), after)
             more = len(lines) - MOST_LINES
             text = f".. {more} lines before\n" if more > 0 else ""
             if lines:
@@ -265,7 +267,7 @@ class Adapter:
             reason = "exception"
         told = self.on.reasons(now) + [warning for warning in [self.on.warning()] if warning]
         if now.step == now.end:
-            told.append(f"step {now.end} is the last one")
+            told.append("the script ends here" if self.on.is_script else f"step {now.end} is the last one")
         text = {"text": "; ".join(told), "description": f"step {now.step}: {told[0]}" if told else f"step {now.step}"}
         self.event("stopped", reason=reason, threadId=self.thread_of(now), allThreadsStopped=True,
                    hitBreakpointIds=numbers, **text)
@@ -335,8 +337,10 @@ class Adapter:
         return {**told, **self.location(at.part, at.pc)}
 
     def location(self, part: int, address: int) -> Variable:
+        """The line of a word at an address; of a script the one that comes."""
         word = self.on.word_at(part, address)
-        place = self.on.source.place(word, self.on.states.words(*word, 1)[0]) if word else None
+        place = self.on.next_place() if self.on.is_script else \
+            self.on.source.place(word, self.on.states.words(*word, 1)[0]) if word else None
         if place is None:
             return {}
         path = os.path.abspath(place.file)
@@ -373,7 +377,8 @@ class Adapter:
         if at is None:
             return []
         words = [("pc", at.pc)] + [(f"r{number}", word) for number, word in enumerate(at.registers)]
-        return [variable(name, f"0x{word:08x}", evaluateName=name, **self.memory(at.part, word))
+        return [variable(name, f"0x{word:08x}", evaluateName=name, watched=f"{at.part}:{name}",
+                         **self.memory(at.part, word))
                 for name, word in words]
 
     def memory(self, part: int, address: int) -> Variable:
@@ -538,6 +543,5 @@ def main() -> None:
     parser = argparse.ArgumentParser(description="The Debug Adapter Protocol over standard streams, for editors.")
     calling.take_program(parser)
     given = parser.parse_args()
-    sink = os.fdopen(os.dup(1), "wb")
-    os.dup2(2, 1)                    # nothing else gets among the messages
+    sink = wire.own_output()
     calling.guarded("debug_adapter", lambda: Adapter(sys.stdin.buffer, sink, given.program).serve())

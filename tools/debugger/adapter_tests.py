@@ -15,6 +15,7 @@ from . import wire
 PROGRAM = os.environ.get("PIP") or calling.PROVED
 
 MONITOR = os.path.join(calling.REPOSITORY, "examples", "monitor.s")
+FIRST = os.path.join(calling.REPOSITORY, "examples", "first.pip")
 RACE = os.path.join(calling.REPOSITORY, "tools", "authors", "race.asmx")
 
 
@@ -121,6 +122,28 @@ class Session(unittest.TestCase):
         self.assertEqual(client.top()["line"], 37)
         client.stopped("next", threadId=1)
         self.assertEqual(client.top()["line"], 44)
+
+    def test_a_script(self) -> None:
+        """Its lines have breakpoints, each step is a line, also back, and a register can be watched."""
+        client = self.client
+        self.launch(FIRST)
+        told = client.ask("setBreakpoints", source={"path": FIRST}, breakpoints=[{"line": 5}, {"line": 99}])
+        self.assertEqual([(one["verified"], one.get("line")) for one in told["breakpoints"]],
+                         [(True, 6), (False, None)])
+        client.stopped("configurationDone")
+        self.assertEqual((client.top()["line"], client.top()["source"]["path"]), (3, FIRST))
+        stop = client.stopped("continue", threadId=1)
+        self.assertEqual((stop["reason"], client.top()["line"]), ("breakpoint", 6))
+        for command, line in (("stepIn", 8), ("next", 9), ("stepBack", 8), ("stepBack", 6), ("stepBack", 4)):
+            client.stopped(command, threadId=1)
+            self.assertEqual(client.top()["line"], line, command)
+        lines = "".join(one["body"]["output"] for one in client.events if one["event"] == "output")
+        self.assertIn("     4 ld 0 0x400000 -> 0x00000007\n", lines)
+        frame = client.top()["id"]
+        scope = next(one for one in client.ask("scopes", frameId=frame)["scopes"] if one["name"] == "Registers")
+        told = client.ask("dataBreakpointInfo", name="r0", variablesReference=scope["variablesReference"])
+        self.assertEqual(told["dataId"], "1:r0")
+        self.assertTrue(client.ask("setDataBreakpoints", breakpoints=[told])["breakpoints"][0]["verified"])
 
     def test_stack_of_a_child(self) -> None:
         """A child's frame has its line, its parent none; its pages, memory and instructions are there."""

@@ -9,10 +9,10 @@ from collections.abc import Callable, Iterator
 from dataclasses import dataclass, field
 from typing import NamedTuple
 
-from ..authors import asmx, every
+from ..authors import asmx, every, why
 from ..common import calling, plans
 from ..common.calling import Failed
-from ..reference import instructions
+from ..reference import instructions, script
 from . import sources
 from .client import EVERY, At, Coming, Refused, States, Stopped, Stops, Turn
 from .sources import Named, Word
@@ -28,6 +28,7 @@ PATTERNS = {
 }
 CONDITION = re.compile(r"(\S+)\s*(==|!=|<=|>=|<|>)\s*(\S+)")
 REGISTER = re.compile(r"r([0-9]|1[0-5])|pc")
+OF_PARTITION = re.compile(rf"(?:(\d+):)?({REGISTER.pattern})")      # a register, of a partition or of what runs
 
 
 @dataclass
@@ -76,14 +77,29 @@ class Part:
     rows: list[Row] = field(default_factory=list)
 
 
+class Event(NamedTuple):
+    """A line of a script."""
+
+    line: int
+    text: str
+
+
 class Debugger:
-    """One image with its source, and a run of it: by `seed SEED`, `native CHILDREN` or `slots CHILDREN TURNS`."""
+    """One image with its source, and a run of it: by `seed SEED`, `native CHILDREN` or `slots CHILDREN TURNS`. Or a
+    script, whose lines are the steps.
+    """
 
     def __init__(self, program: str, process: States, path: str, schedule: str = "seed 1",
                  every_step: int = EVERY) -> None:
         self.program, self.states, self.path = program, process, path
-        self.data, origin = asmx.image_of(program, path)
-        self.source = sources.read(self.data, origin)
+        self.events: list[Event] = []                    # of a script, after its first line
+        self.is_script = path != "-" and begins_script(calling.contents(path, asmx.MOST_IMAGE))
+        if self.is_script:
+            self.data, self.source, schedule = calling.contents(path), sources.Source(path), "script"
+            self.events = events_of(program, path, self.data)
+        else:
+            self.data, origin = asmx.image_of(program, path)
+            self.source = sources.read(self.data, origin)
         self.stops: dict[int, Stop] = {}
         self.last_number = 0
         self.shall_pause: Callable[[], bool] = lambda: False
@@ -138,7 +154,9 @@ class Debugger:
         return self.source.nearest(self.word_at(part, address))
 
     def next_place(self) -> asmx.Place | None:
-        """The line of the source whose instruction is next."""
+        """The line of the source whose instruction is next, or of the script."""
+        if self.is_script:
+            return asmx.Place(self.path, self.events[self.step].line) if self.step < len(self.events) else None
         coming = self.states.next()
         if coming.part is None or coming.pc is None:
             return None
@@ -213,18 +231,26 @@ class Debugger:
         limits = ("" if part is None else f" part {part}") + (f" if {self.condition(condition)}" if condition else "")
         line = re.fullmatch(r"(?:(.+):)?(\d+)", text)
         if line and self.source.path and (line[1] is None or os.path.exists(line[1])):
-            number, words = self.source.starts_at(line[1] or self.source.path, int(line[2]))
-            if not words:
+            file = line[1] or self.source.path
+            number, parts = self.starts_at(file, int(line[2]))
+            if not parts:
                 raise Failed(f"no line from {line[2]} on has words")
-            text = f"{line[1] or self.source.path}:{number}"
-            return self.add(text, "break", [f"place {frame}:{index}{limits}" for frame, index in words], condition,
-                            after)
+            return self.add(f"{file}:{number}", "break", [part + limits for part in parts], condition, after)
         target = self.target(text)
         if target.word is not None and target.part is None:
             return self.add(text, "break", [f"place {target.word[0]}:{target.word[1]}{limits}"], condition, after)
         if ":" in text and part is None:
             limits = f" part {target.part}" + limits
         return self.add(text, "break", [f"pc {target.address}{limits}"], condition, after)
+
+    def starts_at(self, file: str, line: int) -> tuple[int, list[str]]:
+        """The first line from this one on at which a run can stop, and where that is, for the process."""
+        if self.is_script:
+            found = [at for at, event in enumerate(self.events)
+                     if event.line >= line and os.path.samefile(file, self.path)][:1]
+            return (self.events[found[0]].line if found else line), [f"step {at}" for at in found]
+        number, words = self.source.starts_at(file, line)
+        return number, [f"place {frame}:{index}" for frame, index in words]
 
     def condition(self, text: str) -> str:
         """A == B, with a register, [PLACE] or a number on each side, as the process takes it."""
@@ -246,8 +272,11 @@ class Debugger:
         return self.add(text, "line", list(PATTERNS.get(text, (text,))), None, after)
 
     def add_watch(self, text: str, count: int = 1, after: int = 1) -> Stop:
-        """A stop after a turn that changed a word: of a frame, or at an address of a partition, whichever page is
-        there."""
+        """A stop after a turn that changed a word: of a frame, at an address of a partition, whichever page is there,
+        or a register of a partition that ran before and after it."""
+        if register := OF_PARTITION.fullmatch(text):
+            part, number = register[1] or self.partition(), self.operand(register[2])[1:]
+            return self.add(f"{part}:{register[2]}", "watch", [f"register {part} {number} 1"], None, after)
         target = self.target(text)
         if target.part is not None:
             part = f"address {target.part} {target.address} {count}"
@@ -302,7 +331,9 @@ class Debugger:
         return self.states.go(min(self.step + count, self.states.now.end))
 
     def turn_of(self, cpu: int) -> Stopped:
-        """To the end of the next turn of a processor."""
+        """To the end of the next turn of a processor; of a script to the next line."""
+        if self.is_script:
+            return self.forward(1)
         stops = self.told_stops()
         stops.add("turn_of", cpu)
         return self.run(stops)
@@ -311,11 +342,11 @@ class Debugger:
         return self.states.go(max(self.step - count, 0))
 
     def back_turn_of(self, cpu: int) -> Stopped:
-        """To before the last turn of a processor."""
+        """To before the last turn of a processor; of a script to the line before."""
         turn = self.states.turn()
         if turn is None:
             return self.states.now
-        if turn.cpu != cpu:
+        if turn.cpu != cpu and not self.is_script:
             stops = Stops()
             stops.add("turn_of", cpu)
             self.back(stops)
@@ -325,7 +356,7 @@ class Debugger:
         """To where the same partition has its next turn: after `jal` at the next instruction, after a yield where it is
         entered."""
         at = self.states.registers()[self.processor() if cpu is None else cpu]
-        if at is None:
+        if at is None or self.is_script:
             return self.forward(1)
         stops = self.told_stops()
         place = self.word_at(at.part, at.pc)
@@ -335,9 +366,10 @@ class Debugger:
         return self.run(stops)
 
     def until(self, text: str) -> Stopped:
-        """To a step, where it is a number alone, else to a name or an address."""
+        """To a step, or a line of a script, where it is a number alone, else to a name or an address."""
         if re.fullmatch(r"\d+", text):
-            return self.run(self.told_stops(), int(text)) if int(text) > self.step else self.states.go(int(text))
+            step = sum(event.line < int(text) for event in self.events) if self.is_script else int(text)
+            return self.run(self.told_stops(), step) if step > self.step else self.states.go(step)
         stops, target = self.told_stops(), self.target(text)
         of_frame = target.word and target.part is None
         stops.add("break", TEMPORARY,
@@ -348,17 +380,24 @@ class Debugger:
 
     def set_seed(self, seed: int) -> Stopped:
         """Another schedule: at step 0 from the beginning, else from here on."""
+        self.need_image()
         if self.step == 0:
             self.load(f"seed {seed}")
             return self.states.now
         return self.states.edit("seed", seed)
 
+    def need_image(self) -> None:
+        if self.is_script:
+            raise Failed("the lines of a script come in their order alone")
+
     def search(self, words: list[str]) -> every.Search:
         """What the program's `every` finds for this image."""
+        self.need_image()
         return every.read(every.searched(self.program, ["every", *words], self.data))
 
     def take_way(self, text: str) -> Stopped:
         """The choices of a way in the place of the schedule, from the beginning."""
+        self.need_image()
         found = [choice for word in text.split() for choice in choices(word)]
         self.on_way = True
         return self.states.way(found)
@@ -372,12 +411,14 @@ class Debugger:
         """Whether the program has the same state after as many steps."""
         if self.on_way or self.states.now.edited:
             return "no command of the program has this state: it came by a way, or by a change"
-        what = "tree and core" if self.schedule.startswith("seed") else "trace"
+        what = {"seed": "tree and core", "script": "answers"}.get(self.schedule.split()[0], "trace")
         return self.differing() or f"the program has the same {what} after step {self.step}, by {self.schedule}"
 
     def differing(self) -> str:
-        """What the program has otherwise, if anything: tree or core of a run, or the trace of a monitor outside the
-        machine."""
+        """What the program has otherwise, if anything: tree or core of a run, the trace of a monitor outside the
+        machine, or the answers of a script."""
+        if self.is_script:
+            return self.differing_answers()
         kind, *numbers = self.schedule.split()
         told, last = [("tree", self.states.tree()[0]), ("core", self.states.core())], self.step
         words = [str(last), *numbers]
@@ -392,6 +433,13 @@ class Debugger:
                 return f"{command} {' '.join(words)} of the program differs from what is shown here"
         return ""
 
+    def differing_answers(self) -> str:
+        last = self.events[self.step - 1].line if self.step else 0
+        text = b"".join(line + b"\n" for line in list(script.lines(self.data))[:last])
+        due = calling.text_of(self.program, ["script"], text)[1:]
+        found = [line.split(" ", 2)[2] for line in self.states.trace(0, self.step)]
+        return "" if due == found else f"the program answers the first {last} lines otherwise"
+
     def warning(self) -> str:
         """Where each stop is checked, and a command has this state: what differs."""
         return self.differing() if self.checks and not self.on_way and not self.states.now.edited else ""
@@ -400,6 +448,8 @@ class Debugger:
         """The step that led here, in a line."""
         if turn is None:
             return "the beginning"
+        if self.is_script:
+            return self.told_event(turn.step, turn.line)
         raised = "".join(f" [line {line} raised]" for line in turn.raised)
         if turn.cpu is None:
             return f"{turn.step}{raised}"
@@ -408,8 +458,20 @@ class Debugger:
         shown = turn.line.split(" ", 2)[2] if turn.line else ""
         return f"{turn.step:>6} {turn.cpu} {where} {did:24} {shown}{raised}".rstrip()
 
+    def told_event(self, step: int, line: str = "") -> str:
+        """A line of the script, and its answer as a line of a trace has it."""
+        number, text = self.events[step]
+        return f"{number:>6} {text}" + (f" -> {line.split(' ', 2)[2]}" if line else "")
+
+    def told_lines(self, first: int, to: int) -> list[str]:
+        """The trace of some steps; of a script its lines with their answers."""
+        lines = self.states.trace(first, to)
+        return [self.told_event(int(line.split(" ")[0]), line) for line in lines] if self.is_script else lines
+
     def told_coming(self, coming: Coming) -> str:
         """Whose turn comes, and where."""
+        if self.is_script:
+            return self.told_event(self.step) if self.step < len(self.events) else "the script ends here"
         raised = "".join(f" [line {line} is raised before]" for line in coming.raised)
         if coming.cpu is None:
             return f"{self.step}{raised or ' the way ends here'}"
@@ -428,6 +490,20 @@ class Debugger:
             elif number in self.stops:
                 told.append(f"{kind} {number}: {self.stops[number].text}")
         return told
+
+
+def begins_script(data: bytes) -> bool:
+    """Whether the first line of a text that isn't blank begins a script."""
+    return re.match(rb"(#[^\n]*\n|\n)*boot ", data) is not None
+
+
+def events_of(program: str, path: str, data: bytes) -> list[Event]:
+    """The lines of a good script that aren't blank, after the first one."""
+    sentences, good = why.why(program, path, data, False)
+    if not good:
+        raise Failed("\n".join(sentences))
+    lines = enumerate(script.lines(data), 1)
+    return [Event(number, line.decode()) for number, line in lines if line and not line.startswith(b"#")][1:]
 
 
 def words_of(kind: str, numbers: list[str], step: int) -> tuple[list[str], int]:

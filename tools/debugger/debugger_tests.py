@@ -14,7 +14,8 @@ from typing import Any
 from ..authors import trace
 from ..common import calling, plans
 from ..common.calling import Failed
-from ..reference import image as images
+from ..reference import image as images, script
+from ..reference.model import World
 from . import building
 from .client import States, Stops
 from .debugger import Debugger
@@ -23,6 +24,8 @@ PROGRAM = os.environ.get("PIP") or calling.PROVED
 EXAMPLES = os.path.join(calling.REPOSITORY, "examples")
 MONITOR, RETRY, GUESTS = (os.path.join(EXAMPLES, name) for name in ("monitor.s", "retry.s", "two_guests.s"))
 RACE = os.path.join(calling.REPOSITORY, "tools", "authors", "race.asmx")
+FIRST = os.path.join(EXAMPLES, "first.pip")
+SCRIPTS = ("first.pip", "rights.pip", "lines_and_siblings.pip", os.path.join("tutorial", "07_grandchild.pip"))
 LONGEST = 2000                   # steps of a comparison
 Edit = tuple[object, ...]
 SESSION = """break child
@@ -47,6 +50,16 @@ seed 5
 tree
 check
 """
+
+
+def script_world(text: bytes, last: int) -> World:
+    """The reference's world after the first lines of a script."""
+    told = script.Script()
+    for number, line in enumerate(script.lines(text), 1):
+        if number <= max(last, 1) or told.world is None:
+            told.line(line)
+    assert told.world
+    return told.world
 
 
 def stops_of(*lines: str) -> Stops:
@@ -83,6 +96,22 @@ class Compared(WithStates):
         turn = self.states.turn()
         if turn and made[-1].did:
             self.assertEqual((turn.part, turn.pc), made[-1].where)
+
+    def test_scripts(self) -> None:
+        """Lines as steps: the answers are the program's, registers and trees the reference's, in any order."""
+        drawn = random.Random(3)
+        for name in SCRIPTS:
+            path, every_step = os.path.join(EXAMPLES, name), drawn.choice([1, 3, 10_000])
+            debugger = Debugger(PROGRAM, self.states, path, every_step=every_step)
+            end = len(debugger.events)
+            for step in [end, 0, *(drawn.randrange(end + 1) for _ in range(6))]:
+                self.states.go(step)
+                self.assertEqual(debugger.differing(), "", (name, step))
+                world = script_world(debugger.data, debugger.events[step - 1].line if step else 0)
+                due = [(at.name, at.context.pc, list(at.context.registers)) if at else None for at in world.processors]
+                self.assertEqual([(at.part, at.pc, list(at.registers)) if at else None
+                                  for at in self.states.registers()], due, (name, step))
+                self.assertEqual(sorted(part.name for part in debugger.partitions()), sorted(world.tree.nodes))
 
     def test_monitors_outside_the_machine(self) -> None:
         """The lines of `native` and `slots`, forward and back."""
@@ -151,9 +180,11 @@ class BackAsForward(unittest.TestCase):
         found = [stops_of("line 1 call"), stops_of("idle"), stops_of(f"turn_of {debugger.states.cpus - 1}")]
         for _ in range(6):
             name, other = drawn.choice(names), drawn.choice(names)
-            at, watched = f"break 1 place {name.word[0]}:{name.word[1]}", f"watch 2 word {other.word[0]}:{other.word[1]} 1"
+            at = f"break 1 place {name.word[0]}:{name.word[1]}"
+            watched = f"watch 2 word {other.word[0]}:{other.word[1]} 1"
             found += [stops_of(at), stops_of(watched), stops_of(f"watch 4 address 1 {other.address} 2"),
-                      stops_of(at, watched, "line 3 out")]
+                      stops_of(at, watched, "line 3 out"),
+                      stops_of(f"watch 5 register {drawn.choice([1, 28])} {drawn.randrange(17)} 1")]
         return found
 
     def compare(self, states: States, stops: Stops, drawn: random.Random) -> None:
@@ -243,7 +274,8 @@ class Requests(WithStates):
                  "way x", "edit seed 0", "edit raise 16",
                  "edit plan 16 0 0", "edit register 2 0 0", "edit register 0 17 0", "edit store 9 0 0", "break x",
                  "break 1 place 3", "break 1 if r1 ~ 2",
-                 "watch 1 word 1:1 1025", "watch 1 frame 1 1")
+                 "watch 1 word 1:1 1025", "watch 1 frame 1 1", "watch 1 register 1 x 1", "load script 10 /nowhere",
+                 f"load script 10 {RACE}")
         self.assertRaises(Failed, self.states.ask, "go", 1)
         Debugger(PROGRAM, self.states, RACE)
         for words in wrong:
@@ -251,7 +283,7 @@ class Requests(WithStates):
                 self.assertRaises(Failed, self.states.ask, words)
         self.assertEqual(self.states.go(100).step, 100)
         odd = stops_of("watch 1 word 5000:0 3", "watch 2 address 999 0 3", "watch 4 word 0:4294967295 2",
-                       "line 3 ^ " + "* " * 40)
+                       "watch 5 register 999 0 1", "watch 6 register 1 99 3", "line 3 ^ " + "* " * 40)
         self.assertEqual(self.states.run(110, odd).step, 110)
 
 
@@ -327,6 +359,55 @@ class Changes(WithStates):
                 assert turn
                 steps.append(turn.line.split(" ", 2)[2])
         self.assertEqual(steps, ["call 5 reply 0 0x00000000", "call 6 reply 0 0x00000000", "call 5 reply 0 0x00000000"])
+
+    def test_a_watch_on_a_register(self) -> None:
+        """It stops after each turn that changed the register of the partition, which ran before and after it."""
+        debugger = Debugger(PROGRAM, self.states, MONITOR)
+        found: dict[tuple[int, int], list[int]] = {(part, register): [] for part in (1, 28) for register in (1, 8, 16)}
+        before: dict[int, list[int]] = {}
+        for step in range(400):
+            self.states.go(step)
+            now = {at.part: [*at.registers, at.pc] for at in self.states.registers() if at}
+            for part, register in found:
+                if part in before and part in now and before[part][register] != now[part][register]:
+                    found[part, register].append(step)
+            before = now
+        for (part, register), due in found.items():
+            self.states.go(0)
+            debugger.stops.clear()
+            stop = debugger.add_watch(f"{part}:{'pc' if register == 16 else f'r{register}'}")
+            steps = []
+            while (told := debugger.run(debugger.told_stops(), 399)).stops:
+                steps.append(told.step)
+            self.assertEqual(steps, due, stop.text)
+        self.states.go(200)
+        self.assertEqual(debugger.add_watch("r3").text, f"{debugger.partition()}:r3")
+
+    def test_stops_of_a_script(self) -> None:
+        debugger = Debugger(PROGRAM, self.states, FIRST)
+        debugger.add_break("5")
+        debugger.add_line("reply")
+        debugger.add_watch("0x400000")
+        lines = []
+        while (told := debugger.run(debugger.told_stops())).stops:
+            lines.append(debugger.events[told.step - 1].line)
+        self.assertEqual(lines, [3, 4, 6])
+        debugger.stops.clear()
+        for text, line in (("8", 8), ("5", 6), ("99", None), ("1", 3)):
+            place = debugger.until(text) and debugger.next_place()
+            self.assertEqual(place and place.line, line, text)
+        for act in (lambda: debugger.set_seed(3), lambda: debugger.search(["10"]), lambda: debugger.take_way("0x3"),
+                    lambda: debugger.add_break("99")):
+            self.assertRaises(Failed, act)
+        self.states.go(2)
+        self.states.edit("store", 0, 0x400000, 9)
+        debugger.until("9")
+        self.assertEqual(self.states.words(12, 0, 1), [9])
+        self.assertIn("by a change", debugger.check())
+        with tempfile.NamedTemporaryFile("w", suffix=".pip") as file:
+            file.write("# here\nboot 32 1\nld 0 00\n")
+            file.flush()
+            self.assertRaisesRegex(Failed, ":3:6: '00' is no number", Debugger, PROGRAM, self.states, file.name)
 
     def test_ways(self) -> None:
         """The line that `every` has for a way is shown by the last step of that way."""

@@ -30,7 +30,6 @@ WORD = re.compile(r"[<>]?[.A-Za-z0-9_]+:?")
 NAME_IN = re.compile(r"[A-Za-z_][A-Za-z0-9_]*")
 FORMATS = os.path.join(calling.REPOSITORY, "docs", "FORMATS.md")
 TOOLS = os.path.join(calling.REPOSITORY, "tools", "README.md")
-LINK = re.compile(r"\[([^\]]*)\]\([^)]*\)")
 KEYWORD, NAME, CONSTANT, REGISTER = 14, 6, 21, 10        # kinds of completions, by the protocol's numbers
 
 
@@ -80,7 +79,8 @@ def wrong_of(program: str, path: str, texts: Texts) -> list[Wrong]:
 
 
 def of_asmx(path: str, wrong: asmx.Wrong) -> Wrong:
-    return Wrong(wrong.place.line - 1, 0, wrong.why) if wrong.place.file == path else Wrong(0, 0, str(wrong))
+    is_here = wrong.place.file == path
+    return Wrong(wrong.place.line - 1, wrong.column - 1, wrong.why) if is_here else Wrong(0, 0, str(wrong))
 
 
 def wrong_lines(program: str, text: bytes, is_assembly: bool) -> Iterator[Wrong]:
@@ -92,20 +92,13 @@ def wrong_lines(program: str, text: bytes, is_assembly: bool) -> Iterator[Wrong]
 
 def told(cause: why.Cause) -> str:
     """What is there, and the rule."""
-    row = meanings.causes()[cause.name]
-    if cause.name.startswith("asm"):
-        return f"{cause.here}\nrule: {row[1]}"
-    return "\n".join([cause.here, f"rule: {row[0]}"] + [f"why: {row[1]}"] * bool(row[1:]))
+    return f"{cause.here}\nrule: {meanings.causes()[cause.name][1]}"
 
 
 # What words mean
 
-def rows(page: str, heading: str) -> list[list[str]]:
-    """The cells of the table rows of a page below a heading, up to the next one, without links."""
-    with open(page, encoding="utf-8") as file:
-        part = file.read().split(heading + "\n", 1)[-1].split("\n#", 1)[0]
-    lines = [line for line in part.split("\n") if line.startswith("| ")]
-    return [[LINK.sub(r"\1", cell.strip("| ")) for cell in line.split(" | ")] for line in lines]
+def rows(path: str, heading: str) -> list[list[str]]:
+    return meanings.rows(calling.contents(path).decode(), heading)
 
 
 @functools.lru_cache(maxsize=None)
@@ -358,6 +351,5 @@ def main() -> None:
     parser = argparse.ArgumentParser(description="The Language Server Protocol over standard streams, for editors.")
     calling.take_program(parser)
     given = parser.parse_args()
-    sink = os.fdopen(os.dup(1), "wb")
-    os.dup2(2, 1)                    # nothing else gets among the messages
+    sink = wire.own_output()
     calling.guarded("language_server", lambda: Server(sys.stdin.buffer, sink, built(given.program)).serve())

@@ -72,7 +72,8 @@ class Session(unittest.TestCase):
                 if name.endswith((".pip", ".s", ".asmx")) and not included:
                     path = os.path.join(folder, name)
                     found = [one["message"].split("\n")[0] for one in self.client.opened(path)]
-                    is_part = "solutions" in path and name.endswith(".pip") and "boot" not in calling.contents(path).decode()
+                    is_part = "solutions" in path and name.endswith(".pip") \
+                        and "boot" not in calling.contents(path).decode()
                     self.assertEqual(found, ["no machine was begun before"] if is_part else [], path)
 
     def test_wrong_lines_are_told_as_by_why(self) -> None:
@@ -105,6 +106,13 @@ class Session(unittest.TestCase):
                          [(3, "'65536' is outside the limits, which are 0 to 65535"),
                           (4, "'load' is no instruction; did you mean ldw?"),
                           (5, "no line defines 'nowhere'")])
+
+    def test_columns_of_a_source(self) -> None:
+        """From the word that is wrong to its end, also where the line becomes others."""
+        text = ".frames 16\n.cpus 1\n.page 0x400000\na:  la r1  gone # here\nli r1 65536\n  jmp a\n"
+        found = [one["range"] for one in self.client.opened("/nowhere/a.asmx", text)]
+        self.assertEqual([(one["start"]["line"], one["start"]["character"], one["end"]["character"]) for one in found],
+                         [(3, 11, 15), (4, 6, 11), (5, 2, 5)])
 
     def test_asmx_with_an_included_text(self) -> None:
         """The text of the editor counts, and that of a file that is included and open, too."""

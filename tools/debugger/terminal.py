@@ -1,4 +1,4 @@
-"""A debugger in a terminal, for an image, or for a source that is assembled for it.
+"""A debugger in a terminal, for an image, for a source that is assembled for it, or for a script.
 
     tools/debug FILE [SEED] [--native N | --slots N TURNS]
 
@@ -78,7 +78,8 @@ class Terminal(cmd.Cmd):
         for reason in self.debugger.reasons(now):
             print(reason)
         if now.step == now.end:
-            print("this is the end of the way" if self.debugger.on_way else f"this is step {now.end}, the last one")
+            what = "way" if self.debugger.on_way else "script" if self.debugger.is_script else ""
+            print(f"this is the end of the {what}" if what else f"this is step {now.end}, the last one")
         self.debugger.cpu = None
         self.where()
         warning = self.debugger.warning()
@@ -89,7 +90,8 @@ class Terminal(cmd.Cmd):
         debugger = self.debugger
         turn = debugger.states.turn()
         print(f"  made {debugger.told_turn(turn)}")
-        meaning = meanings.of_answer(turn.line.split(" ", 2)[2]) if turn and turn.line else ""
+        asked = debugger.events[turn.step].text if turn and debugger.is_script else ""
+        meaning = meanings.of_answer(turn.line.split(" ", 2)[2], asked) if turn and turn.line else ""
         if meaning:
             print(f"       {meaning}")
         print(f"  next {debugger.told_coming(debugger.states.next())}")
@@ -122,7 +124,7 @@ class Terminal(cmd.Cmd):
         self.stopped(self.debugger.run(self.debugger.told_stops()))
 
     def do_until(self, text: str) -> None:
-        """until STEP|NAME|ADDRESS: to a step, also back; or on to a place."""
+        """until STEP|NAME|ADDRESS: to a step, or a line of a script, also back; or on to a place."""
         self.stopped(self.debugger.until(text))
 
     def do_back(self, text: str) -> None:
@@ -163,11 +165,12 @@ class Terminal(cmd.Cmd):
         print(f"{stop.number}: a turn whose line has {stop.told()}")
 
     def do_watch(self, text: str) -> None:
-        """watch NAME|P:ADDRESS|fF:I [COUNT] [after N]: stops after a turn that changed a word. At an address it follows
-        the mapping."""
+        """watch NAME|P:ADDRESS|fF:I [COUNT] | rN|pc|P:rN [after N]: stops after a turn that changed a word, at an
+        address also by another page; or a register of a partition, the one that runs or P, that runs before and after
+        it."""
         words, after = counted(text.split())
         if not words:
-            raise Failed("watch has a name, an address of a partition, or a word of a frame")
+            raise Failed("watch has a name, an address of a partition, a word of a frame, or a register")
         stop = self.debugger.add_watch(words[0], int(words[1], 0) if words[1:] else 1, after)
         print(f"{stop.number}: watch {stop.told()}, {stop.parts[0]}")
 
@@ -254,20 +257,13 @@ class Terminal(cmd.Cmd):
         if text.isdecimal():
             file, at = source.path, int(text)
         else:
-            place = source.line_of.get(self.word_to_list(text) or (0, 0))
+            named = text and self.debugger.target(text).word
+            place = source.line_of.get(named or (0, 0)) if text else self.debugger.next_place()
             if place is None:
                 raise Failed("no line of the source is there")
             file, at = place.file, place.line
         for number, line in list(enumerate(lines_of(file), 1))[max(0, at - 1 - AROUND):at + AROUND]:
             print(f"{'>' if number == at else ' '}{number:>5}  {line}")
-
-    def word_to_list(self, text: str) -> tuple[int, int] | None:
-        if text:
-            return self.debugger.target(text).word
-        coming = self.debugger.states.next()
-        if coming.part is None or coming.pc is None:
-            return None
-        return self.debugger.word_at(coming.part, coming.pc)
 
     def do_changed(self, text: str) -> None:
         """changed [STEP]: all words that the last turn changed, or all since a step."""
@@ -281,7 +277,7 @@ class Terminal(cmd.Cmd):
     def do_trace(self, text: str) -> None:
         """trace [FROM]: the trace lines up to here, from a step on; without it from 200 steps before."""
         here = self.debugger.step
-        for line in self.debugger.states.trace(int(text) if text else max(0, here - 200), here):
+        for line in self.debugger.told_lines(int(text) if text else max(0, here - 200), here):
             print(line)
 
     def do_check(self, text: str) -> None:
@@ -430,7 +426,7 @@ def main() -> None:
         description="A debugger of runs, in a terminal. The states are of the same text as the program, not of the "
                     "same "
                     "proof; where the program is proved, each stop compares them.")
-    parser.add_argument("file", metavar="FILE", help="an image, or an assembly text or source of tools/asmx")
+    parser.add_argument("file", metavar="FILE", help="an image, an assembly text or source of tools/asmx, or a script")
     parser.add_argument("seed", metavar="SEED", nargs="?", default="1")
     monitor = parser.add_mutually_exclusive_group()
     monitor.add_argument("--native", metavar="N", help="as by `native`: a monitor outside the machine runs N children")

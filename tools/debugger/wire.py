@@ -4,6 +4,7 @@ them."""
 from __future__ import annotations
 
 import json
+import os
 from typing import IO, Any
 
 Message = dict[str, Any]
@@ -23,6 +24,13 @@ def read(source: IO[bytes]) -> Message | None:
             length = int(value)
     found: Message = json.loads(source.read(length))
     return found
+
+
+def own_output() -> IO[bytes]:
+    """Standard output for messages alone: what else is written goes to standard error from then on."""
+    sink = os.fdopen(os.dup(1), "wb")
+    os.dup2(2, 1)
+    return sink
 
 
 def write(sink: IO[bytes], message: Message) -> None:

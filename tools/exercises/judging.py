@@ -93,8 +93,8 @@ def judged(name: str, path: str, text: bytes, is_program: bool, seed: str | None
     """What a work reaches. A program may be a source of tools/asmx, which includes what `files` allows."""
     found = Judged(name, secret or drawn(), plain=text)
     answer = ask("judge", name, seed, found.secret, text)
-    source: tuple[list[tuple[asmx.Place, str]], asmx.Text] | None = None
-    used: list[tuple[asmx.Place, str]] = []
+    source: tuple[asmx.Lines, asmx.Text] | None = None
+    used: asmx.Lines = []
     if is_program and path != "-":
         try:
             source = asmx.processed(path, files)
@@ -111,7 +111,7 @@ def judged(name: str, path: str, text: bytes, is_program: bool, seed: str | None
 
 
 def read(found: Judged, answer: str, path: str, is_program: bool, places: Places | None,
-         lines: list[tuple[asmx.Place, str]]) -> None:
+         lines: asmx.Lines) -> None:
     """Takes the judge's answer apart."""
     trouble: list[str] = []
     for line in answer.splitlines():
@@ -133,12 +133,11 @@ def read(found: Judged, answer: str, path: str, is_program: bool, places: Places
     found.remarks += ["what was refused or parked:", *trouble] if trouble else []
 
 
-def refusal(found: Judged, rest: str, path: str, is_program: bool, lines: list[tuple[asmx.Place, str]]) -> list[str]:
+def refusal(found: Judged, rest: str, path: str, is_program: bool, lines: asmx.Lines) -> list[str]:
     place, _, kind = rest.partition(" ")
     if len(lines) >= int(place):
-        at, text = lines[int(place) - 1]
-        return [f"{found.name}: the text is refused", f"{at.file}:{at.line}: {kind}, in {text!r}"
-                + asmx.reason([line.encode() for _, line in lines], int(place), kind)]
+        texts = [line.encode() for _, line in lines]
+        return [f"{found.name}: the text is refused", str(asmx.refusal(lines, texts, int(place), kind))]
     told = why.refused(path, found.plain, int(place), kind if is_program else None)
     return [f"{found.name}: line {place} is refused", *told]
 

@@ -3,7 +3,7 @@
 const BUSY = 250, SLOW = 1000, WAIT = "busy ..";
 const BEFORE = ["progress", "answers", "run"];      // the parts of what the worker says that are followed by another one
 const OF_WORKER = {forms: facts.forms, causes: facts.causes, assembly: facts.assembly, statuses: facts.statuses, calls: facts.calls, vectors: facts.vectors};
-const pending = {asked: null, next: null, since: 0};
+const pending = {asked: null, waiting: [], since: 0};  // of what waits the newest of each kind
 let worker = null, compiled = null, number = 0;
 let sent = null;                                   // the text that the worker has
 
@@ -16,19 +16,21 @@ function startWorker() {
   sent = pending.asked = null;
 }
 
+const isOfText = ({act}) => act === "script" || act === ASSEMBLY;
+
 // Asks for something. What is under way is waited for, and given up where it takes too long
 function ask(what) {
-  pending.next = what;
+  pending.waiting = [...pending.waiting.filter(other => isOfText(what) ? !isOfText(other) : other.act !== what.act), what];
   if (pending.asked && performance.now() - pending.since > SLOW && what.act !== "check") startWorker();
   if (!pending.asked) askNext();
 }
 
 function askNext() {
-  const what = pending.next;
+  const what = pending.waiting.shift();
   if (!what) return;
-  Object.assign(pending, {asked: {...what, id: ++number}, next: null, since: performance.now()});
+  Object.assign(pending, {asked: {...what, id: ++number}, since: performance.now()});
   const told = {...pending.asked};
-  if (told.text !== undefined && (told.act === "script" || told.act === "assembly")) {
+  if (isOfText(told)) {
     const is = [told.act, told.steps, told.seed, typeof told.text].join(" ");
     if (sent && sent.is === is && sent.text === told.text) delete told.text; else sent = {is, text: told.text};
   }

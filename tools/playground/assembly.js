@@ -19,7 +19,7 @@ function wrongOperand(words, line) {
   const wrong = operands.find(([, word], k) => k < due.length && !takes[due[k]](word));
   if (wrong) return [wrong[0], quoted(wrong[1]) + " isn't " + facts.assembly.called[due[operands.indexOf(wrong)]] + hint(wrong[1])];
   const column = operands.length > due.length ? operands[due.length][0] : encoder.encode(line).length + 1;
-  return [column, name + " has " + due.length + " operands, and here are " + operands.length];
+  return [column, name + " has " + andHere(due.length, "operand", operands.length)];
 }
 
 function wrongRange(words) {
@@ -55,12 +55,6 @@ function judgeAssembly(lines, place, kind) {
   const judges = {operand: wrongOperand, range: wrongRange, label: wrongName, twice: wrongTwice, size: () => [1, "the page has 1024 words"]};
   const isFar = kind === "range" && facts.assembly.distances.includes(words[0][1]) && !SIGNED.test(last);
   return cause(isFar ? "asm distance" : "asm " + kind, ...judges[kind](words, line));
-}
-
-// What is said of a line that isn't assembled
-function explainedAssembly(lines, place, kind) {
-  const found = judgeAssembly(lines, place, kind), isOfKind = found.name.startsWith("asm"), row = facts.causes[found.name];
-  return {place, column: found.column, here: found.here, rule: row[isOfKind ? 1 : 0], why: isOfKind ? "" : row[1], act: row[2] || ""};
 }
 
 // Words like another one: the likeness is twice the letters of common pieces by all letters

@@ -19,13 +19,19 @@ class Engine {
     return this.made;
   }
 
+  // Where bytes are in the memory, for one call
+  put(made, bytes) {
+    const at = made.room(bytes.length) >>> 0;
+    new Uint8Array(made.memory.buffer).set(bytes, at);
+    return at;
+  }
+
   // A run of `words`, which reads by `read(buffer)` and writes by `write(bytes)`: its status.
   command(words, read, write) {
     Object.assign(this, {read, write});
-    const made = this.instance(), head = encoder.encode(words), at = made.room(head.length) >>> 0;
-    new Uint8Array(made.memory.buffer).set(head, at);
+    const made = this.instance(), head = encoder.encode(words);
     try {
-      return made.run(at, head.length);
+      return made.run(this.put(made, head), head.length);
     } catch (failed) {
       this.made = null;
       if (!(failed instanceof WebAssembly.RuntimeError)) throw failed;
@@ -37,15 +43,20 @@ class Engine {
   judge(request) {
     const written = new Written();
     this.write = bytes => written.take(bytes);
-    const made = this.instance(), bytes = encoder.encode(request), at = made.room(bytes.length) >>> 0;
-    new Uint8Array(made.memory.buffer).set(bytes, at);
+    const made = this.instance(), bytes = encoder.encode(request);
     try {
-      made.judge(at, bytes.length);
+      made.judge(this.put(made, bytes), bytes.length);
     } catch (failed) {
       this.made = null;
       throw failed;
     }
     return decoder.decode(written.bytes());
+  }
+
+  // The first step of an image's run, from `from` on and before `end`, that runs a word of a frame; -1 where none does
+  reach(image, seed, from, end, frame, index) {
+    const made = this.instance();
+    return made.reach(this.put(made, image), image.length, seed, from, end, frame, index);
   }
 
   // The words of frames, from `first` on, of the machine that the last run handed back, one frame after the other

@@ -34,17 +34,20 @@ function judgeNumber([column, word]) {
 }
 
 function judgeName(name) {
-  if (!Object.hasOwn(facts.forms, name)) {
-    return /[A-Z]/.test(name) ? cause("case", 1, quoted(name) + " has a letter in upper case") : cause("form", 1, "no line begins with " + quoted(name));
-  }
-  return null;
+  if (Object.hasOwn(facts.forms, name)) return null;
+  if (/[A-Z]/.test(name)) return cause("case", 1, quoted(name) + " has a letter in upper case");
+  const near = closest(name, Object.keys(facts.forms)).join(" or ");
+  return cause("form", 1, "no line begins with " + quoted(name) + (near ? "; did you mean " + near + "?" : ""));
 }
+
+// `2 numbers, and here is 1`
+const andHere = (due, what, count) => due + " " + what + (due === 1 ? "" : "s") + ", and here " + (count === 1 ? "is 1" : count ? "are " + count : "is none");
 
 function judgeCount(name, operands, end) {
   const form = facts.forms[name], least = name === "call" ? 2 : form.length, most = name === "call" ? 7 : form.length;
   if (least <= operands.length && operands.length <= most) return null;
   const column = operands.length > most ? operands[most][0] : end + 1;
-  return cause("count", column, name + " has " + (least === most ? least : least + " to " + most) + " numbers, and here are " + operands.length);
+  return cause("count", column, name + " has " + andHere(least === most ? least : least + " to " + most, "number", operands.length));
 }
 
 function judgeBoot([column, word], k) {
@@ -76,9 +79,10 @@ function judge(lines, place) {
   return firstOf(limits.map((limit, k) => judgeValue(operands[k], limit, Number(booted.split(" ")[2]))));
 }
 
-// What is said of a bad line: place, what is there, the rule, why, and what to do
-function explained(lines, place) {
-  const found = judge(lines, place), [rule, why, act] = found ? facts.causes[found.name] : ["", "", ""];
-  return found ? {place, column: found.column, here: found.here, rule, why, act: act || ""} :
-    {place, column: null, here: "the program refuses this line", rule: "", why: "", act: ""};
+// What is said of a bad line: its place, what is there, the rule, and what to do. Of a text that is assembled the program says the kind
+function explained(lines, place, kind = "") {
+  const found = kind ? judgeAssembly(lines, place, kind) : judge(lines, place);
+  if (!found) return {place, column: null, here: "the program refuses this line", rule: "", act: ""};
+  const [, rule, act] = facts.causes[found.name];
+  return {place, column: found.column, here: found.here, rule, act: act || ""};
 }

@@ -1,28 +1,31 @@
 // An exercise, and what the judge says of the text.
 "use strict";
-const exerciseOf = name => facts.exercises.find(exercise => exercise.name === name);
+const exerciseOf = () => examples.find(({name, exercise}) => exercise && name === by("choice").value);
+const isPart = () => Boolean((exerciseOf() || {}).isPart);
+const chosenExercise = () => (exerciseOf() || {}).exercise;
 
-let begun = null;                                  // the text of an exercise, as it was taken
-
-// Takes an exercise, for the text that is there or for the one with which it begins
-function chooseExercise(name) {
-  by("exercise").value = name;
-  by("of-exercise").hidden = !name;
+// What the chosen exercise asks for, beside the text; with the numbers of the student who is named
+function drawExercise() {
+  const found = exerciseOf();
+  by("exercise").hidden = !found;
   fill("verdict");
+  if (!found) return;
+  drawTask(found.task);
+  if (valueOf("student")) ask({act: "retell", name: found.exercise, text: found.task, seed: valueOf("student")});
 }
 
-// The exercise's text with the numbers of the student who is named, as long as nothing was added to it
-function retell() {
-  const name = by("exercise").value, found = facts.examples.find(({exercise}) => name && exercise === name);
-  fill("verdict");
-  if (found && by("text").value === begun) ask({act: "retell", name, text: found.text, seed: by("student").value.trim()});
+// Paragraphs, with code and what is stressed
+function drawTask(text) {
+  const stressed = part => part.split("**").flatMap((piece, k) => k % 2 ? make("b", piece) : piece.split("*").map((word, j) => j % 2 ? make("i", word) : word));
+  const inside = text => withCode(text).flatMap(part => typeof part === "string" ? stressed(part) : [part]);
+  fill("task", make("h2", chosenExercise()), ...text.split("\n\n").map(part => make("p", ...inside(part))));
 }
 
 function judgeText() {
-  const name = by("exercise").value;
-  if (!name || large) return;
-  by("kind").value = exerciseOf(name).kind;
-  ask({act: "judge", name, text: by("text").value, seed: by("student").value.trim()});
+  const found = exerciseOf();
+  if (!found || large) return;
+  by("kind").value = found.kind;
+  ask({act: "judge", name: found.exercise, text: by("text").value, seed: valueOf("student")});
 }
 
 // What was refused or parked: of a script line, text and answer, of a run step, processor, partition, address and line
@@ -45,8 +48,4 @@ function drawVerdict(told) {
     fill("verdict", make("h2", head + count + " of " + told.goals.length + " goals are reached"), make("ul", ...rows), ...remarks.map(remark => make("p", remark)));
   }
   say(told.goals && told.goals.every(({good}) => good) ? "all goals are reached" : "judged", false);
-}
-
-function fillExercises() {
-  by("exercise").append(...facts.exercises.map(({name}) => new Option(name)));
 }

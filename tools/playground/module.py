@@ -58,10 +58,10 @@ def build(place: Path, compiler: compilers.Compiler) -> Path:
     return target / compilers.TARGET / "release" / f"{NAME}.wasm"
 
 
-def own_files() -> "dict[str, str]":
+def own_files() -> dict[str, str]:
     """The files of the module's crate."""
-    manifest = workspace.PACKAGE.format(name=NAME) + "\n" + (HERE / "module"
-                                                             / "manifest.toml").read_text(encoding="utf-8")
+    sources = HERE / "module"
+    manifest = workspace.PACKAGE.format(name=NAME) + "\n" + (sources / "manifest.toml").read_text(encoding="utf-8")
     return {"module/Cargo.toml": manifest,
-            "module/src/lib.rs": (HERE / "module" / "src" / "lib.rs").read_text(encoding="utf-8"),
+            **{f"module/src/{path.name}": path.read_text(encoding="utf-8") for path in (sources / "src").glob("*.rs")},
             "module/LICENSE": (REPOSITORY / "LICENSE").read_text(encoding="utf-8")}

@@ -6,9 +6,9 @@ from __future__ import annotations
 import argparse
 import base64
 import gzip
+import json
 import re
 import tempfile
-import textwrap
 from pathlib import Path
 from collections.abc import Iterator
 from typing import Any
@@ -26,7 +26,6 @@ REPOSITORY = HERE.parent.parent
 EXAMPLES = REPOSITORY / "examples"
 FIRST = "first.pip"
 MOST_EDITED = 1 << 18          # bytes; a longer text is run, and not shown
-WIDTH = 100                    # of an exercise's lines
 BEGINNING = ".frames 64\n.cpus 1\n.page 0x400000\n"      # without these lines a program is refused
 
 
@@ -57,9 +56,14 @@ def write(to: Path, made: Path | None, debian: Path | None) -> None:
 
 
 def written(binary: bytes) -> str:
-    packed = base64.b64encode(gzip.compress(binary, mtime=0)).decode()
-    told = {"/* facts */": page.as_data(facts()), "/* module */": packed}
+    texts = json.dumps([*examples(), *exercises()]).encode()
+    told = {"/* facts */": page.as_data(facts()), "/* examples */": packed(texts), "/* module */": packed(binary)}
     return re.sub(r"(?m)^ *// .*\n", "", page.filled("page.html", [str(HERE), page.HERE], told))     # remarks stay here
+
+
+def packed(content: bytes) -> str:
+    """As the page unpacks it: zipped, in the letters of base64."""
+    return base64.b64encode(gzip.compress(content, mtime=0)).decode()
 
 
 def facts() -> dict[str, Any]:
@@ -68,9 +72,7 @@ def facts() -> dict[str, Any]:
     forms = {name.decode(): list(form) for name, form in {**script.FORMS, **further}.items()}
     return {"statuses": list(meanings.statuses().values()), "calls": page.told_calls(), "vectors": meanings.vectors(),
             "forms": forms,
-            "causes": meanings.causes(), "assembly": of_assembly(), "ends": ends(),
-            "examples": [*examples(), *exercises()], "most": MOST_EDITED,
-            "exercises": [{"name": told["exercise"], "kind": told["kind"]} for told in exercises()]}
+            "causes": meanings.causes(), "assembly": of_assembly(), "ends": ends(), "most": MOST_EDITED}
 
 
 def of_assembly() -> dict[str, Any]:
@@ -119,21 +121,16 @@ def example(path: Path) -> dict[str, str]:
     return {**made, "words": words, "out": out}
 
 
-def exercises() -> Iterator[dict[str, str]]:
-    """Each exercise as remarks, to begin with; of a program with the lines that each has."""
+def exercises() -> Iterator[dict[str, str | bool]]:
+    """Each exercise with what it asks, and the text with which one begins: of a program the lines that each has. Some
+    scripts are a part of what the judge runs.
+    """
     for name, told in exercise.sections().items():
         solution = next(EXAMPLES.joinpath("solutions").glob(f"{name}.*"), None)
         if solution is None:
             raise Failed(f"docs/EXERCISES.md has the exercise {name}, and examples/solutions has none of it")
         is_script = solution.suffix == ".pip"
-        yield {"name": "exercise " + name, "exercise": name, "group": "Exercises", "kind": "script"
-               if is_script else "assembly",
-               "text": remarks(name, told.partition("\n")[2]) + ("" if is_script else BEGINNING)}
-
-
-def remarks(name: str, told: str) -> str:
-    lines = [f"Exercise {name}"]
-    for part in told.strip().split("\n\n"):
-        plain = re.sub(r"\[([^\]]*)\]\([^)]*\)", r"\1", part)
-        lines += plain.split("\n") if part.startswith(("    ", "|", "-")) else textwrap.wrap(plain, WIDTH)
-    return "".join(f"# {line}".rstrip() + "\n" for line in lines)
+        yield {"name": "exercise " + name, "exercise": name, "group": "Exercises",
+               "kind": "script" if is_script else "assembly", "text": "" if is_script else BEGINNING,
+               "isPart": is_script and "\nboot " not in solution.read_text(encoding="utf-8"),
+               "task": meanings.plain(told.partition("\n")[2].strip())}

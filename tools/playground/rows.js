@@ -1,22 +1,30 @@
 // What is said of the text, and the rows beside it: the answers to the lines of a script, or the lines of a run.
 "use strict";
 const STATUSES = facts.ends, NEAR = 5, MORE = 10;       // rows above those in view, and more than are in view
-let shown = {lines: [], answers: [], bad: null, run: null};
+const NOTHING = {lines: [], answers: [], answered: [], why: null, run: null};   // `answered` are the lines that have an answer
+let shown = NOTHING;
 let ended = ["", false];                                // what was said of the text
+let typed = null;                                       // the line in which something was typed last
 
-function say(text, refused = false) {
+function say(text, isRefused = false) {
   fill("status", text);
-  by("status").classList.toggle("refused", refused);
+  by("status").classList.toggle("refused", isRefused);
 }
 function sayStatus(status, more = "") {
   ended = ["status " + status + ": " + STATUSES[status] + more, status !== 0];
+  if (isPart()) ended = ["the judge runs these lines, on a machine of its own", false];
+  else if (isHalfTyped()) ended = ["line " + typed + " isn't whole yet: " + shown.why.here, false];
   say(...ended);
 }
 
-function explain(why) {
+// Whether the bad line is the one that is being typed: nothing is red until the cursor leaves it
+const isHalfTyped = (why = shown.why) => why !== null && why.place === typed && cursorLine() === typed;
+
+function explain() {
+  const why = isHalfTyped() ? null : shown.why;
   if (!why) { fill("why"); return; }
   const place = "line " + why.place + (why.column === null ? "" : ", column " + why.column);
-  const told = [["", place + ": " + why.here], ["rule: ", why.rule], ["why: ", why.why], ["what to do: ", why.act]];
+  const told = [["", place + ": " + why.here], ["rule: ", why.rule], ["what to do: ", why.act]];
   fill("why", ...told.filter(([, text]) => text).map(([head, text]) => make("p", head, ...withCode(text))));
 }
 
@@ -29,21 +37,28 @@ const cursorLine = () => by("text").value.slice(0, by("text").selectionStart).sp
 // Of a row of a run: after how many steps the state is that it leads to; null for its first and last line
 const countAfter = row => /^\d/.test(row) ? Number(row.split(" ")[0]) + 1 : null;
 
+// The place among the lines with an answer of the one at the cursor: the last one up to there, or the first
+function answeredHere() {
+  const line = cursorLine(), next = shown.answered.findIndex(answered => answered > line);
+  return Math.max(0, (next < 0 ? shown.answered.length : next) - 1);
+}
+
 // The row of the state that is shown: the one at the cursor, or the last one up to the chosen step
 function rowHere() {
-  if (!shown.run) return cursorLine() - 1;
+  if (!shown.run) return shown.answered.length ? shown.answered[answeredHere()] - 1 : -1;
   return shown.run.findLastIndex(row => countAfter(row) !== null && countAfter(row) <= chosenCount());
 }
 
 function rowOf(k, here) {
   const line = shown.run ? "" : shown.lines[k] || "", answer = shown.run ? shown.run[k] : shown.answers[k] || "";
-  const bad = !shown.run && shown.bad === k + 1, text = bad ? "bad line " + shown.bad : answer;
-  const said = answer ? means(line, answer) : "";
-  const made = make("div.row", make("span.at", !shown.run && (answer || bad) ? (k + 1) + ": " : ""), make("b", text), make("span.means", said ? "   " + said : ""));
+  const isBad = !shown.run && shown.why !== null && shown.why.place === k + 1 && !isHalfTyped(), text = isBad ? "bad line " + (k + 1) : answer;
+  const said = answer ? means(line, answer) : "", brief = k === here ? said : answer ? means(line, answer, true) : "";
+  const made = make("div.row", make("span.at", !shown.run && text ? (k + 1) + ": " : ""), make("b", text), make("span.means", brief ? "   " + brief : ""));
   made.classList.toggle("here", k === here);
-  made.classList.toggle("bad", bad);
-  made.classList.toggle("refused", bad || /(^|\s)(reply [1-9]|park)/.test(answer));
-  if (shown.run) made.dataset.row = k;
+  made.classList.toggle("bad", isBad);
+  made.classList.toggle("refused", isBad || /(^|\s)(reply [1-9]|park)/.test(answer));
+  made.title = said;
+  made.dataset.row = k;
   return made;
 }
 
@@ -70,18 +85,33 @@ function drawRows(isNew) {
   }));
 }
 
-// Brings the row of the chosen step into view
-function scrollToRow() {
-  const height = rowHeight(), view = by("answers"), top = rowHere() * height;
-  if (top < view.scrollTop) view.scrollTop = Math.max(0, top);
-  else if (top + height > view.scrollTop + view.clientHeight - height) view.scrollTop = top + 2 * height - view.clientHeight;
-  drawRows(false);
+// Brings a line of the text, or a row beside it, into view
+function bringIntoView(id, line) {
+  const height = rowHeight(), view = by(id), top = (line - 1) * height;
+  if (top < view.scrollTop || top + 2 * height > view.scrollTop + view.clientHeight) view.scrollTop = Math.max(0, top - view.clientHeight / 2);
 }
 
-// Text, numbers and answers scroll together; a run's lines are no lines of the text
+// The row of the state, which may have several lines, in view whole
+function showRow() {
+  if (!shown.run && areBeside()) return;
+  bringIntoView("answers", rowHere() + 1);
+  drawRows(false);
+  const row = document.querySelector(".row.here"), view = by("answers");
+  if (row && row.offsetTop + row.offsetHeight > view.scrollTop + view.clientHeight) view.scrollTop = row.offsetTop;
+}
+
+const areBeside = () => by("text").offsetTop === by("answers").offsetTop;
+
+// Marks a line of the text, or none
+function mark(line) {
+  by("text").style.setProperty("--line", line === null ? -2 : line);
+  by("text").dataset.marked = line === null ? "" : line;
+}
+
+// Text and numbers scroll together, and answers that are beside the text; a run's lines are no lines of the text
 function scrolled(from) {
   const to = from === "text" ? "answers" : "text", top = by(from).scrollTop;
-  if (!shown.run && Math.abs(by(to).scrollTop - top) > 1) by(to).scrollTop = top;
+  if (!shown.run && areBeside() && Math.abs(by(to).scrollTop - top) > 1) by(to).scrollTop = top;
   by("numbers").scrollTop = by("text").scrollTop;
   drawRows(false);
 }

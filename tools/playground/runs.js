@@ -40,18 +40,20 @@ function processorOf(seed, step, cpus) {
   return (s >>> 0) % cpus;
 }
 
+// The machine after `count` steps, and its state, which `known` may have
+function stateAt(engine, image, count, seed, known) {
+  const key = [count, seed].join(" ");
+  if (known.image !== image) Object.assign(known, {image, states: new Map()});
+  if (!known.states.has(key)) {
+    const machine = machineAfter(engine, image, count, seed);
+    known.states.set(key, {machine, state: stateOfMachine(machine)});
+  }
+  return {key, ...known.states.get(key)};
+}
+
 // The data of the state after `count` steps, with the one before it. `known` keeps the one before, for the next step
 function stateOfRun(engine, text, image, count, seed, chosen, known) {
-  const told = [];
-  const states = (count ? [count - 1, count] : [0]).map(at => {
-    const key = [at, seed].join(" ");
-    if (known.image !== image) Object.assign(known, {image, states: new Map()});
-    if (!known.states.has(key)) {
-      const machine = machineAfter(engine, image, at, seed);
-      known.states.set(key, {machine, state: stateOfMachine(machine)});
-    }
-    return {key, ...known.states.get(key)};
-  });
+  const told = [], states = (count ? [count - 1, count] : [0]).map(at => stateAt(engine, image, at, seed, known));
   known.states = new Map(states.map(({key, machine, state}) => [key, {machine, state}]));
   if (count) told.push(head(count - 1), {...head(count), ...turn(states, text, seed)});
   else told.push(head(0));
@@ -69,7 +71,7 @@ function turn([{machine: before, state}, {machine: now}], text, seed) {
   if (!fetched) return {...told, did: "processor " + cpu + ": " + withoutInstruction(answer)};
   const source = sourceAt(text, state.tree, fetched), where = source.label ? " " + source.label : "";
   return {...told, did: "processor " + cpu + ", partition " + name + ", " + hexOf(before.registers[cpu][16]) + where + ": " + instructionText(fetched.word),
-    remarks: source.place ? ["line " + source.place + " of the text"] : []};
+    line: source.place, remarks: source.place ? ["line " + source.place + " of the text"] : []};
 }
 
 // Whether a step's line says that an interrupt line was taken
@@ -118,6 +120,15 @@ function pagesOf(text) {
     else if (page) page.places[at++] = k + 1;
   });
   return pages;
+}
+
+// Where the machine has the first word of the text that is from `line` or one below it; null where there is none
+function placeOf(engine, {text, image, seed}, line, known) {
+  const {tree: [root]} = stateAt(engine, image, 0, Number(seed), known).state;
+  const found = [...pagesOf(text)].flatMap(([page, {places}]) => places.map((place, index) => ({page, index, line: place})));
+  const [first] = found.filter(place => place.line >= line).sort((a, b) => a.line - b.line);
+  const row = first && root.rows.find(row => row[0] === first.page);
+  return row ? {frame: frameIn(row[1]), ...first} : null;
 }
 
 // The line that a word of a frame is from, and the nearest name at or before it: the root has the text's pages where the text has them

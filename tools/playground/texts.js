@@ -1,19 +1,26 @@
-// Where a text comes from and goes to: the examples, files, and the address of the page.
+// Where a text comes from and goes to: the examples, files, the address of the page, and what the browser keeps.
 "use strict";
+const KEPT = "the texts of the page of pip", OWN = "";
+let examples = [];                                 // what there is to choose from
 let large = null;                                  // the bytes of a file that is too long to be edited
+let taken = "";                                    // the text as it was taken, before something was typed
+let isKept = false;                                // whether what is shown is what the browser keeps
 
-function take(text, kind) {
-  large = null;
+function take(text, kind, at = lastLine(text)) {
+  large = typed = null;
   by("text").disabled = false;
-  by("text").value = text;
-  by("text").setSelectionRange(0, 0);
+  by("text").value = taken = text;
+  by("text").setSelectionRange(at, at);
   by("text").scrollTop = by("answers").scrollTop = 0;
   by("kind").value = kind;
   by("count").value = "";
-  chosenPartition = 1;
-  chosenPage = chosenFrame = null;
+  isChosen = false;
+  fill("verdict");
   act();
 }
+
+// Where the last line ends that isn't blank
+const lastLine = text => text.replace(/(\n(#.*)?)*$/, "").length;
 
 function takeLarge(bytes, name) {
   large = bytes;
@@ -22,30 +29,88 @@ function takeLarge(bytes, name) {
   act();
 }
 
-function chooseExample(name) {
-  const found = facts.examples.find(example => example.name === name);
-  if (!found) return false;
-  by("choice").value = name;
-  chooseExercise(found.exercise || "");
-  const [, steps, seed] = /^run (\d+) (\d+)$/.exec(found.words) || [null, "1000", "1"];
+// What the browser keeps: a text of one's own, and one for each exercise. It may refuse to
+
+function works() {
+  try { return JSON.parse(localStorage.getItem(KEPT)) || {}; } catch (error) { return {}; }
+}
+
+function keep(more = {}) {
+  if (large) return;
+  const place = chosenExercise() || OWN, work = {text: by("text").value, kind: by("kind").value, steps: by("steps").value, seed: by("seed").value};
+  const all = {...works(), last: place, student: by("student").value, ["of " + place]: {...work, at: by("text").selectionStart, ...more}};
+  try { localStorage.setItem(KEPT, JSON.stringify(all)); } catch (error) { notice("this browser keeps no texts: save yours"); }
+}
+
+// Whether another text may take the place of the one that is kept there, and that is none of these; asks where it would be lost
+function mayReplace(...same) {
+  const old = works()["of " + (chosenExercise() || OWN)];
+  if (!old || old.isSaved || same.includes(old.text) || !old.text.trim()) return true;
+  return confirm("The text that you wrote here before isn't saved, and this one would take its place. Replace it?");
+}
+
+// Something was typed
+function edited() {
+  if (!isKept && !mayReplace(taken, by("text").value)) { take(taken, by("kind").value); return; }
+  if (!chosenExercise()) by("choice").value = OWN;
+  if (!isKept) history.replaceState(null, "", "#");
+  isKept = true;
+  typed = cursorLine();
+  fill("verdict");
+  notice("");
+  keep();
+  act();
+}
+
+function takeKept(work) {
+  by("steps").value = work.steps;
+  by("seed").value = work.seed;
+  take(work.text, work.kind, work.at);
+  isKept = true;
+}
+
+// Goes on where the browser has kept a text, or begins with the first example
+function goOn() {
+  const all = works(), name = all.last ? "exercise " + all.last : OWN;
+  by("student").value = all.student || "";
+  if (all.last === undefined || !chooseText(name)) chooseText(examples[0].name);
+}
+
+// Chooses an example, an exercise, or one's own text; answers whether there is such a one
+function chooseText(name) {
+  const found = examples.find(example => example.name === name || example.exercise === name), work = works()["of " + (found ? found.exercise : OWN)];
+  if (!found && name !== OWN) return false;
+  by("choice").value = found ? found.name : OWN;
+  drawExercise();
+  isKept = false;
+  if (work) takeKept(work);
+  else takeExample(found || {text: "", kind: "script"});
+  return true;
+}
+
+function takeExample({text, kind, words}) {
+  const [, steps, seed] = /^run (\d+) (\d+)$/.exec(words) || [null, "1000", "1"];
   by("steps").value = steps;
   by("seed").value = seed;
-  take(found.text, found.kind);
-  begun = found.exercise ? found.text : null;
-  if (begun && by("student").value.trim()) retell();
-  return true;
+  take(text, kind);
 }
 
 async function opened() {
   const [file] = by("open").files;
   if (!file) return;
-  by("choice").value = "";
   const bytes = new Uint8Array(await file.arrayBuffer()), kind = file.name.endsWith(".s") ? ASSEMBLY : "script";
+  const text = new TextDecoder("utf-8", {ignoreBOM: true}).decode(bytes);
+  by("open").value = "";
+  if (chosenExercise() && !mayReplace(text)) return;
+  if (!chosenExercise()) by("choice").value = OWN;
+  isKept = false;
   if (bytes.length > facts.most) {
     by("kind").value = "script";
     takeLarge(bytes, file.name);
-  } else take(new TextDecoder("utf-8", {ignoreBOM: true}).decode(bytes), kind);
-  by("open").value = "";
+  } else take(text, kind);
+  if (!chosenExercise() || large) return;
+  isKept = true;
+  keep();
 }
 
 function download(content, name) {
@@ -56,7 +121,10 @@ function download(content, name) {
   setTimeout(() => URL.revokeObjectURL(link.href), 1000);
 }
 
-function save() { download(large || by("text").value, by("kind").value === ASSEMBLY ? "program.s" : "script.pip"); }
+function save() {
+  download(large || by("text").value, isAssembly() ? "program.s" : "script.pip");
+  if (isKept) keep({isSaved: true});
+}
 function saveImage() { if (shown.image) download(shown.image, "program.img"); }
 
 // A text in an address: its kind, and its bytes in the letters of base64 that an address may have
@@ -77,26 +145,45 @@ function link() {
   copied.then(() => say("the address of this page holds the text, and was copied"), () => say("the address of this page holds the text"));
 }
 
-// Begins with what the address says: a text, an example, or a check of all of them
+function notice(text) { fill("notice", text); }
+
+// Begins with what the address says: a text, an example, an exercise, or a check of all examples
 function fromAddress() {
-  const told = location.hash.slice(1), [kind, text] = told.split("=");
+  const told = location.hash.slice(1);
+  notice("");
   if (told === "check") {
     say("checking ..");
-    ask({act: "check", examples: facts.examples.filter(example => example.out !== undefined)});
+    ask({act: "check", examples: examples.filter(example => example.out !== undefined)});
     return;
   }
+  const wrong = told ? wrongAddress(told) : "";
+  if (told && !wrong) return;
+  goOn();
+  notice(wrong);
+}
+
+// Takes what an address names; says what is wrong with it otherwise
+function wrongAddress(told) {
+  const [kind, text] = told.split("=");
   try {
-    if (text !== undefined && (kind === "script" || kind === ASSEMBLY)) { take(unpacked(text), kind); return; }
+    if (text === undefined || kind !== "script" && kind !== ASSEMBLY) {
+      const name = decodeURIComponent(told);
+      return chooseText(name) ? "" : "the address of this page ends with #" + name + ", and no example and no exercise is called so";
+    }
+    const found = unpacked(text);
+    chooseText(OWN);
+    take(found, kind);
+    isKept = false;
+    return "";
   } catch (error) {
-    say("the link holds no text", true);
+    return "the address of this page ends with #" + told.slice(0, 40) + ", and holds no text: is it cut?";
   }
-  if (!chooseExample(decodeURIComponent(told))) chooseExample(facts.examples[0].name);
 }
 
 function fillChoice() {
-  const groups = [...new Set(facts.examples.map(({group}) => group))];
-  fill("choice", new Option("your own", ""), ...groups.map(name => {
-    const made = make("optgroup", ...facts.examples.filter(({group}) => group === name).map(example => new Option(example.name)));
+  const groups = [...new Set(examples.map(({group}) => group))];
+  fill("choice", new Option("your own", OWN), ...groups.map(name => {
+    const made = make("optgroup", ...examples.filter(({group}) => group === name).map(example => new Option(example.exercise || example.name, example.name)));
     made.label = name;
     return made;
   }));

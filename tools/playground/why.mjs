@@ -11,7 +11,7 @@ globalThis.facts = JSON.parse(fs.readFileSync(known, "utf8"));
 
 function ofAssembly(text) {
     const found = /bad line (\d+) (\w+)\n$/.exec(decoder.decode(run(engine, "asm", text).bytes));
-    return found && explainedAssembly(linesOfText(decoder.decode(text)), Number(found[1]), found[2]);
+    return found && explained(linesOfText(decoder.decode(text)), Number(found[1]), found[2]);
 }
 
 function ofScript(text) {

@@ -24,23 +24,23 @@ function script({id, text, line, frame}) {
 }
 
 function shownOf({lines, answers, bad, status}) {
-  return {answers, bad, status, why: bad === null ? null : explained(lines, bad)};
+  return {answers, status, why: bad === null ? null : explained(lines, bad)};
 }
 
 function largeOf({status, bytes}) {
   return {part: "large", status, bytes, count: bytes.reduce((sum, byte) => sum + (byte === 10), 0)};
 }
 
-// The state of the last line up to `line` that has an answer
+// The state of the last line up to `line` that has an answer, or of the first one
 function stateOf(beside, line, frame) {
-  const k = beside.answered.filter(place => place <= line).length - 1;
-  return {state: k < 0 ? null : stateAfter(engine, beside, k, frame, known)};
+  const k = Math.max(0, beside.answered.filter(place => place <= line).length - 1);
+  return {state: beside.answered.length ? stateAfter(engine, beside, k, frame, known) : null};
 }
 
 // A text that is assembled and run, and the state after `count` of its steps, or after all
 function assembly({id, text, steps, seed, count, frame}) {
   if (text !== undefined) {
-    made = {text, ...assembled(text, steps, seed)};
+    made = {text, seed, ...assembled(text, steps, seed)};
     const {image, status, lines, why} = made;
     tell(id, {part: "run", image, status, why, count: made.count, lines: lines.slice(0, MOST_LINES), more: Math.max(0, lines.length - MOST_LINES)});
   }
@@ -50,10 +50,17 @@ function assembly({id, text, steps, seed, count, frame}) {
 
 function assembled(text, steps, seed) {
   const done = run(engine, "asm", encoder.encode(text)), found = /bad line (\d+) (\w+)\n$/.exec(decoder.decode(done.bytes));
-  const why = found && explainedAssembly(linesOfText(text), Number(found[1]), found[2]);
+  const why = found && explained(linesOfText(text), Number(found[1]), found[2]);
   if (done.status) return {image: null, status: done.status, lines: [], count: 0, why};
   const ran = run(engine, "run " + steps + " " + seed, done.bytes);
   return {image: done.bytes, status: ran.status, lines: linesOf(ran.bytes), count: Number(steps), why: null};
+}
+
+// After how many steps, more than `from`, the line has run that is at `line` or next below it
+function reach({line, from}) {
+  const place = made && made.image ? placeOf(engine, made, line, knownOfRun) : null;
+  const step = place && engine.reach(made.image, Number(made.seed), from, made.count, place.frame, place.index);
+  return {part: "reach", line: place && place.line, count: place && step >= 0 ? step + 1 : null};
 }
 
 // The names of the examples whose answers or traces aren't those that they have beside them
@@ -68,16 +75,13 @@ function check({examples}) {
 // What a text reaches of an exercise; a text that is refused is explained
 function judgeWork({name, text, seed}) {
   const found = judged(engine, name, text, seed);
-  if (found.refused) {
-    const lines = linesOfText(text);
-    found.why = found.kind ? explainedAssembly(lines, found.refused, found.kind) : explained(lines, found.refused);
-  }
+  if (found.refused) found.why = explained(linesOfText(text), found.refused, found.kind);
   return {part: "judge", ...found};
 }
 
-const retell = ({name, text, seed}) => ({part: "retell", text: retold(engine, name, text, seed)});
+const retell = ({name, text, seed}) => ({part: "retell", name, text: retold(engine, name, text, seed)});
 
-const acts = {script, assembly, check, judge: judgeWork, retell};
+const acts = {script, assembly, reach, check, judge: judgeWork, retell};
 onmessage = ({data}) => {
   if (data.act === "begin") {
     engine = new Engine(data.module);

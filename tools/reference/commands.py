@@ -19,9 +19,10 @@ from . import assembly, audit, every, image, native, runs, script, slots
 from .model import World
 
 USAGE = b"usage: pip script | run STEPS SEED | asm | dis | tree STEPS SEED | core STEPS SEED | soak COUNT SEED" \
-    b" | native N STEPS | slots N TURNS ROUNDS | audit FRAMES | every STATES [FROM [DEPTH]]\n"
+    b" | native N STEPS | slots N TURNS ROUNDS | slots N ROUNDS K:TURNS .. | audit FRAMES" \
+    b" | every STATES [FROM [DEPTH]]\n"
 Ended = tuple[bytes, int, Optional[World]]       # output and status, and the world that the command leaves
-OnImage = Callable[[image.Image, int, int], tuple[list[str], World]]
+OnImage = Callable[[image.Image], tuple[Iterable[str], Optional[World]]]
 MOST_STEPS, MOST_COUNT = 10000000, 1000000
 ON_IMAGES = {"run": runs.run, "tree": runs.tree, "core": runs.core}
 
@@ -56,15 +57,28 @@ def children_and_steps(words: Sequence[str]) -> tuple[int, int] | None:
     return given if given and 1 <= given[0] <= native.MOST_CHILDREN and given[1] <= MOST_STEPS else None
 
 
-def slots_of(words: Sequence[str]) -> tuple[int, int, int] | None:
-    """How many children, the turns of a slot, and the rounds, or None where the words don't say it."""
+def slots_of(words: Sequence[str]) -> tuple[int, slots.Round, int] | None:
+    """How many children, the slots of a round, and the rounds, or None where the words don't say it."""
     try:
-        n, turns, rounds = [script.number(word.encode()) for word in words]
+        if len(words) == 3 and ":" not in words[2]:
+            n, turns, rounds = [script.number(word.encode()) for word in words]
+            round = slots.in_turn(min(n, native.MOST_CHILDREN + 1), turns)
+        else:
+            n, rounds = [script.number(word.encode()) for word in words[:2]]
+            round = [given_slot(word) for word in words[2:]]
     except (ValueError, script.Bad):
         return None
-    if not 1 <= n <= native.MOST_CHILDREN or max(turns, rounds, slots.steps_of(n, turns, rounds)) > MOST_STEPS:
+    if not 1 <= n <= native.MOST_CHILDREN or not 1 <= len(round) <= slots.MOST_SLOTS:
         return None
-    return n, turns, rounds
+    if any(child >= n or turns > MOST_STEPS for child, turns in round):
+        return None
+    return (n, round, rounds) if max(rounds, slots.steps_of(round, rounds)) <= MOST_STEPS else None
+
+
+def given_slot(word: str) -> tuple[int, int]:
+    """The child and the turns of a slot that a word gives."""
+    child, turns = word.split(":")
+    return script.number(child.encode()), script.number(turns.encode())
 
 
 def search_of(words: Sequence[str]) -> tuple[int, int, int | None] | None:
@@ -96,7 +110,8 @@ def ended(words: Sequence[str], text: bytes) -> Ended:
     if words and words[0] in ON_IMAGES:
         given = numbers(words[1:], MOST_STEPS)
         if given:
-            return on_image(ON_IMAGES[words[0]], *given, text)
+            run, (count, seed) = ON_IMAGES[words[0]], given
+            return on_image(lambda machine: run(machine, count, seed), text)
     if words and words[0] == "soak":
         given = numbers(words[1:], MOST_COUNT)
         if given:
@@ -105,12 +120,12 @@ def ended(words: Sequence[str], text: bytes) -> Ended:
     if words and words[0] == "native":
         given = children_and_steps(words[1:])
         if given:
-            return of_children(functools.partial(native.native, n=given[0], count=given[1]), given[0], text)
+            return on_image(functools.partial(native.native, n=given[0], count=given[1]), text, given[0])
     if words and words[0] == "slots":
         shares = slots_of(words[1:])
         if shares:
-            n, turns, rounds = shares
-            return of_children(functools.partial(slots.slots, n=n, turns=turns, rounds=rounds), n, text)
+            n, round, rounds = shares
+            return on_image(functools.partial(slots.slots, n=n, round=round, rounds=rounds), text, n)
     if words and words[0] == "audit":
         frames = frames_of(words[1:])
         if frames:
@@ -119,7 +134,8 @@ def ended(words: Sequence[str], text: bytes) -> Ended:
     if words and words[0] == "every":
         asked = search_of(words[1:])
         if asked:
-            return searched(*asked, text)
+            states, first, deepest = asked
+            return on_image(lambda machine: (every.every(machine, states, first, deepest), None), text)
     return USAGE, 1, None
 
 
@@ -152,12 +168,15 @@ def dis(data: bytes) -> Ended:
     return in_lines(told), 0, None
 
 
-def on_image(command: OnImage, count: int, seed: int, data: bytes) -> Ended:
+def on_image(command: OnImage, data: bytes, children: int = 0) -> Ended:
+    """What a command says of an image, which has room for that many children."""
     try:
-        machine = image.read(data)
+        machine = image.read(data, native.frames_needed(children) if children else 0)
     except image.BadImage as bad:
         return in_lines([f"bad image {bad.kind} {bad.at}"]), 2, None
-    told, world = command(machine, count, seed)
+    except image.TooFew as few:
+        return in_lines([native.short_line(few.frames, children)]), 8, None
+    told, world = command(machine)
     return in_lines(told), 0, world
 
 
@@ -182,25 +201,6 @@ def typed(read: Callable[[], bytes], write: Callable[[bytes], object]) -> int:
 def shown(text: bytes) -> None:
     sys.stdout.buffer.write(text)
     sys.stdout.buffer.flush()
-
-
-def of_children(command: Callable[[image.Image], tuple[list[str], World]], n: int, data: bytes) -> Ended:
-    try:
-        machine = image.read(data, native.frames_needed(n))
-    except image.BadImage as bad:
-        return in_lines([f"bad image {bad.kind} {bad.at}"]), 2, None
-    except image.TooFew as few:
-        return in_lines([native.short_line(few.frames, n)]), 8, None
-    told, world = command(machine)
-    return in_lines(told), 0, world
-
-
-def searched(states: int, first: int, deepest: int | None, data: bytes) -> Ended:
-    try:
-        machine = image.read(data)
-    except image.BadImage as bad:
-        return in_lines([f"bad image {bad.kind} {bad.at}"]), 2, None
-    return in_lines(every.every(machine, states, first, deepest)), 0, None
 
 
 def main() -> None:

@@ -15,7 +15,7 @@ from typing import NamedTuple
 from .caches import Cache
 from .image import Image, world as image_world
 from .model import ROOT, Node, Row, Running, Table, Tree, World
-from .runs import Turn
+from .runs import Turn, first_line
 
 MOST_STATES, MOST = 100000000, 10000000          # at most so many states; turns before a line, and choices in a row
 SHAPING = (0, 1, 3, 4, 5, 6)                     # the calls that change more of partitions than whether they are masked
@@ -269,7 +269,7 @@ def last_line(search: Search) -> str:
 def every(image: Image, states: int, first: int, deepest: int | None) -> list[str]:
     moments = Moments(image, first)
     search = Search(moments, states, deepest)
-    told = [f"image {image.frames} {image.cpus} {len(image.plans)} {len(image.pages)}"]
+    told = [first_line(image)]
     for found in search.told():
         cpu, text = found.label
         told.append(f"{search.visits[found.at].depth} {cpu} {text}: {way_text(moments, search.way(found))}")

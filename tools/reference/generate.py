@@ -569,8 +569,13 @@ def case(command: str, seed: int) -> tuple[list[str], bytes]:
         return [command, str(n), str(count)], data
     if command == "slots":
         n, data = generate_native.case(seed)
-        turns = rng.choice((0, 1, 2, 5, 11, 30, 100))
-        return [command, str(n), str(turns), str(count // (n * (turns + 2)))], data
+        turns = (0, 1, 2, 5, 11, 30, 100)
+        if rng.random() < 0.5:
+            each = rng.choice(turns)
+            return [command, str(n), str(each), str(count // (n * (each + 2)))], data
+        round = [(rng.randrange(n), rng.choice(turns)) for _ in range(rng.randrange(1, 8))]
+        rounds = count // sum(each + 2 for _, each in round)
+        return [command, str(n), str(rounds), *(f"{child}:{each}" for child, each in round)], data
     return [command, str(count), str(start)], generate_programs.image_bytes(seed, 0.08)
 
 

@@ -5,10 +5,10 @@ from __future__ import annotations
 from collections.abc import Iterable
 from typing import NamedTuple
 
-from .image import Image, is_due, world as image_world
+from .image import Image, world as image_world
 from .model import (EXECUTE, HANDLERS, NOWHERE, PAGE, READ, ROOT, SAVED, WRITE, Done, Reply, Status, Switched, World,
                     pages_needed)
-from .runs import Turn
+from .runs import Turn, first_line, raise_lines
 from .script import word_text
 
 MOST_CHILDREN = 8
@@ -130,17 +130,19 @@ def decision_text(decision: Ran | Dropped) -> str:
 # The command
 
 
-def native(image: Image, n: int, count: int) -> tuple[list[str], World]:
-    """The text, line by line, of so many steps in which a monitor runs n children, and the last world."""
-    told = [f"image {image.frames} {image.cpus} {len(image.plans)} {len(image.pages)}"]
+def begun(image: Image, n: int) -> tuple[list[str], World, list[int]]:
+    """The first lines, the world of an image, and n children in it."""
     world = image_world(image)
     built = children(world, n)
-    told += [f"built {i} {word_text(address)}" for i, address in enumerate(built)]
+    return [first_line(image)] + [f"built {i} {word_text(address)}" for i, address in enumerate(built)], world, built
+
+
+def native(image: Image, n: int, count: int) -> tuple[list[str], World]:
+    """The text, line by line, of that many steps in which a monitor runs n children, and the last world."""
+    told, world, built = begun(image, n)
     monitor = Monitor(built)
     for step in range(count):
-        for plan in image.plans:
-            if is_due(plan, step):
-                world.raise_line(plan.line)
+        raise_lines(image, world, step)
         at = world.processors[0]
         if at is None or at.name != ROOT:
             Turn(world, 0, step, told.append).take()

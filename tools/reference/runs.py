@@ -117,14 +117,23 @@ class Turn:
         return [registers[operand] for operand in operands[1:]]
 
 
+def raise_lines(image: Image, world: World, step: int) -> None:
+    """What an image's plans raise before a step."""
+    for plan in image.plans:
+        if is_due(plan, step):
+            world.raise_line(plan.line)
+
+
+def first_line(image: Image) -> str:
+    return f"image {image.frames} {image.cpus} {len(image.plans)} {len(image.pages)}"
+
+
 def steps(image: Image, count: int, seed: int, told: Callable[[str], object]) -> World:
-    """The world after so many steps of an image."""
+    """The world after that many steps of an image."""
     world = image_world(image)
     generator = Generator(seed)
     for step in range(count):
-        for plan in image.plans:
-            if is_due(plan, step):
-                world.raise_line(plan.line)
+        raise_lines(image, world, step)
         Turn(world, generator.draw(image.cpus), step, told).take()
     return world
 
@@ -133,7 +142,7 @@ def steps(image: Image, count: int, seed: int, told: Callable[[str], object]) ->
 
 
 def run(image: Image, count: int, seed: int) -> tuple[list[str], World]:
-    told = [f"image {image.frames} {image.cpus} {len(image.plans)} {len(image.pages)}"]
+    told = [first_line(image)]
     world = steps(image, count, seed, told.append)
     return told + [f"end {count}"], world
 

@@ -1,19 +1,29 @@
-"""Time slots of an image: children of the root are built as for `native`, and each has a slot of so many turns in turn.
+"""Time slots of an image: children of the root are built as for `native`, and have the slots of a round, again and
+again: each one slot of so many turns in turn, or those that are given.
 """
 
 from __future__ import annotations
 
-from .image import Image, world as image_world
+from collections.abc import Sequence
+
+from .image import Image
 from .model import NOWHERE, ROOT, SAVED, World
-from .native import children
+from .native import begun
 from .runs import Turn
-from .script import outcome_text, word_text
+from .script import outcome_text
 
 LINE = 0                 # the interrupt line that ends a slot
+MOST_SLOTS = 64          # in a round that is given
+
+Round = Sequence[tuple[int, int]]    # of each slot its child, counted from 0, and its turns
 
 
-def steps_of(n: int, turns: int, rounds: int) -> int:
-    return rounds * n * (turns + 2)
+def in_turn(n: int, turns: int) -> Round:
+    return [(child, turns) for child in range(n)]
+
+
+def steps_of(round: Round, rounds: int) -> int:
+    return rounds * sum(turns + 2 for _, turns in round)
 
 
 class Slots:
@@ -41,14 +51,11 @@ class Slots:
         self.step += turns + 2
 
 
-def slots(image: Image, n: int, turns: int, rounds: int) -> tuple[list[str], World]:
+def slots(image: Image, n: int, round: Round, rounds: int) -> tuple[list[str], World]:
     """The text, line by line, and the last world."""
-    told = [f"image {image.frames} {image.cpus} {len(image.plans)} {len(image.pages)}"]
-    world = image_world(image)
-    built = children(world, n)
-    told += [f"built {i} {word_text(address)}" for i, address in enumerate(built)]
+    told, world, built = begun(image, n)
     run = Slots(world, told)
     for _ in range(rounds):
-        for child in built:
-            run.slot(child, turns)
-    return told + [f"end {steps_of(n, turns, rounds)}"], world
+        for child, turns in round:
+            run.slot(built[child], turns)
+    return told + [f"end {steps_of(round, rounds)}"], world

@@ -6,9 +6,10 @@ const by = id => document.getElementById(id);
 const PAGE = 4096, MOST_ROWS = 200;
 const isRun = () => data.steps[0].told === "the beginning" || data.steps[0].told.startsWith("after step");
 let step = 0, chosenPartition = 1, chosenPage = null, chosenFrame = null;      // no frame: that of the page
+let isChosen = false;                                // by hand: then the views don't follow the line
 
 const hex = word => "0x" + (word >>> 0).toString(16).padStart(8, "0");
-const counted = (count, what) => count + " " + what + (count === 1 ? "" : "s");
+const counted = (count, what) => count + " " + what + (Number(count) === 1 ? "" : "s");
 const frameOf = word => Math.floor(word / PAGE);
 const treeOf = k => data.trees[data.steps[k].tree].map(place => data.partitions[place]);
 const nameOf = name => name === 1 ? "root, partition 1" : "partition " + name;
@@ -80,6 +81,46 @@ function callOf(now, before) {
   if (at < 0) return null;
   const place = before ? before.cpus[Number(answer[0])][1] : null;
   return callText(Number(answer[at + 1]), place === null ? null : data.registers[place].slice(1, 6));
+}
+
+// What a line or a step is about
+
+const INSTRUCTION = /^processor (\d), partition (\d+), 0x[^:]*: (.*)$/;
+
+// The partition that a line or a step is of, and the words that a script would have for it
+function deedOf(now, before) {
+  const words = now.told.split(" "), runner = cpu => before && before.cpus[cpu] ? before.cpus[cpu][0] : 0;
+  if (!isRun()) return [runner(words[1]), words];
+  const found = INSTRUCTION.exec(now.did || "");
+  if (!found) return [0, []];
+  const [, cpu, name, text] = found, registers = data.registers[before.cpus[cpu][1]], [word, ...operands] = text.split(" ");
+  if (/^(ld|st)[wb]$/.test(word)) return [Number(name), ["ld", cpu, registers[operands[1].slice(1)] + Number(operands[2])]];
+  return [Number(name), word === "sys" ? ["call", cpu, operands[0], ...registers.slice(1, 6)] : ["fetch", cpu]];
+}
+
+// Partitions with addresses, the one that tells most first
+function aimsOf(now, before, tree) {
+  const [runner, [name, ...words]] = deedOf(now, before), numbers = words.map(Number), runs = now.cpus[numbers[0]] || now.cpus[0];
+  const pc = runs[1] === null ? [] : [[runs[0], data.registers[runs[1]][16]]];
+  if (name === "peek") return tree.flatMap(x => x.rows.filter(row => frameOf(row[1]) === numbers[0]).map(row => [x.name, addressOf(row)]));
+  if (name === "boot" || runs[0] !== runner) return pc;
+  if (["ld", "lb", "st", "sb"].includes(name)) return [[runner, numbers[1]], ...pc];
+  return name === "call" ? [...callAims(runner, numbers[1], numbers.slice(2), tree), ...pc] : pc;
+}
+
+function callAims(runner, number, words, tree) {
+  const names = data.calls[number] ? data.calls[number][1] : [], of = name => words[names.indexOf(name)];
+  const child = tree.find(x => x.depth && x.up === runner && x.born === of("d"));
+  return [...(child ? [[child.name, of("cv")]] : []), [runner, of("v")], [runner, of("first")], [runner, words[0]]];
+}
+
+// Chooses the page that the line is about; of `peek` its frame, too
+function follow(now, before, tree) {
+  const aims = aimsOf(now, before, tree).map(([name, address]) => [tree.find(x => x.name === name), Math.floor(address / PAGE)]);
+  const [to, page] = aims.find(([x, page]) => x && rowAt(x, page)) || [];
+  if (to) [chosenPartition, chosenPage] = [to.name, page];
+  const [name, frame] = isRun() ? [] : now.told.split(" ");
+  chosenFrame = name === "peek" && Number(frame) < data.frames ? Number(frame) : null;
 }
 
 // The line and its answer in words
@@ -227,6 +268,7 @@ function pageRow(row, others, isChanged) {
 // The way from an address to its frame, as the MMU goes it
 function drawTranslation(partition) {
   const row = rowAt(partition, chosenPage);
+  by("follow").hidden = !isChosen;
   if (!row) {
     fill("translation-of", "Address translation");
     fill("figure", nameOf(partition.name) + " has no page here.");
@@ -259,8 +301,9 @@ function drawTranslation(partition) {
 // Draws the step with all that is chosen; what had the focus has it again
 function drawViews() {
   const now = data.steps[step], before = step ? data.steps[step - 1] : null, tree = treeOf(step);
-  let partition = tree.find(x => x.name === chosenPartition);
-  if (!partition) { partition = tree[0]; chosenPartition = 1; }
+  if (!tree.some(x => x.name === chosenPartition)) [chosenPartition, isChosen] = [1, false];
+  if (!isChosen) follow(now, before, tree);
+  const partition = tree.find(x => x.name === chosenPartition);
   if (!rowAt(partition, chosenPage)) chosenPage = partition.rows.length ? partition.rows[0][0] : null;
   const old = before ? treeOf(step - 1).find(x => x.name === partition.name) || {rows: []} : null;
   const focused = document.activeElement && document.activeElement.dataset.focus;
@@ -284,9 +327,15 @@ function scrollInside(outer, inner) {
     of.scrollTop = to.offsetTop - of.offsetTop - of.clientHeight / 2;
 }
 
-function choose(name) { chosenPartition = name; chosenPage = chosenFrame = null; draw(); }
-function choosePage(vpage) { chosenPage = vpage; chosenFrame = null; draw(); }
-function chooseFrame(frame) { chosenFrame = Math.max(0, Math.min(data.frames - 1, frame)); draw(); }
+function chooseView(partition, page, frame) {
+  [isChosen, chosenPartition, chosenPage, chosenFrame] = [true, partition, page, frame];
+  draw();
+}
+function choose(name) { chooseView(name, null, null); }
+function choosePage(vpage) { chooseView(chosenPartition, vpage, null); }
+function chooseFrame(frame) { chooseView(chosenPartition, chosenPage, Math.max(0, Math.min(data.frames - 1, frame))); }
+function followAgain() { isChosen = false; draw(); }
+by("follow").addEventListener("click", followAgain);
 function nextPartition(by) {
   const tree = treeOf(step), at = tree.findIndex(x => x.name === chosenPartition);
   choose(tree[(at + by + tree.length) % tree.length].name);

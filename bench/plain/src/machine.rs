@@ -247,9 +247,20 @@ impl<const LOGGED: bool> Machine<LOGGED> {
         }
     }
 
-    /// Saves what runs on a processor in its block for SAVED, if that can be saved to.
+    /// Enters a partition by a block, with these first registers.
+    fn enter(&mut self, cpu: usize, to: u32, place: u32, registers: [u32; 4]) {
+        let mut context = self.context_at(place);
+        context.registers[..4].copy_from_slice(&registers);
+        self.save(cpu);
+        self.processors[cpu] = Processor { part: to, context };
+    }
+
+    /// Saves what runs on a processor in its block for SAVED, if something runs there and that can be saved to.
     fn save(&mut self, cpu: usize) {
         let Processor { part, context } = self.processors[cpu];
+        if part == 0 {
+            return;
+        }
         if let Some(place) = self.save_place(part, SAVED) {
             self.put_context(place, &context);
         }
@@ -264,10 +275,7 @@ impl<const LOGGED: bool> Machine<LOGGED> {
         while below != ROOT {
             let taker = self.frames.get(below, PARENT);
             if let Some((place, _)) = self.block(taker, vector).filter(|_| !self.runs(taker)) {
-                let mut context = self.context_at(place);
-                context.registers[..4].copy_from_slice(&[vector, first, second, self.frames.get(below, BORN)]);
-                self.save(cpu);
-                self.processors[cpu] = Processor { part: taker, context };
+                self.enter(cpu, taker, place, [vector, first, second, self.frames.get(below, BORN)]);
                 return Outcome::Switched(Switch { from, to: taker, vector });
             }
             below = taker;
@@ -313,14 +321,9 @@ impl<const LOGGED: bool> Machine<LOGGED> {
         let pending = self.frames.get(ROOT, LINES);
         let lines = (0..16).filter(|line| pending >> line & 1 != 0);
         let (line, place) = lines.filter_map(|line| Some((line, self.block(ROOT, 32 + line)?.0))).next()?;
-        let mut context = self.context_at(place);
-        context.registers[..4].copy_from_slice(&[32 + line, 0, 0, 0]);
-        if from != 0 {
-            self.save(cpu);
-        }
+        self.enter(cpu, ROOT, place, [32 + line, 0, 0, 0]);
         self.frames.set(ROOT, LINES, pending & !(1 << line));
         self.frames.set(ROOT, FLAGS, 1);
-        self.processors[cpu] = Processor { part: ROOT, context };
         Some(Switch { from, to: ROOT, vector: 32 + line })
     }
 

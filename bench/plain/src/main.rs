@@ -28,11 +28,13 @@ use std::process::ExitCode;
 use output::{Input, Output};
 
 const USAGE: &str = "usage: pip script | run STEPS SEED | asm | dis | tree STEPS SEED | core STEPS SEED | \
-    soak COUNT SEED | native N STEPS | slots N TURNS ROUNDS | audit FRAMES | every STATES [FROM [DEPTH]]";
+    soak COUNT SEED | native N STEPS | slots N TURNS ROUNDS | slots N ROUNDS K:TURNS .. | \
+    audit FRAMES | every STATES [FROM [DEPTH]]";
 pub const MOST_STEPS: u32 = 10_000_000;
 const MOST_COUNT: u32 = 1_000_000;
 const MOST_STATES: u32 = 100_000_000;
 const MOST_CHILDREN: u32 = 8;
+const MOST_SLOTS: usize = 64;
 
 /// Why a command ends before it is done. What was held by then is written.
 pub enum Stop {
@@ -108,7 +110,7 @@ enum Command {
     Core(u32, u32),
     Soak(u32, u32),
     Native(u32, u32),
-    Slots(u32, u32, u32),
+    Slots(u32, Vec<slots::Slot>, u32),
     Audit(u32),
     Every(every::Bounds),
 }
@@ -124,13 +126,18 @@ fn done(command: Command, output: &mut Output) -> Result<(), Stop> {
         Command::Core(steps, seed) => runs::core(input, output, steps, seed),
         Command::Soak(count, seed) => soak::soak(output, count, seed),
         Command::Native(children, steps) => native::native(input, output, children, steps),
-        Command::Slots(children, turns, rounds) => slots::slots(input, output, children, turns, rounds),
+        Command::Slots(children, round, rounds) => slots::slots(input, output, children, &round, rounds),
         Command::Audit(frames) => audit::audit(input, output, frames),
         Command::Every(bounds) => every::every(input, output, bounds),
     }
 }
 
 fn command_of(words: &[String]) -> Option<Command> {
+    numbered(words).or_else(|| given_slots(words))
+}
+
+/// The command of a name and numbers.
+fn numbered(words: &[String]) -> Option<Command> {
     let (name, rest) = words.split_first()?;
     let numbers: Vec<u32> = rest.iter().map(|word| texts::number(word.as_bytes())).collect::<Option<_>>()?;
     Some(match (name.as_str(), numbers.as_slice()) {
@@ -143,14 +150,37 @@ fn command_of(words: &[String]) -> Option<Command> {
         ("soak", &[count @ 0..=MOST_COUNT, seed @ 1..=u32::MAX]) => Command::Soak(count, seed),
         ("native", &[children @ 1..=MOST_CHILDREN, steps @ 0..=MOST_STEPS]) => Command::Native(children, steps),
         ("slots", &[children @ 1..=MOST_CHILDREN, turns @ 0..=MOST_STEPS, rounds @ 0..=MOST_STEPS])
-            if slots::steps_of(children, turns, rounds) <= u64::from(MOST_STEPS) =>
+            if slots::steps_of(&slots::in_turn(children, turns), rounds) <= u64::from(MOST_STEPS) =>
         {
-            Command::Slots(children, turns, rounds)
+            Command::Slots(children, slots::in_turn(children, turns), rounds)
         }
         ("audit", &[frames @ 16..=4096]) => Command::Audit(frames),
         ("every", given) => Command::Every(bounds_of(given)?),
         _ => return None,
     })
+}
+
+/// The command `slots` with the slots of a round.
+fn given_slots(words: &[String]) -> Option<Command> {
+    let [name, children, rounds, slots @ ..] = words else {
+        return None;
+    };
+    if name != "slots" || !(1..=MOST_SLOTS).contains(&slots.len()) {
+        return None;
+    }
+    let (children, rounds) = (texts::number(children.as_bytes())?, texts::number(rounds.as_bytes())?);
+    let round: Vec<_> = slots.iter().map(|word| slot_of(children, word)).collect::<Option<_>>()?;
+    let is_good = (1..=MOST_CHILDREN).contains(&children)
+        && rounds <= MOST_STEPS
+        && slots::steps_of(&round, rounds) <= u64::from(MOST_STEPS);
+    is_good.then_some(Command::Slots(children, round, rounds))
+}
+
+/// A child below that many, a colon, and its turns.
+fn slot_of(children: u32, word: &str) -> Option<slots::Slot> {
+    let (child, turns) = word.split_once(':')?;
+    let (child, turns) = (texts::number(child.as_bytes())?, texts::number(turns.as_bytes())?);
+    (child < children && turns <= MOST_STEPS).then_some((child, turns))
 }
 
 fn bounds_of(numbers: &[u32]) -> Option<every::Bounds> {

@@ -30,10 +30,7 @@ pub fn script(input: &mut Input, output: &mut Output) -> Result<(), Stop> {
     let mut script = Script { output, world: None, lines: 0 };
     let mut taken = 0;
     loop {
-        while let Some(end) = newline(input.held()) {
-            script.judge(&input.held()[..end])?;
-            input.take(end + 1);
-        }
+        script.whole_lines(input)?;
         if input.held().len() > LONGEST {
             return script.judge(&input.held()[..=LONGEST]);
         }
@@ -49,12 +46,9 @@ pub fn script(input: &mut Input, output: &mut Output) -> Result<(), Stop> {
     }
 }
 
-/// So many bytes were read as an input may have: nothing may come after them.
+/// As many bytes were read as an input may have: nothing may come after them.
 fn at_limit(mut script: Script, input: &mut Input) -> Result<(), Stop> {
-    while let Some(end) = newline(input.held()) {
-        script.judge(&input.held()[..end])?;
-        input.take(end + 1);
-    }
+    script.whole_lines(input)?;
     let rest = input.held().to_vec();
     if rest.len() > LONGEST {
         return script.judge(&rest);
@@ -67,6 +61,14 @@ fn at_limit(mut script: Script, input: &mut Input) -> Result<(), Stop> {
 }
 
 impl Script<'_> {
+    fn whole_lines(&mut self, input: &mut Input) -> Result<(), Stop> {
+        while let Some(end) = newline(input.held()) {
+            self.judge(&input.held()[..end])?;
+            input.take(end + 1);
+        }
+        Ok(())
+    }
+
     /// What comes after the last newline is a line, too, unless it is empty.
     fn rest(&mut self, line: &[u8]) -> Result<(), Stop> {
         if line.is_empty() {

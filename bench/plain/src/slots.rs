@@ -13,16 +13,23 @@ use crate::Stop;
 /// The interrupt line that ends a slot.
 const LINE: u32 = 0;
 
-pub fn steps_of(children: u32, turns: u32, rounds: u32) -> u64 {
-    u64::from(rounds) * u64::from(children) * (u64::from(turns) + 2)
+/// A slot of a round: the number of its child, and its turns.
+pub type Slot = (u32, u32);
+
+pub fn in_turn(children: u32, turns: u32) -> Vec<Slot> {
+    (0..children).map(|child| (child, turns)).collect()
 }
 
-pub fn slots(input: &mut Input, output: &mut Output, count: u32, turns: u32, rounds: u32) -> Result<(), Stop> {
+pub fn steps_of(round: &[Slot], rounds: u32) -> u64 {
+    u64::from(rounds) * round.iter().map(|&(_, turns)| u64::from(turns) + 2).sum::<u64>()
+}
+
+pub fn slots(input: &mut Input, output: &mut Output, count: u32, round: &[Slot], rounds: u32) -> Result<(), Stop> {
     let (Loaded { mut world, .. }, children) = begin(input, output, count)?;
     let mut step = 0;
     for _ in 0..rounds {
-        for &child in &children {
-            slot(&mut world, output, child, step, turns)?;
+        for &(child, turns) in round {
+            slot(&mut world, output, children[child as usize], step, turns)?;
             step += turns + 2;
         }
     }

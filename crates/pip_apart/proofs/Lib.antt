@@ -11,3 +11,9 @@ pub mod Searched
 pub mod Machines
 pub mod Turned
 pub mod Telling
+pub mod Children
+pub mod Climbing
+pub mod Entries
+pub mod OnMachines
+pub mod Untaken
+pub mod Known

@@ -62,7 +62,7 @@ in_chain t s a b x e h =
 -- ---- what runs
 
 -- the node of what runs on a processor
-part_node : (w : World) (cpu part : ℕ) → IsSoundWorld w → option_map (λ r. r.name) (runs_on w cpu) ≡ Some part
+pub part_node : (w : World) (cpu part : ℕ) → IsSoundWorld w → option_map (λ r. r.name) (runs_on w cpu) ≡ Some part
     → (x : Node) × (find_node w.tree part ≡ Some x)
 part_node w cpu part s e = go (runs_on w cpu) refl e
   where

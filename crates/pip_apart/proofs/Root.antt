@@ -29,7 +29,7 @@ root_node : (t : Tree) → IsSound t → node t t.root.name ≡ t.root
 root_node t s = named_node t t.root.name s t.root (inl refl) refl
 
 -- an access of the root, by its row
-root_reach : (t : Tree) (va : ℕ) → IsSound t → reach t t.root.name va Load Word
+pub root_reach : (t : Tree) (va : ℕ) → IsSound t → reach t t.root.name va Load Word
     ≡ cond (is_misaligned va Word) (Faulted Alignment) (reach_by_row t va Load (row_at t.root.rows (vpage va)))
 root_reach t va s = ap (λ x. cond (is_misaligned va Word) (Faulted Alignment)
     (reach_by_row t va Load (row_at x.rows (vpage va)))) (root_node t s)

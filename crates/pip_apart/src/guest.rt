@@ -12,7 +12,9 @@ ghost use Rattle.pip_apart.specs.Alone.{guest_model, turns_scope};
 ghost use Rattle.pip_apart.specs.Company.{runs_below};
 ghost use Rattle.pip_apart.specs.Kept.{asks_next, yields_by};
 ghost use Rattle.pip_apart.specs.Machines.{HasTurned};
+ghost use Rattle.pip_apart.specs.Tops.{processors_of};
 
+use crate::guests::processors_of;
 use pip_base::{Ctx, Frame, Outcome, Steps};
 use pip_cpu::{Effect, effect_of, turn};
 use pip_every::{Label, add_processors, read_processors};
@@ -99,8 +101,34 @@ impl<F: First, L: Ledger> Guest<F, L> {
         self.machine.mem().add_changes(to, &mut self.steps)
     }
 
+    /// Turns to another guest of its machine: its top and its processors, 4 at most.
+    pub fn aim(&mut self, top: Frame, cpus: Vec<u32>)
+        requires there { All (λ cpu. cpu < length self.old.machine.cpus) cpus.items }
+        requires few { length cpus.items ≤ 4 }
+        ensures machine { self.new.machine ≡ self.old.machine }
+        ensures top { self.new.top ≡ top }
+        ensures cpus { self.new.cpus ≡ cpus }
+    {
+        self.top = top;
+        self.cpus = cpus;
+    }
+
+    /// The processors on which a guest runs, at the worlds at which the machine is now. The only error is that memory
+    /// is out.
+    pub fn find_processors(&mut self, alloc: Global, top: Frame) -> Result<Vec<u32>, AllocError>
+        requires stands { (w : World) × StandsAs self.old.machine w }
+        ensures are { IfOk result (λ r. (w : World) → StandsAs self.old.machine w → r.items ≡ processors_of w top) }
+        ensures there { IfOk result (λ r. All (λ cpu. cpu < length self.old.machine.cpus) r.items) }
+        ensures few { IfOk result (λ r. length r.items ≤ length self.old.machine.cpus) }
+        ensures machine { self.new.machine ≡ self.old.machine }
+        ensures top { self.new.top ≡ self.old.top }
+        ensures cpus { self.new.cpus ≡ self.old.cpus }
+    {
+        processors_of(alloc, &self.machine, top, &mut self.steps)
+    }
+
     // Takes the machine to the worlds that have a key.
-    fn go_to(&mut self, key: &[u32])
+    pub(crate) fn go_to(&mut self, key: &[u32])
         requires { IsKey (guest_model F.words (length self.old.machine.cpus) self.old.top self.old.cpus.items) key.now }
         ensures at { (w : World) → IsKeyOf F.words (turns_scope (length self.old.machine.cpus)) key.now
             (record { world = w; turns = 0 }) → IsAtWorld self.new.machine w }

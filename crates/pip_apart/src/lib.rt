@@ -6,18 +6,30 @@
 //! leaves has a mark in its label, and leads nowhere (specs/Alone). [`search_guest`] searches it, and [`stays`] says
 //! whether it closed without such a turn. [`law_searches`] joins both: where each guest was searched so, every line
 //! that all of them together can show is among those that were found (`SearchesAdd`).
+//!
+//! [`find_out`] does so for all guests of a machine: they are the children of the root below which something runs
+//! ([`tops`]). It also says whether the root runs ([`root_on`]) or might take a line ([`first_taken`]), so that
+//! [`hold_apart`] is a test of all that the law needs, and [`law_known`] says what follows for slots of any order, and
+//! for each run that comes to such a world (specs/Found).
 #![tactic(auto)]
 
 mod guest;
+mod guests;
 mod searching;
+mod taken;
 
 ghost use Rattle.pip_apart.specs.Alone.{MarkedGuestsLeave, SearchedGuestsStay, SearchesAdd};
 ghost use Rattle.pip_apart.specs.Company.{AloneIsAnOrder, GuestsHoldAmongLines, GuestsHoldInCompany};
 ghost use Rattle.pip_apart.specs.Company.{LinesAreShownAlone};
+ghost use Rattle.pip_apart.specs.Found.{KnownLinesSuffice, RunsShowKnown, SlotsShowKnown};
 ghost use Rattle.pip_apart.specs.Kept.{InsideTurnsAskNot, KeptTurnsStay};
 
 pub use guest::Guest;
-pub use searching::{search_guest, stays};
+pub use guests::{processors_of, root_on, top_at, top_of, tops};
+pub use searching::{
+    GuestSearch, Knowledge, find_out, hold_apart, is_marked, search_guest, search_guests, stays,
+};
+pub use taken::{first_taken, might_take};
 
 /// Guests that stay inside alone do so in any company, and each has the turns that it has alone.
 pub fn law_company()
@@ -34,4 +46,12 @@ pub fn law_searches()
     ensures stay { SearchedGuestsStay }
     ensures leave { MarkedGuestsLeave }
     ensures add { SearchesAdd }
+{}
+
+/// What is known of the guests of a world by searches of each alone says what all of them can show together: from there
+/// on, after each run that comes there, and of slots of any order.
+pub fn law_known()
+    ensures lines { KnownLinesSuffice }
+    ensures slots { SlotsShowKnown }
+    ensures runs { RunsShowKnown }
 {}

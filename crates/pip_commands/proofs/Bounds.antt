@@ -1,13 +1,17 @@
 -- The numbers in the words of the command line are within their bounds.
-use Rattle.std.proofs.Common.{◌≡◌, ℕ, ◌≤◌, ◌<◌, ◌^◌, ◌&&◌, Bool, true, false, cond, refl, List, [], ◌∷◌, Option}
-use Rattle.std.proofs.Common.{None, Some, arith}
-use Rattle.std.specs.Prelude.{codes, nat_le}
+use Rattle.std.proofs.Common.{◌≡◌, ℕ, ◌≤◌, ◌<◌, ◌*◌, ◌^◌, ◌&&◌, Bool, true, false, cond, refl, List, [], ◌∷◌, Option}
+use Rattle.std.proofs.Common.{None, Some, arith, length}
+use Rattle.std.specs.Prelude.{codes, nat_le, nat_lt, option_and_then}
+use Rattle.std.specs.List.{AllByRecursion}
 use Rattle.std.specs.Str.{bytes_eq}
-use Rattle.std.proofs.lemmas.Bool.{leb-true}
+use Rattle.std.proofs.lemmas.Bool.{leb-true, ltb-true}
 use Rattle.pip_model.specs.Grammar.{number_of}
-use Rattle.pip_slots.specs.Images.{steps_in_turn}
-use Rattle.pip_commands.specs.Words.{audit_words, command_of, counted_command, every_words, four_words, is_depth}
-use Rattle.pip_commands.specs.Words.{native_words, single_word, slots_words, three_words, two_words}
+use Rattle.pip_slots.specs.Images.{round_steps, steps_in_turn}
+use Rattle.pip_slots.specs.declared.time_slot.RoundSlot.{RoundSlot}
+use Rattle.pip_commands.specs.Words.{as_round, audit_words, command_of, cons_slot, counted_command, every_words}
+use Rattle.pip_commands.specs.Words.{first_command, fixed_command, four_words, given_command, given_slots, given_words}
+use Rattle.pip_commands.specs.Words.{is_depth, native_words, numbered_slot, single_word, slots_in, slots_words}
+use Rattle.pip_commands.specs.Words.{three_words, two_words}
 use Rattle.pip_commands.specs.declared.words.Command.{Command}
 use Rattle.pip_commands.specs.declared.words.Command.TheVariants as C
 
@@ -18,6 +22,8 @@ IsWithin (C.Core count seed) = 1 ≤ seed
 IsWithin (C.Soak count seed) = (count ≤ 1000000) × (1 ≤ seed)
 IsWithin (C.Native n count) = (1 ≤ n) × (n ≤ 8)
 IsWithin (C.Slots n turns rounds) = (1 ≤ n) × (n ≤ 8) × (steps_in_turn n turns rounds < 2 ^ 32)
+IsWithin (C.GivenSlots n rounds round) =
+    (1 ≤ n) × (n ≤ 8) × (rounds * round_steps round.items < 2 ^ 32) × AllByRecursion (λ x. x.child < n) round.items
 IsWithin (C.Audit frames) = (16 ≤ frames) × (frames ≤ 4096)
 IsWithin (C.Every states from depth) = 1 ≤ states
 IsWithin _ = Unit {0}
@@ -149,11 +155,83 @@ single_within : (word : List ℕ) → AreWithin (single_word word)
 single_within word =
     no_numbers (bytes_eq word (codes "script")) (bytes_eq word (codes "asm")) (bytes_eq word (codes "dis"))
 
-pub command_within : (words : List (List ℕ)) → AreWithin (command_of words)
-command_within [] = tt
-command_within (word ∷ []) = single_within word
-command_within (word ∷ number ∷ []) = two_within word (number_of number)
-command_within (word ∷ count ∷ seed ∷ []) = three_within word (number_of count) (number_of seed)
-command_within (word ∷ first ∷ second ∷ third ∷ []) =
+fixed_within : (words : List (List ℕ)) → AreWithin (fixed_command words)
+fixed_within [] = tt
+fixed_within (word ∷ []) = single_within word
+fixed_within (word ∷ number ∷ []) = two_within word (number_of number)
+fixed_within (word ∷ count ∷ seed ∷ []) = three_within word (number_of count) (number_of seed)
+fixed_within (word ∷ first ∷ second ∷ third ∷ []) =
     four_within word (number_of first) (number_of second) (number_of third)
-command_within (word ∷ first ∷ second ∷ third ∷ more ∷ words) = tt
+fixed_within (word ∷ first ∷ second ∷ third ∷ more ∷ words) = tt
+
+-- ---- the slots of a round
+
+abbrev IsOf : ℕ → Option RoundSlot → Type 0
+IsOf n None = Unit {0}
+IsOf n (Some x) = x.child < n
+
+abbrev AllOf : ℕ → Option (List RoundSlot) → Type 0
+AllOf n None = Unit {0}
+AllOf n (Some xs) = AllByRecursion (λ x. x.child < n) xs
+
+numbered_of : (n : ℕ) (a b : Option ℕ) → IsOf n (numbered_slot n a b)
+numbered_of n None b = tt
+numbered_of n (Some k) None = tt
+numbered_of n (Some k) (Some turns) = go (nat_lt k n && nat_le turns 10000000) refl
+  where
+    go : (b : Bool) → (nat_lt k n && nat_le turns 10000000) ≡ b
+        → IsOf n (cond b (Some (record { child = k; turns = turns })) None)
+    go true e = ltb-true k n (both (nat_lt k n) (nat_le turns 10000000) e).0
+    go false e = tt
+
+cons_of : (n : ℕ) (x : Option RoundSlot) (xs : Option (List RoundSlot)) → IsOf n x → AllOf n xs
+    → AllOf n (cons_slot x xs)
+cons_of n None xs h k = tt
+cons_of n (Some x) None h k = tt
+cons_of n (Some x) (Some xs) h k = (h, k)
+
+all_of : (n : ℕ) (words : List (List ℕ)) → AllOf n (slots_in n words)
+all_of n [] = tt
+all_of n (word ∷ words) = cons_of n _ (slots_in n words) (numbered_of n _ _) (all_of n words)
+
+round_within : (n c : ℕ) (xs : List RoundSlot) → AllByRecursion (λ x. x.child < n) xs
+    → AreWithin (given_words n c (as_round xs))
+round_within n c xs h = go ((nat_le 1 n && nat_le n 8) && (nat_le c 10000000 && few)) refl
+  where
+    few : Bool
+    few = nat_le (c * round_steps xs) 10000000
+
+    go : (b : Bool) → ((nat_le 1 n && nat_le n 8) && (nat_le c 10000000 && few)) ≡ b
+        → AreWithin (cond b (Some (C.GivenSlots n c (as_round xs))) None)
+    go true e =
+        let (x, y) = both (nat_le 1 n && nat_le n 8) (nat_le c 10000000 && few) e in
+        let (least, most) = both (nat_le 1 n) (nat_le n 8) x in
+        let within = leb-true (c * round_steps xs) 10000000 (both (nat_le c 10000000) few y).1 in
+        (leb-true 1 n least, leb-true n 8 most, omega (arith, within), h)
+    go false e = tt
+
+rounds_within : (n c : ℕ) (xs : Option (List RoundSlot)) → AllOf n xs
+    → AreWithin (option_and_then (λ round. given_words n c (as_round round)) xs)
+rounds_within n c None h = tt
+rounds_within n c (Some xs) h = round_within n c xs h
+
+slots_given : (a b : Option ℕ) (words : List (List ℕ)) → AreWithin (given_slots a b words)
+slots_given None b words = tt
+slots_given (Some n) None words = tt
+slots_given (Some n) (Some c) words = rounds_within n c (slots_in n words) (all_of n words)
+
+given_within : (words : List (List ℕ)) → AreWithin (given_command words)
+given_within [] = tt
+given_within (word ∷ []) = tt
+given_within (word ∷ n ∷ []) = tt
+given_within (word ∷ n ∷ c ∷ slots) =
+    first_or (bytes_eq word (codes "slots") && (nat_le 1 (length slots) && nat_le (length slots) 64)) _ None
+    (slots_given (number_of n) (number_of c) slots) tt
+
+some_within : (a b : Option Command) → AreWithin a → AreWithin b → AreWithin (first_command a b)
+some_within None b h i = i
+some_within (Some a) b h i = h
+
+pub command_within : (words : List (List ℕ)) → AreWithin (command_of words)
+command_within words =
+    some_within (fixed_command words) (given_command words) (fixed_within words) (given_within words)

@@ -6,12 +6,13 @@ pub mod Whole
 pub mod Settled
 -- where a command waits at first
 pub mod Waiting
--- the ways to end, and images with faults
+-- the ways to end, images with faults, and accepted ones
 pub mod Endings
 pub mod Usage
 pub mod Asked
 pub mod Answered
 pub mod ImageFaults
+pub mod Accepted
 pub mod Refused
 -- `dis`
 pub mod Disassembly
@@ -34,10 +35,10 @@ pub mod Bounds
 pub mod Monitored
 pub mod Monitoring
 pub mod Rounds
+pub mod RoundWords
 -- `audit`
 pub mod Audited
 pub mod LayoutWords
 pub mod CoreAudited
 -- the law on `slots`
-pub mod Accepted
 pub mod SlotsApart

@@ -18,6 +18,7 @@ use Rattle.pip_model.specs.Events as E
 use Rattle.pip_model.specs.Events.{Event}
 use Rattle.pip_model.specs.Happens.{after}
 use Rattle.pip_model.specs.InstrRead.{instr_of}
+use Rattle.pip_model.specs.Images.{Image}
 use Rattle.pip_model.specs.Lists.{In}
 use Rattle.pip_model.specs.Run.{image_world, raises, schedule, step, steps, trace_image_line}
 use Rattle.pip_model.specs.Turn.{acts_after_fetch, acts_after_poll, effect_acts, fetch_acts, load_acts, outcome_of}
@@ -36,6 +37,8 @@ use Rattle.pip_search.specs.declared.searching.Extent.TheVariants.{Closed}
 use Rattle.pip_commands.specs.Dues.{image_scope}
 use Rattle.pip_commands.specs.RunLaw.{AreChosen, AreLinesOf, ArePlansFrom, CanCome, ClosedNamesRuns}
 use Rattle.pip_commands.specs.RunLaw.{IsNamedBy, RunsAreChoices, acts_chosen, image_moment}
+use Rattle.pip_commands.specs.EveryText.{lines_planned}
+use Rattle.pip_commands.proofs.Accepted.{accepted}
 use Rattle.pip_commands.proofs.EveryLines.{lines_are_of_runs}
 
 -- ---- a turn makes the same events at each step
@@ -256,14 +259,26 @@ module _ (first : Memory) (g : Scope) (m : Moment) where
           },
         )
 
-pub runs_are_choices : RunsAreChoices
-runs_are_choices i from ps seed n first some are =
+-- what the steps of a run from the first moment on do and write, as choices do
+abbrev IsChosenRun : Image → ℕ → List Plan → ℕ → ℕ → Memory → Type 0
+IsChosenRun i from ps seed n first =
+    AreChosen first (image_scope i from) (image_moment i) (steps (image_world i) ps seed i.cpus n 0)
+    × AreLinesOf (CanCome first (image_scope i from) (image_moment i)) 0 n
+    (text_of (steps (image_world i) ps seed i.cpus n 0))
+
+chosen_run : (i : Image) (from : ℕ) (ps : List Plan) (seed n : ℕ) (first : Memory) → 1 ≤ i.cpus
+    → ArePlansFrom (lines_planned i.plans) from ps → IsChosenRun i from ps seed n first
+chosen_run i from ps seed n first some are =
     let g : Scope = image_scope i from in
     let m : Moment = image_moment i in
     on first g m ps seed are some n 0 [] (record {
       chosen = record { choices = []; can = tt; events = refl; world = refl };
       late = omega arith;
     })
+
+pub runs_are_choices : RunsAreChoices
+runs_are_choices input i from ps seed n first bytes is are =
+    chosen_run i from ps seed n first (accepted input i bytes is).cpus_least are
 
 -- ---- a search that closed
 
@@ -286,7 +301,7 @@ closed_names_runs states from depth most i v s closed ps seed n are =
     let m : Moment = image_moment i in
     let k = s.told.counted.all [] tt (covered s.verdict 0 closed) in
     let some : 1 ≤ i.cpus = omega (arith, k.stands.stands.sound.at_least_one, k.stands.cpus) in
-    let r = runs_are_choices i from ps seed n s.first some are in
+    let r = chosen_run i from ps seed n s.first some are in
     record {
       lines = text_of (steps (image_world i) ps seed i.cpus n 0);
       whole = text-trace (image_world i) (trace_image_line i.frames i.cpus (length ps) (length i.pages)) ps seed i.cpus

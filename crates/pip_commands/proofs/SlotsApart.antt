@@ -1,9 +1,9 @@
 -- What `slots` writes of a child is a matter of that child alone.
 use Rattle.std.proofs.Common.{◌≡◌, ℕ, zero, suc, ◌+◌, ◌-◌, ◌*◌, ◌%◌, ◌<◌, ◌≤◌, ◌⊎◌, inl, inr, Bool, true, false}
-use Rattle.std.proofs.Common.{cond, List, [], ◌∷◌, ◌++◌, length, Some, refl, sym, ap, ◌∙◌, subst}
+use Rattle.std.proofs.Common.{cond, List, [], ◌∷◌, ◌++◌, length, take, Some, refl, sym, ap, ◌∙◌, subst}
 use Rattle.std.proofs.Common.{append-nil, append_assoc, arith, length-append}
-use Rattle.std.specs.List.{AllByRecursion, concat}
-use Rattle.std.specs.Prelude.{Ok, slice_get}
+use Rattle.std.specs.List.{AllByRecursion}
+use Rattle.std.specs.Prelude.{Ok, slice_get, slice_index}
 use Rattle.std.proofs.lemmas.Bool.{cases_lt}
 use Rattle.std.proofs.Math.Nat.{mod-eq-sub-mod, mod-eq_of_lt}
 use Rattle.pip_model.specs.Acts.{Makes, after_acts, text_of}
@@ -14,16 +14,22 @@ use Rattle.pip_model.specs.Turn.{call_line, moved_line, outcome_of, turn, world_
 use Rattle.pip_model.specs.Worlds.{World}
 use Rattle.pip_model.proofs.OnLists.Acts.{after-append, text-append}
 use Rattle.pip_slots.specs.declared.time_slot.TimeSlot.{TimeSlot}
-use Rattle.pip_slots.specs.Images.{HasRooms, in_turn, round, slots_text, steps_in_turn}
-use Rattle.pip_slots.specs.Slots.{after_slot, closing, next_step, opening, polling, rest_acts, rounds, slot_acts}
-use Rattle.pip_slots.specs.Slots.{slot_entry, slot_run, slot_texts, slot_turn, slot_turns}
-use Rattle.pip_slots.proofs.Images.{images_separate_slots, in_turn_words}
+use Rattle.pip_model.specs.Sound.{IsWord}
+use Rattle.pip_slots.specs.Images.{HasRooms, given_plan, given_text, in_turn, placed, round, round_steps, slots_text}
+use Rattle.pip_slots.specs.Images.{steps_in_turn}
+use Rattle.pip_slots.specs.declared.time_slot.RoundSlot.{RoundSlot}
+use Rattle.pip_slots.specs.Slots.{after_slot, closing, next_step, opening, plan_steps, polling, rest_acts, rounds}
+use Rattle.pip_slots.specs.Slots.{slot_acts, slot_entry, slot_texts, slot_turn, slot_turns}
+use Rattle.pip_slots.proofs.Images.{addresses_words, images_separate_slots, in_turn_words, rounds_words}
+use Rattle.pip_slots.proofs.Texts.{texts_count, texts_joined}
 use Rattle.pip_watch.specs.Watching.{addresses, built_from, fresh, ready_world, root_runs}
-use Rattle.pip_commands.specs.Dues.{IsChildrenAnswer, IsRoomy, slots_due}
+use Rattle.pip_commands.specs.Children.{children_text}
+use Rattle.pip_commands.specs.Dues.{IsChildrenAnswer, IsRoomy, children_due}
 use Rattle.pip_commands.specs.EndsBy.{Response}
 use Rattle.pip_commands.specs.EveryLaw.{IsLineAt}
 use Rattle.pip_commands.specs.RunLaw.{AreLinesOf}
-use Rattle.pip_commands.specs.SlotsLaw.{AreSlotTexts, ChildrenAreSeparate}
+use Rattle.pip_commands.specs.SlotsLaw.{AreSlotTexts, AreTextsOf, ChildrenAreSeparate, RoundsAreSeparate}
+use Rattle.pip_commands.specs.declared.commands.children.scheduling.Scheduling.{Scheduling}
 use Rattle.pip_commands.specs.declared.commands.children.scheduling.Scheduling.TheVariants as S
 use Rattle.pip_commands.proofs.Accepted.{IsAccepted, accepted}
 use Rattle.pip_commands.proofs.EveryLines.{call_at, lines_are_of_runs, moved_at}
@@ -136,16 +142,6 @@ each_slot turns w (s ∷ ss) t (suc j) slot all at =
     (subst (λ n. AreLinesOf Any ((t + (n + 2)) + j * (turns + 2)) (turns + 2) slot) all.0
     (each_slot turns (after_slot w s t) ss (next_step s t) j slot all.1 at))
 
-texts_joined : (w : World) (ss : List TimeSlot) (t : ℕ) → concat (slot_texts w ss t) ≡ text_of (slot_run w ss t)
-texts_joined w [] t = refl
-texts_joined w (s ∷ ss) t =
-    ap (λ l. text_of (slot_acts w s t) ++ l) (texts_joined (after_slot w s t) ss (next_step s t))
-    ∙ sym (text-append (slot_acts w s t) (slot_run (after_slot w s t) ss (next_step s t)))
-
-texts_count : (w : World) (ss : List TimeSlot) (t : ℕ) → length (slot_texts w ss t) ≡ length ss
-texts_count w [] t = refl
-texts_count w (s ∷ ss) t = ap suc (texts_count (after_slot w s t) ss (next_step s t))
-
 -- ---- the plan in turn
 
 round_count : (turns : ℕ) (ds : List ℕ) → length (round turns ds) ≡ length ds
@@ -236,13 +232,12 @@ turn_get n turns c j k low within is =
 -- ---- the answers
 
 -- a good answer is the text, if the input is an image
-good_answer : (n turns c : ℕ) (input : List ℕ) (a : Image) (v : Response) → image input ≡ Ok a
-    → (slots_due n turns c).answer input v → v.status ≡ 0
-    → IsRoomy n a.frames × (v.last ≡ Some (slots_text a n turns c))
-good_answer n turns c input a v is (inl short) zero_is =
+good_answer : (s : Scheduling) (n : ℕ) (input : List ℕ) (a : Image) (v : Response) → image input ≡ Ok a
+    → (children_due s n).answer input v → v.status ≡ 0 → IsRoomy n a.frames × (v.last ≡ Some (children_text s a n))
+good_answer s n input a v is (inl short) zero_is =
     absurd (let e : 8 ≡ 0 = sym (ap (λ r. r.status) short.1) ∙ zero_is in omega (arith, e))
-good_answer n turns c input a v is (inr answer) zero_is =
-    let h = subst (λ r. IsChildrenAnswer (S.Slots turns c) n input r v) is answer in
+good_answer s n input a v is (inr answer) zero_is =
+    let h = subst (λ r. IsChildrenAnswer s n input r v) is answer in
     (h.0, ap (λ r. r.last) h.1)
 
 texts_are : (a : Image) (n turns c : ℕ) → AreSlotTexts a n turns c
@@ -275,8 +270,8 @@ rooms n a i most roomy = record {
 
 pub children_are_separate : ChildrenAreSeparate
 children_are_separate input other a b n k turns c v u bytes bytes' is is' low most agree answer answer' good good' =
-    let x = good_answer n turns c input a v is answer good in
-    let y = good_answer n turns c other b u is' answer' good' in
+    let x = good_answer (S.Slots turns c) n input a v is answer good in
+    let y = good_answer (S.Slots turns c) n other b u is' answer' good' in
     let ra = rooms n a (accepted input a bytes is) most x.0 in
     let rb = rooms n b (accepted other b bytes' is') most y.0 in
     record {
@@ -291,4 +286,67 @@ children_are_separate input other a b n k turns c v u bytes bytes' is is' low mo
       same = λ j within of_child. images_separate_slots a b n k 0 (in_turn n turns c) low ra rb agree
           (in_turn_words n turns c most) j (record { child = fresh n k 0; turns = turns })
           (turn_get n turns c j k low within of_child) refl;
+    }
+
+-- ---- rounds that are given
+
+-- each line of a slot is of a step of it
+slot_at : (w : World) (ss : List TimeSlot) (t j : ℕ) (s : TimeSlot) (slot : List ℕ) → slice_get ss j ≡ Some s
+    → slice_get (slot_texts w ss t) j ≡ Some slot → AreLinesOf Any (t + plan_steps (take j ss)) (s.turns + 2) slot
+slot_at w [] t j s slot is at = absurd (cc)
+slot_at w (x ∷ ss) t zero s slot is at =
+    let e : t ≡ t + 0 = omega arith in
+    subst (λ k. AreLinesOf Any k (s.turns + 2) slot) e
+    (subst (λ y. AreLinesOf Any t (y.turns + 2) slot) (some_same is)
+    (subst (AreLinesOf Any t (x.turns + 2)) (some_same at) (slot_lines w x t)))
+slot_at w (x ∷ ss) t (suc j) s slot is at =
+    let e : (t + (x.turns + 2)) + plan_steps (take j ss) ≡ t + ((x.turns + 2) + plan_steps (take j ss)) = omega arith in
+    subst (λ k. AreLinesOf Any k (s.turns + 2) slot) e
+    (slot_at (after_slot w x t) ss (next_step x t) j s slot is at)
+
+given_texts : (a : Image) (n : ℕ) (round : List RoundSlot) (c : ℕ) → AreTextsOf a n (c * round_steps round)
+    (given_plan n round c) (slot_texts (ready_world (image_world a) n) (given_plan n round c) 0)
+    (given_text a n round c)
+given_texts a n round c =
+    let w = ready_world (image_world a) n in
+    let ss = given_plan n round c in
+    record {
+      count = texts_count w ss 0;
+      whole = ap (λ l. trace_image_line a.frames a.cpus (length a.plans) (length a.pages)
+          ++ (built_from 0 (addresses n n) ++ (l ++ end_line (c * round_steps round)))) (sym (texts_joined w ss 0));
+      lines = λ j s slot is at.
+          let first : 0 + plan_steps (take j ss) ≡ plan_steps (take j ss) = omega arith in
+          subst (λ k. AreLinesOf Any k (s.turns + 2) slot) first (slot_at w ss 0 j s slot is at);
+    }
+
+-- the addresses of a plan are words
+index_word : (ds : List ℕ) (i : ℕ) → AllByRecursion IsWord ds → IsWord (slice_index ds i)
+index_word [] i h = omega arith
+index_word (d ∷ ds) zero h = h.0
+index_word (d ∷ ds) (suc i) h = index_word ds i h.1
+
+placed_words : (xs : List RoundSlot) (ds : List ℕ) → AllByRecursion IsWord ds
+    → AllByRecursion (λ s. IsWord s.child) (placed xs ds)
+placed_words [] ds h = tt
+placed_words (x ∷ xs) ds h = (index_word ds x.child h, placed_words xs ds h)
+
+pub rounds_are_separate : RoundsAreSeparate
+rounds_are_separate input other a b n k c round v u bytes bytes' is is' low most agree answer answer' good good' =
+    let x = good_answer (S.Given round c) n input a v is answer good in
+    let y = good_answer (S.Given round c) n other b u is' answer' good' in
+    let ra = rooms n a (accepted input a bytes is) most x.0 in
+    let rb = rooms n b (accepted other b bytes' is') most y.0 in
+    let ss = given_plan n round.items c in
+    let words = rounds_words (placed round.items (addresses n n)) c (placed_words round.items (addresses n n)
+    (addresses_words n n most (omega arith))) in
+    record {
+      text = given_text a n round.items c;
+      other = given_text b n round.items c;
+      text_is = x.1;
+      other_is = y.1;
+      texts = slot_texts (ready_world (image_world a) n) ss 0;
+      others = slot_texts (ready_world (image_world b) n) ss 0;
+      are = given_texts a n round.items c;
+      others_are = given_texts b n round.items c;
+      same = images_separate_slots a b n k 0 ss low ra rb agree words;
     }

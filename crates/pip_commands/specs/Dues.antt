@@ -2,6 +2,7 @@
 use Rattle.std.specs.Prelude.{◌≡◌, ℕ, ◌^◌, ◌+◌, ◌≤◌, ◌<◌, ◌==◌, ◌⊎◌, true, false, List, [], ◌∷◌, ◌++◌, length, map}
 use Rattle.std.specs.Prelude.{◌-◌, Option, Some, None, Result, Ok, Err, option_map, unwrap_or}
 use Rattle.std.specs.Io.KnownBytes.{IsAtEnd}
+use Rattle.arrayvec.specs.ArrayVec.{ArrayVec}
 use Rattle.pip_base.specs.Memory.{Memory}
 use Rattle.pip_base.specs.declared.types.Plan.{Plan}
 use Rattle.pip_core_text.specs.Core.{BadAt, CoreText, Whole, core_text}
@@ -29,6 +30,7 @@ use Rattle.pip_model.specs.declared.image.ImageError.{ImageError}
 use Rattle.pip_model.specs.declared.script.ScriptLine.TheVariants.{Boot}
 use Rattle.pip_search.specs.Summary.{IsTold, Witness}
 use Rattle.pip_search.specs.declared.searching.Extent.{Extent}
+use Rattle.pip_slots.specs.declared.time_slot.RoundSlot.{RoundSlot}
 use Rattle.pip_watch.specs.Watching.{pages_taken, short_line}
 use Rattle.pip_commands.specs.AuditTexts.{bad_line, differs_line, unread_line, unsound_line, yes_line}
 use Rattle.pip_commands.specs.Children.{children_text, children_world}
@@ -276,6 +278,10 @@ native_due n count = children_due (V.Monitor count) n
 abbrev pub slots_due : ℕ → ℕ → ℕ → Due
 slots_due n turns rounds = children_due (V.Slots turns rounds) n
 
+-- `slots` with the slots of a round, for this many rounds
+abbrev pub given_slots_due : ℕ → ℕ → ArrayVec RoundSlot → Due
+given_slots_due n rounds round = children_due (V.Given round rounds) n
+
 -- what is searched of an image: no line comes before that many turns
 abbrev pub image_scope : Image → ℕ → Scope
 image_scope i from = record { cpus = i.cpus; lines = lines_planned i.plans; from = from }
@@ -350,5 +356,6 @@ due_of (Some (C.Core count seed)) = run_due R.Frames count seed
 due_of (Some (C.Soak count seed)) = soak_due count seed
 due_of (Some (C.Native n count)) = native_due n count
 due_of (Some (C.Slots n turns rounds)) = slots_due n turns rounds
+due_of (Some (C.GivenSlots n rounds round)) = given_slots_due n rounds round
 due_of (Some (C.Audit frames)) = audit_due frames
 due_of (Some (C.Every states from depth)) = every_due states from depth

@@ -1,7 +1,7 @@
 -- That what a run does, by any seed and with lines at any steps, is among the choices of `every`; and what a search
 -- that closed says of it.
 use Rattle.std.specs.Prelude.{◌≡◌, ◌≢◌, ℕ, zero, suc, ◌+◌, ◌-◌, ◌<◌, ◌≤◌, List, [], ◌∷◌, ◌++◌, length, Option, Some}
-use Rattle.std.specs.Prelude.{if◌then◌else◌, nat_lt, slice_get, slice_index}
+use Rattle.std.specs.Prelude.{if◌then◌else◌, nat_lt, slice_get, slice_index, Ok}
 use Rattle.std.specs.List.{AllByRecursion}
 use Rattle.pip_base.specs.Memory.{Memory}
 use Rattle.pip_base.specs.declared.types.Plan.{Plan}
@@ -9,7 +9,8 @@ use Rattle.pip_every.specs.Keys.{model_of}
 use Rattle.pip_every.specs.Moments.{Moment, Scope, choice_acts, first_moment}
 use Rattle.pip_model.specs.Acts.{Act, Makes, after_acts, events_made, text_of}
 use Rattle.pip_model.specs.Events as E
-use Rattle.pip_model.specs.Images.{Image, image_word}
+use Rattle.pip_asm.specs.Laws.{AreBytes}
+use Rattle.pip_model.specs.Images.{Image, image, image_word}
 use Rattle.pip_model.specs.Lists.{In}
 use Rattle.pip_model.specs.Run.{end_line, image_world, run_text, steps, trace_image_line}
 use Rattle.pip_model.specs.Turn.{turn}
@@ -74,12 +75,12 @@ CanCome first g m label = (cs : List ℕ) × IsShownOn (model_of first g) m labe
 abbrev pub image_moment : Image → Moment
 image_moment i = first_moment (image_word i.frames i.pages) i.frames i.cpus
 
--- what any number of steps of an image do, by any seed and with any plans of its lines that raise none before the step
--- `from`, choices do; and what they write are, step by step, lines that choices show. (The frames are only those with
--- which keys of moments compare.)
+-- what any number of steps of an image that is read do, by any seed and with any plans of its lines that raise none
+-- before the step `from`, choices do; and what they write are, step by step, lines that choices show. (The frames are
+-- only those with which keys of moments compare.)
 abbrev pub RunsAreChoices : Type 0
-RunsAreChoices = (i : Image) (from : ℕ) (plans : List Plan) (seed n : ℕ) (first : Memory) → 1 ≤ i.cpus
-    → ArePlansFrom (lines_planned i.plans) from plans
+RunsAreChoices = (input : List ℕ) (i : Image) (from : ℕ) (plans : List Plan) (seed n : ℕ) (first : Memory)
+    → AreBytes input → image input ≡ Ok i → ArePlansFrom (lines_planned i.plans) from plans
     → AreChosen first (image_scope i from) (image_moment i) (steps (image_world i) plans seed i.cpus n 0)
     × AreLinesOf (CanCome first (image_scope i from) (image_moment i)) 0 n
     (text_of (steps (image_world i) plans seed i.cpus n 0))

@@ -1,8 +1,12 @@
 -- The words of the command line.
-use Rattle.std.specs.Prelude.{ℕ, Bool, ◌&&◌, nat_le, if◌then◌else◌, List, [], ◌∷◌, Option, None, Some, codes}
+use Rattle.std.specs.Prelude.{ℕ, ◌*◌, Bool, ◌&&◌, ◌==◌, nat_le, nat_lt, if◌then◌else◌, List, [], ◌∷◌, length, Option}
+use Rattle.std.specs.Prelude.{None, Some, codes, option_and_then}
+use Rattle.std.specs.List.{after_first, before_first}
 use Rattle.std.specs.Str.{bytes_eq}
 use Rattle.pip_model.specs.Grammar.{number_of}
-use Rattle.pip_slots.specs.Images.{steps_in_turn}
+use Rattle.arrayvec.specs.ArrayVec.{ArrayVec}
+use Rattle.pip_slots.specs.Images.{round_steps, steps_in_turn}
+use Rattle.pip_slots.specs.declared.time_slot.RoundSlot.{RoundSlot}
 use Rattle.pip_commands.specs.declared.words.Command.{Command}
 use Rattle.pip_commands.specs.declared.words.Command.TheVariants as C
 
@@ -77,15 +81,70 @@ four_words word first second (Some third) =
     else if bytes_eq word (codes "every") && is_depth third then every_words first second (Some third) else None
 four_words word first second None = None
 
+-- the commands of one word to four
+abbrev pub fixed_command : List (List ℕ) → Option Command
+fixed_command (word ∷ []) = single_word word
+fixed_command (word ∷ number ∷ []) = two_words word (number_of number)
+fixed_command (word ∷ count ∷ seed ∷ []) = three_words word (number_of count) (number_of seed)
+fixed_command (word ∷ first ∷ second ∷ third ∷ []) =
+    four_words word (number_of first) (number_of second) (number_of third)
+fixed_command _ = None
+
+-- a slot of a child below n, with at most 10,000,000 turns
+abbrev pub numbered_slot : ℕ → Option ℕ → Option ℕ → Option RoundSlot
+numbered_slot n (Some k) (Some turns) = if nat_lt k n && nat_le turns 10000000 then Some
+    (record { child = k; turns = turns }) else None
+numbered_slot n _ _ = None
+
+-- the number of the child, a colon, and its turns
+abbrev pub slot_in : ℕ → List ℕ → Option RoundSlot
+slot_in n word =
+    numbered_slot n (number_of (before_first (λ b. b == 58) word)) (number_of (after_first (λ b. b == 58) word))
+
+-- a slot in front of the others, where all are slots
+abbrev pub cons_slot : Option RoundSlot → Option (List RoundSlot) → Option (List RoundSlot)
+cons_slot (Some x) (Some xs) = Some (x ∷ xs)
+cons_slot _ _ = None
+
+-- all the words are slots
+abbrev pub slots_in : ℕ → List (List ℕ) → Option (List RoundSlot)
+slots_in n [] = Some []
+slots_in n (word ∷ words) = cons_slot (slot_in n word) (slots_in n words)
+
+-- slots as a round has them
+abbrev pub as_round : List RoundSlot → ArrayVec RoundSlot
+as_round round = record { items = round }
+
+-- 1 to 8 children, at most 10,000,000 rounds, and at most so many steps
+abbrev pub given_words : ℕ → ℕ → ArrayVec RoundSlot → Option Command
+given_words n c round =
+    if (nat_le 1 n && nat_le n 8) && (nat_le c 10000000 && nat_le (c * round_steps round.items) 10000000) then Some
+    (C.GivenSlots n c round) else None
+
+-- with the slots that words write
+abbrev pub given_slots : Option ℕ → Option ℕ → List (List ℕ) → Option Command
+given_slots (Some n) (Some c) words = option_and_then (λ round. given_words n c (as_round round)) (slots_in n words)
+given_slots _ _ words = None
+
+-- there are 1 to 64 slots of a round
+abbrev pub rounds_command : List ℕ → Option ℕ → Option ℕ → List (List ℕ) → Option Command
+rounds_command word n c slots = if bytes_eq word (codes "slots")
+    && (nat_le 1 (length slots) && nat_le (length slots) 64) then given_slots n c slots else None
+
+-- `slots` may take the number of children, the rounds, and the slots of a round
+abbrev pub given_command : List (List ℕ) → Option Command
+given_command (word ∷ n ∷ c ∷ slots) = rounds_command word (number_of n) (number_of c) slots
+given_command _ = None
+
+-- the first that is there
+abbrev pub first_command : Option Command → Option Command → Option Command
+first_command (Some command) other = Some command
+first_command None other = other
+
 -- the command that the words ask for, if they are of one of the forms
 abbrev pub command_of : List (List ℕ) → Option Command
-command_of (word ∷ []) = single_word word
-command_of (word ∷ number ∷ []) = two_words word (number_of number)
-command_of (word ∷ count ∷ seed ∷ []) = three_words word (number_of count) (number_of seed)
-command_of (word ∷ first ∷ second ∷ third ∷ []) =
-    four_words word (number_of first) (number_of second) (number_of third)
-command_of _ = None
+command_of words = first_command (fixed_command words) (given_command words)
 
 -- the usage line
 abbrev pub usage : List ℕ
-usage = codes "usage: pip script | run STEPS SEED | asm | dis | tree STEPS SEED | core STEPS SEED | soak COUNT SEED | native N STEPS | slots N TURNS ROUNDS | audit FRAMES | every STATES [FROM [DEPTH]]"
+usage = codes "usage: pip script | run STEPS SEED | asm | dis | tree STEPS SEED | core STEPS SEED | soak COUNT SEED | native N STEPS | slots N TURNS ROUNDS | slots N ROUNDS K:TURNS .. | audit FRAMES | every STATES [FROM [DEPTH]]"

@@ -3,7 +3,7 @@ ghost use Rattle.pip_commands.specs.Answered.{InputsAreAnswered};
 ghost use Rattle.pip_commands.specs.AuditLaw.{CoreIsAudited};
 ghost use Rattle.pip_commands.specs.EveryLaw.{LinesAreOfRuns, SearchesSayOnce};
 ghost use Rattle.pip_commands.specs.RunLaw.{ChoicesKeepTime, ClosedNamesRuns, RunsAreChoices};
-ghost use Rattle.pip_commands.specs.SlotsLaw.{ChildrenAreSeparate};
+ghost use Rattle.pip_commands.specs.SlotsLaw.{ChildrenAreSeparate, RoundsAreSeparate};
 
 /// What `core` writes of a sound tree's frames, `audit` answers with the text of that tree and `yes`.
 pub fn law_core_audited()
@@ -32,5 +32,6 @@ pub fn law_every_runs()
 
 /// What `slots` writes in the time slots of a child is a matter of that child alone.
 pub fn law_slots_apart()
-    ensures { ChildrenAreSeparate }
+    ensures in_turn { ChildrenAreSeparate }
+    ensures rounds { RoundsAreSeparate }
 {}

@@ -37,7 +37,7 @@ pub use commands::every::every;
 pub use commands::native::native;
 pub use commands::run::{core_dump, run, tree};
 pub use commands::script::script;
-pub use commands::slots::slots;
+pub use commands::slots::{given_slots, slots};
 pub use commands::soak::soak;
 pub use ended::Ended;
 pub use laws::{law_core_audited, law_every, law_every_runs, law_inputs_answered, law_slots_apart};

@@ -1,13 +1,17 @@
 //! The words of the command line.
-ghost use Rattle.std.specs.Prelude.{◌≡◌, map, string_bytes, Some};
+ghost use Rattle.std.specs.Prelude.{◌≡◌, ◌≤◌, ◌+◌, ◌*◌, ◌^◌, length, map, option_map, string_bytes, Some};
 ghost use Rattle.pip_commands.specs.Words.{audit_words, command_of, every_words, four_words, native_words, single_word};
-ghost use Rattle.pip_commands.specs.Words.{slots_words, three_words, two_words};
+ghost use Rattle.pip_commands.specs.Words.{as_round, fixed_command, given_command, given_words, rounds_command};
+ghost use Rattle.pip_commands.specs.Words.{slot_in, slots_in, slots_words, three_words, two_words};
+ghost use Rattle.pip_slots.specs.Images.{round_steps};
 
+use arrayvec::ArrayVec;
 use pip_base::{MAX_FRAMES, MAX_STEPS, MIN_FRAMES};
 use pip_script::read_number;
+use pip_slots::RoundSlot;
 
 /// What the words ask for (README, "Commands").
-#[derive(Clone, Copy, Debug, PartialEq, Eq)]
+#[derive(Drop)]
 pub enum Command {
     Script,
     Assemble,
@@ -37,6 +41,11 @@ pub enum Command {
         turns: u32,
         rounds: u32,
     },
+    GivenSlots {
+        children: u32,
+        rounds: u32,
+        round: ArrayVec<RoundSlot, 64>,
+    },
     Audit {
         frames: u32,
     },
@@ -49,6 +58,9 @@ pub enum Command {
 
 /// The most children of `native` and `slots`.
 const MAX_CHILDREN: u32 = 8;
+
+/// The most slots of a round.
+const MAX_SLOTS: usize = 64;
 
 /// The most events of `soak`.
 const MAX_EVENTS: u32 = 1_000_000;
@@ -63,25 +75,41 @@ const MAX_CHOICES: u32 = 10_000_000;
 pub fn read_words(words: &[String]) -> Option<Command>
     ensures { result ≡ command_of (map string_bytes words.now) }
 {
-    match words {
-        [word] => read_single(word.as_str().as_bytes()),
-        [word, number] => read_two(
+    match read_fixed(words) {
+        Some(command) => Some(command),
+        None => read_given(words),
+    }
+}
+
+// The command of a form of one word to four.
+fn read_fixed(words: &[String]) -> Option<Command>
+    ensures { result ≡ fixed_command (map string_bytes words.now) }
+{
+    if let [word] = words {
+        return read_single(word.as_str().as_bytes());
+    }
+    if let [word, number] = words {
+        return read_two(
             word.as_str().as_bytes(),
             read_number(number.as_str().as_bytes()),
-        ),
-        [word, first, second] => read_three(
+        );
+    }
+    if let [word, first, second] = words {
+        return read_three(
             word.as_str().as_bytes(),
             read_number(first.as_str().as_bytes()),
             read_number(second.as_str().as_bytes()),
-        ),
-        [word, first, second, third] => read_four(
+        );
+    }
+    if let [word, first, second, third] = words {
+        return read_four(
             word.as_str().as_bytes(),
             read_number(first.as_str().as_bytes()),
             read_number(second.as_str().as_bytes()),
             read_number(third.as_str().as_bytes()),
-        ),
-        _ => None,
+        );
     }
+    None
 }
 
 fn read_single(word: &[u8]) -> Option<Command>
@@ -188,6 +216,94 @@ fn read_slots(children: u32, turns: u32, rounds: u32) -> Option<Command>
         turns,
         rounds,
     })
+}
+
+// Children with the slots of a round.
+fn read_given(words: &[String]) -> Option<Command>
+    ensures { result ≡ given_command (map string_bytes words.now) }
+{
+    match words {
+        [word, children, rounds, slots @ ..] => read_rounds(
+            word.as_str().as_bytes(),
+            read_number(children.as_str().as_bytes()),
+            read_number(rounds.as_str().as_bytes()),
+            slots,
+        ),
+        _ => None,
+    }
+}
+
+// Children, the rounds, and 1 to 64 slots of a round.
+fn read_rounds(
+    word: &[u8],
+    children: Option<u32>,
+    rounds: Option<u32>,
+    slots: &[String],
+) -> Option<Command>
+    ensures { result ≡ rounds_command word.now children rounds (map string_bytes slots.now) }
+{
+    if word != b"slots".as_slice() || slots.is_empty() || slots.len() > MAX_SLOTS {
+        return None;
+    }
+    let (Some(children), Some(rounds)) = (children, rounds) else {
+        return None;
+    };
+    match read_slots_of(children, slots) {
+        Some(round) => read_round(children, rounds, round),
+        None => None,
+    }
+}
+
+// 1 to 8 children, the rounds, and the slots of a round.
+fn read_round(children: u32, rounds: u32, round: ArrayVec<RoundSlot, 64>) -> Option<Command>
+    ensures { result ≡ given_words children rounds round }
+{
+    if children < 1 || children > MAX_CHILDREN || rounds > MAX_STEPS {
+        return None;
+    }
+    if rounds as u64 * steps_of(round.as_slice()) > MAX_STEPS as u64 {
+        return None;
+    }
+    Some(Command::GivenSlots {
+        children,
+        rounds,
+        round,
+    })
+}
+
+/// How many steps a round has, of 64 slots at most.
+pub(crate) fn steps_of(round: &[RoundSlot]) -> u64
+    requires { length round.now ≤ 64 }
+    ensures value { result ≡ round_steps round.now }
+    ensures most { result ≤ 64 * (2 ^ 32 + 1) }
+{
+    let mut steps = 0u64;
+    for i in 0..round.len() {
+        steps += round[i].turns as u64 + 2;
+    }
+    steps
+}
+
+// The slots that these words write, if each writes one.
+fn read_slots_of(children: u32, words: &[String]) -> Option<ArrayVec<RoundSlot, 64>>
+    requires { length words.now ≤ 64 }
+    ensures { result ≡ option_map as_round (slots_in children (map string_bytes words.now)) }
+{
+    let mut round = ArrayVec::new();
+    for i in 0..words.len() {
+        round.push(read_slot(children, words[i].as_str())?);
+    }
+    Some(round)
+}
+
+// A child below that many by its number, a colon, and its turns.
+fn read_slot(children: u32, word: &str) -> Option<RoundSlot>
+    ensures { result ≡ slot_in children word.now }
+{
+    let (child, turns) = word.split_once(':')?;
+    let child = read_number(child.as_bytes())?;
+    let turns = read_number(turns.as_bytes())?;
+    (child < children && turns <= MAX_STEPS).then_some(RoundSlot { child, turns })
 }
 
 // Room for 1 to 100,000,000 states, and a bound for choices, if there is one.

@@ -19,7 +19,7 @@ by_row : (w : ℕ) (o : Option Opcode) → is_some (read_row w o) ≡ fits_row w
 by_row w None = refl
 by_row w (Some o) = chosen (fits w o.form) (o.reads w)
 
-pub is_read : (w : ℕ) → is_some (instr_of w) ≡ is_instruction w
+is_read : (w : ℕ) → is_some (instr_of w) ≡ is_instruction w
 is_read w = by_row w (opcode_at (opcode_of w))
 
 -- ---- the row of an opcode, as the program has it
@@ -54,11 +54,9 @@ row_appended w r old b c e f g =
     ∙ ap (λ t. old ++ t) (append_assoc r.name (32 ∷ []) (operands_text r.form w)
     ∙ ap (λ q. q.name ++ 32 ∷ operands_text q.form w) p.2 ∙ sym (ap (mnemonic_text w) p.1))
 
--- a word that is no instruction
-pub word_appended : (w : ℕ) (old b c : List ℕ) → is_some (instr_of w) ≡ false → b ≡ old ++ codes ".word "
-    → c ≡ b ++ word_text w → c ≡ old ++ word_said w
-word_appended w old b c e f g =
-    g
-    ∙ ap (λ t. t ++ word_text w) f
-    ∙ append_assoc old (codes ".word ") (word_text w)
-    ∙ ap (λ i. old ++ cond i (instr_text w) (codes ".word " ++ word_text w)) (sym (sym (is_read w) ∙ e))
+-- the text of a word that is an instruction, and of one that is none
+pub said_instruction : (w : ℕ) → is_some (instr_of w) ≡ true → word_said w ≡ instr_text w
+said_instruction w e = ap (λ i. cond i (instr_text w) (codes ".word " ++ word_text w)) (sym (is_read w) ∙ e)
+
+pub said_data : (w : ℕ) → is_some (instr_of w) ≡ false → word_said w ≡ codes ".word " ++ word_text w
+said_data w e = ap (λ i. cond i (instr_text w) (codes ".word " ++ word_text w)) (sym (is_read w) ∙ e)

@@ -2,16 +2,13 @@
 ghost use Rattle.std.specs.Prelude.{◌≡◌, ◌+◌, ◌*◌, ◌≤◌, ◌++◌, ◌∷◌, length, codes, decimal};
 ghost use Rattle.arrayvec.specs.ArrayString.{array_string_len};
 ghost use Rattle.pip_model.specs.DisText.{without_last_zeros};
-ghost use Rattle.pip_model.specs.InstrText.{word_said};
 ghost use Rattle.pip_model.specs.Text.{word_text};
 
-use crate::instructions::push_instruction;
 use crate::operands::push_decimal;
 use arrayvec::ArrayString;
 use pip_base::{Plan, VPage};
 use pip_image::Fields;
-use pip_isa::decode;
-use pip_script::{push_word, word_text};
+use pip_script::word_text;
 
 /// A word, with a space before it, and a number.
 pub fn number_line(name: &str, number: u32) -> ArrayString<64>
@@ -59,21 +56,6 @@ pub fn page_line(vpage: VPage) -> ArrayString<64>
     line.push_str(".page ");
     line.push_str(word_text(vpage.number() * 4096).as_str());
     line
-}
-
-/// The line of a word of a page after a text: the instruction that it is, else the word.
-#[tactic(auto, using(crate::proofs::RowTexts::is_read))]
-pub fn push_word_line(text: &mut ArrayString<64>, word: u32)
-    requires { array_string_len text.old + 24 ≤ 64 }
-    ensures bytes { text.new.bytes ≡ text.old.bytes ++ word_said word }
-    ensures short { array_string_len text.new ≤ array_string_len text.old + 24 }
-{
-    if decode(word).is_some() {
-        push_instruction(text, word);
-    } else {
-        text.push_str(".word ");
-        push_word(text, word);
-    }
 }
 
 /// Words up to the last that isn't 0.

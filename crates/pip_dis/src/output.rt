@@ -1,19 +1,23 @@
 //! Lines and parts that are written.
-ghost use Rattle.std.specs.Prelude.{◌≤◌, ◌∷◌, [], map};
+ghost use Rattle.std.specs.Prelude.{◌≡◌, ◌≤◌, ◌∷◌, [], false, is_some, map};
 ghost use Rattle.arrayvec.specs.ArrayString.{array_string_len};
 ghost use Rattle.pip_io.specs.Writes.{Writes, WritesOut};
 ghost use Rattle.pip_image.specs.Taking.{fields_seen};
 ghost use Rattle.pip_model.specs.DisText.{text_of_lines};
+ghost use Rattle.pip_model.specs.InstrRead.{instr_of};
 ghost use Rattle.pip_model.specs.InstrText.{word_said};
 ghost use Rattle.pip_model.specs.Images.{Head, Line, Holds};
 ghost use Rattle.pip_model.specs.Text.{line_text};
 ghost use Rattle.pip_dis.specs.Writing.{parts_text};
 
-use crate::lines::{fields_lines, page_line, plan_line, push_word_line, trim};
+use crate::instructions::push_instruction;
+use crate::lines::{fields_lines, page_line, plan_line, trim};
 use arrayvec::ArrayString;
 use pip_base::{Plan, VPage};
 use pip_image::Fields;
 use pip_io::{Failed, Sink, write_all, write_out};
+use pip_isa::decode;
+use pip_script::word_line;
 
 // A line, to which its newline is put.
 fn write_line<K: Sink>(sink: &mut K, line: &mut ArrayString<64>) -> Result<(), Failed>
@@ -24,12 +28,27 @@ fn write_line<K: Sink>(sink: &mut K, line: &mut ArrayString<64>) -> Result<(), F
     write_all(sink, line.as_str().as_bytes())
 }
 
-// The line of a word.
+// The line of a word that is no instruction.
+#[tactic(auto, using(crate::proofs::RowTexts::said_data))]
+fn data_line(word: u32) -> [u8; 17]
+    requires { is_some (instr_of word) ≡ false }
+    ensures { result ≡ line_text (word_said word) }
+{
+    let mut line = *b".word 0x00000000\n";
+    line[6..].copy_from_slice(&word_line(word));
+    line
+}
+
+// The line of a word: the instruction that it is, else the word.
+#[tactic(auto, using(crate::proofs::RowTexts::said_instruction))]
 fn write_word<K: Sink>(sink: &mut K, word: u32) -> Result<(), Failed>
     ensures { Writes K.written K.faults sink.old sink.new result (line_text (word_said word)) }
 {
+    if decode(word).is_none() {
+        return write_all(sink, &data_line(word));
+    }
     let mut line = ArrayString::new();
-    push_word_line(&mut line, word);
+    push_instruction(&mut line, word);
     write_line(sink, &mut line)
 }
 

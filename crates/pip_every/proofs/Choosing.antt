@@ -14,14 +14,18 @@ use Rattle.pip_model.specs.Turn.{turn, turn_end}
 use Rattle.pip_model.specs.Worlds.{World}
 use Rattle.pip_model.specs.declared.processors.Occupant.{Occupant}
 use Rattle.pip_model.specs.declared.turn_end.TurnEnd.{TurnEnd}
+use Rattle.pip_model.specs.declared.turn_end.TurnEnd.TheVariants as N
 use Rattle.pip_switch.specs.Standing.{StandsAs, StandsFor, State}
 use Rattle.pip_switch.proofs.Elsewhere.{bare_with}
-use Rattle.pip_every.specs.Choosing.{HasChosen, IsAtWorld}
+use Rattle.pip_every.specs.Choosing.{HasChosen, HasPicked, IsAtWorld}
+use Rattle.pip_every.specs.Menus.{Hostile, Menu, hostile_acts}
 use Rattle.pip_every.specs.Moments.{Moment, Scope, choice_acts, moment_after, choice_label, turns_after, turns_chosen}
-use Rattle.pip_every.proofs.Unseen.{IsBut, acts_same, end_same, other, turn_same}
+use Rattle.pip_every.specs.declared.menus.Deed.{Deed}
+use Rattle.pip_every.proofs.Unseen.{IsBut, acts_same, end_same, hostile_same, other, turn_same}
 
 -- frames and processors that stand for a world stand for one that differs in its caches
-but_stands : (n : Memory) (cs : List (Option Occupant)) (v w : World) → IsBut v w → StandsFor n cs w → StandsFor n cs v
+pub but_stands : (n : Memory) (cs : List (Option Occupant)) (v w : World) → IsBut v w → StandsFor n cs w
+    → StandsFor n cs v
 but_stands n cs v w b s = subst (StandsFor n cs) (other w v (record { tree = sym b.tree; cpus = sym b.cpus }))
     (bare_with n cs w v.caches s)
 
@@ -71,7 +75,7 @@ stands_after g m k q v acts b are s =
     subst (λ es. StandsFor q.memory q.cpus (after_acts m.world es)) (sym are)
     (but_stands q.memory q.cpus (after_acts m.world acts) (after_acts v acts) (acts_same acts m.world v b) s.bare)
 
-bare : (m : Moment) (p : State) → IsBut m.world (record m.world { caches = p.caches })
+pub bare : (m : Moment) (p : State) → IsBut m.world (record m.world { caches = p.caches })
 bare m p = record { tree = refl; cpus = refl }
 
 -- a line was raised
@@ -104,4 +108,23 @@ chosen_turn g m k p q turns after old new e lt same is none ended made =
       turns_are = is ∙ (ap (λ n. turns_after g.from n e) same ∙ (ap (turns_after g.from m.turns)
           (ended ∙ sym (end_same m.world v k (bare m p))) ∙ sym (more_turns g m k lt)));
       label_is = grew ∙ (ap (λ v. v ++ front) none ∙ (sym (append-nil front) ∙ (whole ∙ ap text_of (sym are))));
+    }
+
+-- what runs on a processor waited, or did a deed
+pub chosen_from_menu : (g : Menu) (m : Moment) (k : ℕ) (p q : State) (cpu : ℕ) (d : Option Deed) (turns after : ℕ)
+    (old new : List ℕ) → turns ≡ m.turns → after ≡ turns_after g.scope.from turns N.Ran → old ≡ []
+    → Made (StandsAs q) (plain (Some old)) (plain (Some new)) (record m.world { caches = p.caches })
+    (hostile_acts (record m.world { caches = p.caches }) cpu d) → HasPicked g m k (Hostile cpu d) q after new
+chosen_from_menu g m k p q cpu d turns after old new same is none made =
+    let v : World = record m.world { caches = p.caches } in
+    let acts : List Act = hostile_acts v cpu d in
+    let are : hostile_acts m.world cpu d ≡ acts = hostile_same m.world v cpu d (bare m p) in
+    let (front, grew, whole) = made.text.sends in
+    record {
+      world = subst (λ es. StandsFor q.memory q.cpus (after_acts m.world es)) (sym are)
+          (but_stands q.memory q.cpus (after_acts m.world acts) (after_acts v acts) (acts_same acts m.world v
+          (bare m p))
+          made.world.bare);
+      turns_are = is ∙ ap (λ n. turns_after g.scope.from n N.Ran) same;
+      label_is = grew ∙ (ap (λ x. x ++ front) none ∙ (sym (append-nil front) ∙ (whole ∙ ap text_of (sym are))));
     }

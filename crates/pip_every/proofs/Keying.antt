@@ -1,6 +1,6 @@
 -- What a key tells of the moments that have it.
 use Rattle.std.proofs.Common.{◌≡◌, ℕ, ◌≤◌, List, [], ◌∷◌, ◌++◌, length, drop, take, ◌-◌}
-use Rattle.std.proofs.Common.{Option, Result, Ok, Err, IfOk, slice_index, sym, ap, subst}
+use Rattle.std.proofs.Common.{Option, Result, Ok, Err, IfOk, slice_index, sym, ap, ap₂, subst}
 use Rattle.std.proofs.Common.{◌∙◌, arith}
 use Rattle.std.proofs.Math.Logic.{∥∥₁_elim}
 use Rattle.std.proofs.Props.{props}
@@ -15,10 +15,12 @@ use Rattle.pip_model.specs.declared.processors.Occupant.{Occupant}
 use Rattle.pip_switch.specs.Rewinding.{ArePlaces, rewritten}
 use Rattle.pip_switch.specs.Standing.{HasCachedWorld, HasWorld, StandsAs, StandsFor, State}
 use Rattle.pip_switch.proofs.Elsewhere.{rewound}
-use Rattle.pip_every.specs.Choosing.{HasChosen, IsAtWorld}
+use Rattle.pip_every.specs.Choosing.{IsAtWorld, IsMade}
 use Rattle.pip_every.specs.Keys.{IsKeyOf, key_words, processor_words}
-use Rattle.pip_every.specs.Moments.{Moment, Scope, first_moment, moment_after}
+use Rattle.pip_every.specs.Moments.{Moment, Scope, first_moment}
+use Rattle.pip_every.specs.Menus.{Menu}
 use Rattle.pip_every.specs.Reading.{StartsWithAll}
+use Rattle.pip_every.specs.declared.menus.May.{May}
 use Rattle.pip_every.proofs.Runnable.{all_may_run}
 
 -- the parts of a key
@@ -84,7 +86,7 @@ module _ {first : Memory} {g : Scope} {key : List ℕ} {m : Moment} {n : ℕ} {c
     (read : (os : List (Option Occupant)) (rest : List ℕ) → StartsWithAll (take (length key - 1) (drop 1 key)) n os rest
     → (cpus ≡ os) × (words ≡ rest)) where
   -- it is what runs at the moment, and how its memory differs
-  was_read : (cpus ≡ m.world.cpus) × (words ≡ changes first k.memory)
+  pub was_read : (cpus ≡ m.world.cpus) × (words ≡ changes first k.memory)
   was_read = read m.world.cpus (changes first k.memory) (key_begins shape k same)
 
   -- so there is a world of it
@@ -117,19 +119,18 @@ module _ {first : Memory} {g : Scope} {key : List ℕ} {m : Moment} {n : ℕ} {c
       (subst (λ v. StandsFor k.memory v m.world) (sym cpus_are) k.stands))
 
 -- the moment after a choice has the key of the machine that made it
-pub keyed : (first : Memory) (g : Scope) (m : Moment) (k : ℕ) (q : State) (turns : ℕ) (label key : List ℕ)
-    → HasChosen g m k q turns label → length q.memory ≡ length first → length q.cpus ≡ g.cpus
-    → key ≡ key_words first turns q.cpus q.memory → IsKeyOf first g key (moment_after g m k)
-keyed first g m k q turns label key h frames count is =
-    let w : World = (moment_after g m k).world in
-    let cpus_are : w.cpus ≡ q.cpus = h.world.shows.cpus in
+pub keyed : (first : Memory) (g : Scope) (n : Moment) (shown : List ℕ) (q : State) (turns : ℕ) (label key : List ℕ)
+    → IsMade n shown q turns label → length q.memory ≡ length first → length q.cpus ≡ g.cpus
+    → key ≡ key_words first turns q.cpus q.memory → IsKeyOf first g key n
+keyed first g n shown q turns label key h frames count is =
+    let cpus_are : n.world.cpus ≡ q.cpus = h.world.shows.cpus in
     record {
       memory = q.memory;
-      stands = subst (λ v. StandsFor q.memory v w) (sym cpus_are) h.world;
+      stands = subst (λ v. StandsFor q.memory v n.world) (sym cpus_are) h.world;
       frames = frames;
       cpus = ap length cpus_are ∙ count;
       whole = is ∙ (ap (λ v. key_words first v q.cpus q.memory) h.turns_are ∙
-          ap (λ v. key_words first (moment_after g m k).turns v q.memory) (sym cpus_are));
+          ap (λ v. key_words first n.turns v q.memory) (sym cpus_are));
     }
 
 -- a moment that is the same has the same key
@@ -160,6 +161,12 @@ pub scope_is : (a b : ℕ) (ls ms : List ℕ) (f h : ℕ) → a ≡ b → ls ≡
 scope_is a b ls ms f h one two three =
     let s : ℕ → List ℕ → ℕ → Scope = λ x xs y. record { cpus = x; lines = xs; from = y } in
     ap (λ v. s v ls f) one ∙ (ap (λ v. s b v f) two ∙ ap (λ v. s b ms v) three)
+
+-- and so are menus
+pub menu_is : (s t : Scope) (ds es : List May) → s ≡ t → ds ≡ es
+    → ◌≡◌ {A = Menu} (record { scope = s; may = ds }) (record { scope = t; may = es })
+menu_is s t ds es one two =
+    let f : Scope → List May → Menu = λ x xs. record { scope = x; may = xs } in ap₂ f one two
 
 -- what holds of an answer that is no error
 pub if_ok : {T E : Type 0} (r : Result T E) (P Q : T → Type 0) → ((x : T) → P x → Q x) → IfOk r P → IfOk r Q

@@ -12,6 +12,7 @@ use Rattle.pip_model.proofs.Frames.Same.{frames-same}
 use Rattle.pip_search.specs.Summary.{HasOneKey, IsTold, Witness}
 use Rattle.pip_search.specs.declared.searching.Extent.{Extent}
 use Rattle.pip_every.specs.Keys.{key_words, model_of, processor_words, running_words}
+use Rattle.pip_every.specs.Menus.{Menu, menu_model}
 use Rattle.pip_every.specs.Moments.{Moment, Scope}
 use Rattle.pip_every.specs.Laws.{KeysTellMoments, MomentsHaveOneKey}
 use Rattle.pip_every.specs.Reading.{StartsWithOne, StartsWithAll}
@@ -89,9 +90,8 @@ pub one_key : (first : Memory) (g : Scope) → HasOneKey (model_of first g)
 one_key first g key other m k l =
     moments_have_one_key first g m m key other refl refl (record { frames = refl; word = λ f i fi ii. refl }) k l
 
--- what is said of the same words and the same scope is said
-pub told_at : (a b : Memory) (s t : Scope) (m : Moment) (most limit : ℕ) (ws : List Witness) (count : ℕ) (v : Extent)
-    → a ≡ b → s ≡ t → IsTold (model_of a s) m most limit ws count v → IsTold (model_of b t) m most limit ws count v
-told_at a b s t m most limit ws count v words scope h =
-    subst (λ x. IsTold (model_of b x) m most limit ws count v) scope
-    (subst (λ x. IsTold (model_of x s) m most limit ws count v) words h)
+-- what is said of one menu is said of the same menu
+pub told_at : (first : Memory) (s t : Menu) (m : Moment) (most limit : ℕ) (ws : List Witness) (count : ℕ) (v : Extent)
+    → s ≡ t → IsTold (menu_model first s) m most limit ws count v → IsTold (menu_model first t) m most limit ws count v
+told_at first s t m most limit ws count v same h =
+    subst (λ x. IsTold (menu_model first x) m most limit ws count v) same h

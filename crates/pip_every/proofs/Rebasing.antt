@@ -9,7 +9,8 @@ use Rattle.pip_search.specs.Summary.{AreCounted, HasAway, HasOneMore, IsAmong, I
 use Rattle.pip_search.specs.Systems.{after_choices}
 use Rattle.pip_search.specs.declared.searching.Extent.{Extent}
 use Rattle.pip_search.specs.declared.searching.Extent.TheVariants.{Closed, Stopped, Within}
-use Rattle.pip_every.specs.Keys.{IsKeyOf, key_words, model_of}
+use Rattle.pip_every.specs.Keys.{IsKeyOf, key_words}
+use Rattle.pip_every.specs.Menus.{Menu, menu_model}
 use Rattle.pip_every.specs.Moments.{Moment, Scope}
 use Rattle.pip_every.proofs.Keying.{HasParts, parts}
 use Rattle.pip_every.proofs.OneKey.{all_once, one_key, one_memory}
@@ -125,25 +126,26 @@ still_distinct a b g ks os shape count h distinct i j name at_i at_j =
     distinct i j x.other x.at (y.at ∙ ap (λ v. Some v) same)
 
 -- what holds of a key holds of its partner
-module _ (a b : Memory) (g : Scope) (s : Moment) (ks os : List (List ℕ)) (of_a : IsMemory a) (of_b : IsMemory b)
-    (count : length a ≡ length b) (paired : ArePaired a b g ks os) where
-  back : ArePaired b a g os ks
-  back = turned a b g ks os paired
+module _ (a b : Memory) (g : Menu) (s : Moment) (ks os : List (List ℕ)) (of_a : IsMemory a) (of_b : IsMemory b)
+    (count : length a ≡ length b) (paired : ArePaired a b g.scope ks os) where
+  back : ArePaired b a g.scope os ks
+  back = turned a b g.scope ks os paired
 
-  away : (key other : List ℕ) (n : ℕ) → ArePartners a b g key other → IsAway (model_of a g) s key n
-      → IsAway (model_of b g) s other n
+  away : (key other : List ℕ) (n : ℕ) → ArePartners a b g.scope key other → IsAway (menu_model a g) s key n
+      → IsAway (menu_model b g) s other n
   away key other n p h = record {
     choices = h.choices;
     can = h.can;
     count = h.count;
-    stands = carried a b g key other (after_choices (model_of a g) s h.choices) of_a count p h.stands;
+    stands = carried a b g.scope key other (after_choices (menu_model a g) s h.choices) of_a count p h.stands;
     fewest = λ cs can at. h.fewest cs can
-        (carried b a g other key (after_choices (model_of b g) s cs) of_b (sym count) (swapped a b g key other p) at);
+        (carried b a g.scope other key (after_choices (menu_model b g) s cs) of_b (sym count)
+        (swapped a b g.scope key other p) at);
   }
 
-  has_away : (n : ℕ) → HasAway (model_of a g) s ks n → HasAway (model_of b g) s os n
+  has_away : (n : ℕ) → HasAway (menu_model a g) s ks n → HasAway (menu_model b g) s os n
   has_away n h =
-      let there = paired_at a b g ks os h.place h.key paired h.at in
+      let there = paired_at a b g.scope ks os h.place h.key paired h.at in
       record {
         place = h.place;
         key = there.other;
@@ -151,68 +153,68 @@ module _ (a b : Memory) (g : Scope) (s : Moment) (ks os : List (List ℕ)) (of_a
         away = away h.key there.other n there.partners h.away;
       }
 
-  among : (m : Moment) → IsAmong (model_of a g) ks m → IsAmong (model_of b g) os m
+  among : (m : Moment) → IsAmong (menu_model a g) ks m → IsAmong (menu_model b g) os m
   among m h =
-      let there = paired_at a b g ks os h.place h.key paired h.at in
+      let there = paired_at a b g.scope ks os h.place h.key paired h.at in
       record {
         place = h.place;
         key = there.other;
         at = there.at;
-        stands = carried a b g h.key there.other m of_a count there.partners h.stands;
+        stands = carried a b g.scope h.key there.other m of_a count there.partners h.stands;
       }
 
-  among_back : (m : Moment) → IsAmong (model_of b g) os m → IsAmong (model_of a g) ks m
+  among_back : (m : Moment) → IsAmong (menu_model b g) os m → IsAmong (menu_model a g) ks m
   among_back m h =
-      let there = paired_at b a g os ks h.place h.key back h.at in
+      let there = paired_at b a g.scope os ks h.place h.key back h.at in
       record {
         place = h.place;
         key = there.other;
         at = there.at;
-        stands = carried b a g h.key there.other m of_b (sym count) there.partners h.stands;
+        stands = carried b a g.scope h.key there.other m of_b (sym count) there.partners h.stands;
       }
 
-  one_more : (n : ℕ) → HasOneMore (model_of a g) s ks n → HasOneMore (model_of b g) s os n
+  one_more : (n : ℕ) → HasOneMore (menu_model a g) s ks n → HasOneMore (menu_model b g) s os n
   one_more n h = record {
     choices = h.choices;
     can = h.can;
     count = h.count;
-    none = λ x. h.none (among_back (after_choices (model_of b g) s h.choices) x);
+    none = λ x. h.none (among_back (after_choices (menu_model b g) s h.choices) x);
   }
 
-  counted : (v : Extent) → AreCounted (model_of a g) s ks v → AreCounted (model_of b g) s os v
+  counted : (v : Extent) → AreCounted (menu_model a g) s ks v → AreCounted (menu_model b g) s os v
   counted v h = record {
-    distinct = still_distinct a b g ks os of_b (sym count) paired h.distinct;
+    distinct = still_distinct a b g.scope ks os of_b (sym count) paired h.distinct;
     reached = λ j other at.
-        let there = paired_at b a g os ks j other back at in
+        let there = paired_at b a g.scope os ks j other back at in
         let (n, (most, far)) = h.reached j there.other there.at in
-        (n, (most, away there.other other n (swapped b a g other there.other there.partners) far));
-    all = λ cs can covered. among (after_choices (model_of a g) s cs) (h.all cs can covered);
+        (n, (most, away there.other other n (swapped b a g.scope other there.other there.partners) far));
+    all = λ cs can covered. among (after_choices (menu_model a g) s cs) (h.all cs can covered);
   }
 
-  ends : (most limit : ℕ) (v : Extent) → IsEnd (model_of a g) s ks most limit v
-      → IsEnd (model_of b g) s os most limit v
+  ends : (most limit : ℕ) (v : Extent) → IsEnd (menu_model a g) s ks most limit v
+      → IsEnd (menu_model b g) s os most limit v
   ends most limit (Closed depth) h =
-      (h.0, (subst (λ n. n ≤ limit) (sym (as_many a b g ks os paired)) h.1.0, has_away depth h.1.1))
+      (h.0, (subst (λ n. n ≤ limit) (sym (as_many a b g.scope ks os paired)) h.1.0, has_away depth h.1.1))
   ends most limit (Within depth) h =
-      (h.0, (subst (λ n. n ≤ limit) (sym (as_many a b g ks os paired)) h.1.0, has_away depth h.1.1))
-  ends most limit (Stopped depth) h = (h.0, (as_many a b g ks os paired ∙ h.1.0, one_more (depth + 1) h.1.1))
+      (h.0, (subst (λ n. n ≤ limit) (sym (as_many a b g.scope ks os paired)) h.1.0, has_away depth h.1.1))
+  ends most limit (Stopped depth) h = (h.0, (as_many a b g.scope ks os paired ∙ h.1.0, one_more (depth + 1) h.1.1))
 
 -- what is told where the keys compare with one memory is told where they compare with another
-pub rebased : (a b : Memory) (g : Scope) (s : Moment) (most limit : ℕ) (ws : List Witness) (count : ℕ) (v : Extent)
-    → IsMemory a → IsMemory b → length a ≡ length b → IsTold (model_of a g) s most limit ws count v
-    → IsTold (model_of b g) s most limit ws count v
+pub rebased : (a b : Memory) (g : Menu) (s : Moment) (most limit : ℕ) (ws : List Witness) (count : ℕ) (v : Extent)
+    → IsMemory a → IsMemory b → length a ≡ length b → IsTold (menu_model a g) s most limit ws count v
+    → IsTold (menu_model b g) s most limit ws count v
 rebased a b g s most limit ws count v of_a of_b same h =
-    let pairs = all_paired a b g h.keys same (λ j key at.
-    let (n, (few, far)) = h.counted.reached j key at in (after_choices (model_of a g) s far.choices, far.stands)) in
+    let pairs = all_paired a b g.scope h.keys same (λ j key at.
+    let (n, (few, far)) = h.counted.reached j key at in (after_choices (menu_model a g) s far.choices, far.stands)) in
     let os : List (List ℕ) = pairs.0 in
-    let paired : ArePaired a b g h.keys os = pairs.1 in
+    let paired : ArePaired a b g.scope h.keys os = pairs.1 in
     record {
       shown = h.shown;
       all = h.all;
       order = h.order;
       distinct = h.distinct;
       keys = os;
-      count_is = as_many a b g h.keys os paired ∙ h.count_is;
+      count_is = as_many a b g.scope h.keys os paired ∙ h.count_is;
       counted = counted a b g s h.keys os of_a of_b same paired v h.counted;
       ends = ends a b g s h.keys os of_a of_b same paired most limit v h.ends;
     }

@@ -18,6 +18,8 @@ use Rattle.pip_model.specs.declared.effect.Effect.{Effect}
 use Rattle.pip_model.specs.declared.effect.Effect.TheVariants as F
 use Rattle.pip_model.specs.declared.processors.Occupant.{Occupant}
 use Rattle.pip_model.proofs.Events.Unseen.{caches_tell_nothing}
+use Rattle.pip_every.specs.Menus.{acts_after_line, deed_acts, deed_event, deed_line, hostile_acts}
+use Rattle.pip_every.specs.declared.menus.Deed.{Deed}
 
 -- two worlds that differ in their caches at most
 pub record IsBut (w v : World) : Type 0 where
@@ -126,3 +128,20 @@ end_same w v cpu b =
     let s = event_same w v (E.Poll cpu) b in
     end_polled (world_of w (E.Poll cpu)) (world_of v (E.Poll cpu)) cpu (outcome_of w (E.Poll cpu)) s.1 ∙
     ap (polled_end (world_of v (E.Poll cpu)) cpu) s.0
+
+deed_same : (w v : World) (cpu : ℕ) (d : Deed) → IsBut w v → deed_acts w cpu d ≡ deed_acts v cpu d
+deed_same w v cpu d b = ap (λ o. Makes (deed_event cpu d) ∷ Writes (deed_line cpu d o) ∷ [])
+    (event_same w v (deed_event cpu d) b).0
+
+line_same : (w v : World) (cpu : ℕ) (d : Option Deed) (o : Outcome) → IsBut w v
+    → acts_after_line w cpu d o ≡ acts_after_line v cpu d o
+line_same w v cpu d (O.Switched f to k) b = refl
+line_same w v cpu None o b = refl
+line_same w v cpu (Some d) o b = deed_same w v cpu d b
+
+pub hostile_same : (w v : World) (cpu : ℕ) (d : Option Deed) → IsBut w v → hostile_acts w cpu d ≡ hostile_acts v cpu d
+hostile_same w v cpu d b =
+    let s = event_same w v (E.Poll cpu) b in
+    ap (λ es. Makes (E.Poll cpu) ∷ es)
+    (line_same (world_of w (E.Poll cpu)) (world_of v (E.Poll cpu)) cpu d (outcome_of w (E.Poll cpu)) s.1 ∙
+    ap (acts_after_line (world_of v (E.Poll cpu)) cpu d) s.0)

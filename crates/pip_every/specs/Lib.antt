@@ -1,5 +1,6 @@
 pub mod Moments
 pub mod Keys
+pub mod Menus
 pub mod Reading
 pub mod Choosing
 pub mod Laws

@@ -1,15 +1,22 @@
 //! A machine as a system of states.
-ghost use Rattle.std.specs.Prelude.{◌≡◌, ◌+◌, ◌<◌, ◌≤◌, ◌++◌, [], All, length, IfOk};
+ghost use Rattle.std.specs.Prelude.{◌≡◌, ℕ, ◌+◌, ◌*◌, ◌<◌, ◌≤◌, ◌++◌, ◌&&◌, [], All, length, nat_lt, IfOk};
+ghost use Rattle.std.specs.Prelude.{IsTrue, false, slice_index};
 ghost use Rattle.pip_base.specs.Memory.{IsMemory};
+ghost use Rattle.pip_model.specs.Worlds.{World};
 ghost use Rattle.pip_model.specs.declared.turn_end.TurnEnd.{TurnEnd};
 ghost use Rattle.pip_search.specs.Systems.{IsKey};
-ghost use Rattle.pip_every.specs.Choosing.{HasChosen, IsAtWorld, machine_scope};
-ghost use Rattle.pip_every.specs.Keys.{IsKeyOf, key_words, model_of};
+ghost use Rattle.pip_every.specs.Choosing.{ChangesNothing, HasChosen, HasPicked, IsAtWorld, machine_menu};
+ghost use Rattle.pip_every.specs.Choosing.{machine_scope};
+ghost use Rattle.pip_every.specs.Keys.{IsKeyOf, key_words};
+ghost use Rattle.pip_every.specs.Menus.{Hostile, Nothing, deed_at, deed_cpu, is_hostile, menu_model, name_on, picked};
+ghost use Rattle.pip_every.specs.Menus.{usual_choices};
 ghost use Rattle.pip_every.specs.Moments as moments;
 ghost use Rattle.pip_every.specs.Moments.{Moment};
 
+use crate::deeds::act_from_menu;
 use crate::label::Label;
-use crate::processors::{add_processors, read_processors};
+use crate::menus::{Deed, May, is_hostile, is_its};
+use crate::processors::{add_processors, name_at, read_processors};
 use pip_base::{Outcome, Steps};
 use pip_cpu::{TurnEnd, turn};
 use pip_journal::{First, Journal};
@@ -19,17 +26,20 @@ use pip_switch::Machine;
 use std::alloc::{AllocError, Global};
 use std::sync::ledger::Ledger;
 
-/// A machine that goes from moment to moment of a search. Its lines may be raised once `from` turns were made.
+/// A machine that goes from moment to moment of a search. Its lines may be raised once `from` turns were made, and the
+/// partitions of a menu do what is on it.
 #[derive(Drop)]
 pub(crate) struct Explorer<F: First, L: Ledger> {
     machine: Machine<Journal<F>>,
     lines: Vec<u32>,
     from: u32,
+    may: Vec<May>,
     label: Label,
     steps: Steps<L>,
     ghost shape: { IsMemory F.words },
     ghost below: { All (λ line. line < 16) lines.items },
     ghost few: { length lines.items ≤ 16 },
+    ghost short: { length may.items ≤ 1024 },
 }
 
 // How many turns were made, up to `from`, after one more that ended like this. A processor that is idle can have its
@@ -44,25 +54,30 @@ fn turns_after(from: u32, turns: u32, end: TurnEnd) -> u32
 }
 
 impl<F: First, L: Ledger> Explorer<F, L> {
-    /// An explorer of a machine and the lines that may be raised, 16 at most, each below 16.
+    /// An explorer of a machine, the lines that may be raised, 16 at most, each below 16, and a menu of 1024 deeds at
+    /// most.
     pub(crate) fn new(
         alloc: Global,
         machine: Machine<Journal<F>>,
         lines: Vec<u32>,
         from: u32,
+        may: Vec<May>,
         steps: Steps<L>,
     ) -> Explorer<F, L>
         requires shape { IsMemory F.words }
         requires below { All (λ line. line < 16) lines.items }
         requires few { length lines.items ≤ 16 }
+        requires short { length may.items ≤ 1024 }
         ensures machine { result.machine ≡ machine }
         ensures lines { result.lines ≡ lines }
         ensures from { result.from ≡ from }
+        ensures may { result.may ≡ may }
     {
         Explorer {
             machine,
             lines,
             from,
+            may,
             label: Label::new(alloc),
             steps,
         }
@@ -76,6 +91,7 @@ impl<F: First, L: Ledger> Explorer<F, L> {
         ensures machine { self.new.machine ≡ self.old.machine }
         ensures lines { self.new.lines ≡ self.old.lines }
         ensures from { self.new.from ≡ self.old.from }
+        ensures may { self.new.may ≡ self.old.may }
     {
         to.push(turns)?;
         add_processors(self.machine.processors(), to)?;
@@ -84,14 +100,15 @@ impl<F: First, L: Ledger> Explorer<F, L> {
 
     // Takes the machine to the moment of a key, and answers how many turns were made.
     fn go_to(&mut self, key: &[u32]) -> u32
-        requires { IsKey (model_of F.words (machine_scope self.old.machine self.old.lines.items self.old.from))
-            key.now }
+        requires { IsKey (menu_model F.words
+            (machine_menu self.old.machine self.old.lines.items self.old.from self.old.may.items)) key.now }
         ensures at { (m : Moment) →
             IsKeyOf F.words (machine_scope self.old.machine self.old.lines.items self.old.from) key.now m →
             IsAtWorld self.new.machine m.world × (result ≡ m.turns) }
         ensures count { length self.new.machine.cpus ≡ length self.old.machine.cpus }
         ensures lines { self.new.lines ≡ self.old.lines }
         ensures from { self.new.from ≡ self.old.from }
+        ensures may { self.new.may ≡ self.old.may }
         ensures label { self.new.label ≡ self.old.label }
     {
         let (cpus, words) = read_processors(&key[1..], self.machine.cpus());
@@ -99,9 +116,177 @@ impl<F: First, L: Ledger> Explorer<F, L> {
         key[0]
     }
 
+    // How many choices there are without the deeds.
+    fn usual_choices(&self) -> u32
+        ensures { result ≡ usual_choices
+            (machine_menu self.now.machine self.now.lines.items self.now.from self.now.may.items) }
+    {
+        self.machine.cpus() + self.lines.len() as u32
+    }
+
+    // The line of the menu of a choice that is a deed.
+    fn deed(&self, choice: u32) -> May
+        requires least { usual_choices (machine_menu self.now.machine self.now.lines.items self.now.from
+            self.now.may.items) ≤ choice }
+        requires most { choice < usual_choices
+            (machine_menu self.now.machine self.now.lines.items self.now.from self.now.may.items)
+            + length self.now.machine.cpus * length self.now.may.items }
+        ensures { deed_at (machine_menu self.now.machine self.now.lines.items self.now.from self.now.may.items) choice ≡
+            Some result }
+    {
+        self.may[((choice - self.usual_choices()) / self.machine.cpus()) as usize]
+    }
+
+    // The processor of a choice that is a deed.
+    fn deed_cpu(&self, choice: u32) -> u32
+        requires least { usual_choices (machine_menu self.now.machine self.now.lines.items self.now.from
+            self.now.may.items) ≤ choice }
+        requires most { choice < usual_choices
+            (machine_menu self.now.machine self.now.lines.items self.now.from self.now.may.items)
+            + length self.now.machine.cpus * length self.now.may.items }
+        ensures cpu { result ≡ deed_cpu (machine_menu self.now.machine self.now.lines.items self.now.from
+            self.now.may.items) choice }
+        ensures there { result < length self.now.machine.cpus }
+    {
+        (choice - self.usual_choices()) % self.machine.cpus()
+    }
+
+    // Whether a choice at the moment of a key changes nothing: a line before its time, or a deed of another partition
+    // than runs there.
+    fn changes_nothing(&self, key: &[u32], choice: u32) -> bool
+        requires key { IsKey (menu_model F.words
+            (machine_menu self.now.machine self.now.lines.items self.now.from self.now.may.items)) key.now }
+        requires choice { choice < usual_choices
+            (machine_menu self.now.machine self.now.lines.items self.now.from self.now.may.items)
+            + length self.now.machine.cpus * length self.now.may.items }
+        ensures nothing { IsTrue result → (m : Moment)
+            → IsKeyOf F.words (machine_scope self.now.machine self.now.lines.items self.now.from) key.now m
+            → ChangesNothing (machine_menu self.now.machine self.now.lines.items self.now.from self.now.may.items) m
+            choice }
+        ensures opened { result ≡ false → length self.now.machine.cpus ≤ choice → choice < usual_choices
+            (machine_menu self.now.machine self.now.lines.items self.now.from self.now.may.items)
+            → self.now.from ≤ slice_index key.now 0 }
+    {
+        if choice >= self.usual_choices() {
+            return !self.is_own(key, choice);
+        }
+        if choice >= self.machine.cpus() {
+            return key[0] < self.from;
+        }
+        false
+    }
+
+    // Whether a choice is a deed of the partition that runs there at the moment of a key.
+    fn is_own(&self, key: &[u32], choice: u32) -> bool
+        requires key { IsKey (menu_model F.words
+            (machine_menu self.now.machine self.now.lines.items self.now.from self.now.may.items)) key.now }
+        requires least { usual_choices (machine_menu self.now.machine self.now.lines.items self.now.from
+            self.now.may.items) ≤ choice }
+        requires most { choice < usual_choices
+            (machine_menu self.now.machine self.now.lines.items self.now.from self.now.may.items)
+            + length self.now.machine.cpus * length self.now.may.items }
+        ensures { result ≡ false → (m : Moment)
+            → IsKeyOf F.words (machine_scope self.now.machine self.now.lines.items self.now.from) key.now m
+            → picked (machine_menu self.now.machine self.now.lines.items self.now.from self.now.may.items) m.world
+            choice ≡ Nothing }
+    {
+        let (runs, _) = read_processors(&key[1..], self.machine.cpus());
+        let name = name_at(&runs, self.deed_cpu(choice));
+        is_its(&name, &self.deed(choice))
+    }
+
     // Makes a choice after `turns` turns, and answers how many were made then. What it shows is in the label. The only
     // error is that memory is out.
     fn choose(&mut self, choice: u32, turns: u32) -> Result<u32, AllocError>
+        requires choice { choice < usual_choices
+            (machine_menu self.old.machine self.old.lines.items self.old.from self.old.may.items)
+            + length self.old.machine.cpus * length self.old.may.items }
+        requires opened { length self.old.machine.cpus ≤ choice → choice < usual_choices
+            (machine_menu self.old.machine self.old.lines.items self.old.from self.old.may.items)
+            → self.old.from ≤ turns }
+        requires empty { self.old.label.bytes.items ≡ [] }
+        ensures made { IfOk result (λ n. (m : Moment) → IsAtWorld self.old.machine m.world → turns ≡ m.turns
+            → HasPicked (machine_menu self.old.machine self.old.lines.items self.old.from self.old.may.items) m choice
+            (picked (machine_menu self.old.machine self.old.lines.items self.old.from self.old.may.items) m.world
+            choice) self.new.machine n self.new.label.bytes.items) }
+        ensures count { length self.new.machine.cpus ≡ length self.old.machine.cpus }
+        ensures lines { self.new.lines ≡ self.old.lines }
+        ensures from { self.new.from ≡ self.old.from }
+        ensures may { self.new.may ≡ self.old.may }
+    {
+        if choice >= self.usual_choices() {
+            return self.choose_deed(choice, turns);
+        }
+        if self.waits(choice) {
+            return self.act(choice, &None, turns);
+        }
+        self.choose_usual(choice, turns)
+    }
+
+    // Whether a choice is the turn of a processor on which a partition runs that has deeds.
+    fn waits(&self, choice: u32) -> bool
+        ensures waits { (w : World) → IsAtWorld self.now.machine w → result
+            ≡ (nat_lt choice (length self.now.machine.cpus)
+            && is_hostile w.tree.root.name (name_on w choice) self.now.may.items) }
+        ensures there { IsTrue result → choice < length self.now.machine.cpus }
+    {
+        if choice >= self.machine.cpus() {
+            return false;
+        }
+        is_hostile(&self.machine.runs(choice), &self.may)
+    }
+
+    // Makes a choice that is a deed.
+    fn choose_deed(&mut self, choice: u32, turns: u32) -> Result<u32, AllocError>
+        requires least { usual_choices (machine_menu self.old.machine self.old.lines.items self.old.from
+            self.old.may.items) ≤ choice }
+        requires most { choice < usual_choices
+            (machine_menu self.old.machine self.old.lines.items self.old.from self.old.may.items)
+            + length self.old.machine.cpus * length self.old.may.items }
+        requires empty { self.old.label.bytes.items ≡ [] }
+        ensures made { IfOk result (λ n. (m : Moment) → IsAtWorld self.old.machine m.world → turns ≡ m.turns
+            → HasPicked (machine_menu self.old.machine self.old.lines.items self.old.from self.old.may.items) m choice
+            (picked (machine_menu self.old.machine self.old.lines.items self.old.from self.old.may.items) m.world
+            choice) self.new.machine n self.new.label.bytes.items) }
+        ensures count { length self.new.machine.cpus ≡ length self.old.machine.cpus }
+        ensures lines { self.new.lines ≡ self.old.lines }
+        ensures from { self.new.from ≡ self.old.from }
+        ensures may { self.new.may ≡ self.old.may }
+    {
+        let cpu = self.deed_cpu(choice);
+        let may = self.deed(choice);
+        if is_its(&self.machine.runs(cpu), &may) {
+            return self.act(cpu, &Some(may.deed), turns);
+        }
+        Ok(turns)
+    }
+
+    // What runs on a processor waits for a line, or does a deed.
+    fn act(&mut self, cpu: u32, deed: &Option<Deed>, turns: u32) -> Result<u32, AllocError>
+        requires cpu { cpu < length self.old.machine.cpus }
+        requires empty { self.old.label.bytes.items ≡ [] }
+        ensures made { IfOk result (λ n. (m : Moment) (k : ℕ) → IsAtWorld self.old.machine m.world → turns ≡ m.turns
+            → HasPicked (machine_menu self.old.machine self.old.lines.items self.old.from self.old.may.items) m k
+            (Hostile cpu deed.now) self.new.machine n self.new.label.bytes.items) }
+        ensures count { length self.new.machine.cpus ≡ length self.old.machine.cpus }
+        ensures lines { self.new.lines ≡ self.old.lines }
+        ensures from { self.new.from ≡ self.old.from }
+        ensures may { self.new.may ≡ self.old.may }
+    {
+        match act_from_menu(
+            &mut self.machine,
+            cpu,
+            deed,
+            &mut self.label,
+            &mut self.steps,
+        ) {
+            Ok(()) => Ok(turns_after(self.from, turns, TurnEnd::Ran)),
+            Err(_) => Err(AllocError),
+        }
+    }
+
+    // Makes a choice of the search without a menu.
+    fn choose_usual(&mut self, choice: u32, turns: u32) -> Result<u32, AllocError>
         requires choice { choice < length self.old.machine.cpus + length self.old.lines.items }
         requires opened { length self.old.machine.cpus ≤ choice → self.old.from ≤ turns }
         requires empty { self.old.label.bytes.items ≡ [] }
@@ -111,6 +296,7 @@ impl<F: First, L: Ledger> Explorer<F, L> {
         ensures count { length self.new.machine.cpus ≡ length self.old.machine.cpus }
         ensures lines { self.new.lines ≡ self.old.lines }
         ensures from { self.new.from ≡ self.old.from }
+        ensures may { self.new.may ≡ self.old.may }
     {
         let cpus = self.machine.cpus();
         if choice >= cpus {
@@ -135,18 +321,17 @@ impl<F: First, L: Ledger> Explorer<F, L> {
 impl<F: First, L: Ledger> System for Explorer<F, L> {
     ghost use Rattle.std.specs.Prelude.{◌≡◌, ◌<◌, IfOk};
     ghost use Rattle.pip_search.specs.Systems.{IsKey};
-    ghost use Rattle.pip_every.specs.Choosing.{machine_scope};
-    ghost use Rattle.pip_every.specs.Keys.{model_of};
-    ghost use Rattle.pip_every.specs.Moments.{Scope};
+    ghost use Rattle.pip_every.specs.Choosing.{machine_menu};
+    ghost use Rattle.pip_every.specs.Menus.{Menu, menu_model};
 
-    ghost Base = { Scope };
+    ghost Base = { Menu };
 
-    ghost base = { λ s. machine_scope s.machine s.lines.items s.from };
+    ghost base = { λ s. machine_menu s.machine s.lines.items s.from s.may.items };
 
-    ghost model = { λ b. model_of F.words b };
+    ghost model = { λ b. menu_model F.words b };
 
     fn count(&self) -> u32 {
-        self.machine.cpus() + self.lines.len() as u32
+        self.usual_choices() + self.machine.cpus() * self.may.len() as u32
     }
 
     fn make(
@@ -158,8 +343,7 @@ impl<F: First, L: Ledger> System for Explorer<F, L> {
     ) -> Result<(), AllocError> {
         to.clear();
         shown.clear();
-        // A line before its time changes nothing.
-        if choice >= self.machine.cpus() && from[0] < self.from {
+        if self.changes_nothing(from, choice) {
             return to.extend_from_slice(from);
         }
         let turns = self.go_to(from);

@@ -5,19 +5,24 @@
 //! those of a later time. To make a choice, [`search`] takes its one machine to the key's moments, has it make its
 //! turn, and writes its next key; what it shows goes to a sink that grows. A machine represents every world that its
 //! frames lay out, so one run of the kernel is a step of each moment that has the key (`HasChosen` of specs/Choosing).
+//! [`search_against`] searches with a menu (specs/Menus): what partitions that have deeds may do is all that is on it,
+//! whatever their programs are; with an empty one it is the same search.
 //! [`part`] checks a part of a search in the same way, for a certificate.
 #![tactic(auto)]
 
+mod deeds;
 mod explorer;
 mod label;
 mod later;
 mod laws;
+mod menus;
 mod parts;
 mod processors;
 mod searching;
 
 pub use label::Label;
 pub use laws::law_keys;
+pub use menus::{Deed, MAX_DEEDS, May};
 pub use parts::part;
 pub use processors::{add_processors, read_processors};
-pub use searching::search;
+pub use searching::{search, search_against};

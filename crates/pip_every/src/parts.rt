@@ -58,7 +58,7 @@ fn part_from<F: First, L: Ledger>(
     let machine = Machine::new(journal, cpus);
     let mut raised = Vec::new(alloc);
     raised.extend_from_slice(lines)?;
-    let mut explorer = Explorer::new(alloc, machine, raised, from, steps);
+    let mut explorer = Explorer::new(alloc, machine, raised, from, Vec::new(alloc), steps);
     let mut start = Vec::new(alloc);
     explorer.add_key(0, &mut start)?;
     check_part(&mut explorer, alloc, start.as_slice(), way, marks)

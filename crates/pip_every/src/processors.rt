@@ -2,6 +2,7 @@
 ghost use Rattle.std.specs.Prelude.{◌≡◌, ◌<◌, ◌≤◌, ◌^◌, ◌++◌, ℕ, List, Option, IfOk, length, take, drop, slice_index};
 ghost use Rattle.pip_model.specs.declared.processors.Occupant.{Occupant};
 ghost use Rattle.pip_every.specs.Keys.{processor_words, running_words};
+ghost use Rattle.pip_switch.specs.Occupied.{part_on};
 ghost use Rattle.pip_every.specs.Reading.{StartsWithOne, StartsWithAll};
 
 use arrayvec::ArrayVec;
@@ -84,4 +85,15 @@ pub fn read_processors(words: &[u32], count: u32) -> (Processors, &[u32])
         rest = more;
     }
     (cpus, rest)
+}
+
+/// The partition that runs on a processor, if one does.
+pub(crate) fn name_at(cpus: &Processors, cpu: u32) -> Option<Frame>
+    requires { cpu < length cpus.now.items }
+    ensures { result ≡ part_on cpus.now.items cpu }
+{
+    match &cpus.as_slice()[cpu as usize] {
+        Some(r) => Some(r.name),
+        None => None,
+    }
 }

@@ -6,10 +6,12 @@ ghost use Rattle.pip_model.specs.Booted.{HasBooted, IsBooted};
 ghost use Rattle.pip_search.specs.Summary.{IsTold};
 ghost use Rattle.pip_search.specs.Ways.{AreTraced, witnesses_of};
 ghost use Rattle.pip_every.specs.Keys.{model_of};
+ghost use Rattle.pip_every.specs.Menus.{menu_model};
 ghost use Rattle.pip_every.specs.Moments.{first_moment};
 
 use crate::explorer::Explorer;
 use crate::later::words_later;
+use crate::menus::May;
 use pip_base::Steps;
 use pip_frames::{Frames, RawFrames};
 use pip_journal::{First, Journal};
@@ -19,8 +21,8 @@ use std::alloc::{AllocError, Global};
 use std::marker::Brand;
 use std::sync::ledger::{Blank, Ledger};
 
-// `search` over a journal whose first words are those of the frames `later`, as many as the machine's. The type `F`
-// stands for these words, and `L` for the ledger that counts the steps.
+// `search_against` over a journal whose first words are those of the frames `later`, as many as the machine's. The
+// type `F` stands for these words, and `L` for the ledger that counts the steps.
 fn search_from<F: First, L: Ledger>(
     alloc: Global,
     mem: RawFrames,
@@ -28,6 +30,7 @@ fn search_from<F: First, L: Ledger>(
     cpus: u32,
     lines: &[u32],
     from: u32,
+    may: Vec<May>,
     most: u32,
     limit: u32,
     blank: Blank,
@@ -41,10 +44,12 @@ fn search_from<F: First, L: Ledger>(
     requires most { cpus ≤ 4 }
     requires below { All (λ line. line < 16) lines.now }
     requires few { length lines.now ≤ 16 }
+    requires short { length may.items ≤ 1024 }
     requires limit { 0 < limit }
     ensures told { IfOk result (λ r. (n : ℕ) (words : ℕ → ℕ → ℕ) → IsBooted n words (⟦<RawFrames as Frames>⟧.memory mem)
-        → IsTold (model_of (⟦<RawFrames as Frames>⟧.memory mem)
-        (record { cpus = cpus; lines = lines.now; from = from })) (first_moment words n cpus) most limit
+        → IsTold (menu_model (⟦<RawFrames as Frames>⟧.memory mem)
+        (record { scope = record { cpus = cpus; lines = lines.now; from = from }; may = may.items }))
+        (first_moment words n cpus) most limit
         (witnesses_of r.1 r.0.visits.items r.0.found.items) (length r.0.visits.items) r.1) }
     ensures traced { IfOk result (λ r. AreTraced r.0.visits.items r.0.found.items) }
     ensures room { IfOk result (λ r. length r.0.visits.items ≤ limit) }
@@ -54,10 +59,54 @@ fn search_from<F: First, L: Ledger>(
     let machine = Machine::new(journal, cpus);
     let mut raised = Vec::new(alloc);
     raised.extend_from_slice(lines)?;
-    let mut explorer = Explorer::new(alloc, machine, raised, from, steps);
+    let mut explorer = Explorer::new(alloc, machine, raised, from, may, steps);
     let mut start = Vec::new(alloc);
     explorer.add_key(0, &mut start)?;
     explore(&mut explorer, alloc, start.as_slice(), most, limit)
+}
+
+/// Searches what can happen to a machine over these frames as `search` does, whatever the partitions that have deeds on
+/// a menu do of it: in the place of the turns of their programs they wait for a line, or do one of these deeds. A menu
+/// has 1024 deeds at most. A choice after those of `search` is a deed: each on all processors, before the next. The
+/// only error is that memory is out.
+pub fn search_against(
+    alloc: Global,
+    mem: RawFrames,
+    cpus: u32,
+    lines: &[u32],
+    from: u32,
+    may: Vec<May>,
+    most: u32,
+    limit: u32,
+) -> Result<(Search, Extent), AllocError>
+    requires booted { HasBooted (⟦<RawFrames as Frames>⟧.memory mem) }
+    requires least { 1 ≤ cpus }
+    requires most { cpus ≤ 4 }
+    requires below { All (λ line. line < 16) lines.now }
+    requires few { length lines.now ≤ 16 }
+    requires short { length may.items ≤ 1024 }
+    requires limit { 0 < limit }
+    ensures told { IfOk result (λ r. (n : ℕ) (words : ℕ → ℕ → ℕ) → IsBooted n words (⟦<RawFrames as Frames>⟧.memory mem)
+        → IsTold (menu_model (⟦<RawFrames as Frames>⟧.memory mem)
+        (record { scope = record { cpus = cpus; lines = lines.now; from = from }; may = may.items }))
+        (first_moment words n cpus) most limit
+        (witnesses_of r.1 r.0.visits.items r.0.found.items) (length r.0.visits.items) r.1) }
+    ensures traced { IfOk result (λ r. AreTraced r.0.visits.items r.0.found.items) }
+    ensures room { IfOk result (λ r. length r.0.visits.items ≤ limit) }
+{
+    let later = words_later::<Brand>(alloc, &mem, cpus, Blank::new(1))?;
+    search_from::<Brand, Brand>(
+        alloc,
+        mem,
+        later,
+        cpus,
+        lines,
+        from,
+        may,
+        most,
+        limit,
+        Blank::new(1),
+    )
 }
 
 /// Searches what can happen to a machine over these frames, which have booted, with 1 to 4 processors. At each moment
@@ -86,16 +135,6 @@ pub fn search(
     ensures traced { IfOk result (λ r. AreTraced r.0.visits.items r.0.found.items) }
     ensures room { IfOk result (λ r. length r.0.visits.items ≤ limit) }
 {
-    let later = words_later::<Brand>(alloc, &mem, cpus, Blank::new(1))?;
-    search_from::<Brand, Brand>(
-        alloc,
-        mem,
-        later,
-        cpus,
-        lines,
-        from,
-        most,
-        limit,
-        Blank::new(1),
-    )
+    let may = Vec::new(alloc);
+    search_against(alloc, mem, cpus, lines, from, may, most, limit)
 }

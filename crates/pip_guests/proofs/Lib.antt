@@ -13,6 +13,7 @@ pub mod Together
 pub mod Asking
 pub mod Inputs
 pub mod Interrupts
+pub mod Lending
 pub mod Ancestors
 pub mod Turns
 pub mod TurnsLeaving
@@ -21,5 +22,6 @@ pub mod Programs
 pub mod OnInputs
 pub mod Limits
 mod Premises
+pub mod AncestorPremises
 mod TurnPremises
 pub mod Machines

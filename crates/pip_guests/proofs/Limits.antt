@@ -1,5 +1,5 @@
 -- Two worlds that differ only in whether the root runs on processor 1, while its child 13 runs on processor 0.
-use Rattle.std.proofs.Common.{◌≡◌, ◌≢◌, ℕ, ◌<◌, zero, suc, inl, inr, refl, sym, ap, subst, arith, Some}
+use Rattle.std.proofs.Common.{◌≡◌, ◌≢◌, ℕ, ◌<◌, zero, suc, inl, inr, [], ◌∷◌, refl, sym, ap, subst, arith, Some}
 use Rattle.pip_base.specs.declared.outcome.Outcome.TheVariants as O
 use Rattle.pip_base.specs.declared.outcome.Status.TheVariants as S
 use Rattle.pip_model.specs.Answers.{Five}
@@ -12,13 +12,17 @@ use Rattle.pip_model.specs.Tree.{ancestry}
 use Rattle.pip_model.specs.Worlds.{IsSoundWorld, World, boot_world_with, first_ctx, with_running, runs_on}
 use Rattle.pip_model.specs.declared.processors.Occupant.{Occupant}
 use Rattle.pip_model.proofs.Events.Soundness.{boot_world-sound_with, cpu_runs, event-sound, first_context}
-use Rattle.pip_guests.specs.Guests.{IsInside, IsLeaving, IsSameGuest}
-use Rattle.pip_guests.specs.Inputs.{Interrupts, IsAsking, IsInput}
+use Rattle.pip_guests.specs.Guests.{IsInside, IsLeaving, IsSameGuest, IsSameLeaving}
+use Rattle.pip_guests.specs.Inputs.{Interrupts, IsAsking, IsInput, RunAlike, asked, ended, input}
 use Rattle.pip_guests.specs.Limits.{AsksIsNotInside, IsInsideOrAsks, IsInsideOrParked, OutcomesDepend}
 use Rattle.pip_guests.specs.Limits.{ParkedIsNotInside, PollsAreNotApart}
+use Rattle.pip_guests.specs.Programs.{HasSameEvents, IsAlikeTurn, IsGuestTurn}
 use Rattle.pip_guests.proofs.Inside.{inside_same}
 use Rattle.pip_guests.proofs.Elsewhere.{others_leave_guests_alone, same_sym, same_trans}
 use Rattle.pip_guests.proofs.Interrupts.{interrupts_are_inputs}
+use Rattle.pip_guests.proofs.Leaving.{guests_are_left_alike}
+use Rattle.pip_guests.proofs.Turns.{poll_vain}
+use Rattle.pip_guests.proofs.TurnsLeaving.{turns_leave_alike}
 
 abbrev five : ℕ → ℕ → ℕ → ℕ → ℕ → Five
 five a b c d e = record { x0 = a; x1 = b; x2 = c; x3 = d; x4 = e }
@@ -148,3 +152,43 @@ interrupted =
 -- ---- the premise of the law of inputs on a yield of p to its parent: it is accepted in both
 asking : IsAsking 13 (E.Call 0 8 (five 0 64 256 0 0)) alone (line 1)
 asking = record { own = refl; asks = (refl, refl, refl); answer = refl }
+
+-- ---- the premises of the laws on what leaves: a trap of 13, and a turn of 13, whose fetch faults
+left_alike : IsSameLeaving 13 (E.Trap 0 64 0 0) busy alone
+left_alike = guests_are_left_alike busy alone 13 (E.Trap 0 64 0 0) busy_sound alone_sound
+    (omega arith, omega arith, omega arith) not_root same busy_left
+
+turn_leaves : IsGuestTurn 13 busy 0 0
+turn_leaves =
+    record { below = inl refl; fits = (inr (record { faults = refl; below = inl refl; leaves = tt }), tt) }
+
+turn_left : HasSameEvents 13 0 0 busy alone
+turn_left = turns_leave_alike busy alone 13 0 0 busy_sound alone_sound not_root same (poll_vain busy 0 child refl refl)
+    (poll_vain alone 0 child refl refl) turn_leaves
+
+-- ---- the premise of the law of turns on inputs, of a turn that is alike: line 0 is taken, and in the second world
+-- line 2 is pending, too
+abbrev lines : World
+lines = (event (line 0) (E.Raise 2)).world
+
+lines_sound : IsSoundWorld lines
+lines_sound = event-sound (line 0) (E.Raise 2) (line_sound 0 (omega arith)) (omega arith)
+
+lines_same : IsSameGuest 13 (line 0) lines
+lines_same = (others_leave_guests_alone (line 0) 13 (E.Raise 2) (line_sound 0 (omega arith)) (omega arith)
+    (inr (inl refl)) not_root tt).same
+
+lines_taken : Interrupts 13 0 32 lines
+lines_taken = record { below = inl refl; taken = refl }
+
+turn_alike : IsAlikeTurn 13 (line 0) lines (record { step = 0; cpu = 0 })
+turn_alike = record {
+  acts = refl;
+  events = input (E.Poll 0) (E.Poll 0) (interrupts_are_inputs (line 0) lines 13 0 32 32 (line_sound 0 (omega arith))
+      lines_sound not_root lines_same first_taken lines_taken) ended;
+  name = inr (inl refl);
+}
+
+-- ---- the premise of the law of inputs, of a run with a yield to the parent
+asked_run : RunAlike 13 alone (E.Call 0 8 (five 0 64 256 0 0) ∷ []) (line 1) (E.Call 0 8 (five 0 64 256 0 0) ∷ [])
+asked_run = asked (E.Call 0 8 (five 0 64 256 0 0)) asking ended

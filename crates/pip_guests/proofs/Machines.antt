@@ -1,17 +1,22 @@
 -- The laws of whole guests, said of machines: a run of a machine is one of the model.
 use Rattle.std.proofs.Common.{◌≡◌, ℕ, cond, List, [], ◌∷◌, refl, sym, ap, ◌∙◌, subst}
+use Rattle.pip_model.specs.Acts.{after_acts, events_made}
 use Rattle.pip_model.specs.Events.{Event}
 use Rattle.pip_model.specs.Happens.{after, event, outcomes}
 use Rattle.pip_model.specs.Worlds.{World}
+use Rattle.pip_model.proofs.OnLists.Acts.{after-events}
+use Rattle.pip_switch.specs.Standing.{StandsAs}
 use Rattle.pip_switch.proofs.Isolating.{runs_are_the_models}
 use Rattle.pip_guests.specs.Guests.{Leaves, is_of_guest, learns, learns_all, learns_own, only_guest}
 use Rattle.pip_guests.specs.Machines.{MachinesAreLeftAlike, MachinesDependOnGuests, MachinesDependOnInputs}
 use Rattle.pip_guests.specs.Machines.{MachinesKeepGuestsApart, MachinesLeaveGuestsAlone, MachinesLeaveOtherGuestsAlone}
-use Rattle.pip_guests.specs.Machines.{MachinesRunGuestsAsAlone, told_all, told_own}
+use Rattle.pip_guests.specs.Machines.{MachinesRunGuestsAsAlone, MachinesRunOnInputs, told_all, told_own}
+use Rattle.pip_guests.specs.Programs.{all_steps}
 use Rattle.pip_guests.proofs.Elsewhere.{elsewhere_kept, guests_leave}
 use Rattle.pip_guests.proofs.Inputs.{guests_depend_on_inputs}
 use Rattle.pip_guests.proofs.Inside.{inside_same}
 use Rattle.pip_guests.proofs.Leaving.{guests_are_left_alike}
+use Rattle.pip_guests.proofs.OnInputs.{steps_depend_on_inputs}
 use Rattle.pip_guests.proofs.Together.{guests_run_as_alone, others_do_not_matter_to_guests}
 
 pub machines_leave_other_guests_alone : MachinesLeaveOtherGuestsAlone
@@ -105,4 +110,22 @@ machines_depend_on_inputs w v p es fs m n m2 n2 os os2 s s2 all all2 there not_r
     guests_depend_on_inputs w v p es fs s.bare.sound s2.bare.sound there not_root same are are2 alike in (
       ap (told_own p w es) told ∙ told_are_own p w es ∙ learnt ∙ sym (ap (told_own p v fs) told2 ∙ told_are_own p v fs),
       record { left = after w es; right = after v fs; stands_left = last; stands_right = last2; guest = guest },
+    )
+
+pub machines_run_on_inputs : MachinesRunOnInputs
+machines_run_on_inputs w v p plans plans2 ss rs m n m2 n2 os os2 s s2 all all2 there not_root same inputs =
+    let es = events_made (all_steps plans w ss) in
+    let fs = events_made (all_steps plans2 v rs) in
+    let (told, last) = runs_are_the_models m n es os all w s in
+    let (told2, last2) = runs_are_the_models m2 n2 fs os2 all2 v s2 in
+    let (turns, guest) =
+    steps_depend_on_inputs w v p plans plans2 ss rs s.bare.sound s2.bare.sound there not_root same inputs in (
+      turns,
+      record {
+        left = after_acts w (all_steps plans w ss);
+        right = after_acts v (all_steps plans2 v rs);
+        stands_left = subst (StandsAs n) (sym (after-events w (all_steps plans w ss))) last;
+        stands_right = subst (StandsAs n2) (sym (after-events v (all_steps plans2 v rs))) last2;
+        guest = guest;
+      },
     )

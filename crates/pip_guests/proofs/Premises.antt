@@ -1,6 +1,6 @@
 -- The premises of the laws are met: two children of the root, 13 and 18, run on two processors.
 use Rattle.std.proofs.Common.{◌≡◌, ℕ, zero, suc, ◌+◌, ◌<◌, true, inl, inr, List, [], ◌∷◌, refl, sym, ap, ◌∙◌, subst}
-use Rattle.std.proofs.Common.{arith, Some}
+use Rattle.std.proofs.Common.{arith, None, Some}
 use Rattle.std.specs.List.{AllByRecursion}
 use Rattle.pip_base.specs.declared.outcome.Outcome.TheVariants as O
 use Rattle.pip_base.specs.declared.outcome.Status.TheVariants as S
@@ -8,7 +8,8 @@ use Rattle.pip_base.specs.declared.types.Access.TheVariants.{Store}
 use Rattle.pip_base.specs.declared.types.Ctx.{Ctx}
 use Rattle.pip_base.specs.declared.types.Size.TheVariants.{Word}
 use Rattle.pip_model.specs.Acts.{events_made}
-use Rattle.pip_model.specs.Answers.{Five}
+use Rattle.pip_model.specs.AddVAddr.{add_refusals}
+use Rattle.pip_model.specs.Answers.{Five, child_name, first_met, page_of}
 use Rattle.pip_model.specs.Events.{Event, IsEvent}
 use Rattle.pip_model.specs.Events as E
 use Rattle.pip_model.specs.Generator.{next_state}
@@ -23,11 +24,12 @@ use Rattle.pip_model.specs.Worlds.{IsSoundWorld, World, boot_world_with, with_ru
 use Rattle.pip_model.specs.declared.processors.Occupant.{Occupant}
 use Rattle.pip_model.proofs.Events.Soundness.{after-sound, boot_world-sound_with, cpu_runs, event-sound}
 use Rattle.pip_guests.specs.Guests.{AsksParent, IsApart, IsInside, IsSameGuest, StaysBelow, is_own, learns_own}
-use Rattle.pip_guests.specs.Inputs.{CallsOn, Enters, IsInput, RunAlike, StoresTo, ended, input, own, second}
+use Rattle.pip_guests.specs.Inputs.{CallsOn, Enters, IsInput, LendsPage, RunAlike, StoresTo, ended, input, own, second}
 use Rattle.pip_guests.specs.Programs.{AmongSlots, AreInsideTurns, IsRunAsAlone, Slot, left, none, right, run_slots}
 use Rattle.pip_guests.specs.Programs.{turns}
 use Rattle.pip_guests.proofs.Elsewhere.{same_world}
 use Rattle.pip_guests.proofs.Inputs.{calls_are_inputs, entries_are_inputs, guests_depend_on_inputs, stores_are_inputs}
+use Rattle.pip_guests.proofs.Lending.{lendings_are_inputs}
 use Rattle.pip_guests.proofs.Programs.{programs_run_as_alone}
 
 abbrev pub five : ℕ → ℕ → ℕ → ℕ → ℕ → Five
@@ -127,7 +129,7 @@ born_are a l = (
 names : names_of (nodes made.tree) ≡ 1 ∷ 22 ∷ 13 ∷ []
 names = refl
 
-made_sound : IsSoundWorld made
+pub made_sound : IsSoundWorld made
 made_sound =
     let boot = boot_world-sound_with (λ g i. 0xfffff000) 64 2 (omega arith) (omega arith) (omega arith) (omega arith)
     (λ g i l. omega arith) in
@@ -268,16 +270,16 @@ same_13 = record {
     off (suc (suc i)) r h e = cc
 
 -- in both it writes a word of 13's page, and yields to 13, which then makes a call
-abbrev gives : Event
+abbrev pub gives : Event
 gives = E.Store 0 0x409008 Word 5
 
-abbrev enters : Five
+abbrev pub enters : Five
 enters = five 0x401000 64 256 0 0
 
 abbrev given : World → World
 given w = (event w gives).world
 
-gives_are : IsEvent gives
+pub gives_are : IsEvent gives
 gives_are = (omega arith, omega arith)
 
 other_sound : IsSoundWorld other
@@ -323,7 +325,7 @@ made_enters = enters_13 (given made) refl refl (inl refl) refl
 other_enters : Enters 13 13 64 (given other) 0 8 enters
 other_enters = enters_13 (given other) refl refl (inl refl) refl
 
-enters_are : IsEvent (E.Call 0 8 enters)
+pub enters_are : IsEvent (E.Call 0 8 enters)
 enters_are = let z = words 0 (omega arith) in
     (words 8 (omega arith), (omega arith, (words 64 (omega arith), (words 256 (omega arith), (z, (z, tt))))))
 
@@ -393,3 +395,40 @@ taken_same = record { nodes = λ x. ((λ h. h), (λ h. h)); words = λ g i j l. 
 takes_13 : IsInput 13 (E.Call 0 6 takes) (E.Call 0 6 takes) made other
 takes_13 = calls_are_inputs made other 13 0 0 6 6 takes takes made_sound other_sound (inr (inr (inl refl))) same_13
     made_calls other_calls taken_same
+
+-- ---- a call of the root lends 13 a page, in both
+
+abbrev lends : Five
+lends = five 0x413000 0x401000 0xffffe000 7 0
+
+lends_are : IsEvent (E.Call 0 5 lends)
+lends_are =
+    let z = words 0 (omega arith) in
+    (words 5 (omega arith), (omega arith, (omega arith, (omega arith, (words 7 (omega arith), (z, tt))))))
+
+lent_by : (w : World) → actor w (E.Call 0 5 lends) ≡ 1 → ancestry w.tree 1 ≡ 1 ∷ [] → In 1 (names_of (nodes w.tree))
+    → child_name w.tree 1 0x401000 ≡ 13 → page_of w.tree 1 0x413000 ≡ 31
+    → first_met (add_refusals w.tree 1 0x413000 0x401000 0xffffe000 7) ≡ None
+    → LendsPage 13 31 0xffffe000 7 w 0 5 lends
+lent_by w who line root child page accepted = record {
+  adds = refl;
+  outside = λ h.
+      let k : In {A = ℕ} 13 (1 ∷ []) = subst (In 13) (ap (ancestry w.tree) who ∙ line) h in
+      elim k [ inl q ↦ omega (arith, q) | inr j ↦ j ];
+  runs = subst (λ n. In n (names_of (nodes w.tree))) (sym who) root;
+  child = ap (λ n. child_name w.tree n 0x401000) who ∙ child;
+  page = ap (λ n. page_of w.tree n 0x413000) who ∙ page;
+  address = refl;
+  rights_are = refl;
+  accepted = ap (λ n. first_met (add_refusals w.tree n 0x413000 0x401000 0xffffe000 7)) who ∙ accepted;
+}
+
+made_lends : LendsPage 13 31 0xffffe000 7 made 0 5 lends
+made_lends = lent_by made refl refl (inl refl) refl refl refl
+
+other_lends : LendsPage 13 31 0xffffe000 7 other 0 5 lends
+other_lends = lent_by other refl refl (inl refl) refl refl refl
+
+lends_13 : IsInput 13 (E.Call 0 5 lends) (E.Call 0 5 lends) made other
+lends_13 = lendings_are_inputs made other 13 31 0xffffe000 7 0 0 5 5 lends lends made_sound other_sound lends_are
+    lends_are (inr (inr (inl refl))) same_13 made_lends other_lends (λ i l. refl)

@@ -1,4 +1,5 @@
--- The premises of the laws of turns are met: the two children of the computed world have one turn each.
+-- The premises of the laws of turns, and of lists of events, are met: the two children of the computed world have one
+-- turn each, and one event each.
 use Rattle.std.proofs.Common.{◌≡◌, false, inl, inr, [], ◌∷◌, refl, arith}
 use Rattle.pip_model.specs.Acts.{after_acts, events_made}
 use Rattle.pip_model.specs.Events.{Event, IsEvent}
@@ -9,7 +10,9 @@ use Rattle.pip_model.specs.Local.{IsAside, actor}
 use Rattle.pip_model.specs.Tree.{ancestry}
 use Rattle.pip_model.specs.Turn.{turn}
 use Rattle.pip_model.specs.Worlds.{IsSoundWorld, World}
-use Rattle.pip_guests.specs.Guests.{IsApart, PollsInVain}
+use Rattle.pip_guests.specs.Guests.{IsApart, IsAsAlone, IsInside, PollsInVain, learns_all}
+use Rattle.pip_guests.specs.Guests.{learns_own, left, none, only_guest}
+use Rattle.pip_guests.specs.Guests.{right}
 use Rattle.pip_guests.specs.Programs.{AllStayApart, AreOwnOrApartTurns, IsInsideTurn, Other, RunOnInputs, Slot, Turn}
 use Rattle.pip_guests.specs.Programs.{ended, own, own_slots, own_turns, second, turn_of, turns, turns_among}
 use Rattle.pip_guests.proofs.Elsewhere.{others_leave_guests_alone, same_world}
@@ -17,6 +20,7 @@ use Rattle.pip_guests.proofs.OnInputs.{programs_depend_on_inputs}
 use Rattle.pip_guests.proofs.Premises.{aside, at, five, guest, inside_13, off_13, off_22, pair, pair_sound, stays}
 use Rattle.pip_guests.proofs.Premises.{words}
 use Rattle.pip_guests.proofs.Programs.{other_turns_do_not_matter, turn_apart}
+use Rattle.pip_guests.proofs.Together.{guests_run_as_alone, others_do_not_matter_to_guests}
 use Rattle.pip_guests.proofs.Turns.{poll_vain, turn_sound}
 
 -- ---- turns of others left out
@@ -81,3 +85,31 @@ on_inputs = in_turn pair pair masks masks_are masks_apart inside_13.0 pair_polls
 same_turns : turns_among pair (Turn (at 0 0) ∷ []) ≡ turns_among pair (Other masks ∷ Turn (at 0 0) ∷ [])
 same_turns = (programs_depend_on_inputs pair pair 13 _ _ pair_sound pair_sound (inr (inr (inl refl)))
     (λ e. omega (arith, e)) (same_world 13 pair) on_inputs).0
+
+-- ---- events of others left out, and two guests side by side: 13 masks itself, and then 22 does
+
+abbrev own_mask : Event
+own_mask = E.Call 0 10 (five 0 0 0 0 0)
+
+own_mask_is : IsEvent own_mask
+own_mask_is = let z = words 0 (omega arith) in (words 10 (omega arith), (z, (z, (z, (z, (z, tt))))))
+
+own_mask_inside : IsInside 13 pair own_mask
+own_mask_inside = record { own = refl; below = inl refl; stays = tt; asks = λ h. cc }
+
+masks_inside : IsInside 22 pair masks
+masks_inside = record { own = refl; below = inl refl; stays = tt; asks = λ h. cc }
+
+own_mask_after : IsInside 13 (event pair masks).world own_mask
+own_mask_after = record { own = refl; below = inl refl; stays = tt; asks = λ h. cc }
+
+left_out : (learns_own 13 pair (masks ∷ own_mask ∷ [])
+    ≡ learns_all 13 pair (only_guest 13 pair (masks ∷ own_mask ∷ [])))
+left_out = (others_do_not_matter_to_guests pair 13 (masks ∷ own_mask ∷ []) pair_sound (inr (inr (inl refl)))
+    (λ e. omega (arith, e)) (masks_are, (own_mask_is, tt)) (inr masks_apart, (inl (inl own_mask_after), tt))).0
+
+side_by_side : IsAsAlone 13 pair (own_mask ∷ masks ∷ []) (own_mask ∷ [])
+    × IsAsAlone 22 pair (own_mask ∷ masks ∷ []) (masks ∷ [])
+side_by_side = guests_run_as_alone pair 13 22 (own_mask ∷ masks ∷ []) (own_mask ∷ []) (masks ∷ []) pair_sound
+    (inr (inr (inl refl))) aside (own_mask_is, (masks_are, tt)) (left own_mask (right masks none))
+    (inl own_mask_inside, tt) (inl masks_inside, tt)

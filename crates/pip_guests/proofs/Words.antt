@@ -30,8 +30,8 @@ use Rattle.pip_model.specs.Local.{Succeeded}
 use Rattle.pip_model.specs.Reach.{Faulted, Place, Reached, reach, word_reached}
 use Rattle.pip_model.specs.Sound.{IsContext, IsWord}
 use Rattle.pip_model.specs.Tree.{word_of}
-use Rattle.pip_model.specs.Turn.{effect_acts, fetch_acts, acts_after_fetch, load_acts, outcome_of, store_acts}
-use Rattle.pip_model.specs.Turn.{word_acts, world_of}
+use Rattle.pip_model.specs.Turn.{acts_after_fetch, acts_after_poll, effect_acts, fetch_acts, load_acts, outcome_of}
+use Rattle.pip_model.specs.Turn.{store_acts, turn, word_acts, world_of}
 use Rattle.pip_model.specs.Worlds.{IsSoundWorld, World, runs_on}
 use Rattle.pip_model.specs.declared.effect.Effect.{Effect}
 use Rattle.pip_model.specs.declared.effect.Effect.TheVariants as F
@@ -351,3 +351,21 @@ fetch_are w cpu t s = (tt, go (outcome_of w (E.Fetch cpu)) refl)
     go (O.Switched from to j) e = tt
     go (O.Parked from j) e = tt
     go O.Idle e = tt
+
+-- all that a turn does
+pub turn_are : (w : World) (cpu t : ℕ) → IsSoundWorld w → AllByRecursion IsEvent (events_made (turn w cpu t))
+turn_are w cpu t s = (tt, go (outcome_of w (E.Poll cpu)))
+  where
+    after : World
+    after = world_of w (E.Poll cpu)
+
+    rest : AllByRecursion IsEvent (events_made (fetch_acts after t cpu))
+    rest = fetch_are after cpu t (event-sound w (E.Poll cpu) s tt)
+
+    go : (o : Outcome) → AllByRecursion IsEvent (events_made (acts_after_poll after t cpu o))
+    go (O.Word u) = rest
+    go O.Done = rest
+    go (O.Reply st v) = rest
+    go (O.Switched from to j) = tt
+    go (O.Parked from j) = rest
+    go O.Idle = tt

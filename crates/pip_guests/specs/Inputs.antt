@@ -1,11 +1,12 @@
 -- What partitions above do to a guest, as its inputs: a guest depends on its own events and on these, and on nothing
 -- else.
-use Rattle.std.specs.Prelude.{◌≡◌, ◌≢◌, ℕ, ◌%◌, true, false, List, [], ◌∷◌}
+use Rattle.std.specs.Prelude.{◌≡◌, ◌≢◌, ℕ, ◌%◌, ◌<◌, true, false, List, [], ◌∷◌, None}
 use Rattle.std.specs.List.{AllByRecursion}
 use Rattle.pip_base.specs.declared.outcome.Outcome.TheVariants as O
 use Rattle.pip_base.specs.declared.types.Access.TheVariants.{Store}
 use Rattle.pip_base.specs.declared.types.Size.{Size}
-use Rattle.pip_model.specs.Answers.{Five}
+use Rattle.pip_model.specs.AddVAddr.{add_refusals}
+use Rattle.pip_model.specs.Answers.{Five, child_name, first_met, page_of}
 use Rattle.pip_model.specs.Events.{Event, IsEvent}
 use Rattle.pip_model.specs.Events as E
 use Rattle.pip_model.specs.Happens.{IsSwitching, after, call_named, event}
@@ -13,9 +14,10 @@ use Rattle.pip_model.specs.Lists.{In}
 use Rattle.pip_model.specs.Local.{AgreeBelow, actor}
 use Rattle.pip_model.specs.Reach.{Place, reach}
 use Rattle.pip_model.specs.Switching.{yield_place}
-use Rattle.pip_model.specs.Tree.{ancestry, names_of, node, nodes, row_pages}
+use Rattle.pip_model.specs.Tree.{ancestry, names_of, node, nodes, row_pages, word_of}
 use Rattle.pip_model.specs.Worlds.{IsSoundWorld, World}
-use Rattle.pip_model.specs.declared.call_name.CallName.TheVariants.{Yields}
+use Rattle.pip_model.specs.declared.call_name.CallName.TheVariants.{OnMemory, Yields}
+use Rattle.pip_model.specs.declared.call_name.MemoryCall.TheVariants.{AddVAddr}
 use Rattle.pip_guests.specs.Guests.{AsksParent, IsApart, IsSameGuest, StaysOrLeaves, is_of_guest, is_own, learns}
 use Rattle.pip_guests.specs.Guests.{learns_own}
 
@@ -106,6 +108,27 @@ abbrev pub CallsAreInputs : Type 0
 CallsAreInputs = (w v : World) (p cpu cpu2 number number2 : ℕ) (a b : Five) → IsSoundWorld w → IsSoundWorld v
     → In p (names_of (nodes w.tree)) → IsSameGuest p w v → CallsOn p w cpu number a → CallsOn p v cpu2 number2 b
     → AgreeBelow p (event w (E.Call cpu number a)).world (event v (E.Call cpu2 number2 b)).world
+    → IsInput p (E.Call cpu number a) (E.Call cpu2 number2 b) w v
+
+-- a partition that is not of the guest lends it page g, by an addVAddr that no test refuses: for this address of the
+-- guest, and with these rights
+pub record LendsPage (p g cv rights : ℕ) (w : World) (cpu number : ℕ) (a : Five) : Type 0 where
+  pub adds : call_named number ≡ OnMemory AddVAddr
+  pub outside : In p (ancestry w.tree (actor w (E.Call cpu number a))) → ⊥
+  pub runs : In (actor w (E.Call cpu number a)) (names_of (nodes w.tree))
+  pub child : child_name w.tree (actor w (E.Call cpu number a)) a.x1 ≡ p
+  pub page : page_of w.tree (actor w (E.Call cpu number a)) a.x0 ≡ g
+  pub address : a.x2 ≡ cv
+  pub rights_are : a.x3 ≡ rights
+  pub accepted :
+      first_met (add_refusals w.tree (actor w (E.Call cpu number a)) a.x0 a.x1 a.x2 a.x3) ≡ None
+
+-- that is an input, if the page has the same words, whoever lends it and by whatever address of its own
+abbrev pub LendingsAreInputs : Type 0
+LendingsAreInputs = (w v : World) (p g cv rights cpu cpu2 number number2 : ℕ) (a b : Five) → IsSoundWorld w
+    → IsSoundWorld v → IsEvent (E.Call cpu number a) → IsEvent (E.Call cpu2 number2 b) → In p (names_of (nodes w.tree))
+    → IsSameGuest p w v → LendsPage p g cv rights w cpu number a → LendsPage p g cv rights v cpu2 number2 b
+    → ((i : ℕ) → i < 1024 → word_of (v.tree.words g) i ≡ word_of (w.tree.words g) i)
     → IsInput p (E.Call cpu number a) (E.Call cpu2 number2 b) w v
 
 -- a line of vector k is taken on a processor on which the guest runs

@@ -3,6 +3,8 @@
 use Rattle.std.specs.Prelude.{◌≡◌, ◌≢◌, ℕ, true, cond, List, [], ◌∷◌, Option}
 use Rattle.std.specs.List.{AllByRecursion}
 use Rattle.pip_base.specs.declared.outcome.Outcome.{Outcome}
+use Rattle.pip_base.specs.declared.types.Plan.{Plan}
+use Rattle.pip_model.specs.Acts.{events_made}
 use Rattle.pip_model.specs.Events.{Event, IsEvent}
 use Rattle.pip_model.specs.Happens.{event}
 use Rattle.pip_model.specs.Lists.{In}
@@ -14,6 +16,7 @@ use Rattle.pip_switch.specs.Standing.{StandsAs, State}
 use Rattle.pip_guests.specs.Guests.{AllStayOrLeave, Among, AreOwnOrApart, IsElsewhere, IsInside, IsLeaving, IsSameGuest}
 use Rattle.pip_guests.specs.Guests.{Leaves, LeavesAside, is_of_guest, is_own, guest_learns, only_guest}
 use Rattle.pip_guests.specs.Inputs.{RunAlike}
+use Rattle.pip_guests.specs.Programs.{Slot, StepsOnInputs, all_steps, own_turns}
 
 -- an event of a guest leaves alone what it is not to change, whatever comes of it
 abbrev pub MachinesLeaveOtherGuestsAlone : Type 0
@@ -86,3 +89,11 @@ MachinesDependOnInputs = (w v : World) (p : ℕ) (es fs : List Event) (m n m2 n2
     → In p (names_of (nodes w.tree)) → p ≢ w.tree.root.name → IsSameGuest p w v → AllByRecursion IsEvent es
     → AllByRecursion IsEvent fs → RunAlike p w es v fs
     → (told_own p w es os ≡ told_own p v fs os2) × StandAlike p n n2
+
+-- two machines take the steps of two runs in which the guest has the same turns and inputs
+abbrev pub MachinesRunOnInputs : Type 0
+MachinesRunOnInputs = (w v : World) (p : ℕ) (plans plans2 : List Plan) (ss rs : List Slot) (m n m2 n2 : State)
+    (os os2 : List Outcome) → StandsAs m w → StandsAs m2 v → TakesAll m (events_made (all_steps plans w ss)) os n
+    → TakesAll m2 (events_made (all_steps plans2 v rs)) os2 n2 → In p (names_of (nodes w.tree))
+    → p ≢ w.tree.root.name → IsSameGuest p w v → StepsOnInputs p w plans ss v plans2 rs
+    → (own_turns plans p w ss ≡ own_turns plans2 p v rs) × StandAlike p n n2

@@ -16,7 +16,7 @@ use Rattle.pip_model.specs.Turn.{fetch_acts, head, turn}
 use Rattle.pip_model.specs.Worlds.{IsSoundWorld, World, runs_on}
 use Rattle.pip_model.specs.declared.processors.Occupant.{Occupant}
 use Rattle.pip_guests.specs.Guests.{AllStayOrLeave, IsApart, IsInside, IsSameGuest, PollsInVain}
-use Rattle.pip_guests.specs.Inputs.{IsInput}
+use Rattle.pip_guests.specs.Inputs.{IsInput, RunAlike}
 
 -- ---- one turn
 
@@ -239,12 +239,23 @@ turns_among w [] = []
 turns_among w (Turn s ∷ is) = turn_of w s ++ turns_among (after_acts w (turn_of w s)) is
 turns_among w (Other e ∷ is) = turns_among (event w e).world is
 
+-- a turn that is the same in two worlds, line by line, so that what leaves is taken by the same partition in both. The
+-- guest learns the same of its events, among which are inputs, and is there after it
+pub record IsAlikeTurn (p : ℕ) (w v : World) (s : Slot) : Type 0 where
+  pub acts : turn_of w s ≡ turn_of v s
+  pub events : RunAlike p w (events_made (turn_of w s)) v (events_made (turn_of v s))
+  pub name : In p (names_of (nodes (after_acts w (turn_of w s)).tree))
+
 -- two runs, from w and from v, in which the guest has turns of the same slots, which stay inside and whose polls are in
--- vain, and with these the same inputs. Between them each run has events of others that leave the guest as it was
+-- vain, or are alike though a line comes, or something leaves or asks the parent; and with these the same inputs.
+-- Between them each run has events of others that leave the guest as it was
 pub data RunOnInputs (p : ℕ) : World → List Item → World → List Item → Type 0 where
   ended : {w v : World} → RunOnInputs p w [] v []
   own : {w v : World} {is js : List Item} (s : Slot) → IsInsideTurn p w s.cpu s.step → PollsInVain w s.cpu
       → PollsInVain v s.cpu → RunOnInputs p (after_acts w (turn_of w s)) is (after_acts v (turn_of v s)) js
+      → RunOnInputs p w (Turn s ∷ is) v (Turn s ∷ js)
+  alike : {w v : World} {is js : List Item} (s : Slot) → IsAlikeTurn p w v s
+      → RunOnInputs p (after_acts w (turn_of w s)) is (after_acts v (turn_of v s)) js
       → RunOnInputs p w (Turn s ∷ is) v (Turn s ∷ js)
   input : {w v : World} {is js : List Item} (e f : Event) → IsEvent e → IsEvent f → IsInput p e f w v
       → RunOnInputs p (event w e).world is (event v f).world js → RunOnInputs p w (Other e ∷ is) v (Other f ∷ js)
@@ -259,3 +270,38 @@ abbrev pub ProgramsDependOnInputs : Type 0
 ProgramsDependOnInputs = (w v : World) (p : ℕ) (is js : List Item) → IsSoundWorld w → IsSoundWorld v
     → In p (names_of (nodes w.tree)) → p ≢ w.tree.root.name → IsSameGuest p w v → RunOnInputs p w is v js
     → (turns_among w is ≡ turns_among v js) × IsSameGuest p (after_acts w (acts_of w is)) (after_acts v (acts_of v js))
+
+-- ---- the steps of a run as such items
+
+-- events of others, each as an item
+abbrev pub as_others : List Event → List Item
+as_others es = map Other es
+
+-- a step as items: the lines that are due, and the turn, as one if it is the guest's, else event by event
+abbrev pub items_of_step : List Plan → ℕ → World → Slot → List Item
+items_of_step plans p w s = as_others (events_made (raises plans s.step)) ++
+    cond (has (ancestry (ready plans w s).tree (actor (ready plans w s) (E.Poll s.cpu))) p) (Turn s ∷ [])
+    (as_others (events_made (turn_of (ready plans w s) s)))
+
+-- the steps of slots as items
+abbrev pub items_of : List Plan → ℕ → World → List Slot → List Item
+items_of plans p w [] = []
+items_of plans p w (s ∷ ss) = items_of_step plans p w s ++ items_of plans p (next_world plans w s) ss
+
+-- these items have the guest's turns among the steps, and lead where the steps lead
+abbrev pub StepsAreItems : Type 0
+StepsAreItems = (plans : List Plan) (p : ℕ) (w : World) (ss : List Slot)
+    → (turns_among w (items_of plans p w ss) ≡ own_turns plans p w ss)
+    × (after_acts w (acts_of w (items_of plans p w ss)) ≡ after_acts w (all_steps plans w ss))
+
+-- in the steps of two runs, of these slots and plans and of those, the guest has the same turns and inputs
+abbrev pub StepsOnInputs : ℕ → World → List Plan → List Slot → World → List Plan → List Slot → Type 0
+StepsOnInputs p w plans ss v plans2 rs = RunOnInputs p w (items_of plans p w ss) v (items_of plans2 p v rs)
+
+-- then its turns and lines are the same in both, and it is the same in the end
+abbrev pub StepsDependOnInputs : Type 0
+StepsDependOnInputs = (w v : World) (p : ℕ) (plans plans2 : List Plan) (ss rs : List Slot) → IsSoundWorld w
+    → IsSoundWorld v → In p (names_of (nodes w.tree)) → p ≢ w.tree.root.name → IsSameGuest p w v
+    → StepsOnInputs p w plans ss v plans2 rs
+    → (own_turns plans p w ss ≡ own_turns plans2 p v rs)
+    × IsSameGuest p (after_acts w (all_steps plans w ss)) (after_acts v (all_steps plans2 v rs))

@@ -7,13 +7,17 @@ ghost use Rattle.pip_guests.specs.Guests.{EventsAreKnown, GuestsAreLeftAlike, Gu
 ghost use Rattle.pip_guests.specs.Guests.{GuestsLeaveOthersAlone, GuestsRunAsAlone, IsInside};
 ghost use Rattle.pip_guests.specs.Guests.{OthersDoNotMatterToGuests, OthersLeaveGuestsAlone};
 ghost use Rattle.pip_guests.specs.Inputs.{CallsAreInputs, EntriesAreInputs, GuestsDependOnInputs, InterruptsAreInputs};
-ghost use Rattle.pip_guests.specs.Inputs.{StoresAreInputs};
-ghost use Rattle.pip_guests.specs.Limits.{AsksIsNotInside, OutcomesDepend, ParkedIsNotInside, PollsAreNotApart};
+ghost use Rattle.pip_guests.specs.Inputs.{LendingsAreInputs, StoresAreInputs};
+ghost use Rattle.pip_guests.specs.Limits.{AsksIsNotInside, CallsMatter, FaultsMatter, OutcomesDepend};
+ghost use Rattle.pip_guests.specs.Limits.{ParkedIsNotInside, PlacesMatter, PollsAreNotApart, StoresMatter};
+ghost use Rattle.pip_guests.specs.Limits.{TargetsMatter};
 ghost use Rattle.pip_guests.specs.Machines.{MachinesAreLeftAlike, MachinesDependOnGuests, MachinesDependOnInputs};
 ghost use Rattle.pip_guests.specs.Machines.{MachinesKeepGuestsApart, MachinesLeaveGuestsAlone};
 ghost use Rattle.pip_guests.specs.Machines.{MachinesLeaveOtherGuestsAlone, MachinesRunGuestsAsAlone};
+ghost use Rattle.pip_guests.specs.Machines.{MachinesRunOnInputs};
 ghost use Rattle.pip_guests.specs.Programs.{LinesDoNotMatter, OtherTurnsDoNotMatter, ProgramsDependOnInputs};
-ghost use Rattle.pip_guests.specs.Programs.{ProgramsRunAsAlone, QuietPolls, RunsAreSteps, RunsGoOn, StepsDoNotMatter};
+ghost use Rattle.pip_guests.specs.Programs.{ProgramsRunAsAlone, QuietPolls, RunsAreSteps, RunsGoOn, StepsAreItems};
+ghost use Rattle.pip_guests.specs.Programs.{StepsDependOnInputs, StepsDoNotMatter};
 ghost use Rattle.pip_guests.specs.Programs.{TurnsDependOnGuests, TurnsLeaveAlike};
 
 /// What a guest leaves alone, and what it depends on, in the model.
@@ -33,6 +37,7 @@ pub fn law_inputs()
     ensures entries { EntriesAreInputs }
     ensures stores { StoresAreInputs }
     ensures calls { CallsAreInputs }
+    ensures lends { LendingsAreInputs }
     ensures interrupts { InterruptsAreInputs }
 {}
 
@@ -56,6 +61,8 @@ pub fn law_programs()
     ensures alone { ProgramsRunAsAlone }
     ensures lines { LinesDoNotMatter }
     ensures inputs { ProgramsDependOnInputs }
+    ensures items { StepsAreItems }
+    ensures steps { StepsDependOnInputs }
 {}
 
 /// The laws of guests and of their inputs, of machines.
@@ -67,12 +74,19 @@ pub fn law_guests_of_machines()
     ensures lists { MachinesKeepGuestsApart }
     ensures alone { MachinesRunGuestsAsAlone }
     ensures inputs { MachinesDependOnInputs }
+    ensures steps { MachinesRunOnInputs }
 {}
 
-/// 'Inside' can't be widened: admit one more case, and a law is false.
+/// 'Inside' can't be widened: admit one more case, and a law is false. Nor can a premise on what partitions above do be
+/// left out.
 pub fn law_limits()
     ensures inside { OutcomesDepend IsInside }
     ensures parked { ParkedIsNotInside }
     ensures asks { AsksIsNotInside }
     ensures polls { PollsAreNotApart }
+    ensures calls { CallsMatter }
+    ensures targets { TargetsMatter }
+    ensures places { PlacesMatter }
+    ensures stores { StoresMatter }
+    ensures faults { FaultsMatter }
 {}

@@ -15,6 +15,7 @@ use Rattle.pip_model.proofs.Events.Soundness.{at_cpu, boot_world-sound_with}
 use Rattle.pip_model.proofs.Trees.Ancestry.{named_node}
 use Rattle.pip_model.proofs.Trees.Children.{child_is}
 use Rattle.pip_model.proofs.Trees.Lookup.{in_other, root_found}
+use Rattle.pip_guests.specs.Guests.{IsSameGuest}
 use Rattle.pip_watch.specs.Watching.{addresses, fresh, page_address, ready_world, with_handlers}
 use Rattle.pip_watch.proofs.Beginning.{room_first}
 use Rattle.pip_slots.specs.Images.{AgreeOnChild, HasRooms, ImagesBegin, ImagesSeparate, ImagesSeparateInTurn}
@@ -121,13 +122,12 @@ images_begin a n r = (
   (λ k low. (((ready_stage a n r).children k low).node.name, child_there a n k r low)),
 )
 
--- the child has the same slots in both
-images_same : (a b : Image) (n k t : ℕ) (ss : List TimeSlot) → k < n → HasRooms n a → HasRooms n b
-    → AgreeOnChild n k a b → AllByRecursion (λ s. IsWord s.child) ss → (p : ℕ) × IsSameInSlots (fresh n k 0) p
-    (ready_world (image_world a) n) (ready_world (image_world b) n) ss t
-images_same a b n k t ss low ra rb g all =
+-- the child is there, and the same in both
+pub images_agree : (a b : Image) (n k : ℕ) → k < n → HasRooms n a → HasRooms n b → AgreeOnChild n k a b
+    → (p : ℕ) × IsRootsChild (ready_world (image_world a) n) (fresh n k 0) p
+    × IsSameGuest p (ready_world (image_world a) n) (ready_world (image_world b) n)
+images_agree a b n k low ra rb g =
     let h = ready_stage a n ra in
-    let h' = ready_stage b n rb in
     let w = ready_world (image_world a) n in
     let v = ready_world (image_world b) n in
     let c = h.children k low in
@@ -140,9 +140,19 @@ images_same a b n k t ss low ra rb g all =
     let twin = twin_ready (Its a b n k low ra rb g) a.frames n ra.most (image_world a) (image_world b)
     (first_stage a n ra) (image_twin a b n k low ra rb g) in (
       c.node.name,
-      slots_separate w v (fresh n k 0) c.node.name ss t (stage_between a.frames n n w h)
-          (stage_between b.frames n n v h') (child_there a n k ra low)
-          (twin_guest (Its a b n k low ra rb g) c.node.name w v inside twin) all,
+      child_there a n k ra low,
+      twin_guest (Its a b n k low ra rb g) c.node.name w v inside twin,
+    )
+
+-- it has the same slots in both
+images_same : (a b : Image) (n k t : ℕ) (ss : List TimeSlot) → k < n → HasRooms n a → HasRooms n b
+    → AgreeOnChild n k a b → AllByRecursion (λ s. IsWord s.child) ss → (p : ℕ) × IsSameInSlots (fresh n k 0) p
+    (ready_world (image_world a) n) (ready_world (image_world b) n) ss t
+images_same a b n k t ss low ra rb g all =
+    let h = images_agree a b n k low ra rb g in (
+      h.0,
+      slots_separate (ready_world (image_world a) n) (ready_world (image_world b) n) (fresh n k 0) h.0 ss t
+          (images_begin a n ra).0 (images_begin b n rb).0 h.1 h.2 all,
     )
 
 pub images_separate : ImagesSeparate
@@ -163,7 +173,7 @@ round_words : (turns : ℕ) (ds : List ℕ) → AllByRecursion IsWord ds
 round_words turns [] h = tt
 round_words turns (d ∷ ds) h = (h.0, round_words turns ds h.1)
 
-rounds_words : (ss : List TimeSlot) (c : ℕ) → AllByRecursion (λ s. IsWord s.child) ss
+pub rounds_words : (ss : List TimeSlot) (c : ℕ) → AllByRecursion (λ s. IsWord s.child) ss
     → AllByRecursion (λ s. IsWord s.child) (rounds ss c)
 rounds_words ss zero h = tt
 rounds_words ss (suc c) h = words_append ss (rounds ss c) h (rounds_words ss c h)
@@ -172,7 +182,7 @@ one_more : (xs : List ℕ) (d : ℕ) → AllByRecursion IsWord xs → IsWord d �
 one_more [] d h k = (k, tt)
 one_more (x ∷ xs) d h k = (h.0, one_more xs d h.1 k)
 
-addresses_words : (n i : ℕ) → n ≤ 8 → i ≤ n → AllByRecursion IsWord (addresses n i)
+pub addresses_words : (n i : ℕ) → n ≤ 8 → i ≤ n → AllByRecursion IsWord (addresses n i)
 addresses_words n zero most l = tt
 addresses_words n (suc i) most l = one_more (addresses n i) (fresh n i 0) (addresses_words n i most (omega (arith, l)))
     (omega (arith, most, l))

@@ -13,3 +13,6 @@ pub mod Twins
 pub mod Images
 pub mod Making
 pub mod Progressing
+pub mod Texts
+pub mod Machines
+pub mod Limits

@@ -104,11 +104,11 @@ other_slots d p t w v x b wd n =
 some_same : (x y : TimeSlot) → Some x ≡ Some y → x ≡ y
 some_same x y e = cc
 
-record RunAlike (d p t : ℕ) (w v : World) (ss : List TimeSlot) : Type 0 where
-  acts : acts_of_child d w ss t ≡ acts_of_child d v ss t
-  texts : (j : ℕ) (s : TimeSlot) → slice_get ss j ≡ Some s → s.child ≡ d
+pub record RunAlike (d p t : ℕ) (w v : World) (ss : List TimeSlot) : Type 0 where
+  pub acts : acts_of_child d w ss t ≡ acts_of_child d v ss t
+  pub texts : (j : ℕ) (s : TimeSlot) → slice_get ss j ≡ Some s → s.child ≡ d
       → slice_get (slot_texts w ss t) j ≡ slice_get (slot_texts v ss t) j
-  next : Slotted d p (after_acts w (slot_run w ss t)) (after_acts v (slot_run v ss t))
+  pub next : Slotted d p (after_acts w (slot_run w ss t)) (after_acts v (slot_run v ss t))
 
 -- what comes after a slot comes after it in both
 after_both : (d p : ℕ) (w v : World) (xs ys xs' ys' : List Act)
@@ -117,7 +117,7 @@ after_both : (d p : ℕ) (w v : World) (xs ys xs' ys' : List Act)
 after_both d p w v xs ys xs' ys' h = subst (λ x. Slotted d p x (after_acts v (ys ++ ys'))) (sym (after-append w xs xs'))
     (subst (Slotted d p (after_acts (after_acts w xs) xs')) (sym (after-append v ys ys')) h)
 
-run_alike : (d p : ℕ) (ss : List TimeSlot) (t : ℕ) (w v : World) → Slotted d p w v
+pub run_alike : (d p : ℕ) (ss : List TimeSlot) (t : ℕ) (w v : World) → Slotted d p w v
     → AllByRecursion (λ s. IsWord s.child) ss → RunAlike d p t w v ss
 run_alike d p [] t w v b all = record { acts = refl; texts = λ j s at own. refl; next = b }
 run_alike d p (x ∷ ss) t w v b all = elim (cases_eq x.child d) [

@@ -1,7 +1,7 @@
 -- Time slots of images. The children of the root are built of an image's pages, as `native` builds them, and the plan
 -- of slots runs them. What a child does, and when, depends on its own two pages of the image alone.
 use Rattle.std.specs.Prelude.{◌≡◌, ℕ, ◌+◌, ◌*◌, ◌≤◌, ◌<◌, List, ◌++◌, length, map, Some}
-use Rattle.std.specs.Prelude.{slice_get}
+use Rattle.std.specs.Prelude.{[], ◌∷◌, slice_get, slice_index}
 use Rattle.std.specs.List.{AllByRecursion}
 use Rattle.pip_model.specs.Acts.{Act, after_acts, text_of}
 use Rattle.pip_model.specs.Boot.{frame_of_root}
@@ -11,6 +11,7 @@ use Rattle.pip_model.specs.Sound.{ArePageWords, IsWord}
 use Rattle.pip_model.specs.Tree.{vpage}
 use Rattle.pip_model.specs.Worlds.{World}
 use Rattle.pip_watch.specs.Watching.{addresses, built_from, fresh, page_address, pages_taken, ready_world}
+use Rattle.pip_slots.specs.declared.time_slot.RoundSlot.{RoundSlot}
 use Rattle.pip_slots.specs.declared.time_slot.TimeSlot.{TimeSlot}
 use Rattle.pip_slots.specs.Slots.{IsBetweenSlots, IsRootsChild, lines_of_child, rounds, slot_run, slot_texts}
 
@@ -94,3 +95,32 @@ abbrev pub slots_text : Image → ℕ → ℕ → ℕ → List ℕ
 slots_text a n turns c =
     trace_image_line a.frames a.cpus (length a.plans) (length a.pages)
     ++ (built_from 0 (addresses n n) ++ (text_of (slots_acts a n turns c) ++ end_line (steps_in_turn n turns c)))
+
+-- ---- a round that is given: its slots name the children by their numbers, in any order and as often as they like
+
+-- its slots, of the children at these addresses
+abbrev pub placed : List RoundSlot → List ℕ → List TimeSlot
+placed round children = map (λ x. record { child = slice_index children x.child; turns = x.turns }) round
+
+-- how many steps it has
+abbrev pub round_steps : List RoundSlot → ℕ
+round_steps [] = 0
+round_steps (x ∷ xs) = (x.turns + 2) + round_steps xs
+
+-- the plan of that many rounds for n children
+abbrev pub given_plan : ℕ → List RoundSlot → ℕ → List TimeSlot
+given_plan n round c = rounds (placed round (addresses n n)) c
+
+-- what is done in these rounds
+abbrev pub given_acts : Image → ℕ → List RoundSlot → ℕ → List Act
+given_acts a n round c = slot_run (ready_world (image_world a) n) (given_plan n round c) 0
+
+-- the world after them
+abbrev pub given_world : Image → ℕ → List RoundSlot → ℕ → World
+given_world a n round c = after_acts (ready_world (image_world a) n) (given_acts a n round c)
+
+-- the whole text: the image line, a line for each child, the lines of the steps, and the last line
+abbrev pub given_text : Image → ℕ → List RoundSlot → ℕ → List ℕ
+given_text a n round c =
+    trace_image_line a.frames a.cpus (length a.plans) (length a.pages)
+    ++ (built_from 0 (addresses n n) ++ (text_of (given_acts a n round c) ++ end_line (c * round_steps round)))

@@ -1,2 +1,4 @@
 pub mod Slots
 pub mod Images
+pub mod Machines
+pub mod Limits

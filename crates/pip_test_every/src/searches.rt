@@ -2,8 +2,8 @@ ghost use Rattle.std.specs.Prelude.{◌≡◌, ◌≤◌, length, IfOk};
 ghost use Rattle.pip_base.specs.Opening.{CanOpen};
 ghost use Rattle.pip_model.specs.Booted.{HasBooted};
 
-use pip_base::{Frame, Steps};
-use pip_every::search;
+use pip_base::{Frame, Size, Steps};
+use pip_every::{Deed, May, search, search_against};
 use pip_frames::{Frames, RawFrames};
 use pip_kern::boot_zeros;
 use pip_search::{Extent, Search};
@@ -120,4 +120,61 @@ fn a_root_shows_a_word_once(rt: HostRuntime) -> Result<(), Fail> {
     let ended = search(rt.alloc(), mem, 4, &[], 0, 100, 100)?;
     check(&rt, &ended, 3, Extent::Closed { depth: 2 }, &labels);
     Ok(())
+}
+
+// Searches a root without a program, while a partition may do one deed, and compares how many states there are and
+// what was shown first, with the choice that showed it.
+fn check_deed(
+    rt: &(impl Abort + AllocGlobal),
+    name: Option<u32>,
+    deed: Deed,
+    count: usize,
+    shown: Option<(&str, u32)>,
+) -> Result<(), Fail> {
+    let mem = root_with(rt.alloc(), &[])?;
+    let mut menu = Vec::new(rt.alloc());
+    menu.push(May { name, deed })?;
+    let (search, verdict) = search_against(rt.alloc(), mem, 1, &[], 0, menu, 100, 100)?;
+    let depth = if count == 1 { 0 } else { 1 };
+    assert_eq!(rt; verdict, Extent::Closed { depth });
+    assert_eq!(rt; search.visits.len(), count);
+    match shown {
+        Some((label, choice)) => {
+            assert_eq!(rt; search.found.len(), 1usize);
+            assert_eq!(rt; search.found[0].label.as_slice(), label.as_bytes());
+            assert_eq!(rt;
+                (search.found[0].at, search.found[0].choice),
+                (0u32, choice)
+            );
+        }
+        None => {
+            assert_eq!(rt; search.found.len(), 0usize);
+        }
+    }
+    Ok(())
+}
+
+#[test]
+fn a_hostile_root_does_its_deeds_alone(rt: HostRuntime) -> Result<(), Fail> {
+    let root = Some(1);
+    let (va, size) = (0x400004, Size::Word);
+    check_deed(&rt, root, Deed::Load { va, size }, 1, None)?;
+    check_deed(&rt, root, Deed::StoreWord { va, word: 7 }, 2, None)?;
+    check_deed(&rt, root, Deed::StoreByte { va, byte: 7 }, 2, None)?;
+    let faults = Some(("0 0 park 1 14\n", 1));
+    check_deed(&rt, root, Deed::Load { va: 0, size }, 2, faults)?;
+    let (vector, a, b) = (7, 0, 0);
+    let traps = Some(("0 0 park 1 7\n", 1));
+    check_deed(&rt, root, Deed::Trap { vector, a, b }, 2, traps)?;
+    let args = [0, 0, 0, 0, 0];
+    let unknown = Some(("0 0 call 99 reply 1 0x00000000\n", 1));
+    check_deed(&rt, root, Deed::Call { number: 99, args }, 2, unknown)
+}
+
+#[test]
+fn a_deed_of_another_is_none(rt: HostRuntime) -> Result<(), Fail> {
+    let parks = Some(("0 0 park 1 6\n", 0));
+    let (vector, a, b) = (7, 0, 0);
+    check_deed(&rt, None, Deed::Trap { vector, a, b }, 2, parks)?;
+    check_deed(&rt, Some(2), Deed::Trap { vector, a, b }, 2, parks)
 }

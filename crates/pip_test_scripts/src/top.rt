@@ -3,10 +3,10 @@ use pip_io::{MemSink, MemSource};
 use std::test::Fail;
 
 const USAGE: &str =
-    "usage: pip script | run STEPS SEED | asm | dis | tree STEPS SEED | core STEPS SEED | soak COUNT SEED | native N STEPS | slots N TURNS ROUNDS | audit FRAMES | every STATES [FROM [DEPTH]]\n";
+    "usage: pip script | run STEPS SEED | asm | dis | tree STEPS SEED | core STEPS SEED | soak COUNT SEED | native N STEPS | slots N TURNS ROUNDS | slots N ROUNDS K:TURNS .. | audit FRAMES | every STATES [FROM [DEPTH]]\n";
 
 // The words of a command line, the status where the first read fails, and what is written.
-static ROWS: [(&str, u8, &str); 42] = [
+static ROWS: [(&str, u8, &str); 50] = [
     ("run 6 1", 3, ""),
     ("run 0x6 1", 3, ""),
     ("script", 3, ""),
@@ -17,6 +17,8 @@ static ROWS: [(&str, u8, &str); 42] = [
     ("native 1 0", 3, ""),
     ("native 8 10000000", 3, ""),
     ("slots 8 8 125000", 3, ""),
+    ("slots 2 1000 0:48 1:10 0:0x5", 3, ""),
+    ("slots 8 1 7:9999998", 3, ""),
     ("audit 16", 3, ""),
     ("audit 0x1000", 3, ""),
     ("every 1", 3, ""),
@@ -39,6 +41,12 @@ static ROWS: [(&str, u8, &str); 42] = [
     ("slots 8 8 125001", 1, USAGE),
     ("slots 9 0 0", 1, USAGE),
     ("slots 1 1", 1, USAGE),
+    ("slots 8 1 7:9999999", 1, USAGE),
+    ("slots 2 1 2:5", 1, USAGE),
+    ("slots 2 1 0:5 1", 1, USAGE),
+    ("slots 2 1 0:", 1, USAGE),
+    ("slots 2 1 0:5:5", 1, USAGE),
+    ("native 2 1 0:5", 1, USAGE),
     ("run 06 1", 1, USAGE),
     ("run 5", 1, USAGE),
     ("run 10000001 1", 1, USAGE),

@@ -1,5 +1,5 @@
 use Rattle.pip_guests.proofs.Numbers.{steps_do_not_matter}
-use Rattle.pip_guests.proofs.OnInputs.{programs_depend_on_inputs}
+use Rattle.pip_guests.proofs.OnInputs.{programs_depend_on_inputs, steps_are_items, steps_depend_on_inputs}
 use Rattle.pip_guests.proofs.Programs.{lines_do_not_matter, other_turns_do_not_matter, programs_run_as_alone}
 use Rattle.pip_guests.proofs.Programs.{runs_are_steps, runs_go_on}
 use Rattle.pip_guests.proofs.Turns.{poll_vain, turn_same}
@@ -18,4 +18,6 @@ returns c = record {
   alone = programs_run_as_alone;
   lines = lines_do_not_matter;
   inputs = programs_depend_on_inputs;
+  items = steps_are_items;
+  steps = steps_depend_on_inputs;
 }

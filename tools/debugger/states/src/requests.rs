@@ -11,6 +11,8 @@ pub enum Begin {
     Native(u32),
     /// As by `slots`: so many children, and the turns of each slot.
     Slots(u32, u32),
+    /// The lines of a script, which is there in the place of an image.
+    Script,
 }
 
 /// A choice of a way of `every`.
@@ -53,6 +55,8 @@ pub struct Break {
     pub place: Option<Place>,
     pub pc: Option<u32>,
     pub part: Option<u32>,
+    /// The step that comes.
+    pub step: Option<u64>,
     pub when: Option<Condition>,
 }
 
@@ -62,11 +66,13 @@ pub struct LineStop {
     pub words: Vec<String>,
 }
 
-/// What is watched: a word of a frame, or the word at an address of a partition, whichever page is there.
+/// What is watched: a word of a frame, the word at an address of a partition, whichever page is there, or a register of
+/// a partition, of which 16 is the pc, from one state to the next in both of which it runs.
 #[derive(Clone, Copy)]
 pub enum Watched {
     Word(Place),
     Address(u32, u32),
+    Register(u32, u32),
 }
 
 /// Some words one after another.
@@ -165,6 +171,7 @@ fn load(mut words: Words<'_>) -> Result<Request, String> {
         "seed" => Begin::Seed(words.number()?),
         "native" => Begin::Native(words.number()?),
         "slots" => Begin::Slots(words.number()?, words.number()?),
+        "script" => Begin::Script,
         other => return Err(format!("{other:?} is no schedule")),
     };
     let every = words.number()?;
@@ -172,6 +179,7 @@ fn load(mut words: Words<'_>) -> Result<Request, String> {
         Begin::Seed(seed) => seed > 0,
         Begin::Native(children) => (1..=8).contains(&children),
         Begin::Slots(children, turns) => (1..=8).contains(&children) && turns <= 10_000_000,
+        Begin::Script => true,
     };
     if !is_good || every == 0 {
         return Err("the schedule, or how often a state is kept, is outside its limits".to_string());
@@ -189,6 +197,7 @@ fn stop(kind: &str, mut words: Words<'_>) -> Result<Request, String> {
             let first = match kind {
                 "word" => Watched::Word(place(words.word()?)?),
                 "address" => Watched::Address(words.number()?, words.number()?),
+                "register" => Watched::Register(words.number()?, words.number()?),
                 other => return Err(format!("{other:?} can't be watched")),
             };
             Request::Watch(Watch { id, first, count: words.number()? })
@@ -206,6 +215,7 @@ fn break_of(mut words: Words<'_>) -> Result<Break, String> {
             "place" => found.place = Some(place(words.word()?)?),
             "pc" => found.pc = Some(words.number()?),
             "part" => found.part = Some(words.number()?),
+            "step" => found.step = Some(words.number()?),
             "if" => found.when = Some(condition(&mut words)?),
             other => return Err(format!("{other:?} is no part of a break")),
         }

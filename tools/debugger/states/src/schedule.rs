@@ -2,14 +2,14 @@
 
 use crate::frames::Shared;
 use crate::requests::Choice;
-use arrayvec::ArrayVec;
+use arrayvec::{ArrayString, ArrayVec};
 use pip_base::{Outcome, Steps};
 use pip_cpu::{TurnEnd, turn, write_call, write_moved};
 use pip_io::{Failed, Sink};
-use pip_model::Port;
+use pip_model::{Port, ScriptLine};
 use pip_model::call_number::{NOT_SAVED, SAVED, YIELD};
 use pip_native::next_child;
-use pip_script::Generator;
+use pip_script::{Generator, answer_line, push_said};
 use pip_switch::Machine;
 use rattle_std::marker::Brand;
 use std::rc::Rc;
@@ -35,6 +35,8 @@ pub enum Schedule {
         children: Children,
         turns: u32,
     },
+    /// The lines of a script after its first one that aren't blank, each with the processor of its event.
+    Script(Rc<Vec<(Option<u32>, Vec<u8>)>>),
 }
 
 /// How a step ended.
@@ -46,6 +48,8 @@ pub enum End {
     Monitor,
     /// Nothing was done.
     Nothing,
+    /// A line of a script was answered.
+    Answered,
     Turn(TurnEnd),
 }
 
@@ -54,6 +58,7 @@ impl End {
         match self {
             End::Raised => "raised",
             End::Monitor => "monitor",
+            End::Answered => "answered",
             End::Nothing | End::Turn(TurnEnd::Polled(Outcome::Idle)) => "idle",
             End::Turn(TurnEnd::Polled(_)) => "took a line",
             End::Turn(TurnEnd::Fetched(_)) => "fetch faulted",
@@ -67,6 +72,7 @@ impl Schedule {
     pub fn end(&self) -> u64 {
         match self {
             Schedule::Way(way) => way.len() as u64,
+            Schedule::Script(lines) => lines.len() as u64,
             _ => MOST,
         }
     }
@@ -86,6 +92,7 @@ impl Schedule {
                 Some(Choice::Raise(line)) => (None, Some(*line)),
                 None => (None, None),
             },
+            Schedule::Script(lines) => (lines.get(step as usize).and_then(|(cpu, _)| *cpu), None),
             _ => (Some(0), None),
         }
     }
@@ -115,6 +122,10 @@ impl Schedule {
                 decided(machine, children, (alive, last), step, sink, counter)
             }
             Schedule::Slots { children, turns } => slot_step(machine, children, *turns, step, sink, counter),
+            Schedule::Script(lines) => match lines.get(step as usize) {
+                Some((cpu, line)) => answered(machine, *cpu, line, step, sink, counter),
+                None => Ok(End::Nothing),
+            },
         }
     }
 }
@@ -143,6 +154,38 @@ fn taken<K: Sink>(
     counter: &mut Steps<Brand>,
 ) -> Result<End, Failed> {
     turn::<Schedule, _, _, Brand>(machine, cpu, step, sink, counter).map(End::Turn)
+}
+
+// A line of a script, with its answer as a trace has it.
+fn answered<K: Sink>(
+    machine: &mut Machine<Shared>,
+    cpu: Option<u32>,
+    line: &[u8],
+    step: u64,
+    sink: &mut K,
+    counter: &mut Steps<Brand>,
+) -> Result<End, Failed> {
+    let Some(answer) = answer_line(machine, line, counter) else { return Ok(End::Nothing) };
+    let mut said = ArrayString::new();
+    push_said(&mut said, &answer);
+    let cpu = cpu.map_or("-".to_string(), |cpu| cpu.to_string());
+    sink.write(format!("{step} {cpu} {}\n", said.as_str().trim_end()).as_bytes())?;
+    Ok(End::Answered)
+}
+
+/// The processor of a line's event.
+pub fn cpu_of(line: &ScriptLine) -> Option<u32> {
+    match line {
+        ScriptLine::Load { cpu, .. }
+        | ScriptLine::Store { cpu, .. }
+        | ScriptLine::Fetch { cpu }
+        | ScriptLine::Trap { cpu, .. }
+        | ScriptLine::Call { cpu, .. }
+        | ScriptLine::Poll { cpu }
+        | ScriptLine::Reg { cpu, .. }
+        | ScriptLine::SetPc { cpu, .. } => Some(*cpu),
+        _ => None,
+    }
 }
 
 // As pip_native decides: the next child that is alive is entered, and one that can't be is dropped.

@@ -2,15 +2,15 @@
 
 use crate::frames::{Kept, Shared, differing, places};
 use crate::requests::{Begin, Choice, Edit};
-use crate::schedule::{Children, End, Schedule};
+use crate::schedule::{Children, End, Schedule, cpu_of};
 use crate::stops::{Hit, Stops, fetched};
 use arrayvec::ArrayVec;
 use pip_base::{Plan, Size, Steps};
 use pip_image::{ImageReader, load_image};
 use pip_io::{Failed, Sink, SureSource};
 use pip_kern::boot_zeros;
-use pip_model::{Occupant, Port, Register, due};
-use pip_script::Generator;
+use pip_model::{Occupant, Port, Register, ScriptLine, due};
+use pip_script::{Generator, is_blank, read_line, read_phrase};
 use pip_switch::Machine;
 use pip_watch::{build_children, set_handlers};
 use rattle_std::marker::Brand;
@@ -78,8 +78,11 @@ pub struct Session {
 }
 
 impl Session {
-    /// The machine of an image, before its first step.
+    /// The machine of an image, before its first step; or that of a script, after its first line.
     pub fn load(image: &[u8], begin: Begin, every: u64) -> Result<Session, String> {
+        if matches!(begin, Begin::Script) {
+            return Session::of_script(image, every);
+        }
         let mut source = SureSource::new(image);
         let mut reader = ImageReader::new(&mut source);
         let head = reader.header().map_err(|fault| format!("bad image: {fault:?}"))?;
@@ -97,12 +100,26 @@ impl Session {
         let mut machine = Machine::new(Shared::begun(first.clone()), head.cpus);
         let schedule = schedule_of(begin, &mut machine);
         let plans = Rc::new(head.plans.iter().copied().collect());
+        Ok(Session::begun(machine, first, Course { schedule, plans }, every))
+    }
+
+    fn of_script(text: &[u8], every: u64) -> Result<Session, String> {
+        let (frames, cpus, lines) = script(text)?;
+        let mut mem = Shared::zeros(frames);
+        boot_zeros(&mut mem, &mut counter());
+        let first = Rc::new(mem.kept());
+        let machine = Machine::new(Shared::begun(first.clone()), cpus);
+        let course = Course { schedule: Schedule::Script(Rc::new(lines)), plans: Rc::default() };
+        Ok(Session::begun(machine, first, course, every))
+    }
+
+    fn begun(machine: Machine<Shared>, first: Rc<Kept>, course: Course, every: u64) -> Session {
         let mut session = Session {
             machine,
-            frames: head.frames,
+            frames: first.len() as u32,
             at: 0,
             first,
-            course: Course { schedule, plans },
+            course,
             every,
             kept: BTreeMap::new(),
             edits: Vec::new(),
@@ -110,7 +127,7 @@ impl Session {
             last: None,
         };
         session.keep();
-        Ok(session)
+        session
     }
 
     /// Line, first step and period of each plan.
@@ -262,7 +279,7 @@ impl Session {
         let turn_of = stops.turn_of.filter(|cpu| self.coming_cpu() == Some(*cpu));
         self.make();
         self.arrive();
-        stops.changed(&mut before.words, self.machine.mem(), hits);
+        stops.changed(&mut before.words, &self.machine, hits);
         stops.lines_in(&self.line.0, hits);
         hits.extend(turn_of.map(|_| ("turn", 0)));
         if stops.idle {
@@ -281,9 +298,8 @@ impl Session {
 
     fn breaks_here(&self, stops: &Stops, hits: &mut Vec<Hit>) {
         if !stops.breaks.is_empty() {
-            if let Some(cpu) = self.coming_cpu() {
-                stops.breaks_at(self.machine.mem(), self.machine.processors()[cpu as usize].as_ref(), hits);
-            }
+            let runs = self.coming_cpu().and_then(|cpu| self.machine.processors()[cpu as usize].as_ref());
+            stops.breaks_at(self.machine.mem(), self.at, runs, hits);
         }
     }
 
@@ -396,14 +412,29 @@ impl Session {
 
 fn frames_needed(begin: Begin) -> Option<u32> {
     match begin {
-        Begin::Seed(_) => None,
+        Begin::Seed(_) | Begin::Script => None,
         Begin::Native(children) | Begin::Slots(children, _) => Some(13 * children),
     }
+}
+
+// A script's frames and processors, and its other lines.
+fn script(text: &[u8]) -> Result<(u32, u32, Vec<(Option<u32>, Vec<u8>)>), String> {
+    let lines = text.strip_suffix(b"\n").unwrap_or(text).split(|byte| *byte == b'\n');
+    let mut said = lines.enumerate().filter(|(_, line)| !is_blank(line));
+    let Some((_, Some(ScriptLine::Boot { n, c }))) = said.next().map(|(at, line)| (at, read_line(line, 0))) else {
+        return Err("the script doesn't begin with a boot line".to_string());
+    };
+    let events = said.map(|(at, line)| match read_phrase(line, c) {
+        Some(event) => Ok((cpu_of(&event), line.to_vec())),
+        None => Err(format!("bad line {}", at + 1)),
+    });
+    Ok((n, c, events.collect::<Result<_, _>>()?))
 }
 
 // A monitor builds its children before the first step.
 fn schedule_of(begin: Begin, machine: &mut Machine<Shared>) -> Schedule {
     match begin {
+        Begin::Script => Schedule::Script(Rc::default()),
         Begin::Seed(seed) => Schedule::Drawn(Generator::new(seed)),
         Begin::Native(count) => {
             let children = built(machine, count);
@@ -427,6 +458,6 @@ struct Before {
 impl Before {
     fn new(session: &Session, stops: &Stops) -> Before {
         let runs = session.machine.processors().iter().any(Option::is_some);
-        Before { words: stops.watched(session.machine.mem()), runs }
+        Before { words: stops.watched(&session.machine), runs }
     }
 }

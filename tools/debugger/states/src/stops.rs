@@ -5,6 +5,7 @@ use crate::requests::{Break, Condition, LineStop, Operand, Place, Watch, Watched
 use pip_base::{Access, Ctx, Frame};
 use pip_mmu::translate;
 use pip_model::Occupant;
+use pip_switch::Machine;
 use rattle_std::marker::Brand;
 
 /// A stop: its kind, and its number.
@@ -20,12 +21,14 @@ pub struct Stops {
 }
 
 impl Stops {
-    /// The breaks that hold if the next turn is of what runs there.
-    pub fn breaks_at(&self, mem: &Shared, runs: Option<&Occupant>, hits: &mut Vec<Hit>) {
-        if let Some(runs) = runs {
-            let found = self.breaks.iter().filter(|stop| holds(stop, mem, runs));
-            hits.extend(found.map(|stop| ("break", stop.id)));
-        }
+    /// The breaks that hold before a step, if its turn is of what runs there.
+    pub fn breaks_at(&self, mem: &Shared, step: u64, runs: Option<&Occupant>, hits: &mut Vec<Hit>) {
+        let found = self.breaks.iter().filter(|stop| match (stop.step, runs) {
+            (Some(due), _) => due == step,
+            (None, Some(runs)) => holds(stop, mem, runs),
+            (None, None) => false,
+        });
+        hits.extend(found.map(|stop| ("break", stop.id)));
     }
 
     /// The stops by the line of a turn.
@@ -39,29 +42,39 @@ impl Stops {
         hits.extend(found.map(|stop| ("line", stop.id)));
     }
 
-    /// The words that are watched, each with its watch; none where a partition has no page.
-    pub fn watched(&self, mem: &Shared) -> Vec<(u32, Option<u32>)> {
+    /// What is watched, each with its watch; none where a partition has no page, or doesn't run.
+    pub fn watched(&self, machine: &Machine<Shared>) -> Vec<(u32, Option<u32>)> {
         let all = self.watches.iter().flat_map(|watch| (0..watch.count).map(move |k| (watch, k)));
-        all.map(|(watch, k)| (watch.id, word_of(watch.first, k, mem))).collect()
+        all.map(|(watch, k)| (watch.id, word_of(watch.first, k, machine))).collect()
     }
 
     /// The watches of which a word has changed.
-    pub fn changed(&self, old: &mut Vec<(u32, Option<u32>)>, mem: &Shared, hits: &mut Vec<Hit>) {
+    pub fn changed(&self, old: &mut Vec<(u32, Option<u32>)>, machine: &Machine<Shared>, hits: &mut Vec<Hit>) {
         if self.watches.is_empty() {
             return;
         }
-        let new = self.watched(mem);
+        let new = self.watched(machine);
         for ((id, before), (_, after)) in old.iter().zip(&new) {
-            if before != after && !hits.contains(&("watch", *id)) {
+            let stays = before.is_none() != after.is_none() && self.is_of_register(*id);
+            if before != after && !stays && !hits.contains(&("watch", *id)) {
                 hits.push(("watch", *id));
             }
         }
         *old = new;
     }
+
+    fn is_of_register(&self, id: u32) -> bool {
+        self.watches.iter().any(|watch| watch.id == id && matches!(watch.first, Watched::Register(..)))
+    }
 }
 
-fn word_of(first: Watched, k: u32, mem: &Shared) -> Option<u32> {
+fn word_of(first: Watched, k: u32, machine: &Machine<Shared>) -> Option<u32> {
+    let mem = machine.mem();
     match first {
+        Watched::Register(part, number) => {
+            let runs = machine.processors().iter().flatten().find(|runs| runs.name.number() == part)?;
+            Some(value(&Operand::Register(number), mem, &runs.ctx))
+        }
         Watched::Word((frame, index)) => mem.word_at(frame, index.checked_add(k)?),
         Watched::Address(part, address) => {
             let (frame, index) = place_at(mem, part, address.wrapping_add(4 * k))?;

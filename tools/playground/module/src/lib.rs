@@ -5,6 +5,8 @@
 
 extern crate rattle_std;
 
+mod reaching;
+
 use core::alloc::{GlobalAlloc, Layout};
 use core::arch::wasm32;
 use core::cell::{Cell, UnsafeCell};
@@ -92,6 +94,26 @@ pub unsafe extern "C" fn judge(at: *const u8, count: usize) {
     let answer = pip_judge::answer(unsafe { slice::from_raw_parts(at, count) });
     // SAFETY: the host reads these bytes alone.
     unsafe { write(answer.as_ptr(), answer.len()) };
+}
+
+/// Of the run by a seed of the image that is the `count` bytes from `at` on: the first step from `first` on, and before
+/// `end`, that runs the word `index` of `frame`; -1 where none does.
+///
+/// # Safety
+/// As for `run`.
+#[unsafe(no_mangle)]
+pub unsafe extern "C" fn reach(
+    at: *const u8,
+    count: usize,
+    seed: u32,
+    first: u32,
+    end: u32,
+    frame: u32,
+    index: u32,
+) -> i32 {
+    // SAFETY: as above.
+    let image = unsafe { slice::from_raw_parts(at, count) };
+    reaching::reached(image, seed, first..end, (frame, index)).map_or(-1, |step| step as i32)
 }
 
 /// Puts the words of frames from `first` on at `at`, 1024 of each, up to `count` frames. It answers of how many frames

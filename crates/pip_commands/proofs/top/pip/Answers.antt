@@ -52,6 +52,26 @@ slots-requires-clause-steps g c =
     (within_as_asked (map string_bytes c.args.words.now) _ _ _ c.read_words.ensures
     c.in-Some-Slots.is c.in-Some-Slots.field-0-is).2
 
+pub given_slots-requires-clause-least : goal.given_slots-requires-clause-least
+given_slots-requires-clause-least g c =
+    (within_as_asked (map string_bytes c.args.words.now) _ _ _ c.read_words.ensures
+    c.in-Some-GivenSlots.is c.in-Some-GivenSlots.field-0-is).0
+
+pub given_slots-requires-clause-most : goal.given_slots-requires-clause-most
+given_slots-requires-clause-most g c =
+    (within_as_asked (map string_bytes c.args.words.now) _ _ _ c.read_words.ensures
+    c.in-Some-GivenSlots.is c.in-Some-GivenSlots.field-0-is).1
+
+pub given_slots-requires-clause-steps : goal.given_slots-requires-clause-steps
+given_slots-requires-clause-steps g c =
+    (within_as_asked (map string_bytes c.args.words.now) _ _ _ c.read_words.ensures
+    c.in-Some-GivenSlots.is c.in-Some-GivenSlots.field-0-is).2
+
+pub given_slots-requires-clause-children : goal.given_slots-requires-clause-children
+given_slots-requires-clause-children g c =
+    (within_as_asked (map string_bytes c.args.words.now) _ _ _ c.read_words.ensures
+    c.in-Some-GivenSlots.is c.in-Some-GivenSlots.field-0-is).3
+
 pub audit-requires-clause-least : goal.audit-requires-clause-least
 audit-requires-clause-least g c =
     (within_as_asked (map string_bytes c.args.words.now) _ _ _ c.read_words.ensures
@@ -101,6 +121,11 @@ pub slots-requires-clause-paced : goal.slots-requires-clause-paced
 slots-requires-clause-paced g c =
     paced_as_asked (map string_bytes c.args.words.now) _ _ _ c.read_words.ensures
     c.in-Some-Slots.is c.in-Some-Slots.field-0-is _ _ _ c.requires.paced
+
+pub given_slots-requires-clause-paced : goal.given_slots-requires-clause-paced
+given_slots-requires-clause-paced g c =
+    paced_as_asked (map string_bytes c.args.words.now) _ _ _ c.read_words.ensures
+    c.in-Some-GivenSlots.is c.in-Some-GivenSlots.field-0-is _ _ _ c.requires.paced
 
 pub audit-requires-clause-paced : goal.audit-requires-clause-paced
 audit-requires-clause-paced g c =

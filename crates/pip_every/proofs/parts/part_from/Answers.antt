@@ -1,12 +1,14 @@
 -- The part begins at the first moment, or where a way leads from there.
-use Rattle.std.proofs.Common.{◌≡◌, ◌∙◌, ◌++◌, ap, length, subst, sym}
+use Rattle.std.proofs.Common.{◌≡◌, ◌∙◌, ◌++◌, [], ap, length, subst, sym}
 use Rattle.pip_model.specs.Booted.{IsBooted}
 use Rattle.pip_search.specs.Certificates.{IsClosedPart, IsReachedPart}
 use Rattle.pip_search.specs.Parts.{portion_of}
-use Rattle.pip_every.specs.Choosing.{machine_scope}
-use Rattle.pip_every.specs.Keys.{IsKeyOf, model_of}
+use Rattle.pip_every.specs.Choosing.{machine_menu}
+use Rattle.pip_every.specs.Keys.{IsKeyOf}
+use Rattle.pip_every.specs.Menus.{Menu, menu_model}
 use Rattle.pip_every.specs.Moments.{Moment, Scope, first_moment}
-use Rattle.pip_every.proofs.Keying.{begun, if_ok, scope_is}
+use Rattle.pip_every.proofs.Keying.{begun, if_ok, menu_is, scope_is}
+use Rattle.pip_every.proofs.Usual.{closed_usual, reached_usual}
 use Rattle.pip_every.proofs.parts.part_from.Goals as goal
 
 pub check_part-requires-clause-key : goal.check_part-requires-clause-key
@@ -27,56 +29,69 @@ returns-clause-closed g c = if_ok c.check_part.result _ _ (λ r e p is.
     let first = g.F.First.words in
     let s : Scope = record { cpus = c.args.cpus; lines = c.args.lines.now; from = c.args.from } in
     let q = c.add_key.new.self in
-    let t : Scope = machine_scope q.machine q.lines.items q.from in
+    let t : Menu = machine_menu q.machine q.lines.items q.from q.may.items in
     let machine : q.machine ≡ c.new-machine.result = c.in_ok-add_key.ensures.machine ∙ c.new-explorer.ensures.machine in
-    let same : t ≡ s = scope_is (length q.machine.cpus) c.args.cpus q.lines.items c.args.lines.now q.from c.args.from
+    let scope : t.scope ≡ s = scope_is
+    (length q.machine.cpus) c.args.cpus q.lines.items c.args.lines.now q.from c.args.from
     (ap (λ y. length y.cpus) machine ∙ c.new-machine.ensures.count)
     (ap (λ v. v.items) (c.in_ok-add_key.ensures.lines ∙ c.new-explorer.ensures.lines) ∙
     (c.in_ok-extend_from_slice.ensures.items ∙ ap (λ v. v ++ c.args.lines.now) c.new-raised.ensures.items))
     (c.in_ok-add_key.ensures.from ∙ c.new-explorer.ensures.from) in
-    subst (λ v. IsClosedPart (model_of first v) (portion_of p)) same (e p is)) c.check_part.ensures.closed
+    let same : t ≡ record { scope = s; may = [] } = menu_is t.scope s q.may.items [] scope
+    (ap (λ v. v.items) (c.in_ok-add_key.ensures.may ∙ c.new-explorer.ensures.may) ∙ c.new-2.ensures.items) in
+    closed_usual first s (portion_of p)
+    (subst (λ v. IsClosedPart (menu_model first v) (portion_of p)) same (e p is))) c.check_part.ensures.closed
 
 pub returns-clause-reached : goal.returns-clause-reached
 returns-clause-reached g c = if_ok c.check_part.result _ _ (λ r e p n words is b.
     let first = g.F.First.words in
     let s : Scope = record { cpus = c.args.cpus; lines = c.args.lines.now; from = c.args.from } in
     let q = c.add_key.new.self in
-    let t : Scope = machine_scope q.machine q.lines.items q.from in
+    let t : Menu = machine_menu q.machine q.lines.items q.from q.may.items in
     let machine : q.machine ≡ c.new-machine.result = c.in_ok-add_key.ensures.machine ∙ c.new-explorer.ensures.machine in
-    let same : t ≡ s = scope_is (length q.machine.cpus) c.args.cpus q.lines.items c.args.lines.now q.from c.args.from
+    let scope : t.scope ≡ s = scope_is
+    (length q.machine.cpus) c.args.cpus q.lines.items c.args.lines.now q.from c.args.from
     (ap (λ y. length y.cpus) machine ∙ c.new-machine.ensures.count)
     (ap (λ v. v.items) (c.in_ok-add_key.ensures.lines ∙ c.new-explorer.ensures.lines) ∙
     (c.in_ok-extend_from_slice.ensures.items ∙ ap (λ v. v ++ c.args.lines.now) c.new-raised.ensures.items))
     (c.in_ok-add_key.ensures.from ∙ c.new-explorer.ensures.from) in
+    let same : t ≡ record { scope = s; may = [] } = menu_is t.scope s q.may.items [] scope
+    (ap (λ v. v.items) (c.in_ok-add_key.ensures.may ∙ c.new-explorer.ensures.may) ∙ c.new-2.ensures.items) in
     let m : Moment = first_moment words n c.args.cpus in
     let stands = c.new-machine.ensures.stands n words (subst (λ v. IsBooted n words v)
     (sym c.in_ok-journal.ensures) b) in
     let count : length c.new-explorer.result.machine.cpus ≡ length q.machine.cpus =
     ap (λ y. length y.cpus) (sym c.in_ok-add_key.ensures.machine) in
-    let key : IsKeyOf first t c.as_slice.result.now m = begun n c.args.cpus words stands c.new-explorer.ensures.machine
+    let key : IsKeyOf first t.scope c.as_slice.result.now m =
+    begun n c.args.cpus words stands c.new-explorer.ensures.machine
     c.in_ok-add_key.ensures.count count c.new-start.ensures.items
     (c.as_slice.ensures.value ∙ c.in_ok-add_key.ensures.key) in
-    subst (λ v. IsReachedPart (model_of first v) m (portion_of p)) same (e p m is key)) c.check_part.ensures.reached
+    reached_usual first s m (portion_of p)
+    (subst (λ v. IsReachedPart (menu_model first v) m (portion_of p)) same (e p m is key))) c.check_part.ensures.reached
 
 pub returns-clause-begins : goal.returns-clause-begins
 returns-clause-begins g c = if_ok c.check_part.result _ _ (λ r e p n words is b none.
     let first = g.F.First.words in
     let s : Scope = record { cpus = c.args.cpus; lines = c.args.lines.now; from = c.args.from } in
     let q = c.add_key.new.self in
-    let t : Scope = machine_scope q.machine q.lines.items q.from in
+    let t : Menu = machine_menu q.machine q.lines.items q.from q.may.items in
     let machine : q.machine ≡ c.new-machine.result = c.in_ok-add_key.ensures.machine ∙ c.new-explorer.ensures.machine in
-    let same : t ≡ s = scope_is (length q.machine.cpus) c.args.cpus q.lines.items c.args.lines.now q.from c.args.from
+    let scope : t.scope ≡ s = scope_is
+    (length q.machine.cpus) c.args.cpus q.lines.items c.args.lines.now q.from c.args.from
     (ap (λ y. length y.cpus) machine ∙ c.new-machine.ensures.count)
     (ap (λ v. v.items) (c.in_ok-add_key.ensures.lines ∙ c.new-explorer.ensures.lines) ∙
     (c.in_ok-extend_from_slice.ensures.items ∙ ap (λ v. v ++ c.args.lines.now) c.new-raised.ensures.items))
     (c.in_ok-add_key.ensures.from ∙ c.new-explorer.ensures.from) in
+    let same : t ≡ record { scope = s; may = [] } = menu_is t.scope s q.may.items [] scope
+    (ap (λ v. v.items) (c.in_ok-add_key.ensures.may ∙ c.new-explorer.ensures.may) ∙ c.new-2.ensures.items) in
     let m : Moment = first_moment words n c.args.cpus in
     let stands = c.new-machine.ensures.stands n words (subst (λ v. IsBooted n words v)
     (sym c.in_ok-journal.ensures) b) in
     let count : length c.new-explorer.result.machine.cpus ≡ length q.machine.cpus =
     ap (λ y. length y.cpus) (sym c.in_ok-add_key.ensures.machine) in
-    let key : IsKeyOf first t c.as_slice.result.now m = begun n c.args.cpus words stands c.new-explorer.ensures.machine
+    let key : IsKeyOf first t.scope c.as_slice.result.now m =
+    begun n c.args.cpus words stands c.new-explorer.ensures.machine
     c.in_ok-add_key.ensures.count count c.new-start.ensures.items
     (c.as_slice.ensures.value ∙ c.in_ok-add_key.ensures.key) in
-    (c.as_slice.result.now, (subst (λ v. IsKeyOf first v c.as_slice.result.now m) same key, e p is none)))
+    (c.as_slice.result.now, (subst (λ v. IsKeyOf first v c.as_slice.result.now m) scope key, e p is none)))
     c.check_part.ensures.begins

@@ -1,4 +1,4 @@
-use Rattle.std.proofs.Common.{◌≡◌, ◌∙◌, ◌-◌, ◌*◌, ◌+◌, ◌≤◌, arith, rules, sym}
+use Rattle.std.proofs.Common.{◌≡◌, ◌-◌, ◌*◌, ◌+◌, arith, rules}
 use Rattle.std.proofs.lemmas.Result.{MatchResult-from_err}
 use Rattle.pip_slots.specs.Slots.{plan_steps}
 use Rattle.pip_slots.proofs.Progressing.{one_round_more, rounds_begun, rounds_cut, rounds_end, rounds_on}

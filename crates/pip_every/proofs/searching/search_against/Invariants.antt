@@ -1,4 +1,4 @@
-use Rattle.pip_every.proofs.searching.search.Given as goal
+use Rattle.pip_every.proofs.searching.search_against.Given as goal
 
 -- keys compare with the words that were noted
 abbrev pub ghosts-search_from-F-First : goal.ghosts-search_from-F-First

@@ -1,0 +1,5 @@
+use Rattle.pip_apart.proofs.Known.{known_lines_suffice, runs_show_known, slots_show_known}
+use Rattle.pip_apart.proofs.law_known.Goals as goal
+
+pub returns : goal.returns
+returns c = record { lines = known_lines_suffice; slots = slots_show_known; runs = runs_show_known }

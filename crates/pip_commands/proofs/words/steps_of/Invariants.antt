@@ -1,0 +1,10 @@
+use Rattle.std.proofs.Common.{◌≡◌, ◌≤◌, ◌+◌, ◌*◌, ◌^◌, drop}
+use Rattle.pip_slots.specs.Images.{round_steps}
+use Rattle.pip_commands.proofs.words.steps_of.Given as goal
+
+-- with the steps of the slots that are left they are all, and each slot adds few
+abbrev pub invariant-loop-i : goal.invariant-loop-i
+invariant-loop-i l = record {
+  steps : l.steps + round_steps (drop l.i l.round) ≡ round_steps l.round;
+  few : l.steps ≤ l.i * (2 ^ 32 + 1);
+}

@@ -1,0 +1,27 @@
+-- The key of a moment says what runs there.
+use Rattle.std.proofs.Common.{◌∙◌, false, ap, arith}
+use Rattle.pip_model.proofs.Trees.Ancestry.{root_is_one}
+use Rattle.pip_switch.specs.Occupied.{part_on}
+use Rattle.pip_every.specs.Choosing.{machine_menu}
+use Rattle.pip_every.specs.Menus.{Menu}
+use Rattle.pip_every.proofs.Keying.{can_read, has_read, was_read}
+use Rattle.pip_every.proofs.Picking.{its_is, others_is}
+use Rattle.pip_every.proofs.explorer.Explorer.is_own.Goals as goal
+
+pub read_processors-runs-requires-clause-begins : goal.read_processors-runs-requires-clause-begins
+read_processors-runs-requires-clause-begins g c = can_read c.args.self.now.shape c.requires.key.1 c.cpus.ensures
+
+pub name_at-name-requires : goal.name_at-name-requires
+name_at-name-requires g c =
+    let h = has_read c.args.self.now.shape c.requires.key.1 c.cpus.ensures c.read_processors-runs.ensures in
+    omega (arith, c.deed_cpu.ensures.there, h.count)
+
+pub returns : goal.returns
+returns g c none m k =
+    let s = c.args.self.now in
+    let all : Menu = machine_menu s.machine s.lines.items s.from s.may.items in
+    let read = was_read s.shape k c.cpus.ensures c.read_processors-runs.ensures in
+    let its = its_is m.world c.deed_cpu.result _ c.name_at-name.result c.deed.result c.is_its.result false
+    c.is_its.ensures none (root_is_one m.world.tree k.stands.sound.tree)
+    (c.name_at-name.ensures ∙ ap (λ os. part_on os c.deed_cpu.result) read.0) c.deed_cpu.ensures.cpu in
+    others_is all m.world c.args.choice c.deed.result c.deed.ensures its
