@@ -7,6 +7,8 @@
 # (`call 1 reply 0`) and makes it anew of the same pages (`call 0 reply 0`). The child counts in a page that is only
 # lent to it. Such a page keeps its words, so the count goes on where it was: 1 to 4, 5 to 8, 9 to 12. Then the root
 # ends the child for good and parks.
+#
+# Another child parks it at once (any_child.may): it yields with vector 14, and the root believes a fault of child 0.
 .frames 64
 .cpus 1
 

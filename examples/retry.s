@@ -8,6 +8,8 @@
 # context is saved: when it has its turn again it sees that the answer isn't there, and asks again. And the root is
 # refused to give a turn to a child that runs on the other processor (`call 8 reply 14`): it takes the next child.
 # The words that are shown are the numbers of the requests: each comes once, in its order.
+#
+# Other children break it as they do timer_and_services.s (any_child.may).
 .frames 128
 .cpus 2
 .line 0 430 50

@@ -7,6 +7,10 @@
 # instruction, and r0 to r3 would be lost. Look at `switch 1 1 32` (such a line: the root itself was interrupted), first
 # at step 480, and at `call 8 switch 1 1 63` after it: the root goes on with what was saved, and the request is served
 # (`out`). A monitor that gives the next child its turn at each line loses that request.
+#
+# Other children break it, and that is left so (any_child.may). `trap 63` enters the root by the block in which it is
+# saved (`park 1 14`); a request with a wrong number stops it (`out 0x0000dead`), and so does a child that threw its
+# handler away (`out 0x00000010`). every/guarded.asmx holds against all three.
 .frames 128
 .cpus 1
 .line 0 430 50

@@ -2,11 +2,13 @@
 #
 #     ./pip asm < examples/two_guests.s > two_guests.img
 #     ./pip run 3000 1 < two_guests.img
+#     ./pip apart 1000 2100 1 < two_guests.img
 #
-# A guest is a partition, its top, with a worker below it. The worker counts; with every eighth number it asks its top
-# by `int 70` to show it, and then loads an address at which it has no page. Both come to the top, which lets it go on.
-# So from the line with which a guest begins on it has the lines that it would have alone. two_guests.every goes through
-# the first turns in all orders: no line is taken before the root has made all its children.
+# A guest is a partition, its top, with a worker below it. The worker counts to 64, over and over; with every eighth
+# number it asks its top by `int 70` to show it, and then loads an address at which it has no page. Both come to the
+# top, which lets it go on. So from the line with which a guest begins on it has the lines that it would have alone:
+# two_guests.apart says so of all orders of turns, with any lines. two_guests.every goes through the first turns in all
+# orders: no line is taken before the root has made all its children.
 #
 # Interrupt line 0 only serves to bring the root to processor 1. Meanwhile the keeper runs on processor 0, a child of
 # the root that asks again and again to give its processor away. Before any guest runs the root takes its handler of the
@@ -239,6 +241,9 @@ andi r2 r1 7
 bne r2 r10 worker
 int 70
 ldw r3 r10 0
+andi r2 r1 63
+bne r2 r10 worker
+addi r1 r1 -64
 beq r10 r10 worker
 
 # ---- The keeper's program: it yields to the root by vector 65, again and again, until that is accepted.

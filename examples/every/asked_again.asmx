@@ -6,6 +6,7 @@
 #
 # Look at `call 8 reply 14`. The root runs on one processor at a time, so it never adds on both at once; a child that
 # asks meanwhile on the other one is refused. The root is refused a turn for a child that runs, and takes the other.
+# With ../any_child.may it shows 0 (`trap 66` twice): the root believes each child, also one that is done twice.
 .equ FIRST 0x410000               # the first child: ten pages, of which the last two are its handler table and program
 .equ SECOND 0x420000
 .equ LAST 0xfffff000

@@ -1,4 +1,4 @@
-# The root makes its child at CHILD, and lends it its handler table and its program. r6 is CHILD, r12 a page's size.
+# A partition makes its child at CHILD, and lends it its handler table and its program. r6 is CHILD, r12 a page's size.
     li r12 4096
     la r1 CHILD                   # createPartition
     mov r6 r1

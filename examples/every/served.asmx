@@ -7,6 +7,9 @@
 # Look at `switch 1 1 32`: a line came before the root's vcli, and r0 to r3 of the request are in the root's block for
 # 63. The root goes on with them (`call 8 switch 1 1 63`). And `out 0x0000dead`, by which a lost request would show,
 # isn't there.
+#
+# Another child breaks it, and that is left so: with ../any_child.may `trap 63` enters the root by the block in which it
+# is saved, where the pc is 0 (`park 1 14`). guarded.asmx holds against that.
 .equ CHILD 0x410000
 .equ TABLE CHILD+8*4096           # the child's handler table
 .equ CODE CHILD+9*4096            # its program

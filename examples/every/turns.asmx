@@ -4,7 +4,9 @@
 #     tools/asmx examples/every/turns.asmx --image turns.img
 #     ./pip every 10000 < turns.img
 #
-# Look at what isn't there: no call is refused, and nothing faults or parks, for any number of lines at any times.
+# Look at what isn't there: no call is refused, and nothing faults or parks, for any number of lines at any times. And
+# with ../any_child.may nothing parks, and only yields to a child that threw its handler away are refused (16): then the
+# other one has its turn. A line that a child forges doesn't mask the root, so the handler does it first.
 .equ FIRST 0x410000               # the first child: ten pages, of which the last two are its handler table and program
 .equ SECOND 0x420000
 .equ LAST 0xfffff000
@@ -24,7 +26,11 @@
     stw r8 r7 128
     la r15 turn
 
-next_turn:                        # the timer's handler: the root is masked, and r15 is the address of `turn`
+    j next_turn
+line:                             # vector 32: a line has r3 = 0 and has masked the root, a child that forges one leaves
+    beq r3 r10 next_turn          # its address there, or 1, which the block has
+    sys 10
+next_turn:                        # the root is masked, and r15 is the address of `turn`
     ldw r1 r15 0
     ldw r7 r15 4
     stw r7 r15 0
@@ -32,6 +38,7 @@ next_turn:                        # the timer's handler: the root is masked, and
     li r2 63                      # yield(child, 63, nothing is saved): it goes on where it was
     li r3 256
     sys 8
+    j next_turn                   # refused: it can't be entered any more
 refused:
     out r0
 stop:
@@ -93,6 +100,8 @@ second:
 
 .page LAST
 .zero 256
-    .word next_turn
-    .zero 15
+    .word line
+    .zero 3
+    .word 1                       # r3
+    .zero 11
     .word turn

@@ -1,7 +1,9 @@
-"""A preprocessor to the assembly: constants, addresses, handlers, pages that a child has elsewhere, and files in files.
+"""A preprocessor to the assembly: constants, addresses, handlers, pages that a child has elsewhere, files in files, and
+menus.
 
     tools/asmx FILE > program.s
     tools/asmx FILE --image program.img
+    tools/asmx FILE --against program.menu
 
 What it adds to the lines of docs/FORMATS.md is told in tools/README.md.
 """
@@ -20,7 +22,7 @@ from typing import NamedTuple
 
 from ..common import calling
 from ..common.calling import Failed
-from ..reference import assembly, instructions
+from ..reference import against, assembly, instructions, script
 from . import why
 
 NAME = re.compile(r"[A-Za-z_][A-Za-z0-9_]{0,31}")
@@ -46,6 +48,7 @@ MOST_LINES = 1 << 20
 MOST_FILES = 64          # that are included, each as often as it is
 MOST_NUMBER = 1 << 32    # what a number, and each product on the way to it, is below
 MOST_TOLD = 20           # lines that are wrong
+DEEDS = tuple(word.decode() for word in against.WORDS)
 
 
 class Place(NamedTuple):
@@ -221,13 +224,15 @@ class Page:
 
 
 class Text:
-    """A text on its way: constants, names and pages. The lines that it becomes, with their places, are in `written`."""
+    """A text on its way. The lines that it becomes are in `written`, with their places, and its menu is in `menu`."""
 
     def __init__(self) -> None:
         self.constants: dict[str, int] = {}
         self.labels: dict[str, Label] = {}
         self.pages: list[Page] = []
         self.head: Lines = []
+        self.may: list[tuple[Place, list[Word]]] = []
+        self.menu: Lines = []                               # what becomes of them
 
     def take(self, place: Place, words: list[Word]) -> None:
         """One line."""
@@ -240,6 +245,8 @@ class Text:
             self.take_page(place, words[1:])
         elif first in (".frames", ".cpus", ".line"):
             self.head.append((place, Line.of([first] + [self.number_text(place, word) for word in words[1:]])))
+        elif first == ".may":
+            self.may.append((place, words))
         elif not self.pages:
             self.pages.append(Page(place, 0, 0))            # lest all lines after it be told, too
             raise Wrong(place, f"{first!r} stands before the first page", first.column)
@@ -439,8 +446,37 @@ class Text:
                 raise Wrong(place, f"{text!r} has more than 32 bits", text.column)
         return value
 
+    def deed(self, place: Place, words: list[Word]) -> Line:
+        """The line of a menu that `.may WHO WHAT` is."""
+        if len(words) < 3:
+            raise Wrong(place, f".may has 'each' or a partition's name, and a deed: {', '.join(DEEDS)}",
+                        words[0].column)
+        who, what, *numbers = words[1:]
+        if who != against.EACH.decode():
+            who = self.deed_number(place, who, script.WORD)
+        if what not in DEEDS:
+            raise Wrong(place, f"{what!r} is no deed: they are {', '.join(DEEDS)}", what.column)
+        limits = script.FORMS.get(what.encode(), ())[1:] or (script.WORD,) * min(max(len(numbers), 1), 6)
+        if len(numbers) != len(limits):
+            due = "1 to 6 numbers" if what == "call" else f"{len(limits)} number{'' if len(limits) == 1 else 's'}"
+            raise Wrong(place, f"{what} has {due}: no processor is named here", beyond(words[2:], len(limits)))
+        return Line.of([who, what, *(self.deed_number(place, word, limit or script.WORD)
+                                     for word, limit in zip(numbers, limits))])
+
+    def deed_number(self, place: Place, word: Word, limit: int) -> Word:
+        number = self.number(place, word, True)
+        if not 0 <= number < limit:
+            raise Wrong(place, f"{word!r} isn't from 0 to {limit - 1}", word.column)
+        return word if NUMBER.fullmatch(word) else Word.at(word.column, f"0x{number:08x}")
+
     def written(self, collected: Collected) -> Lines:
         """The lines of the assembly text, each with its place in the source."""
+        for place, words in self.may:
+            with collected:
+                self.menu.append((place, self.deed(place, words)))
+        if len(self.may) > against.MOST_DEEDS:
+            place, _ = self.may[against.MOST_DEEDS]
+            collected.wrongs.append(Wrong(place, f"a menu has at most {against.MOST_DEEDS} deeds"))
         lines = list(self.head)
         for page in self.pages:
             lines.append((page.place, Line(f".page 0x{page.address:08x}")))
@@ -464,8 +500,7 @@ class Text:
 
 
 def processed(path: str, files: Files | None = None) -> tuple[Lines, Text]:
-    """The lines of the assembly text of a file, each with its place in the source. `files` says what may be included.
-    """
+    """The lines of the assembly text of a file, each with its place in the source. `files` has what may be included."""
     text, collected = Text(), Collected()
     places: list[Place] = []
     with collected:
@@ -510,8 +545,7 @@ def in_form(form: str, words: list[Word]) -> list[Word]:
 
 
 def refused(lines: Lines) -> list[Wrong]:
-    """What the reference's assembler refuses, by the places in the source. After each line the text is tried again,
-    with a word in that line's place."""
+    """What the reference's assembler refuses; it is asked again with a word in the place of each line that is wrong."""
     texts = [line.encode() for _, line in lines]
     found: list[Wrong] = []
     while len(found) <= MOST_TOLD:
@@ -540,6 +574,11 @@ def assembled(program: str, lines: Lines) -> bytes:
     return image
 
 
+def menu_of(lines: Lines) -> bytes:
+    """A menu as the program reads it after an image."""
+    return "".join(line + "\n" for _, line in lines).encode()
+
+
 def image_of(program: str, path: str) -> tuple[bytes, str | None]:
     """The image of a file, and its path where it is a source."""
     data = calling.contents(path, MOST_IMAGE)
@@ -556,9 +595,7 @@ def image_of(program: str, path: str) -> tuple[bytes, str | None]:
 
 
 def refusal(lines: Lines, texts: list[bytes], number: int, kind: str) -> Wrong:
-    """What tools/why says of a line of the assembly text that is refused, at its place in the source. `texts` are the
-    lines as they were assembled.
-    """
+    """What tools/why says of a refused line, at its place in the source. `texts` are the lines as assembled."""
     place, line = lines[min(number, len(lines)) - 1] if lines else (Place("the text", 1), Line())
     try:
         why.judge_assembly(texts, number, kind)
@@ -570,9 +607,11 @@ def refusal(lines: Lines, texts: list[bytes], number: int, kind: str) -> Wrong:
 
 def main() -> None:
     parser = argparse.ArgumentParser(description="A preprocessor to the assembly.",
-                                     epilog="Without --image or --line the assembly text goes to standard output.")
+                                     epilog="Without one of these options the assembly text goes to standard output.")
     parser.add_argument("file", metavar="FILE", help="the source; - is standard input")
     parser.add_argument("--image", metavar="OUT", help="assemble it, and write the image there")
+    parser.add_argument("--against", metavar="OUT",
+                        help="the same, and after the image its menu, the lines .may, as the command against reads it")
     parser.add_argument("--line", type=int, metavar="N", help="where line N of the assembly text comes from")
     calling.take_program(parser)
     given = parser.parse_args()
@@ -581,7 +620,7 @@ def main() -> None:
 
 def work(given: argparse.Namespace) -> None:
     try:
-        lines, _ = processed(given.file)
+        lines, text = processed(given.file)
         if given.line is not None:
             if not 1 <= given.line <= len(lines):
                 raise Failed(f"the assembly text has {len(lines)} lines")
@@ -589,6 +628,8 @@ def work(given: argparse.Namespace) -> None:
             print(f"{place.file}:{place.line}: {line}")
         elif given.image:
             write_image(given.image, assembled(given.program, lines))
+        elif given.against:
+            write_image(given.against, assembled(given.program, lines) + menu_of(text.menu))
         else:
             sys.stdout.write("".join(line + "\n" for _, line in lines))
     except Wrong as wrong:

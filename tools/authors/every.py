@@ -4,8 +4,8 @@ a run or a page.
     tools/every FILE STATES [FROM [DEPTH]]
     tools/every FILE STATES [FROM [DEPTH]] --trace N
 
-The lines are those of the program's command `every`. N is a line's number. A way is made again by tools/reference, of
-which nothing is proved, and what it shows at its end is compared with the line.
+The lines are those of the program's command `every`, or of `against` where there is a menu. N is a line's number. A way
+is made again by tools/reference, of which nothing is proved, and what it shows at its end is compared with the line.
 """
 
 from __future__ import annotations
@@ -21,15 +21,19 @@ from typing import NamedTuple
 from ..common import calling, meanings, plans
 from ..common.calling import Failed
 from ..common.progress import Progress
-from ..reference import image as images
+from ..reference import against, image as images
 from ..reference.image import Image
 from ..step import page, states
 from . import asmx, trace, ways
-from .ways import Way
+from .ways import Menu, Way
 
 MOST = 10_000_000
-LINE = re.compile(r"(\d+) (\d+) (.+): ([^:]+)")
+LINE = re.compile(r"(\d+) (\d+) ([^:]+): (.+)")
+DEED = re.compile(r":d(\d+)")
 END = re.compile(r"states (\d+) (?:depth (\d+) (closed|stopped)|(within) (\d+))")
+BAD = {"long": "it has more than 120 bytes", "who": "its first word is neither 'each' nor a number",
+       "what": "after its first word it is no ld, lb, st, sb, trap or call of a script without the processor",
+       "many": f"a menu has at most {against.MOST_DEEDS} deeds and {against.MOST_LINES} lines"}
 REASONS = {3: "its input can't be read", 4: "its output can't be written", 5: "no memory was found: give fewer STATES"}
 
 
@@ -114,35 +118,36 @@ def read(lines: list[str]) -> Search:
 # What is told
 
 
-def told_of(search: Search, only_trouble: bool) -> list[str]:
-    """Each line with its number and what it means."""
+def told_of(search: Search, only_trouble: bool, menu: Menu = ()) -> list[str]:
+    """Each line with its number and what it means, and the deeds of its way."""
     told = [search.head]
     for number, line in enumerate(search.lines, 1):
         if line.is_trouble or not only_trouble:
-            meaning = meanings.of_answer(line.text)
-            remark = f"    # {meaning}" if meaning else ""
-            told.append(f"{number:>4}  {line.step} {line.cpu} {line.text}: {line.way}{remark}")
-    return told + [f"{search.last}    # {meaning_of(search.last)}"]
+            deeds = sorted({int(deed) for deed in DEED.findall(line.way)})
+            remarks = [meanings.of_answer(line.text), *(f"d{deed}: {menu[deed - 1].line}" for deed in deeds)]
+            remark = "; ".join(filter(None, remarks))
+            told.append(f"{number:>4}  {line.step} {line.cpu} {line.text}: {line.way}{remark and '    # ' + remark}")
+    return told + [f"{search.last}    # {meaning_of(search.last, bool(menu))}"]
 
 
-def meaning_of(last: str) -> str:
+def meaning_of(last: str, with_menu: bool = False) -> str:
     found = END.fullmatch(last)
     assert found
     if found[3] == "closed":
-        return "nothing else can come, however long it runs"
+        return "nothing else can come, " + ("whatever is done of the menu" if with_menu else "however long it runs")
     if found[4]:
         return f"nothing else can come by {found[5]} choices or fewer"
     return f"there are more than {found[1]} states; nothing else can come by {found[2]} choices or fewer"
 
 
-def traced(image: Image, line: Line, way: Way, source: str | None) -> int:
+def traced(image: Image, line: Line, way: Way, menu: Menu, source: str | None) -> int:
     """Prints the way choice by choice, and whether it shows what it should."""
     names = trace.Names(image, source)
     if names.warning:
         print(f"every: {names.warning}", file=sys.stderr)
     print("# by the reference: no proof; the last line at the right is compared with the program's")
     shown = ""
-    for made in ways.made(image, way):
+    for made in ways.made(image, way, menu):
         if made.turn is None:
             print(f"{made.step:>6}   line {made.line} is raised")
         else:
@@ -156,9 +161,9 @@ def traced(image: Image, line: Line, way: Way, source: str | None) -> int:
     return 0
 
 
-def scripted(program: str, image: Image, line: Line, way: Way) -> int:
+def scripted(program: str, image: Image, line: Line, way: Way, menu: Menu) -> int:
     """Prints a script that makes the same events, and whether the program answers it as the reference does."""
-    text, answers = ways.script(image, way)
+    text, answers = ways.script(image, way, menu)
     print(f"# {line.step} {line.cpu} {line.text}")
     print(text, end="")
     told, status = calling.output(program, ["script"], text.encode())
@@ -191,6 +196,8 @@ def main() -> None:
     parser.add_argument("first", metavar="FROM", nargs="?", help="no line comes before so many turns; without it 0")
     parser.add_argument("depth", metavar="DEPTH", nargs="?", help="at most so many choices; without it any number")
     parser.add_argument("--source", metavar="FILE", help="of an image: the text that it was made of, for its names")
+    parser.add_argument("--may", metavar="MENU", help="a file with a menu, in the place of the source's lines .may")
+    parser.add_argument("--alone", action="store_true", help="without the source's menu: the partitions' programs run")
     parser.add_argument("--trouble", action="store_true", help="only lines with a refused call, a fault or a park")
     one = parser.add_mutually_exclusive_group()
     one.add_argument("--trace", metavar="N", help="the way to line N, choice by choice")
@@ -203,16 +210,39 @@ def main() -> None:
     calling.guarded("every", lambda: work(given))
 
 
-def image_of(given: argparse.Namespace) -> tuple[bytes, str | None]:
-    """The image, and the source of its names."""
+class Given(NamedTuple):
+    """What is searched: an image, the text of its menu, and the source of its names."""
+
+    image: bytes
+    menu: bytes
+    source: str | None
+
+
+def given_of(given: argparse.Namespace) -> Given:
     data, source = asmx.image_of(given.program, given.file)
     if source and given.source:
         raise Failed("--source is for an image, and this is a source")
-    return data, source or given.source
+    try:
+        _, menu = images.parted(data)
+    except images.BadImage:
+        menu = b""                               # the program says what is bad
+    data = data[:len(data) - len(menu)]
+    if source:
+        menu = asmx.menu_of(asmx.processed(source)[1].menu)
+    if given.may:
+        menu = calling.contents(given.may)
+    return Given(data, b"" if given.alone else menu, source or given.source)
 
 
-def words_of(given: argparse.Namespace) -> list[str]:
-    words = ["every", str(calling.number(given.states, 1, MOST, "STATES"))]
+def deeds_of(given: argparse.Namespace, menu: bytes) -> Menu:
+    try:
+        return against.menu_of(menu)
+    except against.BadLine as bad:
+        raise Failed(f"{given.may or given.file}: line {bad.line} of the menu is bad: {BAD[bad.kind]}") from None
+
+
+def words_of(given: argparse.Namespace, command: str) -> list[str]:
+    words = [command, str(calling.number(given.states, 1, MOST, "STATES"))]
     if given.first is not None:
         words.append(str(calling.number(given.first, 0, MOST, "FROM")))
     if given.depth is not None:
@@ -221,27 +251,30 @@ def words_of(given: argparse.Namespace) -> list[str]:
 
 
 def work(given: argparse.Namespace) -> int | None:
-    words = words_of(given)
-    data, source = image_of(given)
-    search = read(searched(given.program, words, data))
+    words_of(given, "every")
+    image, menu, source = given_of(given)
+    deeds = deeds_of(given, menu)
+    search = read(searched(given.program, words_of(given, "against" if deeds else "every"), image + menu))
     number = given.trace or given.script or given.page or (given.plan and given.plan[0])
     if number is None:
-        print("\n".join(told_of(search, given.trouble)))
+        print("\n".join(told_of(search, given.trouble, deeds)))
         return None
     if not search.lines:
         raise Failed("no line can come")
     line = search.lines[calling.number(number, 1, len(search.lines), "N") - 1]
-    return shown(given, data, source, line)
+    return shown(given, image, deeds, source, line)
 
 
-def shown(given: argparse.Namespace, data: bytes, source: str | None, line: Line) -> int | None:
+def shown(given: argparse.Namespace, data: bytes, menu: Menu, source: str | None, line: Line) -> int | None:
     """The way to a line, as it was asked for."""
     image = images.read(data)
-    way = ways.read(image, line.way)
+    way = ways.read(image, line.way, menu)
     if given.trace:
-        return traced(image, line, way, source)
+        return traced(image, line, way, menu, source)
     if given.script:
-        return scripted(given.program, image, line, way)
+        return scripted(given.program, image, line, way, menu)
+    if menu:
+        raise Failed("a run makes no deeds: --trace and --script show a way with a menu")
     built, run = planned(given.program, data, line, way)
     if given.page:
         first = max(0, run.steps + 1 - states.MOST_STATES)

@@ -38,8 +38,8 @@ class Run:
     trouble: str = ""
 
     def told(self) -> str:
-        return f"first seed {self.seed}" + (f" with {self.plan}" if self.plan else "") + (f" ({self.trouble})"
-                                                                                          if self.trouble else "")
+        by, trouble = f" with {self.plan}" if self.plan else "", f" ({self.trouble})" if self.trouble else ""
+        return f"first seed {self.seed}{by}{trouble}"
 
     def place(self) -> tuple[int, Plan]:
         return self.seed, self.plan or Plan(0, 0, 0)
@@ -55,8 +55,7 @@ class Group:
 
 
 class End:
-    """How a run ends, line by line of its trace, and where the first call was refused or something faulted or parked.
-    """
+    """How a run ends, line by line of its trace, and where first a call was refused or something faulted or parked."""
 
     def __init__(self, header: str) -> None:
         self.runs = ["partition 1"] + ["nothing"] * (int(header.split()[2]) - 1)
@@ -91,9 +90,8 @@ class End:
 
     def told(self, tree: list[str], with_outs: bool) -> str:
         parts = [f"processor {cpu} runs {what}" for cpu, what in enumerate(self.runs)]
-        parts.append("faults: " + (", ".join(sorted(self.faults)) or "none"))
-        parts.append("parks: " + (", ".join(sorted(self.parks)) or "none"))
-        parts.append("refused: " + (", ".join(sorted(self.refused)) or "none"))
+        parts += [f"{what}: {', '.join(sorted(found)) or 'none'}" for what, found in
+                  (("faults", self.faults), ("parks", self.parks), ("refused", self.refused))]
         names = [line.split(" ")[1] for line in tree if line.startswith("part ")]
         parts.append(f"tree: {', '.join(names)} ({hashlib.sha256(chr(10).join(tree).encode()).hexdigest()[:8]})")
         if with_outs:
@@ -210,5 +208,4 @@ def write(given: argparse.Namespace, image: bytes, varied: Sequence[Plan | None]
     plan, = varied if len(varied) == 1 else [None]
     if plan is None or seeds != 1:
         raise Failed("--write is for one seed, and for one plan of --line")
-    with open(given.write, "wb") as file:
-        file.write(plans.with_plan(image, plan))
+    asmx.write_image(given.write, plans.with_plan(image, plan))

@@ -109,12 +109,11 @@ class Session:
         return [partition_line(x, [cpu for cpu, name in enumerate(runs) if name == x.name]) for x in found]
 
     def runs(self) -> list[int]:
-        """What runs on each processor: a partition's name, or 0. The answers so far are those of the program once more.
-        """
+        """What runs on each processor, a partition's name or 0, by the program's answers so far."""
         lines = self.asked.lines
         found = [1] + [0] * (int(lines[0].split()[2], 0) - 1)
         for line, answer in zip(lines, text_of(self.program, ["script"], b"".join(line + b"\n" for line in lines))):
-            states.runs_after(found, line.split(b" "), answer.split())
+            states.runs_after(found, line.split(b" ")[1], answer.split())
         return found
 
     def audit(self) -> list[str]:
@@ -163,8 +162,8 @@ def undo(session: Session, operand: str) -> list[str]:
 
 
 def listed(session: Session, operand: str) -> list[str]:
-    return [f"{place:>4}  {line.decode('utf-8', 'replace')}" for place,
-            line in enumerate(session.kept, 1)] or ["no line yet"]
+    lines = enumerate(session.kept, 1)
+    return [f"{place:>4}  {line.decode('utf-8', 'replace')}" for place, line in lines] or ["no line yet"]
 
 
 COMMANDS = {

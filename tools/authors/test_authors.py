@@ -121,6 +121,31 @@ class Preprocessor(unittest.TestCase):
             with self.subTest(text=text[:40]):
                 self.refused(text, told, line=4 + text.count("\n"))
 
+    def test_a_menu(self) -> None:
+        with tempfile.TemporaryDirectory() as folder:
+            path = os.path.join(folder, "a.asmx")
+            with open(path, "w", encoding="utf-8") as file:
+                file.write(".may each st LAST+4*63 at   # its handler\n.equ LAST 0xfffff000\n.frames 16\n.cpus 1\n"
+                           ".page 0x400000\n.may 12+1 call 8 0 70\nat: out r1\n")
+            lines, text = asmx.processed(path)
+        self.assertEqual([str(line) for _, line in lines][2:], [".page 0x00400000", "at:", "out r1"])
+        self.assertEqual(asmx.menu_of(text.menu), b"each st 0xfffff0fc 0x00400000\n0x0000000d call 8 0 70\n")
+
+    def test_deeds_that_are_refused(self) -> None:
+        for text, told, column in ((".may", "'each' or a partition's name", 1), (".may each", "and a deed", 1),
+                                   (".may all ld 0", "no line defines the name all", 6),
+                                   (".may  each load 0", "'load' is no deed", 12),
+                                   (".may each ld", "ld has 1 number", 11),
+                                   (".may 28 ld 0 0", "no processor is named here", 14),
+                                   (".may each sb 0 256", "from 0 to 255", 16), (".may each ld -1", "from 0 to", 14),
+                                   (".may each trap 256 0 0", "from 0 to 255", 16),
+                                   (".may each call 0 1 2 3 4 5 6", "1 to 6 numbers", 28)):
+            with self.subTest(text=text), self.assertRaisesRegex(asmx.Wrong, told) as found:
+                self.of_page(text)
+            self.assertEqual((found.exception.place.line, found.exception.column), (4, column))
+        with self.assertRaisesRegex(asmx.Wrong, "at most 1024 deeds"):
+            self.of_page(".may each ld 0\n" * 1025)
+
     def test_all_wrong_lines_are_told_in_their_order(self) -> None:
         with self.assertRaises(asmx.Wrong) as found:
             self.of_page("j gone\nli r17 1\n.equ r1 2\nli r1 gone\n.zero 9999\n")
@@ -173,6 +198,17 @@ class Reasons(unittest.TestCase):
         self.assertEqual(self.cause(why.judge_script, b"boot 15 1"), ("boot", 6))
         self.assertEqual(self.cause(why.judge_script, b"\xef\xbb\xbfboot 16 1"), ("mark", 1))
         self.assertEqual(self.cause(why.judge_script, b"ld 0 0"), ("second", 1))
+
+    def test_menus(self) -> None:
+        for line, due in ((b"all ld 0", ("menu who", 1)), (b"each", ("menu what", 5)), (b"13 poll", ("menu what", 4)),
+                          (b"each ld 00", ("number", 9)), (b"each ld", ("count", 8)), (b"each ld 0 0", ("count", 11)),
+                          (b"each call 0 1 2 3 4 5 6", ("count", 23)), (b"each trap 256 0 0", ("range", 11)),
+                          (b"each ld 0\r", ("return", 10)), (b"each  ld 0", ("spaces", 5)),
+                          (b"#" * 121, ("long", 121))):
+            [(place, cause)] = why.wrong_deeds([b"# a menu", line, b"each ld 0"])
+            self.assertEqual((place, (cause.name, cause.column)), (2, due), line)
+        [(place, cause)] = why.wrong_deeds([b"each ld 0"] * 1026)
+        self.assertEqual((place, cause.name), (1025, "menu many"))
 
     def test_what_is_meant(self) -> None:
         for line, kind, due in ((b"ld r1 r0 4", "unknown", "'ld' is no instruction; did you mean ldw?"),

@@ -7,7 +7,7 @@ import unittest
 
 from ..common import calling, plans
 from ..common.calling import Failed
-from ..reference import assembly, every as searches, generate_every, image as images, runs, script
+from ..reference import against, assembly, every as searches, generate_every, image as images, runs, script
 from ..reference.image import Image
 from . import asmx, every, ways
 
@@ -54,6 +54,20 @@ class Ways(unittest.TestCase):
         told, _ = runs.run(planned, run.steps, run.seed)
         self.assertEqual(told[-2], f"{run.steps - 1} {line}")
 
+    def test_ways_with_deeds(self) -> None:
+        image, menu = source("every/served.asmx"), against.menu_of(b"each trap 63 0 0\n28 st 0xfffff0fc 0\n")
+        for text, line, did in (("0x43 0:d1 0", "44 0 park 1 14", "each trap 63 0 0"),
+                                ("0x43 0x2 raise0 0", "46 0 switch 28 1 32", "it waits"),
+                                ("0x43 0:d2 0:d1", "44 0 switch 28 1 63", "28 st 0xfffff0fc 0")):
+            way = ways.read(image, text, menu)
+            made = list(ways.made(image, way, menu))
+            self.assertEqual(made[-1].lines, [line])
+            self.assertEqual(made[43].turn and made[43].turn.did, did)
+            told, answers = ways.script(image, way, menu)
+            self.assertEqual(script.run(told.encode()), ("".join(answer + "\n" for answer in answers).encode(), 0))
+        self.assertRaises(Failed, ways.read, image, "0:d3", menu)
+        self.assertRaises(Failed, ways.read, image, "0:d1")
+
     def test_a_run_on_two_processors(self) -> None:
         race = source("every/race.asmx")
         self.is_run(race, ways.read(race, "0x51 raise0 1x2 0x5 1x13"), "1 out 0x00000003")
@@ -80,6 +94,13 @@ class Told(unittest.TestCase):
         told = self.told("states 5 depth 4 closed")
         self.assertEqual(told[1], "   1  2 0 out 0x00000007: 0x3")
         self.assertTrue(told[3].startswith("   3  4 0 park 1 64: 0x5    # vector 64; nobody takes it"))
+
+    def test_the_deeds_of_a_way_are_told(self) -> None:
+        menu = against.menu_of(b"each ld 0\n13 trap 64 0 0\n")
+        text = ["image 16 2 0 1", "2 1 out 0x00000007: 0 1:d2x3 0:d1", "states 1 depth 0 closed"]
+        told = every.told_of(every.read(text), False, menu)
+        self.assertTrue(told[1].endswith("0 1:d2x3 0:d1    # d1: each ld 0; d2: 13 trap 64 0 0"), told[1])
+        self.assertTrue(told[2].endswith("whatever is done of the menu"))
 
     def test_trouble_alone(self) -> None:
         told = self.told("states 5 depth 4 closed", True)

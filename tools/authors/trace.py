@@ -10,6 +10,7 @@ from __future__ import annotations
 
 import argparse
 import sys
+from bisect import bisect_right
 from collections.abc import Callable, Iterator
 
 from ..common import calling
@@ -42,8 +43,7 @@ class Watched(runs.Turn):
 
 
 class Names:
-    """The names of a source, by frame and word, so that a page of a child has them too. `warning` says where the image
-    isn't that of the source."""
+    """The names of a source, also in a child's pages. `warning` says where the image isn't that of the source."""
 
     def __init__(self, image: images.Image, source: str | None) -> None:
         self.found: dict[int, list[tuple[int, str]]] = {}       # by frame: a word and its name
@@ -72,11 +72,16 @@ class Names:
         place = world.tree.reach(world.tree.nodes[name], pc, FETCH, True)
         if isinstance(place, Fault):
             return ""
-        before = [(at, label) for at, label in self.found.get(place.page, []) if at <= place.index]
-        if not before:
-            return ""
-        at, label = before[-1]
-        return label + (f"+{place.index - at}" if place.index > at else "")
+        return nearest(self.found.get(place.page, []), place.index)
+
+
+def nearest(names: list[tuple[int, str]], index: int) -> str:
+    """The last name at or before a word of its frame, and how many words after it; nothing where there is none."""
+    at = bisect_right(names, (index, "\U0010ffff")) - 1
+    if at < 0:
+        return ""
+    start, name = names[at]
+    return name + (f"+{index - start}" if index > start else "")
 
 
 def is_made_of(image: images.Image, lines: asmx.Lines) -> bool:
@@ -140,8 +145,7 @@ def main() -> None:
                         help="an image, of which - is standard input, or an assembly text or source of tools/asmx")
     parser.add_argument("steps", metavar="STEPS")
     parser.add_argument("seed", metavar="SEED")
-    parser.add_argument("--source", metavar="FILE",
-                        help="of an image: the text that it was made of, for its names")
+    parser.add_argument("--source", metavar="FILE", help="of an image: the text that it was made of, for its names")
     parser.add_argument("--from", dest="first", default="0", metavar="STEP", help="show the steps from this one on")
     parser.add_argument("--partition", type=int, metavar="NAME", help="show the steps of this partition alone")
     calling.take_program(parser)

@@ -1,4 +1,4 @@
-"""Ways of the command `every`: choice by choice, as a script, and as a run by a seed.
+"""Ways of the commands `every` and `against`: choice by choice, as a script, and as a run by a seed.
 
 They are made again by tools/reference, of which nothing is proved.
 """
@@ -13,40 +13,60 @@ from typing import NamedTuple
 
 from ..common.calling import Failed
 from ..common.plans import Plan
-from ..reference import image as images, runs, script as scripts
+from ..reference import against, image as images, runs, script as scripts
+from ..reference.against import Deed
 from ..reference.image import Image
 from ..reference.model import LOAD, NOWHERE, PAGE, ROOT, SAVED, Context, Outcome, Parked, Place, Switched, Tree, World
 from ..reference.script import outcome_text, word_text
 from . import trace
 
-CHOICES = re.compile(r"(?:(\d)|raise(\d+))(?:x(\d+))?")
+CHOICES = re.compile(r"(?:(\d)(?::d([1-9]\d*))?|raise(\d+))(?:x(\d+))?")
 MOST_CHOICES = 1_000_000
 MOST_DRAWS = 1 << 22             # so many states of the generator are tried
 BLOCK = 17                       # words of a block: a pc and 16 registers
 
 
 class Choice(NamedTuple):
-    """The turn of a processor, or a line that is raised. The other one is None."""
+    """The turn of a processor, or a line that is raised. The other one is None. `deed` is what is done in the turn."""
 
     cpu: int | None
     line: int | None
+    deed: Deed | None = None
 
 
 Way = list[Choice]
+Menu = Sequence[Deed]
 
 
-def read(image: Image, text: str) -> Way:
+def read(image: Image, text: str, menu: Menu = ()) -> Way:
     """The choices of a way's text."""
     way: Way = []
     for word in text.split(" "):
         found = CHOICES.fullmatch(word)
-        if not found or found[1] and int(found[1]) >= image.cpus:
+        if not found or found[1] and int(found[1]) >= image.cpus or int(found[2] or "0") > len(menu):
             raise Failed(f"{word!r} is no choice of this image")
-        count = int(found[3] or "1")
+        count = int(found[4] or "1")
         if len(way) + count > MOST_CHOICES:
             raise Failed(f"a way of more than {MOST_CHOICES} choices isn't made again")
-        way += [Choice(int(found[1]), None) if found[1] else Choice(None, int(found[2]))] * count
+        deed = menu[int(found[2]) - 1] if found[2] else None
+        way += [Choice(int(found[1]), None, deed) if found[1] else Choice(None, int(found[3]))] * count
     return way
+
+
+class Waiting(trace.Watched, against.Hostile):
+    """A turn of a hostile partition that notes what it did."""
+
+    def do(self) -> None:
+        self.note(self.deed.line if self.deed else "it waits")
+        super().do()
+
+
+def turn_of(world: World, choice: Choice, menu: Menu, step: int, told: Callable[[str], object]) -> trace.Watched:
+    """The turn that a choice is."""
+    assert choice.cpu is not None
+    if against.is_hostile(world.processors[choice.cpu], menu):
+        return Waiting(world, choice.cpu, step, told, choice.deed)
+    return trace.Watched(world, choice.cpu, step, told)
 
 
 # Choice by choice
@@ -62,7 +82,7 @@ class Made(NamedTuple):
     world: World
 
 
-def made(image: Image, way: Way) -> Iterator[Made]:
+def made(image: Image, way: Way, menu: Menu = ()) -> Iterator[Made]:
     world = images.world(image)
     for step, choice in enumerate(way):
         lines: list[str] = []
@@ -71,7 +91,7 @@ def made(image: Image, way: Way) -> Iterator[Made]:
             assert choice.line is not None
             world.raise_line(choice.line)
         else:
-            turn = trace.Watched(world, choice.cpu, step, lines.append)
+            turn = turn_of(world, choice, menu, step, lines.append)
             turn.take()
         yield Made(step, choice.line, turn, lines, world)
 
@@ -200,7 +220,7 @@ def reads(tree: Tree, outcome: Outcome, place: Place) -> bool:
     return isinstance(read, Place) and read.page == place.page and abs(read.index - place.index) < BLOCK
 
 
-def script(image: Image, way: Way) -> tuple[str, list[str]]:
+def script(image: Image, way: Way, menu: Menu = ()) -> tuple[str, list[str]]:
     """A script that makes the events of a way, and its answers."""
     world = Told(image)
     for step, choice in enumerate(way):
@@ -211,7 +231,7 @@ def script(image: Image, way: Way) -> tuple[str, list[str]]:
             continue
         place = len(world.lines)
         lines: list[str] = []
-        turn = trace.Watched(world, choice.cpu, step, lines.append)
+        turn = turn_of(world, choice, menu, step, lines.append)
         turn.take()
         did = turn.did or trace.without_instruction([line.split(" ", 2)[2] for line in lines])
         world.lines.insert(place, f"# {step} {choice.cpu} {did}"[:scripts.LONGEST])

@@ -1,4 +1,4 @@
-"""Why a script or an assembly text is refused: line, column, what stands there, and the rule of docs/FORMATS.md.
+"""Why a script, an assembly text or a menu is refused: line, column, what is there, and the rule of docs/FORMATS.md.
 
     tools/why FILE
 """
@@ -13,13 +13,13 @@ from typing import NoReturn, Optional
 
 from ..common import calling, meanings
 from ..common.calling import Failed
-from ..reference import assembly, instructions, script
+from ..reference import against, assembly, instructions, script
 
 NUMBER = re.compile(rb"0|[1-9][0-9]*|0x[0-9a-f]{1,8}")
 LONGEST = 120
 MOST_TOLD = 20           # bad lines of one text
 # What tools/asmx adds
-OF_ASMX = (".equ", ".handler", ".include", "la", "j", "nop", "call", "ret", "neg", "not")
+OF_ASMX = (".equ", ".handler", ".include", ".may", "la", "j", "nop", "call", "ret", "neg", "not")
 LIKE = {"ld": "ldw", "st": "stw", "load": "ldw", "store": "stw", "lw": "ldw", "sw": "stw", "lb": "ldb", "sb": "stb",
         "move": "mov", "jmp": "jal", "trap": "int", "ecall": "sys", "syscall": "sys",
         "subi": "addi with a negative number", "bgt": "blt", "bgtu": "bltu",
@@ -114,8 +114,9 @@ def and_here(due: str, what: str, count: int) -> str:
     return f"{due} {what}{'' if due == '1' else 's'}, and here {told}"
 
 
-def judge_count(name: bytes, operands: list[tuple[int, bytes]], form: Form | None, end: int) -> None:
-    least, most = (2, 7) if form is None else (len(form), len(form))
+def judge_count(name: bytes, operands: list[tuple[int, bytes]], form: Form | None, end: int,
+                of_call: tuple[int, int] = (2, 7)) -> None:
+    least, most = of_call if form is None else (len(form), len(form))
     if not least <= len(operands) <= most:
         due = f"{least}" if least == most else f"{least} to {most}"
         raise Cause("count", operands[most][0] if len(operands) > most else end + 1,
@@ -135,6 +136,48 @@ def judge_values(name: bytes, values: list[tuple[int, int]], form: Form | None, 
             raise Cause("processor", column, f"there is no processor {value}: the machine has {cpus}")
         if limit is not None and value >= limit:
             raise Cause("range", column, f"{value} is above {limit - 1}")
+
+
+# Menus
+
+def judge_menu(lines: list[bytes], place: int, kind: str) -> NoReturn:
+    """Why line `place` of a menu is refused with this kind."""
+    line = lines[place - 1]
+    judge_bytes(line, place)
+    (_, who), *words = words_of(line)
+    if kind == "who":
+        raise Cause("menu who", 1, f"{shown(who)} is neither 'each' nor a number")
+    if kind == "many":
+        what = f"{against.MOST_LINES} lines" if place > against.MOST_LINES else f"{against.MOST_DEEDS} deeds"
+        raise Cause("menu many", 1, f"there are {what} before")
+    (column, name), *operands = words or [(len(line) + 1, b"")]
+    if name not in against.WORDS:
+        raise Cause("menu what", column, f"{shown(name)} is none of ld, lb, st, sb, trap and call")
+    for column, word in operands:
+        judge_number(column, word)
+    form = script.FORMS[name][1:] if name in script.FORMS else None
+    judge_count(name, operands, form, len(line), (1, 6))
+    for (column, word), limit in zip(operands, form or ()):
+        if limit is not None and int(word, 0) >= limit:
+            raise Cause("range", column, f"{shown(word)} is above {limit - 1}")
+    raise Failed(f"line {place} is bad, and this tool doesn't see why")
+
+
+def wrong_deeds(lines: list[bytes]) -> Iterator[tuple[int, Cause]]:
+    """Each bad line of a menu and its cause."""
+    lines = list(lines)
+    for _ in range(MOST_TOLD):
+        try:
+            against.menu_of(b"".join(line + b"\n" for line in lines))
+            return
+        except against.BadLine as bad:
+            try:
+                judge_menu(lines, bad.line, bad.kind)
+            except Cause as cause:
+                yield bad.line, cause
+            if bad.kind == "many":
+                return
+            lines[bad.line - 1] = b"#"
 
 
 # Assembly texts
@@ -277,8 +320,7 @@ def why(program: str, name: str, text: bytes, as_assembly: bool | None = None) -
 
 
 def wrong_lines(program: str, lines: list[bytes], assembles: bool) -> Iterator[tuple[int, Cause]]:
-    """Each bad line and its cause: the program names one, and the text is tried again with a harmless line in its
-    place."""
+    """Each bad line and its cause: the program names one, and is asked again with a harmless line in its place."""
     lines = list(lines)
     for _ in range(MOST_TOLD):
         output, status = calling.output(program, ["asm" if assembles else "script"],
@@ -326,13 +368,19 @@ def told(name: str, place: int, lines: list[bytes], cause: Cause) -> list[str]:
     return sentences
 
 
+def of_menu(name: str, lines: list[bytes]) -> int:
+    wrong = ["\n".join(told(name, place, lines, cause)) for place, cause in wrong_deeds(lines)]
+    print("\n\n".join(wrong) if wrong else f"{name} is a good menu")
+    return 1 if wrong else 0
+
+
 def main() -> None:
     parser = argparse.ArgumentParser(
-        description="Why a script or an assembly text is refused, by the tables of docs/FORMATS.md.",
+        description="Why a script, an assembly text or a menu is refused, by the tables of docs/FORMATS.md.",
         epilog="The status is 0 where the text is good, and 1 where it is refused.")
     parser.add_argument("file", metavar="FILE", help="- is standard input")
-    parser.add_argument("--as", dest="kind", choices=("script", "asm"),
-                        help="what the file is; without it its first line says so")
+    parser.add_argument("--as", dest="kind", choices=("script", "asm", "menu"),
+                        help="what the file is; without it its first line says so, and a file .may is a menu")
     calling.take_program(parser)
     given = parser.parse_args()
     calling.guarded("why", lambda: work(given))
@@ -340,6 +388,8 @@ def main() -> None:
 
 def work(given: argparse.Namespace) -> int | None:
     text = calling.contents(given.file)
+    if given.kind == "menu" or given.kind is None and given.file.endswith(".may"):
+        return of_menu(given.file, list(script.lines(text)))
     sentences, good = why(given.program, given.file, text, None if given.kind is None else given.kind == "asm")
     print("\n".join(sentences))
     if len(sentences) > 1:

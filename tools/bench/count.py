@@ -47,8 +47,7 @@ class Counted:
             file.write(text)
             file.seek(0)
             done = subprocess.run([*self.command, *(words or ["script"])], stdin=file, cwd=self.folder.name,
-                                  env=ENVIRONMENT,
-                                  stdout=subprocess.DEVNULL, stderr=subprocess.PIPE)
+                                  env=ENVIRONMENT, stdout=subprocess.DEVNULL, stderr=subprocess.PIPE)
         if done.returncode:
             raise Failed(f"the program ends with status {done.returncode}")
         found = COLLECTED.search(done.stderr)

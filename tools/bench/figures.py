@@ -109,6 +109,17 @@ class Figures:
         """The instructions of one line after the others."""
         return self.more(script(setup, "", 0), script(setup, line, 1))
 
+    def step(self, image: bytes, *words: str, few: str = "10000", many: str = "110000") -> int:
+        """The instructions of a step, by a run of few and one of a hundred thousand more; `STEPS` is how many."""
+        less, more = (self.program.instructions(image, *(count if word == "STEPS" else word for word in words))
+                      for count in (few, many))
+        return (more - less) // 100000
+
+    def assembled(self, path: str) -> bytes:
+        """The image of a text of examples/."""
+        with open(path, "rb") as file:
+            return self.program.written(file.read(), "asm")
+
     def figures(self) -> Iterator[Figure]:
         for part in (self.of_starts, self.of_lines, self.of_partitions, self.of_switches, self.of_texts, self.of_runs,
                      self.of_steps,
@@ -133,8 +144,8 @@ class Figures:
         yield "a line with an accepted createPartition of the root", self.more(creations(100), creations(700)) // 600
         makes = deletions.call(0, *deletions.CHILD_PAGES[:5])
         yield "the line with which a child makes a partition", self.once(FAMILY, makes)
-        yield "the line with which the root deletes that child", self.once(f"boot 64 1\ncall 0 0 {FIVE}",
-                                                                           "call 0 1 0x401000")
+        boots = f"boot 64 1\ncall 0 0 {FIVE}"
+        yield "the line with which the root deletes that child", self.once(boots, "call 0 1 0x401000")
         for case in DELETED:
             before, with_it = deletions.scripts(case)
             yield f"the line that deletes, {case}", self.more(before.encode(), with_it.encode())
@@ -145,8 +156,8 @@ class Figures:
         yield "a fault of a child that is delivered, as the half of it and of the yield after it", \
             self.per(f"{CHILD}\ncall 0 8 0x401000 64 256", "ld 0 0x20000000\ncall 0 8 0x401000 63 256", 2)
         # A poll that takes a line of the root masks it, so the line before is vsti; these two are taken off.
-        yield "a poll that takes a line", self.per(CHILD, "call 0 11\nraise 1\npoll 0") - self.per(CHILD, "call 0 11\n"
-                                                                                                          "raise 1")
+        raises = "call 0 11\nraise 1"
+        yield "a poll that takes a line", self.per(CHILD, f"{raises}\npoll 0") - self.per(CHILD, raises)
 
     def of_texts(self) -> Iterator[Figure]:
         for line in ASSEMBLY:
@@ -160,34 +171,21 @@ class Figures:
 
     def of_runs(self) -> Iterator[Figure]:
         """The steps of a run: of the sample monitor with and without its trace."""
-        with open(MONITOR, "rb") as file:
-            monitor = self.program.written(file.read(), "asm")
+        monitor = self.assembled(MONITOR)
         for command in "run", "tree":
-            few, many = (self.program.instructions(monitor, command, steps, "1") for steps in ("10000", "110000"))
-            yield f"a step of the monitor, by {command}", (many - few) // 100000
+            yield f"a step of the monitor, by {command}", self.step(monitor, command, "STEPS", "1")
 
     def of_steps(self) -> Iterator[Figure]:
-        """The steps of programs that compute, and that load and store; of children that a monitor runs, and of slots.
-        """
+        """The steps of programs that compute, and that load and store; of a monitor's children, and of slots."""
         for what, text in (("that computes", COMPUTES), ("of seven loads and stores and a branch", ACCESSES)):
-            image = self.program.written(text.encode(), "asm")
-            few, many = (self.program.instructions(image, "run", steps, "1") for steps in ("10000", "110000"))
-            yield f"a step {what}", (many - few) // 100000
-        with open(NATIVE, "rb") as file:
-            children = self.program.written(file.read(), "asm")
-        few, many = (self.program.instructions(children, "native", "3", steps) for steps in ("10000", "110000"))
-        yield "a step by native", (many - few) // 100000
-        with open(PREEMPTED, "rb") as file:
-            children = self.program.written(file.read(), "asm")
-        few, many = (self.program.instructions(children, "native", "2", steps) for steps in ("10000", "110000"))
-        yield "a step by native, of turns that a line ends", (many - few) // 100000
-        few, many = (self.program.instructions(children, "slots", "2", "48", rounds) for rounds in ("100", "1100"))
-        yield "a step by slots", (many - few) // 100000
+            yield f"a step {what}", self.step(self.program.written(text.encode(), "asm"), "run", "STEPS", "1")
+        yield "a step by native", self.step(self.assembled(NATIVE), "native", "3", "STEPS")
+        children = self.assembled(PREEMPTED)
+        yield "a step by native, of turns that a line ends", self.step(children, "native", "2", "STEPS")
+        yield "a step by slots", self.step(children, "slots", "2", "48", "STEPS", few="100", many="1100")
 
     def of_frames(self) -> Iterator[Figure]:
-        """A row of a tree and a frame of zeros, by machines of two sizes beside the same run without a text; and a
-        frame of an audit.
-        """
+        """A row of a tree, a frame of zeros and a frame of an audit, by machines of two sizes."""
         few, many = (self.program.written(f".frames {frames}\n.cpus 1\n".encode(), "asm") for frames in (16, 4096))
         runs = self.more(few, many, "run", "0", "1")
         yield "a row, by tree", (self.more(few, many, "tree", "0", "1") - runs) // 4080

@@ -73,8 +73,7 @@ def draw(curves: list[tuple[Curve, Points]]) -> str:
     drawing.text(16, 30, "The line call 0 1, which deletes a child: instructions by what the child has", size=16,
                  bold=True)
     drawing.text(16, 52, "Both axes are logarithmic. Along the grey diagonal ten times as many take ten times the "
-                         "instructions.",
-                 colour=PALE)
+                         "instructions.", colour=PALE)
     draw_axes(drawing)
     for curve, points in curves:
         draw_curve(drawing, curve, points)

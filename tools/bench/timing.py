@@ -14,7 +14,7 @@ from ..authors import asmx
 from ..common.calling import REPOSITORY, Failed
 from . import worst
 from .count import Counted
-from .figures import ACCESSES, BOOT, COMPUTES, FIVE, HEAD, MONITOR, script
+from .figures import ACCESSES, BOOT, COMPUTES, FIVE, HEAD, script
 
 ROUNDS = 50              # runs of each program
 PART = 5                 # of the size that is given that is run
@@ -32,6 +32,20 @@ def example(*names: str) -> Input:
     def image(program: Counted) -> bytes:
         with open(os.path.join(REPOSITORY, *names), "rb") as file:
             return program.written(file.read(), "asm")
+    return image
+
+
+def guests(numbers: int, shown: int) -> Input:
+    """The image of examples/two_guests.s whose workers count to `numbers`, and show one count in `shown`."""
+    def image(program: Counted) -> bytes:
+        with open(os.path.join(REPOSITORY, "examples", "two_guests.s"), encoding="utf-8") as file:
+            text = file.read()
+        for old, new in (("andi r2 r1 7", f"andi r2 r1 {shown - 1}"), ("andi r2 r1 63", f"andi r2 r1 {numbers - 1}"),
+                         ("addi r1 r1 -64", f"addi r1 r1 -{numbers}")):
+            if text.count(f"\n{old}\n") != 1:
+                raise Failed(f"examples/two_guests.s has no line '{old}', or several")
+            text = text.replace(f"\n{old}\n", f"\n{new}\n")
+        return program.written(text.encode(), "asm")
     return image
 
 
@@ -55,6 +69,12 @@ def macros(name: str) -> Input:
         lines, _ = asmx.processed(os.path.join(REPOSITORY, "bench", name))
         return asmx.assembled(program.path, lines)
     return image
+
+
+def guarded(program: Counted) -> bytes:
+    """The image of a monitor, and its menu."""
+    lines, text = asmx.processed(os.path.join(REPOSITORY, "examples", "every", "guarded.asmx"))
+    return asmx.assembled(program.path, lines) + asmx.menu_of(text.menu)
 
 
 def full_image(line: str) -> Input:
@@ -127,6 +147,11 @@ WORST = [
     Timed("`bench/spread.asmx`, the same with other registers", ("every", "200000"), macros("spread.asmx")),
     Timed("`examples/monitor.s`", ("every", "1000000"), example("examples", "monitor.s")),
     Timed("`examples/retry.s`, on two processors", ("every", "1000000"), example("examples", "retry.s")),
+    Timed("`examples/every/guarded.asmx` with its menu", ("against", "300000"), guarded),
+    Timed("`examples/two_guests.s` with counts to 32,768, of which it shows 8: 110,000 states of each guest, where all "
+          "orders of both have 12,000,000,000", ("apart", "200000", "2100", "1"), guests(32768, 4096)),
+    Timed("the same, of which it shows 4,096: as many lines of each guest, with ways of up to 221,000 turns",
+          ("apart", "300000", "2100", "1"), guests(32768, 8)),
 ]
 
 

@@ -95,9 +95,7 @@ def chain(depth: str, most: str, kind: str) -> Iterator[str]:
 # ---- children that are built
 
 def built(wants: str, count: str) -> Iterator[str]:
-    """The events of `build` of pip_parent: of each want stores that chain the pages of its table, a prepare and an
-    addVAddr.
-    """
+    """The events of `build` of pip_parent: for each want stores that chain a table's pages, a prepare, an addVAddr."""
     pages = iter(0x400000 + 4096 * k for k in range(4075))
     base = [next(pages) for _ in range(5)]
     lines = [deletions.call(0, *base)]

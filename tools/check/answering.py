@@ -8,7 +8,7 @@ import subprocess
 import tempfile
 from typing import IO
 
-from .running import SECONDS, Differs, expect, short
+from .running import SECONDS, Differs, contents, expect, short, write
 
 HERE = os.path.dirname(os.path.abspath(__file__))
 TYPED = [(b"boot 32 1\n", b"boot 32 1\n"), (b"st 0 0x400000 7\n", b"done\n"), (b"ld 0 0x400000\n", b"0x00000007\n"),
@@ -18,9 +18,7 @@ MOST = LINES // 800      # writes: a read brings up to 16384 bytes, which are 11
 
 
 def typed_script(program: str) -> None:
-    """Over pipes that stay open each answer comes before more is sent, also where the first half of the next line was
-    sent.
-    """
+    """Each answer comes before more is sent, also where the first half of the next line was sent."""
     for halves in False, True:
         process = subprocess.Popen([program, "script"], stdin=subprocess.PIPE, stdout=subprocess.PIPE, bufsize=0)
         try:
@@ -63,15 +61,12 @@ def gathered_answers(program: str) -> None:
                                           for name in ("writes.so", "count", "script", "text"))
         subprocess.run(["gcc", "-O1", "-shared", "-fPIC", "-o", library, os.path.join(HERE, "writes.c"), "-ldl"],
                        check=True)
-        with open(script, "wb") as file:
-            file.write(b"boot 32 1\n" + b"ld 0 0x400000\n" * LINES)
+        write(b"boot 32 1\n" + b"ld 0 0x400000\n" * LINES, script)
         due = b"boot 32 1\n" + b"0x00000000\n" * LINES
         with open(script, "rb") as source, open(text, "wb") as sink:
             done = subprocess.run([program, "script"], stdin=source, stdout=sink, timeout=SECONDS,
                                   env=dict(os.environ, LD_PRELOAD=library, COUNT=counted))
-        with open(text, "rb") as file:
-            expect(f"a script of {LINES} lines", (file.read(), done.returncode), (due, 0))
-        with open(counted) as file:
-            count = int(file.read())
+        expect(f"a script of {LINES} lines", (contents(text), done.returncode), (due, 0))
+        count = int(contents(counted))
         if not 0 < count <= MOST:
             raise Differs(f"a script of {LINES} lines: {count} writes, where {MOST} are the most")

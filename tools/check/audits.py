@@ -8,8 +8,7 @@ import random
 from collections.abc import Iterator
 
 from ..reference import audit, commands as reference
-from .examples import contents
-from .running import REPOSITORY, Differs, expect, run
+from .running import REPOSITORY, Differs, contents, expect, run
 
 STEPS = ("0", "1000")
 SMALL = b".frames 16\n.cpus 1\n.page 0x00400000\nli r1 7\nout r1\nint 64\n"
@@ -56,9 +55,7 @@ def with_word(memory: audit.Memory, frame: int, index: int, word: int) -> bytes:
 
 
 def each_word(program: str) -> None:
-    """A small machine with one word changed lays out no sound tree, but where it is a user's, or the root's mask or
-    lines.
-    """
+    """A small machine with another word lays out no sound tree, but for users' words and the root's mask and lines."""
     rng, memory = random.Random(1), audit.read(16, small_text())
     told, _ = run([program, "audit", "16"], small_text())
     places = [(f, i) for f in range(16) for i in range(1024)]

@@ -6,41 +6,32 @@ from __future__ import annotations
 
 import glob
 import os
-import subprocess
-import sys
 import tempfile
 
 from ..authors import why
 from ..reference import commands as reference, generate
-from . import examples
-from .running import REPOSITORY, SECONDS, Differs, run
+from .running import REPOSITORY, Differs, contents, run, text_of, tool, write, write_program
 
-Told = tuple[str, str, int]          # output, messages and status of a tool
 CASES = 300
 
 
-def tool(program: str, name: str, *words: str, text: bytes = b"") -> Told:
-    """Output, messages and status of a tool that needs a program."""
-    return told(name, *words, "--program", program, text=text)
-
-
-def told(name: str, *words: str, text: bytes = b"") -> Told:
-    path = os.path.join(REPOSITORY, "tools", name)
-    done = subprocess.run([sys.executable, "-B", path, *words], input=text, timeout=SECONDS, stdout=subprocess.PIPE,
-                          stderr=subprocess.PIPE)
-    messages = done.stderr.decode()
-    if "Traceback" in messages:
-        raise Differs(f"tools/{name} {' '.join(words)}: {messages[-400:]}")
-    return done.stdout.decode("utf-8", "replace"), messages, done.returncode
-
-
-def ends(what: str, told: Told, status: int, *parts: str) -> None:
+def ends(what: str, told: tuple[str, str, int], status: int, *parts: str) -> None:
     """Refuses what a tool told that isn't with this status, or lacks a part."""
     output, messages, got = told
     missing = [part for part in parts if part not in output + messages]
     if got != status or missing:
         raise Differs(f"{what}: status {got}, where {status} is due; {missing} is missing in "
                       f"{(output + messages)[-300:]!r}")
+
+
+def built_of(program: str, source: str, *parts: str) -> str:
+    """The path of the image of an assembly text, which is written there."""
+    return write(run([program, "asm"], contents(source))[0], *parts)
+
+
+def liar(program: str, place: str, change: str) -> str:
+    """The path of a program whose output is another's with a change by sed."""
+    return write_program(f'#!/bin/sh\n"{program}" "$@" | sed "{change}"\n', place, "liar")
 
 
 def programs() -> list[str]:
@@ -53,22 +44,18 @@ def preprocessor(program: str) -> None:
         built = os.path.join(place, "out.img")
         for path in programs():
             ends(f"tools/asmx {path}", tool(program, "asmx", path, "--image", built), 0)
-            if examples.contents(built) != run([program, "asm"], examples.contents(path))[0]:
+            if contents(built) != run([program, "asm"], contents(path))[0]:
                 raise Differs(f"tools/asmx {path}: the image isn't that of 'asm'")
-        source = os.path.join(place, "source.s")
-        with open(source, "w") as file:
-            file.write(SOURCE)
+        source = write(SOURCE, place, "source.s")
         ends("tools/asmx", tool(program, "asmx", source, "--image", built), 0)
-        trace, _ = run([program, "run", "60", "1"], examples.contents(built))
+        trace, _ = run([program, "run", "60", "1"], contents(built))
         if b"out 0x0000002a" not in trace or b"out 0xffc00008" not in trace:
             raise Differs(f"tools/asmx: the program doesn't show 42 and the child's address of its name: {trace!r}")
-        with open(source, "a") as file:
-            file.write("li r1 70000   # too large\n")
+        write(SOURCE + "li r1 70000   # too large\n", source)
         last = SOURCE.count("\n") + 1
         ends("tools/asmx", tool(program, "asmx", source, "--image", built), 2,
              f"source.s:{last}:7: range, in 'li r1 70000': '70000' is outside")
-        with open(source, "a") as file:
-            file.write("out r1\nlb r1 r2 0\n")
+        write(text_of(source) + "out r1\nlb r1 r2 0\n", source)
         told = tool(program, "asmx", source, "--image", built)
         ends("tools/asmx of two wrong lines", told, 2, f"source.s:{last}:7: range",
              f"source.s:{last + 2}:1: 'lb' is no instruction; did you mean ldb?")
@@ -169,15 +156,11 @@ def traces(program: str) -> None:
     """Each example's trace has the program's lines, and names of the source; another program's lines are refused."""
     with tempfile.TemporaryDirectory() as place:
         for path in programs():
-            image, _ = run([program, "asm"], examples.contents(path))
-            built = os.path.join(place, "a.img")
-            with open(built, "wb") as file:
-                file.write(image)
+            built = built_of(program, path, place, "a.img")
             ends(f"tools/trace {path}", tool(program, "trace", built, "300", "1", "--source", path), 0, "no proof",
                  "the program has the same", "processor 0 runs")
         sum_of = os.path.join(REPOSITORY, "examples", "tutorial", "11_sum.s")
-        with open(built, "wb") as file:
-            file.write(run([program, "asm"], examples.contents(sum_of))[0])
+        built = built_of(program, sum_of, place, "sum.img")
         ends("tools/trace", tool(program, "trace", built, "15", "1", "--source", sum_of, "--from", "2"), 0,
              "next+1", "out r2", "r2  0x0000000a")
         right = tool(program, "trace", built, "15", "1", "--source", sum_of)[1]
@@ -185,11 +168,8 @@ def traces(program: str) -> None:
              "isn't the source of this image")
         if right:
             raise Differs(f"tools/trace by its own source: {right}")
-        liar = os.path.join(place, "liar")
-        with open(liar, "w") as file:
-            file.write(f'#!/bin/sh\n"{program}" "$@" | sed s/0x00000004/0x00000005/\n')
-        os.chmod(liar, 0o755)
-        ends("tools/trace", tool(liar, "trace", built, "20", "1"), 1, "the reference differs from the program")
+        lies = liar(program, place, "s/0x00000004/0x00000005/")
+        ends("tools/trace", tool(lies, "trace", built, "20", "1"), 1, "the reference differs from the program")
         for words, told in ((("-", "x", "1"), "STEPS is a number"), (("-", "1", "0"), "SEED is a number"),
                             (("-", "1", "1"), "- is empty"), (("/nonexistent", "1", "1"), "can't be read"),
                             ((built, "1", "1", "--source", "/nonexistent"), "can't be read")):
@@ -197,12 +177,10 @@ def traces(program: str) -> None:
 
 
 def timers(program: str, place: str) -> None:
-    """A monitor that loses a request by its timer alone: its groups by the plan, with the step, and the image of one.
-    """
+    """A monitor that loses a request by its timer alone: its groups by the plan, and the image of one."""
     source, lossy, built = (os.path.join(place, name) for name in ("lossy.s", "lossy.img", "one.img"))
-    text = examples.contents(os.path.join(REPOSITORY, "examples", "timer_and_services.s"))
-    with open(source, "wb") as file:
-        file.write(text.replace(b"\nbeq r7 r10 next_turn\n", b"\nbeq r10 r10 next_turn\n"))
+    text = contents("examples/timer_and_services.s")
+    write(text.replace(b"\nbeq r7 r10 next_turn\n", b"\nbeq r10 r10 next_turn\n"), source)
     ends("tools/asmx", tool(program, "asmx", source, "--image", lossy), 0)
     alone = tool(program, "explore", lossy, "900", "1", "3")[0].splitlines()
     told = tool(program, "explore", lossy, "900", "1", "1", "--line", "0", "431..440", "50..60/10", "--outs")
@@ -220,9 +198,7 @@ def timers(program: str, place: str) -> None:
          f"(step {step}: ")
     ends("tools/trace --from of the first trouble",
          tool(program, "trace", built, "900", "1", "--from", step, "--source", source), 0, f"{step} 0 ", what)
-    with open(os.path.join(place, "timers"), "w") as file:
-        file.write(told[0])
-    if (merged := tool(program, "explore", "--merge", os.path.join(place, "timers"))[0]) != told[0]:
+    if (merged := tool(program, "explore", "--merge", write(told[0], place, "timers"))[0]) != told[0]:
         raise Differs(f"tools/explore --merge of timers: {merged!r}, where {told[0]!r} is due")
     for words, due in ((("--line", "16", "1", "1"), "L is a number"),
                        (("--line", "0", "9..1", "1"), "the end of FIRST"),
@@ -243,10 +219,9 @@ def groups(program: str) -> None:
         counts = [int(line.split()[0]) for line in whole.splitlines()]
         if sum(counts) != 60 or counts != sorted(counts, reverse=True):
             raise Differs(f"tools/explore: the groups have {counts} runs")
-        for number, (first, last) in enumerate((("1", "25"), ("26", "60"))):
-            with open(os.path.join(place, str(number)), "w") as file:
-                file.write(tool(program, "explore", built, "600", first, last, "--outs")[0])
-        merged = tool(program, "explore", "--merge", os.path.join(place, "0"), os.path.join(place, "1"))[0]
+        parts = [write(tool(program, "explore", built, "600", first, last, "--outs")[0], place, first)
+                 for first, last in (("1", "25"), ("26", "60"))]
+        merged = tool(program, "explore", "--merge", *parts)[0]
         if merged != whole:
             raise Differs(f"tools/explore --merge: {merged!r}, where {whole!r} is due")
         timers(program, place)
@@ -268,7 +243,7 @@ def interleavings(program: str) -> None:
     ends("tools/every --page", tool(program, "every", *all_of_race, "--page", early), 0,
          "<title>race.asmx: switch 1 1 32")
     told = tool(program, "every", guests, "2000", "--trouble")
-    ends("tools/every --trouble", told, 0, "Running", "by 905 choices")
+    ends("tools/every --trouble", told, 0, "Running", "by 920 choices")
     if len(told[0].splitlines()) != 3:
         raise Differs(f"tools/every --trouble of two guests: {told[0]!r}")
     told = tool(program, "every", *all_of_race, "--script", lost)
@@ -277,23 +252,41 @@ def interleavings(program: str) -> None:
         raise Differs(f"tools/every --script: the program refuses {told[0][-300:]!r}")
     with tempfile.TemporaryDirectory() as place:
         ways_of_an_image(program, race, lost, place)
+        ways_with_a_menu(program, os.path.join(place, "served.img"))
+
+
+def ways_with_a_menu(program: str, built: str) -> None:
+    """A way to where a child parks the root, of a source with a menu beside it and of an image with one after it."""
+    served, menu = (os.path.join(REPOSITORY, "examples", name) for name in ("every/served.asmx", "any_child.may"))
+    searched = (served, "100000", "--may", menu)
+    told = tool(program, "every", *searched, "--trouble")
+    ends("tools/every --may", told, 0, "d4: each trap 63 0 0", "whatever is done of the menu")
+    parks = next(line.split()[0] for line in told[0].splitlines() if " park 1 14: " in line)
+    ends("tools/every --may --trace", tool(program, "every", *searched, "--trace", parks), 0, "each trap 63 0 0",
+         "the program has this line, too")
+    ends("tools/every --may --script", tool(program, "every", *searched, "--script", parks), 0, "trap 0 63 ",
+         "answers of the reference")
+    ends("tools/every --may --page", tool(program, "every", *searched, "--page", parks), 2, "a run makes no deeds")
+    ends("tools/every --alone", tool(program, "every", *searched, "--alone"), 0, "however long it runs")
+    ends("tools/asmx --against", tool(program, "asmx", served, "--against", built), 0)
+    write(contents(built) + b"each trap 63 0 0\n", built)
+    ends("tools/every of an image with a menu", tool(program, "every", built, "1000"), 0, "park 1 14: 0x43 0:d1 0")
+    write(contents(built) + b"each trap 63 0\n", built)
+    ends("tools/every of a bad menu", tool(program, "every", built, "1000"), 2, "line 2 of the menu is bad")
 
 
 def ways_of_an_image(program: str, race: str, lost: str, place: str) -> None:
     """The same of an image: with the names of its source, and as an image with another plan."""
-    built, planned, liar = (os.path.join(place, name) for name in ("race.img", "planned.img", "liar"))
+    built, planned = (os.path.join(place, name) for name in ("race.img", "planned.img"))
     ends("tools/asmx race.asmx", tool(program, "asmx", race, "--image", built), 0)
     ends("tools/every --trace", tool(program, "every", built, "10000", "--source", race, "--trace", lost), 0,
          "line 0 is raised", "child+1", "the program has this line, too", "processor 1 runs partition 1")
     told = tool(program, "every", built, "10000", "--plan", lost, planned)
     ends("tools/every --plan", told, 0, "./pip run ", ".line 0 ")
-    trace, _ = run([program, *told[0].split(" < ")[0].split()[1:]], examples.contents(planned))
+    trace, _ = run([program, *told[0].split(" < ")[0].split()[1:]], contents(planned))
     if not trace.splitlines()[-2].endswith(b" 1 out 0x00000002"):
         raise Differs(f"tools/every --plan: the run ends with {trace[-200:]!r}")
-    with open(liar, "w") as file:
-        file.write(f'#!/bin/sh\n"{program}" "$@" | sed "s/out 0x00000002:/out 0x00000007:/"\n')
-    os.chmod(liar, 0o755)
-    told = tool(liar, "every", built, "10000", "--trace", lost)
+    told = tool(liar(program, place, "s/out 0x00000002:/out 0x00000007:/"), "every", built, "10000", "--trace", lost)
     ends("tools/every --trace of another line", told, 1, "the reference differs from the program")
     refuses_searches(program, built)
 

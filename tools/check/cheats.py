@@ -22,7 +22,7 @@ from ..common.calling import Failed
 from ..exercises import exercise, judging
 from ..judge import building
 from .exporting import need_cargo
-from .running import REPOSITORY, Differs
+from .running import REPOSITORY, Differs, text_of, write
 
 CHEATS = os.path.join(REPOSITORY, "tools", "exercises", "cheats")
 SOLUTIONS = os.path.join(REPOSITORY, "examples", "solutions")
@@ -44,7 +44,7 @@ class Cheat:
 
     def marked(self, mark: str) -> list[str]:
         """What is after such a remark."""
-        return re.findall(rf"^# {mark}: (.*)$", read(self.path), re.M)
+        return re.findall(rf"^# {mark}: (.*)$", text_of(self.path), re.M)
 
 
 def need_judge() -> None:
@@ -54,11 +54,6 @@ def need_judge() -> None:
     building.program()
 
 
-def read(path: str) -> str:
-    with open(path, encoding="utf-8") as file:
-        return file.read()
-
-
 def solution_of(name: str) -> str:
     return next(os.path.join(SOLUTIONS, file) for file in os.listdir(SOLUTIONS) if file.rsplit(".", 1)[0] == name)
 
@@ -66,8 +61,8 @@ def solution_of(name: str) -> str:
 def edited(cheat: Cheat) -> tuple[str, str]:
     """The text of a cheat, and the ending of its file."""
     if not cheat.path.endswith(".edit"):
-        return read(cheat.path), os.path.splitext(cheat.path)[1]
-    lines = [line.split(": ", 1) for line in read(cheat.path).splitlines() if not line.startswith("#")]
+        return text_of(cheat.path), os.path.splitext(cheat.path)[1]
+    lines = [line.split(": ", 1) for line in text_of(cheat.path).splitlines() if not line.startswith("#")]
     source = next((os.path.join(REPOSITORY, rest) for mark, rest in lines if mark == "file"), solution_of(cheat.name))
     pairs: list[tuple[str, list[str]]] = []
     for mark, rest in lines:
@@ -75,7 +70,7 @@ def edited(cheat: Cheat) -> tuple[str, str]:
             pairs.append((rest, []))
         elif mark == "new":
             pairs[-1][1].append(rest)
-    text = functools.reduce(lambda told, pair: replaced(cheat, told, *pair), pairs, read(source))
+    text = functools.reduce(lambda told, pair: replaced(cheat, told, *pair), pairs, text_of(source))
     return text, os.path.splitext(source)[1]
 
 
@@ -93,10 +88,7 @@ def judged(name: str, text: str, ending: str, is_program: bool, seed: str | None
            secret: str | None = None) -> judging.Judged:
     """What is said of a text in a file of its own."""
     with tempfile.TemporaryDirectory() as place:
-        path = os.path.join(place, name + ending)
-        with open(path, "w", encoding="utf-8") as file:
-            file.write(text)
-        return judging.judged(name, path, text.encode(), is_program, seed, secret)
+        return judging.judged(name, write(text, place, name + ending), text.encode(), is_program, seed, secret)
 
 
 def fault(cheat: Cheat, is_program: bool) -> str | None:
@@ -106,7 +98,7 @@ def fault(cheat: Cheat, is_program: bool) -> str | None:
         found = judged(cheat.name, *edited(cheat), is_program)
     except (Failed, Differs) as failed:
         return f"{cheat.told}: {failed}"
-    if not due or not read(cheat.path).startswith("# misses: "):
+    if not due or not text_of(cheat.path).startswith("# misses: "):
         return f"{cheat.told}: its first line doesn't name the goal that it misses"
     missing = found.missing() or ["nothing"]
     if found.refused or not set(due) <= set(missing) or missing != due and cheat.name not in exercise.DRAWS:

@@ -9,7 +9,7 @@ import subprocess
 from collections.abc import Sequence
 from typing import IO, Any
 
-from .running import REPOSITORY, SECONDS
+from .running import REPOSITORY, SECONDS, write, write_program
 
 Process = subprocess.Popen[bytes]
 Ended = tuple[str, str, int, int]    # output, messages and status of ./pip, and how often it built
@@ -78,12 +78,10 @@ class Checkout:
         return os.path.join(self.place, name)
 
     def write(self, name: str, text: str) -> None:
-        with open(self.path(name), "w") as file:
-            file.write(text)
+        write(text, self.path(name))
 
     def write_program(self, name: str, text: str) -> None:
-        self.write(name, text)
-        os.chmod(self.path(name), 0o755)
+        write_program(text, self.path(name))
 
     def touch(self, name: str, seconds: float | None = None) -> None:
         with open(self.path(name), "a"):

@@ -14,7 +14,6 @@ import contextlib
 import os
 import signal
 import subprocess
-import sys
 import time
 from collections.abc import Iterator
 from types import FrameType
@@ -79,9 +78,7 @@ LONGEST = 2400
 
 
 def made(name: str, check: Check | tuple[Check, ...], program: str) -> tuple[str, str]:
-    """Makes all parts of a check, says how it ended, and answers that, ok, skipped or fails, and why parts were
-    skipped.
-    """
+    """Makes all parts of a check. The answer is how it ended (ok, skipped or fails), and why parts were skipped."""
     begun = time.monotonic()
     missing: dict[str, None] = {}
     for part in check if isinstance(check, tuple) else (check,):
@@ -98,9 +95,7 @@ def made(name: str, check: Check | tuple[Check, ...], program: str) -> tuple[str
 
 @contextlib.contextmanager
 def limited(seconds: float) -> Iterator[None]:
-    """Ends what is done inside, as a check that fails, where it takes longer: a check that waits for ever would end
-    without a result.
-    """
+    """What is done inside fails where it takes longer: a check that waits for ever would end without a result."""
     def end(_number: int, _frame: FrameType | None) -> None:
         raise Differs(f"it isn't done after {seconds:g} seconds")
 

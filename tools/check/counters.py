@@ -15,8 +15,8 @@ import re
 import tempfile
 from collections.abc import Iterator
 
-from .running import REPOSITORY, Differs
-from .sources import sources, write
+from .running import REPOSITORY, Differs, write
+from .sources import sources
 
 COMMANDS = "pip_commands"
 NAMES = re.compile(r"\b(?:ledger|Blank|Brand|pip_test_\w+)\b")
@@ -53,9 +53,7 @@ DEFINITION = {
 
 
 def step_counters(program: str) -> None:
-    """No crate below the commands names what a counter is made of. That the check finds each way to make one is tried
-    first.
-    """
+    """No crate below the commands names what a counter is made of. Planted ways to make one are tried first."""
     for spelling, files in FOUND.items():
         if not found_in(files):
             raise Differs(f"a planted counter isn't found: {spelling}")
@@ -84,8 +82,8 @@ def programs(top: str) -> set[str]:
 
 
 def is_main(path: str, text: str) -> bool:
-    return path.endswith(os.path.join("src", "main.rt")) and re.search(r"\bfn\s+main\s*\(",
-                                                                       without_texts(text)) is not None
+    is_one = path.endswith(os.path.join("src", "main.rt"))
+    return is_one and re.search(r"\bfn\s+main\s*\(", without_texts(text)) is not None
 
 
 def is_of_tests(crate: str) -> bool:
@@ -123,7 +121,7 @@ def found_in(files: dict[str, str]) -> list[str]:
     """What is found in a tree of these files alone."""
     with tempfile.TemporaryDirectory() as planted:
         for path, text in files.items():
-            write(planted, path, text)
+            write(text, planted, path)
         return list(counters_named(planted))
 
 

@@ -19,7 +19,7 @@ import tempfile
 from collections.abc import Iterator
 
 from ..reference import commands, generate
-from .running import REPOSITORY, Check, Differs
+from .running import REPOSITORY, Check, Differs, contents, write
 
 HERE = os.path.dirname(os.path.abspath(__file__))
 
@@ -63,8 +63,7 @@ def all_cases(numbers: dict[str, int], seed: int) -> Iterator[tuple[str, list[st
     """Name, words and input of each case."""
     yield "shared-places", ["script"], SHARED_PLACES
     for path in glob.glob(os.path.join(REPOSITORY, "examples", "*.pip")):
-        with open(path, "rb") as file:
-            yield os.path.basename(path)[:-len(".pip")], ["script"], file.read()
+        yield os.path.basename(path)[:-len(".pip")], ["script"], contents(path)
     for command, name in COMMANDS.items():
         for k in range(seed, seed + numbers.get(name, 0)):
             yield (f"{command}-{k}", *generate.case(command, k))
@@ -83,8 +82,7 @@ def write_case(path: str, words: list[str], text: bytes) -> None:
     """The input, the words and the output that is due, as `rt try --cases` reads them."""
     output, _ = commands.with_counts(words, text)
     for ending, content in (("", text), (".args", "\n".join(words).encode()), (".stdout", output)):
-        with open(path + ending, "wb") as file:
-            file.write(content)
+        write(content, path + ending)
 
 
 def main() -> None:

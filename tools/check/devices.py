@@ -12,7 +12,7 @@ import tempfile
 import time
 
 from .checkout import heed_interrupts
-from .running import REPOSITORY, SECONDS, Differs
+from .running import REPOSITORY, SECONDS, Differs, write_program
 
 MAP = "examples/solutions/map.pip"
 TREE = b"part 1 depth 0 up 1 born 0x00000000 tables 0 rows 0\n"      # for those that read
@@ -32,8 +32,7 @@ def full_devices(program: str) -> None:
     for name, *words in TOOLS:
         with open("/dev/full", "wb") as full:
             done = subprocess.run(command(name, tuple(words), program), stdout=full, stderr=subprocess.PIPE, input=TREE,
-                                  timeout=SECONDS,
-                                  cwd=REPOSITORY)
+                                  timeout=SECONDS, cwd=REPOSITORY)
         last = done.stderr.decode().splitlines()[-1:]
         if done.returncode != 2 or not last or "No space left on device" not in last[0] or b"Traceback" in done.stderr:
             raise Differs(f"tools/{name} {' '.join(words)} on a full device: status {done.returncode}, "
@@ -41,14 +40,9 @@ def full_devices(program: str) -> None:
 
 
 def interrupted(program: str) -> None:
-    """Ctrl-C ends a tool that waits for its input, and checks that wait for programs, with these programs and without a
-    traceback.
-    """
+    """Ctrl-C ends a tool that waits for its input, and checks with the programs for which they wait."""
     with tempfile.TemporaryDirectory() as place:
-        waits = os.path.join(place, "pip")
-        with open(waits, "w") as file:
-            file.write(f"#!/bin/sh\nexec sleep {SECONDS}\n")
-        os.chmod(waits, 0o755)
+        waits = write_program(f"#!/bin/sh\nexec sleep {SECONDS}\n", place, "pip")
         stop("why", ("-",), program)
         stop("check/run.py", ("--only", "commands", "--program", waits), program)
 
@@ -59,8 +53,7 @@ def stop(name: str, words: tuple[str, ...], program: str) -> None:
     subprocess.run(command(name, ("--help",), program), stdin=subprocess.DEVNULL, stdout=subprocess.DEVNULL)
     start = time.monotonic() - at               # what a tool needs before it can answer, on this machine now
     begun = subprocess.Popen(command(name, words, program), stdin=subprocess.PIPE, stdout=subprocess.PIPE,
-                             stderr=subprocess.PIPE,
-                             preexec_fn=heed_interrupts, start_new_session=True)
+                             stderr=subprocess.PIPE, preexec_fn=heed_interrupts, start_new_session=True)
     try:
         begun.wait(1 + 3 * start)
     except subprocess.TimeoutExpired:

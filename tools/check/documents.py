@@ -8,26 +8,25 @@ from pathlib import Path
 
 from ..exporter import crates
 from ..reference import script
-from .running import REPOSITORY, Differs, expect, part, run
+from .running import REPOSITORY, Differs, expect, part, run, text_of
 
 MARK = b"-- the next command --\n"
 
 
 def readme_sessions(program: str) -> None:
-    """Each indented block of README.md that begins with a command: its commands give what is below them. And how many
-    crates a build names is as the page has it."""
+    """Each session of README.md gives what it shows; and a build names as many crates as the page has it."""
     with tempfile.TemporaryDirectory() as place:
         os.symlink(os.path.join(REPOSITORY, "examples"), os.path.join(place, "examples"))
         os.symlink(os.path.abspath(program), os.path.join(place, "pip"))
-        for session in sessions(read("README.md")):
+        for session in sessions(text_of("README.md")):
             commands = [command for command, _ in session]
             shown = b"".join(output + MARK for _, output in session)
             told = "; ".join(f"{{ {command}\n}}; s=$?; printf '%s' '{MARK.decode()}'; (exit $s)"
                              for command in commands)
             output, status = run(["sh", "-c", told], cwd=place)
             expect(f"README.md, the session from '$ {commands[0]}' on", (output, status), (shown, 0))
-    named, count = part(r"`crate \d+ of (\d+)`",
-                        read("README.md")), len(crates.chosen(crates.crates_of(Path(REPOSITORY)), ["pip"]))
+    named = part(r"`crate \d+ of (\d+)`", text_of("README.md"))
+    count = len(crates.chosen(crates.crates_of(Path(REPOSITORY)), ["pip"]))
     if named != str(count):
         raise Differs(f"README.md has a build of {named} crates, where {count} make the program")
 
@@ -54,7 +53,7 @@ def sessions(text: str) -> list[list[tuple[str, bytes]]]:
 
 def examples_with_arrows(program: str) -> None:
     """Each session of the documents' blocks whose lines have their answer after an arrow, by program and reference."""
-    sessions_shown = arrow_sessions(read("docs/FORMATS.md"))
+    sessions_shown = arrow_sessions(text_of("docs/FORMATS.md"))
     if not sessions_shown:
         raise Differs("docs/FORMATS.md has no session")
     for lines, answers in sessions_shown:
@@ -81,8 +80,3 @@ def arrow_sessions(text: str) -> list[tuple[list[str], list[str]]]:
             if arrow:
                 found[-1][1].append(answer.strip())
     return found
-
-
-def read(name: str) -> str:
-    with open(os.path.join(REPOSITORY, name), encoding="utf-8") as file:
-        return file.read()

@@ -3,12 +3,10 @@
 from __future__ import annotations
 
 import collections
-import os
 import tempfile
 
 from ..edits.reading import NotApplied, all_edits, edited
-from .running import REPOSITORY, Differs
-from .sources import write
+from .running import REPOSITORY, Differs, write
 
 SOURCE = "fn one() -> u32 {\n    1\n}\n"
 PLANTED = {                     # three edits that apply, and five of which something is said
@@ -39,9 +37,9 @@ def troubles(top: str) -> list[str]:
 def edits(program: str) -> None:
     """Each edit of must-fail/ and tried/ applies, and no two of a crate have one name. Planted ones are tried first."""
     with tempfile.TemporaryDirectory() as planted:
-        write(planted, "crates/pip_one/src/lib.rt", SOURCE)
+        write(SOURCE, planted, "crates/pip_one/src/lib.rt")
         for path, text in PLANTED.items():
-            write(planted, os.path.join("crates", "pip_one", path), text)
+            write(text, planted, "crates/pip_one", path)
         if len(troubles(planted)) != 5:
             raise Differs(f"planted edits: {troubles(planted)}")
     found = troubles(REPOSITORY)

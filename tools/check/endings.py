@@ -2,6 +2,7 @@
 
 from __future__ import annotations
 
+from ..common import forms
 from ..reference.commands import USAGE
 from .running import expect, run
 
@@ -9,14 +10,7 @@ MOST = 1 << 24           # bytes of an input
 
 
 def wrong_words(program: str) -> None:
-    for line in ("", "x", "script x", "--help", "--version", "run", "run 5", "run 06 1", "soak 0 0",
-                 "native", "native 1", "native 0 1", "native 9 1", "native 1 10000001", "slots 1 1", "slots 0 1 1",
-                 "slots 9 1 1", "slots 1 9999999 1", "slots 8 8 125001", "slots 2 1 2:0", "slots 1 1 0:9999999",
-                 "slots 1 1 0:1 1", "slots 1 1 0:01", "slots 1 1 :", "slots 1 1 0:1:1", "slots 1 0" + 65 * " 0:0",
-                 "audit", "audit 15", "audit 4097", "audit 016", "audit 16 1",
-                 "every", "every 0", "every 01", "every 100000001", "every 1 10000001", "every 1 0 0",
-                 "every 1 0 10000001", "every 1 0 1 1"):
-        words = line.split()
+    for words in map(forms.words, ("--help", *forms.WRONG)):      # to --help alone ./pip answers itself
         expect(f"the words {words}", run([program, *words]), (USAGE, 1))
 
 

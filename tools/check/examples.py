@@ -5,10 +5,11 @@ from __future__ import annotations
 import glob
 import os
 import re
+from collections.abc import Iterator
 
 from ..authors import asmx
 from ..reference import commands as reference, script
-from .running import REPOSITORY, Differs, expect, run
+from .running import REPOSITORY, Differs, contents, expect, run, text_of
 
 SESSIONS = os.path.join("examples", "sessions")
 PROVED = os.path.join("crates", "pip_test_model", "proofs", "Scripts.antt")
@@ -16,9 +17,7 @@ LEMMA = re.compile(r"^(\w+) : script_text \((.*?)\)\s*≡ \((.*?)\)\nunfolding",
 
 
 def examples(program: str) -> None:
-    """Each script of examples/ and of examples/sessions/ gives what is beside it; a session is also a lemma of its
-    name.
-    """
+    """Each script of examples/ and its sessions/ gives what is beside it; a session is also a lemma of its name."""
     for folder in ("examples", SESSIONS):
         paths = sorted(glob.glob(os.path.join(REPOSITORY, folder, "*.pip")))
         if not paths:
@@ -31,7 +30,7 @@ def examples(program: str) -> None:
 def sessions_are_lemmas() -> None:
     """The lemma NAME is about the script NAME.pip of examples/sessions/, without its remarks, and about NAME.out."""
     lemmas = {name: (written(text), written(answers))
-              for name, text, answers in LEMMA.findall(contents(os.path.join(REPOSITORY, PROVED)).decode())}
+              for name, text, answers in LEMMA.findall(text_of(PROVED))}
     for path in sorted(glob.glob(os.path.join(REPOSITORY, SESSIONS, "*.pip"))):
         name, lines = os.path.basename(path)[:-len(".pip")], contents(path).decode().splitlines(keepends=True)
         text = "".join(line for line in lines if not line.startswith("#"))
@@ -75,19 +74,37 @@ def programs(program: str) -> None:
 
 
 def searches(program: str) -> None:
-    """Each NAME.every is what can happen to the program beside it, whose first line has the words of the search."""
-    paths = sorted(glob.glob(os.path.join(REPOSITORY, "examples", "**", "*.every"), recursive=True))
-    if not paths:
-        raise Differs("examples/ has no search")
-    for path in paths:
-        source = next(filter(os.path.exists, (path[:-len("every")] + kind for kind in ("s", "asmx"))))
-        name = os.path.relpath(source, REPOSITORY)
-        lines, _ = asmx.processed(source)
-        image, _ = run([program, "asm"], "".join(line + "\n" for _, line in lines).encode())
+    """Each NAME.every and NAME.apart is what can happen to the program beside it, by the words in its first line."""
+    for path, name, image, _ in (*searched(program, "every"), *searched(program, "apart")):
         told, text = contents(path).split(b"\n", 1)
         words = told.decode().split()
         expect(f"{name}, '{told.decode()}' by the reference", reference.pip(words, image), (text, 0))
         expect(f"{name}, '{told.decode()}'", run([program, *words], image), (text, 0))
+    verdicts(program)
+
+
+def verdicts(program: str) -> None:
+    """Each NAME.against is the same where partitions do anything of the source's menu, or of a file that the first line
+    names. The reference is compared by generated images: these searches take it minutes.
+    """
+    for path, name, image, menu in searched(program, "against"):
+        told, text = contents(path).split(b"\n", 1)
+        words, _, file = told.decode().partition(" < ")
+        if file:
+            menu = contents(os.path.join(os.path.dirname(path), file))
+        expect(f"{name}, '{told.decode()}'", run([program, *words.split()], image + menu), (text, 0))
+
+
+def searched(program: str, kind: str) -> Iterator[tuple[str, str, bytes, bytes]]:
+    """Each file of this kind: its path, the name of the program beside it, and the image and menu of that."""
+    paths = sorted(glob.glob(os.path.join(REPOSITORY, "examples", "**", "*." + kind), recursive=True))
+    if not paths:
+        raise Differs(f"examples/ has no text of {kind}")
+    for path in paths:
+        source = next(filter(os.path.exists, (path[:-len(kind)] + end for end in ("s", "asmx"))))
+        lines, text = asmx.processed(source)
+        image, _ = run([program, "asm"], "".join(line + "\n" for _, line in lines).encode())
+        yield path, os.path.relpath(source, REPOSITORY), image, asmx.menu_of(text.menu)
 
 
 RETRIES = [(seed, period) for period in (40, 53, 90) for seed in range(1, 21)]
@@ -96,7 +113,7 @@ RETRIES = [(seed, period) for period in (40, 53, 90) for seed in range(1, 21)]
 def retries(program: str) -> None:
     """The monitor for two processors shows each request once and in its order, whatever the seed and the timer; what it
     is refused is a child that runs, and what parks is a request while the root runs elsewhere, and both come."""
-    text = contents(os.path.join(REPOSITORY, "examples", "retry.s"))
+    text = contents("examples", "retry.s")
     refused = parked = 0
     for seed, period in RETRIES:
         image, _ = run([program, "asm"], text.replace(b".line 0 430 50", b".line 0 430 %d" % period))
@@ -109,22 +126,17 @@ def retries(program: str) -> None:
         others = re.findall(r" call 8 reply (?!14 ).*| call (?!8 )\d+ reply (?!0 ).*| park \d+ (?!70$).*", trace, re.M)
         if others:
             raise Differs(f"{what}: {others[:2]}")
-        refused, parked = refused + trace.count(" call 8 reply 14 "), parked + len(re.findall(r" park \d+ 70$", trace,
-                                                                                              re.M))
+        refused += trace.count(" call 8 reply 14 ")
+        parked += len(re.findall(r" park \d+ 70$", trace, re.M))
     if not refused or not parked:
         raise Differs(f"examples/retry.s: {refused} turns were tried again, and {parked} requests: where neither "
                       "comes, nothing is shown")
 
 
-def contents(path: str) -> bytes:
-    with open(path, "rb") as file:
-        return file.read()
-
-
 def monitor(program: str) -> None:
     """The sample monitor is refused nothing, never parks, and gives both its children their turns."""
-    text = contents(os.path.join(REPOSITORY, "examples", "monitor.s"))
-    if b'"' + text + b'";' not in contents(os.path.join(REPOSITORY, "crates", "pip_commands", "src", "monitor.rt")):
+    text = contents("examples", "monitor.s")
+    if b'"' + text + b'";' not in contents("crates/pip_commands/src/monitor.rt"):
         raise Differs("examples/monitor.s isn't the constant of crates/pip_commands/src/monitor.rt")
     image, status = run([program, "asm"], text)
     expect("the image of the monitor", (image, status), reference.pip(["asm"], text))

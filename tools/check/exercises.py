@@ -11,9 +11,9 @@ from concurrent.futures import ThreadPoolExecutor
 from types import SimpleNamespace
 
 from ..exercises import exercise, judging
-from . import cheats, examples, seeded
-from .authors import ends, told as tool
-from .running import REPOSITORY, SECONDS, Differs, run
+from . import cheats, seeded
+from .authors import ends
+from .running import REPOSITORY, SECONDS, Differs, contents, run, text_of, told_by as tool, write
 
 TIMES = 3                # that each solution is judged, each time with another secret
 SEEDS = ("ada", "grace hopper", "\u00e9")
@@ -37,7 +37,7 @@ def solutions(program: str) -> None:
 
 
 def solution(name: str, path: str) -> None:
-    if not examples.contents(path).startswith(b"# "):
+    if not contents(path).startswith(b"# "):
         raise Differs(f"{path}: its first line isn't a remark")
     output, messages, status = tool("exercise", name, path)
     if status or messages:
@@ -65,11 +65,11 @@ def by_seeds(program: str) -> None:
 def by_seed(seed: str, name: str, is_program: bool) -> None:
     values = told_by_seed(name, seed)
     path = cheats.solution_of(name)
-    if judging.judged(name, path, examples.contents(path), is_program, seed).is_whole:
+    if judging.judged(name, path, contents(path), is_program, seed).is_whole:
         raise Differs(f"tools/exercise {name} --seed {seed}: the solution of the repository is good")
     if name in INCLUDED:
         path = os.path.join(REPOSITORY, "examples", INCLUDED[name])
-    text = seeded.REWRITTEN[name](examples.contents(path).decode(), values)
+    text = seeded.REWRITTEN[name](text_of(path), values)
     found = cheats.judged(name, text, os.path.splitext(path)[1], is_program, seed)
     if not found.is_whole:
         raise Differs(f"tools/exercise {name} --seed {seed} of a solution for it: {found.lines(True)}")
@@ -120,7 +120,7 @@ def names_the_line() -> None:
                 ("monitor", HEAD + b"# a remark\n\nla r1 0x400001   # its address\nbegin: ldw r2 r1 0\n",
                  "answer:7 (begin), step 2: processor 0, partition 1: park 1 17 (vector 17: an access to a word"),
                 ("sum", HEAD + b"int 64\n.page 0x401000\n.word 100\n", "it shows [], where 0x000013ba is due")):
-            write(path, text)
+            write(text, path)
             misses(name, path, due)
 
 
@@ -129,8 +129,8 @@ def lesser(files: dict[str, str]) -> None:
     with tempfile.TemporaryDirectory() as place:
         path = os.path.join(place, "answer")
         for name in ("store", "map", "take-back", "enter", "interrupt", "end"):
-            lines = examples.contents(files[name]).splitlines(keepends=True)
-            write(path, b"".join(lines[:-1]))
+            lines = contents(files[name]).splitlines(keepends=True)
+            write(b"".join(lines[:-1]), path)
             misses(name, path)
         for name, text, due in (("map", BOOT, "0 of 4"), ("sum", HEAD + b"int 64\n", "1 of 6"),
                                 ("break-in", b"ld 0 0x10000020\n", "never read it"),
@@ -140,22 +140,17 @@ def lesser(files: dict[str, str]) -> None:
                                 ("break-in", b"st 0 -5 1\n", "'-5' is no number"),
                                 ("break-in", b"ld 0 0x100000000\n", "has more than eight digits"),
                                 ("sum", b"li r1\n", "before the first page")):
-            write(path, text)
+            write(text, path)
             misses(name, path, due)
         for words, due in ((("nothing", path), "there is no exercise"), (("map", "/nonexistent"), "can't be read"),
                            ((), "which exercise"), (("sum", place), "can't be read"),
                            (("map", path, "--script"), "--script is for break-in"),
                            (("map", path, "--again", "xyz"), "--again is at most 16 digits")):
             ends(f"tools/exercise {' '.join(words)}", tool("exercise", *words), 2, due)
-        write(path, b"boot 16 1\n" + b"raise 1\n" * 5001)
+        write(b"boot 16 1\n" + b"raise 1\n" * 5001, path)
         ends("tools/exercise of a long script", tool("exercise", "store", path), 2, "more than 5000 lines")
-        write(path, b"peek 1 1\n")
+        write(b"peek 1 1\n", path)
         ends("tools/exercise break-in", tool("exercise", "break-in", path), 2, "line 1: the child can't say")
-
-
-def write(path: str, text: bytes) -> None:
-    with open(path, "wb") as file:
-        file.write(text)
 
 
 def misses(name: str, path: str, *due: str) -> None:

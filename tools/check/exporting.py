@@ -17,7 +17,7 @@ from typing import Any
 
 from ..exporter import export
 from ..reference import comparison, generate
-from .running import REPOSITORY, Differs, Skipped, expect, part
+from .running import REPOSITORY, Differs, Skipped, contents, expect, part, text_of, write
 
 EXPORT = os.path.join(REPOSITORY, "tools", "export")
 SECONDS = 900            # cargo builds everything
@@ -38,11 +38,10 @@ def text(program: str) -> None:
 
 def listed() -> None:
     """Each definition of a requirement that no test makes is in the table of docs/EXPORT.md, and no other is."""
-    with open(os.path.join(REPOSITORY, "docs", "EXPORT.md"), encoding="utf-8") as file:
-        table = file.read().split("## Requirements\n", 1)[1].split("\n## ", 1)[0]
+    table = text_of("docs/EXPORT.md").split("## Requirements\n", 1)[1].split("\n## ", 1)[0]
     named = set(re.findall(r"`([A-Z][A-Za-z0-9]*[a-z][A-Za-z0-9]*)`", table))
-    found = {re.search(r"\b[A-Z][A-Za-z0-9]*[a-z][A-Za-z0-9]*", part) for _,
-             part in export.untested(Path(REPOSITORY), [])}
+    parts = (part for _, part in export.untested(Path(REPOSITORY), []))
+    found = {re.search(r"\b[A-Z][A-Za-z0-9]*[a-z][A-Za-z0-9]*", part) for part in parts}
     due = {name.group() for name in found if name}
     if due != named:
         raise Differs(f"docs/EXPORT.md, Requirements: {sorted(due - named)} isn't named, {sorted(named - due)} isn't "
@@ -75,18 +74,14 @@ def of_registry(program: str) -> None:
 
 
 def unproved(program: str) -> None:
-    """./pip --unproved answers an example in a checkout in which nothing is built, and says that nothing is proved of
-    it.
-    """
+    """./pip --unproved answers an example where nothing is built, and says that nothing is proved of it."""
     need_cargo()
     with tempfile.TemporaryDirectory() as place:
         copy_sources(place)
-        script = os.path.join(REPOSITORY, "examples", "first.pip")
-        with open(script, "rb") as file, open(script.replace(".pip", ".out"), "rb") as due:
-            done = subprocess.run([os.path.join(place, "pip"), "--unproved", "script"], stdin=file,
-                                  stdout=subprocess.PIPE,
-                                  stderr=subprocess.PIPE, timeout=SECONDS)
-            expect("./pip --unproved", (done.stdout, done.returncode), (due.read(), 0))
+        given = contents("examples/first.pip")
+        done = subprocess.run([os.path.join(place, "pip"), "--unproved", "script"], input=given,
+                              stdout=subprocess.PIPE, stderr=subprocess.PIPE, timeout=SECONDS)
+        expect("./pip --unproved", (done.stdout, done.returncode), (contents("examples/first.out"), 0))
         told = done.stderr.decode()
         if not told.endswith("cargo built this program of the same text, and nothing is proved of it\n"):
             raise Differs(f"./pip --unproved says {told[-2000:]!r}")
@@ -109,9 +104,7 @@ def clippy(program: str) -> None:
 
 
 def miri(program: str) -> None:
-    """The tests of frames, whose crate alone has unsafe code of its own, in an interpreter that sees undefined
-    behaviour.
-    """
+    """The tests of frames, whose crate alone has unsafe code, in an interpreter that sees undefined behaviour."""
     need_cargo("miri")
     told = cargo(exported().name, "miri", "test", "-p", "pip_test_tables", "frames")
     if not passed(told):
@@ -167,40 +160,30 @@ def passed(told: str) -> int:
 
 def tests_in(place: str) -> int:
     """How many tests the files of an export have."""
-    count = 0
-    for folder, _, names in os.walk(place):
-        for name in names:
-            if name.endswith(".rs") and not folder.startswith(os.path.join(place, "target")):
-                with open(os.path.join(folder, name), encoding="utf-8") as file:
-                    count += len(re.findall(r"^\s*#\[test\]$", file.read(), re.MULTILINE))
-    return count
+    files = (path for path in Path(place).rglob("*.rs") if Path(place, "target") not in path.parents)
+    return sum(len(re.findall(r"^\s*#\[test\]$", path.read_text(encoding="utf-8"), re.MULTILINE)) for path in files)
 
 
 def programs(place: str) -> Callable[[str], str]:
-    """Builds the programs, with the tests of what is required and of overflows, and answers their paths by their names.
-    """
+    """Builds the programs, with tests of requirements and overflows, and answers their paths by their names."""
     cargo(place, "build", "--quiet", "-p", "pip", "-p", "pip_example", **WARNINGS)
     return lambda name: os.path.join(place, "target", "debug", name)
 
 
 def check_example(built: Callable[[str], str]) -> None:
-    with open(os.path.join(REPOSITORY, "crates", "pip_example", "stdout"), "rb") as file:
-        expect("the exported example", comparison.run_built(built("pip_example"), [], b""), (file.read(), 0))
+    due = contents("crates/pip_example/stdout")
+    expect("the exported example", comparison.run_built(built("pip_example"), [], b""), (due, 0))
 
 
 def check_own_crate(export: str) -> None:
     """The crate that docs/EXPORT.md shows is built over the export, and prints what the page says."""
-    with open(os.path.join(REPOSITORY, "docs", "EXPORT.md"), encoding="utf-8") as file:
-        shown = file.read().split("## In a crate of your own\n")[1].split("\n## ")[0]
+    shown = text_of("docs/EXPORT.md").split("## In a crate of your own\n")[1].split("\n## ")[0]
     code = "\n".join(line[4:] for line in shown.split("\n") if not line or line.startswith("    "))
     needs, main = code.split("use ", 1)
     due = part(r"It prints `(.*?)`", shown) + "\n"
     with tempfile.TemporaryDirectory() as place:
-        os.mkdir(os.path.join(place, "src"))
-        for name, text_of in (("Cargo.toml", OWN + needs.replace("../pip-rust", export)),
-                              ("src/main.rs", "use " + main)):
-            with open(os.path.join(place, name), "w", encoding="utf-8") as file:
-                file.write(text_of)
+        write(OWN + needs.replace("../pip-rust", export), place, "Cargo.toml")
+        write("use " + main, place, "src", "main.rs")
         cargo(place, "build", "--quiet")
         expect("the crate of docs/EXPORT.md",
                comparison.run_built(os.path.join(place, "target", "debug", "own"), [], b""), (due.encode(), 0))
@@ -217,5 +200,5 @@ def check_cases(built: Callable[[str], str], program: str, cases: int) -> None:
 def both(given: tuple[str, str, str, int]) -> tuple[tuple[bytes, int], tuple[bytes, int]]:
     """What the export and the program answer to a case."""
     export, program, command, seed = given
-    words, text_of = generate.case(command, seed)
-    return comparison.run_built(export, words, text_of), comparison.run_built(program, words, text_of)
+    words, given_text = generate.case(command, seed)
+    return comparison.run_built(export, words, given_text), comparison.run_built(program, words, given_text)

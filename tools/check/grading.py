@@ -12,11 +12,10 @@ import time
 
 from ..exercises import alone
 from ..judge import building
-from . import cheats, examples
-from .authors import ends, told as tool
+from . import cheats
+from .authors import ends
 from .checkout import heed_interrupts
-from .exercises import write
-from .running import REPOSITORY, Differs
+from .running import REPOSITORY, Differs, contents, text_of, told_by as tool, write, write_program
 
 HOSTILE = os.path.join(REPOSITORY, "tools", "exercises", "hostile")
 CLASS = """         map  break-in   sum  goals  solved
@@ -47,15 +46,14 @@ PROMPT = 5               # seconds in which Ctrl-C ends everything
 def grades(program: str) -> None:
     """A class as a table, with what isn't judged on standard error; as a spreadsheet; and by seeds."""
     cheats.need_judge()
-    script, text = MAP, examples.contents(cheats.solution_of("sum"))
+    script, text = MAP, contents(cheats.solution_of("sum"))
     text = text.replace(b"li r1 0x1000", b"li r1 0x1000\nmov r3 r10\nmov r4 r10")
     again = b"# mine\n" + script.replace(b"0x1234", b"4660").replace(b"0x401000", b"0x00401000")
     with tempfile.TemporaryDirectory() as place:
         for path, content in (("ada/map.pip", script), ("ada/sum.s", text), ("bob/map.s", text),
                               ("bob/map.pip", script.replace(b" 3\nst", b" 7\nst")), ("bob/sum.asmx", b"lix r1\n"),
                               ("eve x/break-in.pip", b"peek 1 1\n"), ("eve x/map.pip", again), ("eve x/notes", b"")):
-            os.makedirs(os.path.dirname(os.path.join(place, path)), exist_ok=True)
-            write(os.path.join(place, path), content)
+            write(content, place, path)
         output, messages, status = tool("grade", place, "--again", "1")
         due = ("map.s is no work: map ends with .pip", "notes is no work: there is no exercise notes",
                "break-in.pip: line 1: the child can't say")
@@ -107,34 +105,31 @@ def adapt(classroom: str) -> None:
     for folder, _, files in os.walk(classroom):
         for file in files:
             path = os.path.join(folder, file)
-            write(path, examples.contents(path).replace(b"CHECKOUT", REPOSITORY.encode()))
-    example = examples.contents(os.path.join(REPOSITORY, "examples", "monitor.s"))
-    write(os.path.join(classroom, "ada", "monitor.s"), example)
+            write(contents(path).replace(b"CHECKOUT", REPOSITORY.encode()), path)
+    example = contents("examples", "monitor.s")
+    write(example, classroom, "ada", "monitor.s")
     for student in ("fifo", "link", "own", "folder/map.pip", "slow", "wide"):
         os.makedirs(os.path.join(classroom, student))
     os.mkfifo(os.path.join(classroom, "fifo", "map.pip"))
     os.symlink(os.path.join(classroom, "ada", "map.pip"), os.path.join(classroom, "link", "map.pip"))
     os.symlink(os.path.join(classroom, "ada"), os.path.join(classroom, "link", "inner"))
-    write(os.path.join(classroom, "link", "monitor.asmx"), b".include inner/monitor.s\n")
-    write(os.path.join(classroom, "own", "monitor.asmx"), b".include helper.s\n")
-    write(os.path.join(classroom, "own", "helper.s"), example)
-    write(os.path.join(classroom, "slow", "monitor.asmx"), b"".join(b".include f%d.s\n" % k for k in range(20)))
+    write(b".include inner/monitor.s\n", classroom, "link", "monitor.asmx")
+    write(b".include helper.s\n", classroom, "own", "monitor.asmx")
+    write(example, classroom, "own", "helper.s")
+    write(b"".join(b".include f%d.s\n" % k for k in range(20)), classroom, "slow", "monitor.asmx")
     for k in range(20):
-        write(os.path.join(classroom, "slow", f"f{k}.s"), b"x: .word x*x*x*x*x*x*x*x\n" * 20000)
-    write(os.path.join(classroom, "wide", "map.pip"), b"boot 4096 4\n" + b"raise 1\n" * 400_000)
+        write(b"x: .word x*x*x*x*x*x*x*x\n" * 20000, classroom, "slow", f"f{k}.s")
+    write(b"boot 4096 4\n" + b"raise 1\n" * 400_000, classroom, "wide", "map.pip")
 
 
 def stopped() -> None:
     """Ctrl-C ends the grader and all that it began, at once."""
     with tempfile.TemporaryDirectory() as place:
-        waits = os.path.join(place, "judge")
-        with open(waits, "w", encoding="utf-8") as file:
-            file.write(f"#!/bin/sh\nread act\nif [ $act = list ]; then echo list | {building.program()}; exit; fi\n"
-                       f"echo $$ >> {place}/begun\nexec sleep 60\n")
-        os.chmod(waits, 0o755)
+        waits = write_program("#!/bin/sh\nread act\n"
+                              f"if [ $act = list ]; then echo list | {building.program()}; exit; fi\n"
+                              f"echo $$ >> {place}/begun\nexec sleep 60\n", place, "judge")
         for student in ("ada", "bob"):
-            os.makedirs(os.path.join(place, "class", student))
-            write(os.path.join(place, "class", student, "map.pip"), MAP)
+            write(MAP, place, "class", student, "map.pip")
         words = [sys.executable, "-B", os.path.join(REPOSITORY, "tools", "grade"), os.path.join(place, "class")]
         process = subprocess.Popen(words, env={**os.environ, "PIP_JUDGE": waits}, stdout=subprocess.PIPE,
                                    stderr=subprocess.PIPE, preexec_fn=heed_interrupts)
@@ -142,8 +137,7 @@ def stopped() -> None:
         begun = time.monotonic()
         process.send_signal(signal.SIGINT)
         _, messages = process.communicate(timeout=60)
-        with open(os.path.join(place, "begun"), encoding="utf-8") as file:
-            left = [number for number in file.read().split() if goes_on(number)]
+        left = [number for number in text_of(place, "begun").split() if goes_on(number)]
         took = time.monotonic() - begun
         if process.returncode != 130 or took > PROMPT or left or b"Traceback" in messages:
             raise Differs(f"tools/grade, stopped: status {process.returncode} after {took:.1f} seconds, {left} go on; "
@@ -153,8 +147,7 @@ def stopped() -> None:
 def goes_on(number: str) -> bool:
     """Whether a process is there, and not only its number, which nobody has asked for yet."""
     try:
-        with open(f"/proc/{number}/stat", encoding="utf-8") as file:
-            return file.read().rpartition(") ")[2][0] != "Z"
+        return text_of(f"/proc/{number}/stat").rpartition(") ")[2][0] != "Z"
     except OSError:
         return False
 

@@ -6,8 +6,7 @@ import os
 import random
 import re
 
-from .examples import contents
-from .running import REPOSITORY, Differs, run
+from .running import Differs, run, text_of
 
 MONITOR = os.path.join("examples", "two_guests.s")
 SEEDS, PROGRAMS = range(1, 9), 60        # of the schedule, and hostile first guests with each
@@ -28,9 +27,8 @@ TRAPS = (64, 65, 70, 200)
 
 
 def hostile_guests(program: str) -> None:
-    """Generated first guests, which call, yield, trap, load and store at random. That the check finds a monitor that
-    doesn't take its handler of the line away is tried first."""
-    text = contents(os.path.join(REPOSITORY, MONITOR)).decode()
+    """First guests that do anything at random. A monitor that keeps its handler of the line is tried first."""
+    text = text_of(MONITOR)
     careless = text.replace(*CARELESS)
     if careless == text or not any(troubles(program, careless, seed) for seed in SEEDS):
         raise Differs(f"{MONITOR}: nothing shows that a guest can use a handler of the line")

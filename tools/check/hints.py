@@ -9,8 +9,7 @@ import shutil
 import subprocess
 import tempfile
 
-from .running import REPOSITORY, Differs, Skipped
-from .sources import write
+from .running import REPOSITORY, Differs, Skipped, text_of, write
 
 OF = ("tools", os.path.join("editors", "test_grammar.py"))
 PLANTED = {
@@ -26,22 +25,19 @@ OLD = re.compile(r"^from typing import "
 
 
 def types(program: str) -> None:
-    """The tools are typed throughout, by `dict[..]` and its like. That mypy finds what isn't is tried first, on planted
-    modules.
-    """
+    """The tools are typed throughout, by `dict[..]` and its like. Planted modules are tried first."""
     if not OLD.search("from typing import Any, Dict\n"):
         raise Differs("a planted import of Dict isn't found")
     for path in glob.glob(os.path.join(REPOSITORY, "tools", "**", "*.py"), recursive=True):
-        with open(path, encoding="utf-8") as file:
-            if OLD.search(file.read()):
-                raise Differs(f"{os.path.relpath(path, REPOSITORY)} imports of typing what Python has itself")
+        if OLD.search(text_of(path)):
+            raise Differs(f"{os.path.relpath(path, REPOSITORY)} imports of typing what Python has itself")
     mypy = shutil.which("mypy")
     if mypy is None:
         raise Skipped("no mypy")
     with tempfile.TemporaryDirectory() as planted:
-        write(planted, "tools/__init__.py", "")
+        write("", planted, "tools/__init__.py")
         for path, text in PLANTED.items():
-            write(planted, path, text)
+            write(text, planted, path)
         told, status = judged(mypy, planted)
         missing = [due for due in DUE if due not in told]
         if status != 1 or missing:

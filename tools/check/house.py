@@ -14,8 +14,8 @@ from collections.abc import Iterator
 from dataclasses import dataclass, field
 
 from .links import documents, without_code
-from .running import REPOSITORY, Differs
-from .sources import sources, texts, write
+from .running import REPOSITORY, Differs, text_of, write
+from .sources import sources, texts
 
 LIST = os.path.join(os.path.dirname(os.path.abspath(__file__)), "allowances.txt")
 MOST = 120                              # columns of a line
@@ -66,14 +66,12 @@ def found_in(top: str) -> Allowances:
             items[name].add(path)
         wide[crate] += sum(len(line) > MOST and not IS_LEFT.search(line) for line in text.split("\n"))
     for path in glob.glob(os.path.join(top, "tools", "**", "*.py"), recursive=True):
-        with open(path, encoding="utf-8") as file:
-            wide["tools"] += sum(len(line) > MOST for line in file.read().split("\n"))
+        wide["tools"] += sum(len(line) > MOST for line in text_of(path).split("\n"))
     for path in documents(top):
         wide["documents"] += sum(len(line) > MOST and not line.lstrip().startswith("|")
                                  for line in without_code(path).split("\n"))
     return Allowances({crate: count for crate, count in wide.items() if count},
-                      {crate: count for crate, count in bare.items() if count},
-                      several(files), several(items))
+                      {crate: count for crate, count in bare.items() if count}, several(files), several(items))
 
 
 def several(files: dict[str, set[str]]) -> set[str]:
@@ -137,14 +135,13 @@ def house(program: str) -> None:
     """The sources are within their allowances. That the check finds what isn't is tried first, on planted crates."""
     with tempfile.TemporaryDirectory() as planted:
         for path, text in PLANTED.items():
-            write(planted, path, text)
+            write(text, planted, path)
         wide = {"pip_two": 2, "documents": 1, "tools": 1}
         right = Allowances(wide, {"pip_one": 1}, {"is_row"}, {"Rows"})
         more = Allowances({**wide, "pip_two": 3}, {"pip_one": 2}, {"is_row", "is_gone"}, {"Rows", "Gone"})
         for allowed, count in ((right, 0), (Allowances(), 6), (more, 4)):
             if len(troubles(planted, allowed)) != count:
                 raise Differs(f"planted crates: {troubles(planted, allowed)} by {allowed}")
-    with open(LIST, encoding="utf-8") as file:
-        found = troubles(REPOSITORY, allowances(file.read()))
+    found = troubles(REPOSITORY, allowances(text_of(LIST)))
     if found:
         raise Differs("; ".join(found))

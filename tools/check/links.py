@@ -8,7 +8,7 @@ import os
 import re
 from collections.abc import Iterator
 
-from .running import REPOSITORY, Differs
+from .running import REPOSITORY, Differs, text_of
 from .sources import sources
 
 LINK = re.compile(r"\]\(([^)\s]+)\)")
@@ -42,8 +42,7 @@ def links(program: str) -> None:
 def checks_named() -> Iterator[str]:
     """What documents name as checks: in a sentence, and in the last column of CONTRIBUTING's tables about checks."""
     for path in documents(REPOSITORY):
-        with open(path, encoding="utf-8") as file:
-            text = file.read()
+        text = text_of(path)
         yield from re.findall(r"\bcheck `([a-z-]+)`", text)
         table = r"^\|.*(?:\| check \(.*|by the check) \|\n\|[-|]+\|\n((?:\|.*\n)+)"
         for rows in re.findall(table, text, re.MULTILINE) if os.path.basename(path) == "CONTRIBUTING.md" else ():
@@ -52,10 +51,8 @@ def checks_named() -> Iterator[str]:
 
 
 def contracts() -> None:
-    """Each contract in the table of PROVED.md is one of its crate. That the check finds one that isn't is tried first.
-    """
-    with open(os.path.join(REPOSITORY, "docs", "PROVED.md"), encoding="utf-8") as file:
-        text = file.read()
+    """Each contract in the table of PROVED.md is one of its crate. A planted one that isn't is tried first."""
+    text = text_of("docs/PROVED.md")
     if list(gone(text.replace("`soak_load`", "`soak_loads`"))) != ["pip_soak has no soak_loads"]:
         raise Differs("docs/PROVED.md: a contract that isn't there isn't found")
     if list(gone(text)):
@@ -63,9 +60,7 @@ def contracts() -> None:
 
 
 def gone(text: str) -> Iterator[str]:
-    """What the table of the crates names and no source of its crates declares: a function, a type, a trait, or a
-    clause.
-    """
+    """What the table names and its crates don't declare: a function, a type, a trait, or a clause."""
     files = [(crate, told) for crate, _, told in sources(REPOSITORY)]
     for line in text.split("## Crate by crate")[1].split("\n## ")[0].split("\n"):
         crates = re.findall(r"\[(pip_\w+)\]\(", line.split(" | ")[0])
@@ -83,8 +78,7 @@ def documents(top: str) -> Iterator[str]:
 
 def without_code(path: str) -> str:
     """The lines of a document that aren't in a block of code."""
-    with open(path, encoding="utf-8") as file:
-        parts = file.read().split("```")[::2]
+    parts = text_of(path).split("```")[::2]
     return "\n".join(line for part in parts for line in part.split("\n") if not line.startswith("    "))
 
 

@@ -3,13 +3,13 @@
 from __future__ import annotations
 
 import json
-import os
 from typing import Any
 
 from ..common import meanings
 from ..common.meanings import rows
-from .running import REPOSITORY, Differs
+from .running import Differs, text_of, write
 
+PAGE = "docs/FORMATS.md"
 # numbers that need a row
 STATUSES, CALLS, ENDS = range(19), range(12), ("0", "1", "2", "3", "4", "5", "6", "8", "9", "10", "11")
 # Causes for which a line of a script is bad, by how the first cell of its row begins
@@ -20,11 +20,12 @@ OF_LINES = {"return": "a carriage return", "mark": "a byte order mark", "spaces"
             "second": "a second `boot`", "range": "`sb 0 0x400000 256`", "form": "`load 0 0`", "count": "`ld 0`",
             "long": "121 bytes or more"}
 OF_TEXTS = ("unknown", "operand", "range", "twice", "size", "label")
+OF_MENUS = ("who", "what", "many")
 
 
 def same(program: str) -> None:
     """meanings.json is what the page says. That a changed row and a lost heading are found is tried first."""
-    text = page()
+    text = text_of(PAGE)
     for planted, due in ((text.replace("| an address is 0 |", "| an address is 1 |"), "statuses"),
                          (text.replace("## Calls by number", "## Calls"), "")):
         if due != found(planted):
@@ -44,14 +45,7 @@ def found(text: str) -> str:
 
 
 def rewrite() -> None:
-    with open(meanings.DATA, "w", encoding="utf-8") as file:
-        json.dump(of_page(page()), file, indent=1, ensure_ascii=False)
-        file.write("\n")
-
-
-def page() -> str:
-    with open(os.path.join(REPOSITORY, "docs", "FORMATS.md"), encoding="utf-8") as file:
-        return file.read()
+    write(json.dumps(of_page(text_of(PAGE)), indent=1, ensure_ascii=False) + "\n", meanings.DATA)
 
 
 def of_page(text: str) -> dict[str, Any]:
@@ -76,6 +70,8 @@ def causes(text: str) -> dict[str, list[str]]:
     told = {name: [row for row in bad if row[0].startswith(begins)] for name, begins in OF_LINES.items()}
     told.update({"asm " + kind: [row for row in kinds if row[0] == f"`{kind}`" and row not in far]
                  for kind in OF_TEXTS}, **{"asm distance": far})
+    menus = rows(text, "## against")
+    told.update({"menu " + kind: [row for row in menus if row[0] == f"`{kind}`"] for kind in OF_MENUS})
     lacks = [name for name, row in told.items() if len(row) != 1]
     if lacks:
         raise Differs(f"docs/FORMATS.md hasn't one row for {', '.join(lacks)}")

@@ -7,8 +7,9 @@ import subprocess
 import tempfile
 from collections.abc import Callable, Iterator
 
+from ..authors import asmx
 from ..reference import commands as reference
-from .running import Differs, Output, expect, run
+from .running import REPOSITORY, Differs, Output, contents, expect, run
 
 HERE = os.path.dirname(os.path.abspath(__file__))
 SCRIPT = b"# before the boot line\nboot 32 1\nld 0 0x400000\n"
@@ -34,6 +35,10 @@ def cases() -> Iterator[tuple[list[str], bytes]]:
     frames, _ = reference.pip(["core", "6", "1"], image)
     yield ["audit", "16"], frames
     yield ["every", "8"], image
+    yield ["against", "8"], image + b"1 trap 64 0 0\n"
+    lines, _ = asmx.processed(os.path.join(REPOSITORY, "examples", "apart", "leaves.asmx"))
+    guests, _ = reference.pip(["asm"], "".join(line + "\n" for _, line in lines).encode())
+    yield ["apart", "40", "400", "1"], guests
 
 
 def refusals(program: str, library: str, place: str) -> Refused:
@@ -41,8 +46,7 @@ def refusals(program: str, library: str, place: str) -> Refused:
     def refused(words: list[str], text: bytes, number: int) -> tuple[Output, int]:
         counted = os.path.join(place, "count")
         got = run([program, *words], text, env=dict(os.environ, LD_PRELOAD=library, REFUSE=str(number), COUNT=counted))
-        with open(counted) as file:
-            return got, int(file.read())
+        return got, int(contents(counted))
     return refused
 
 

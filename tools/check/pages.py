@@ -7,24 +7,21 @@ import json
 import os
 import re
 import subprocess
-import sys
 import tempfile
 from typing import Any
 
 from ..reference.model import World
 from ..reference import image as reference_image, runs, script
-from . import browser, examples
-from .running import REPOSITORY, SECONDS, Differs, Skipped, part, run
+from . import browser
+from .authors import built_of, liar
+from .running import REPOSITORY, SECONDS, Differs, Skipped, contents, part, run, text_of, tool, write
 
 MOST_LINES = 60          # of a script: a longer one may have too many tables
-STEP = os.path.join(REPOSITORY, "tools", "step", "step")
 
 
 def stepped(program: str, *words: str, text: bytes = b"") -> tuple[str, str, int]:
     """Output, messages and status of tools/step."""
-    done = subprocess.run([sys.executable, "-B", STEP, "--program", program, *words], input=text, timeout=SECONDS,
-                          stdout=subprocess.PIPE, stderr=subprocess.PIPE)
-    return done.stdout.decode(), done.stderr.decode(), done.returncode
+    return tool(program, "step/step", *words, text=text)
 
 
 def data_of(page: str) -> Any:
@@ -53,12 +50,12 @@ def script_page(program: str, path: str) -> None:
         raise Differs(f"tools/step {name}: the page loads something from elsewhere")
     data = data_of(page)
     answers = [step["answer"] for step in data["steps"]]
-    due = run([program, "script"], examples.contents(path))[0].decode().splitlines()
+    due = run([program, "script"], contents(path))[0].decode().splitlines()
     if answers != due[:len(answers)] or len(answers) < min(len(due), MOST_LINES // 2):
         raise Differs(f"tools/step {name}: the answers aren't the program's")
     told = script.Script()
     steps = iter(enumerate(data["steps"]))
-    for line in list(script.lines(examples.contents(path)))[:MOST_LINES]:
+    for line in list(script.lines(contents(path)))[:MOST_LINES]:
         try:
             if told.line(line) is not None:
                 what, (at, step) = f"tools/step {name}, '{line.decode()}'", next(steps)
@@ -99,9 +96,7 @@ def same_words(what: str, data: Any, at: int, world: World) -> None:
 
 def run_page(program: str, name: str, steps: int, path: str) -> None:
     """The page of a run has the program's lines at their steps, and what runs as the reference has it."""
-    image, _ = run([program, "asm"], examples.contents(os.path.join(REPOSITORY, "examples", name + ".s")))
-    with open(path, "wb") as file:
-        file.write(image)
+    image = contents(built_of(program, f"examples/{name}.s", path))
     page, messages, status = stepped(program, path, str(steps), "1")
     if status or messages:
         raise Differs(f"tools/step of {name}: status {status}, {messages!r}")
@@ -117,11 +112,8 @@ def run_page(program: str, name: str, steps: int, path: str) -> None:
 
 
 def names_of_a_run(program: str, place: str) -> None:
-    """The page of a run has the names of a source; another source is warned of, and other lines than the program's are
-    refused.
-    """
-    source = os.path.join(REPOSITORY, "examples", "monitor.s")
-    path, liar = os.path.join(place, "monitor.img"), os.path.join(place, "liar")
+    """The page of a run has the names of a source; another source is warned of, and other lines are refused."""
+    source, path = os.path.join(REPOSITORY, "examples", "monitor.s"), os.path.join(place, "monitor.img")
     for words, due, said in ((("--source", source), "0x00400044 next_turn+2: stw r8 r15 0", ""),
                              ((), "0x00400044: stw r8 r15 0", ""),
                              (("--source", source.replace("monitor", "hostile")), "stw r8 r15 0",
@@ -130,10 +122,7 @@ def names_of_a_run(program: str, place: str) -> None:
         step = next(step for step in data_of(page)["steps"] if step["told"] == "step 115")
         if status or not step["did"].endswith(due) or said not in messages or not said and messages:
             raise Differs(f"tools/step of a run, {words}: status {status}, {step['did']!r}, {messages!r}")
-    with open(liar, "w") as file:
-        file.write(f'#!/bin/sh\n"{program}" "$@" | sed "s/ out 0x0/ out 0x1/"\n')
-    os.chmod(liar, 0o755)
-    output, messages, status = stepped(liar, path, "200", "1", "--from", "190")
+    output, messages, status = stepped(liar(program, place, "s/ out 0x0/ out 0x1/"), path, "200", "1", "--from", "190")
     if status != 2 or output or "has other lines than the program" not in messages:
         raise Differs(f"tools/step of a program that differs from the reference: status {status}, {messages!r}")
 
@@ -149,7 +138,7 @@ def hostile(program: str) -> None:
                (("-",), b"boot 16 1\n" + b"raise 1\n" * 3001, "a page has at most"), (("-", "10"), b"", "both needed"))
     for words, text, due in refused:
         output, messages, status = stepped(program, *words, text=text)
-        if status != 2 or output or due not in messages or "Traceback" in messages:
+        if status != 2 or output or due not in messages:
             raise Differs(f"tools/step {' '.join(words)} of {text[:20]!r}: status {status}, {messages[-300:]!r}")
     page, messages, status = stepped(program, "-", text=b"# </script><img src=x>\nboot 16 1\n# \xff\nld 0 0\n<b>\n")
     data = data_of(page)
@@ -163,18 +152,16 @@ def hostile(program: str) -> None:
 # The teacher's loop
 
 def teachers_loop(program: str) -> None:
-    """The loop of docs/TEACHING.md makes a page of each chapter and of no answer, and leaves nothing in the checkout.
-    """
-    text = examples.contents(os.path.join(REPOSITORY, "docs", "TEACHING.md")).decode()
+    """The loop of docs/TEACHING.md makes a page of each chapter, and leaves nothing in the checkout."""
+    text = text_of("docs/TEACHING.md")
     commands = [line.strip() for line in text.splitlines() if line.startswith("      ") and "PAGES" in line]
     folders = (REPOSITORY, os.path.join(REPOSITORY, "examples", "tutorial"))
     before = [sorted(os.listdir(folder)) for folder in folders]
     with tempfile.TemporaryDirectory() as place:
         done = subprocess.run(["sh", "-c", "\n".join(commands)], cwd=REPOSITORY, timeout=SECONDS,
-                              stderr=subprocess.PIPE,
-                              env=dict(os.environ, PIP=program, PAGES=place))
+                              stderr=subprocess.PIPE, env=dict(os.environ, PIP=program, PAGES=place))
         made = sorted(os.listdir(place))
-        is_page = all(examples.contents(os.path.join(place, name)).startswith(b"<!doctype html>") for name in made)
+        is_page = all(contents(os.path.join(place, name)).startswith(b"<!doctype html>") for name in made)
     due = [os.path.basename(path)[:-4] + ".html" for path in sorted(glob.glob(os.path.join(folders[1], "[0-9]*.pip")))
            if "answer" not in path]
     if done.returncode or made != due or len(due) < 10 or not is_page:
@@ -219,17 +206,15 @@ def in_browser(program: str) -> None:
     if not browser.found():
         raise Skipped("no Chromium")
     with tempfile.TemporaryDirectory() as place:
-        path = os.path.join(place, "page.html")
-        with open(path, "w", encoding="utf-8") as file:
-            file.write(stepped(program, os.path.join(REPOSITORY, "examples", "tutorial", "07_grandchild.pip"))[0])
+        script_shown = os.path.join(REPOSITORY, "examples", "tutorial", "07_grandchild.pip")
+        path = write(stepped(program, script_shown)[0], place, "page.html")
         try:
             with browser.Browser() as shown:
                 keys(shown, "file://" + path)
                 frames(shown)
                 focus(shown)
                 sizes(shown)
-                with open(path, "w", encoding="utf-8") as file:
-                    file.write(page_of_a_run(program, place))
+                write(page_of_a_run(program, place), path)
                 of_a_run(shown, "file://" + path)
                 sizes(shown)
         except browser.Failed as failed:
@@ -266,7 +251,7 @@ def keys(shown: browser.Browser, address: str) -> None:
         raise Differs("tools/step in a browser: the grid doesn't have 64 frames")
 
 
-def text_of(shown: browser.Browser, selector: str) -> str:
+def text_at(shown: browser.Browser, selector: str) -> str:
     return str(shown.value(f"document.querySelector('{selector}').textContent"))
 
 
@@ -275,7 +260,7 @@ def frames(shown: browser.Browser) -> None:
     for key in ["Home"] + ["ArrowRight"] * 2:
         shown.key(key)
     shown.value("document.querySelector('#grid [data-focus=\"frame 18\"]').click()")
-    told = text_of(shown, "#frame-of"), text_of(shown, "#words .now"), text_of(shown, "#changed")
+    told = text_at(shown, "#frame-of"), text_at(shown, "#words .now"), text_at(shown, "#changed")
     if told != ("Words of frame 18: a page that is nobody's configuration of partition 1", "00407000",
                 "frame 18, word 0 (0x00406000 of partition 1): 0x00000000 \u2192 0x00407000"):
         raise Differs(f"tools/step in a browser: frame 18 after a store is {told}")
@@ -301,19 +286,17 @@ def focus(shown: browser.Browser) -> None:
 
 
 def page_of_a_run(program: str, place: str) -> str:
-    source, path = os.path.join(REPOSITORY, "examples", "monitor.s"), os.path.join(place, "monitor.img")
-    with open(path, "wb") as file:
-        file.write(run([program, "asm"], examples.contents(source))[0])
-    return stepped(program, path, "140", "1", "--source", source)[0]
+    source = os.path.join(REPOSITORY, "examples", "monitor.s")
+    return stepped(program, built_of(program, source, place, "monitor.img"), "140", "1", "--source", source)[0]
 
 
 def of_a_run(shown: browser.Browser, address: str) -> None:
     """The page of a run says what ran, where, with the registers that changed; `l` goes to the next line."""
     shown.open("about:blank")
     shown.open(address + "#117")
-    told = [text_of(shown, selector) for selector in ("#place", "#told", "#answer", "#changed")]
+    told = [text_at(shown, selector) for selector in ("#place", "#told", "#answer", "#changed")]
     told += [shown.value("[...document.querySelectorAll('.registers .now')].map(x => x.textContent).join()"),
-             text_of(shown, ".note")[:31]]
+             text_at(shown, ".note")[:31]]
     due = ["step 115", "processor 0, partition 1, 0x00400044 next_turn+2: stw r8 r15 0", "no line",
            "processor 0: pc = 0x00400048frame 13, word 0 (0x00401000 of partition 1): 0x00401004 \u2192 0x0040100c",
            "pc\u00a0\u00a00x00400048",
@@ -321,14 +304,12 @@ def of_a_run(shown: browser.Browser, address: str) -> None:
     if told != due:
         raise Differs(f"tools/step in a browser, of a run: {told}, where {due} is due")
     shown.key("l")
-    if "call 8 is yield(target the child at 0x00410000, vector 63, save nowhere)" not in text_of(shown, "#meaning"):
-        raise Differs(f"tools/step in a browser, of a run: the meaning is {text_of(shown, '#meaning')!r}")
+    if "call 8 is yield(target the child at 0x00410000, vector 63, save nowhere)" not in text_at(shown, "#meaning"):
+        raise Differs(f"tools/step in a browser, of a run: the meaning is {text_at(shown, '#meaning')!r}")
 
 
 def sizes(shown: browser.Browser) -> None:
-    """Nothing passes the right edge, at two widths, in light and dark; texts can be read; the scripts run without an
-    error.
-    """
+    """Nothing passes the right edge, at two widths; texts can be read, light and dark; no script has an error."""
     for width in (1280, 400):
         for dark in (False, True):
             shown.size(width, 900)

@@ -9,16 +9,15 @@ from concurrent.futures import ThreadPoolExecutor
 
 from ..bench.run import plain_program
 from ..reference import generate
-from .examples import contents
 from .exporting import need_cargo
-from .running import REPOSITORY, expect, run
+from .running import REPOSITORY, contents, expect, run
 
 CASES = 20               # of each command
 FIRST_SEED = 700_000     # no other check has these
 Work = tuple[list[str], bytes]
 # What is made of the image of each program of examples/
 OF_IMAGES = (["dis"], ["run", "3000", "7"], ["tree", "1500", "1"], ["core", "1500", "1"], ["every", "300"],
-             ["native", "2", "2000"], ["slots", "2", "5", "100"])
+             ["native", "2", "2000"], ["slots", "2", "5", "100"], ["apart", "300", "1500", "1"])
 
 
 def plain(program: str) -> None:

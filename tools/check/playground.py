@@ -20,7 +20,7 @@ from ..authors import why
 from ..reference import generate
 from . import pages
 from .exporting import SECONDS, need_cargo
-from .running import REPOSITORY, Differs, Skipped, expect, part
+from .running import REPOSITORY, Differs, Skipped, contents, expect, part, text_of, write
 
 PLAYGROUND = os.path.join(REPOSITORY, "tools", "playground")
 CASES = 20               # of each command
@@ -55,8 +55,7 @@ def made() -> str:
     path = os.path.join(place, "pip.wasm")
     make(path)
     done = subprocess.run([sys.executable, "-B", os.path.join(PLAYGROUND, "make_page"), "--module", path, "--to",
-                           page_of(path)],
-                          stdout=subprocess.PIPE, stderr=subprocess.STDOUT)
+                           page_of(path)], stdout=subprocess.PIPE, stderr=subprocess.STDOUT)
     if done.returncode:
         raise Differs(f"the page isn't made: {done.stdout.decode('utf-8', 'replace')}")
     if (size := os.path.getsize(page_of(path))) > MOST_BYTES:
@@ -82,11 +81,7 @@ def make(path: str) -> None:
 
 
 def examples() -> list[tuple[list[str], bytes]]:
-    found = []
-    for path in sorted(glob.glob(os.path.join(REPOSITORY, "examples", "**", "*.pip"), recursive=True)):
-        with open(path, "rb") as file:
-            found.append((["script"], file.read()))
-    return found
+    return [(["script"], contents(path)) for path in scripts()]
 
 
 def cases() -> list[tuple[list[str], bytes]]:
@@ -135,9 +130,8 @@ def same_states(given: tuple[str, str, str]) -> str:
     if due is None:
         return f"tools/step {name}: {messages}"
     count = sum(1 for step in due["steps"] if not step["answer"].startswith("bad line"))
-    with open(script, "rb") as file:
-        told = run(["node", os.path.join(PLAYGROUND, "states.mjs"), path, str(max(count, 1))],
-                   file.read())[0].splitlines()
+    told = run(["node", os.path.join(PLAYGROUND, "states.mjs"), path, str(max(count, 1))],
+               contents(script))[0].splitlines()
     if len(told) != count:
         return f"the page of {name} has {len(told)} states, where {count} are due"
     found = (differs(json.loads(line), due, k) for k, line in enumerate(told))
@@ -174,10 +168,7 @@ def reasons(program: str) -> None:
 
 def refused_as(program: str, kind: str, texts: list[bytes], least: int) -> None:
     with tempfile.TemporaryDirectory() as place:
-        files = [os.path.join(place, str(k)) for k in range(len(texts))]
-        for name, text in zip(files, texts):
-            with open(name, "wb") as file:
-                file.write(text)
+        files = [write(text, place, str(k)) for k, text in enumerate(texts)]
         told = run(["node", os.path.join(PLAYGROUND, "why.mjs"), made(), facts(), kind, *files], b"")[0].splitlines()
     if len(told) != len(texts):
         raise Differs(f"the page explains {len(told)} texts of {len(texts)}")
@@ -189,10 +180,8 @@ def refused_as(program: str, kind: str, texts: list[bytes], least: int) -> None:
 @functools.lru_cache(maxsize=None)
 def facts() -> str:
     """The path of what the page knows."""
-    path = os.path.join(os.path.dirname(made()), "facts")
-    with open(page_of(made()), encoding="utf-8") as file, open(path, "w", encoding="utf-8") as known:
-        known.write(part('id="documents">(.*?)</script>', file.read()))
-    return path
+    known = part('id="documents">(.*?)</script>', text_of(page_of(made())))
+    return write(known, os.path.dirname(made()), "facts")
 
 
 BAD_LINES = (b"ld 0 0\r", b" ld 0 0", b"ld 0  0", b"ld 0 0 ", b"ld\t0 0", b"ld 0 0 # here", b"LD 0 0", b"ld 0 0X1F",

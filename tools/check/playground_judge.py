@@ -11,8 +11,8 @@ from concurrent.futures import ThreadPoolExecutor
 from ..authors import asmx
 from ..exercises import exercise, judging
 from ..judge import building
-from . import cheats, examples, playground
-from .running import Differs
+from . import cheats, playground
+from .running import Differs, contents
 
 SECONDS = 900
 SEED, SECRET = "ada", "5eed"
@@ -71,5 +71,5 @@ def request(act: str, name: str, seed: str, text: bytes) -> bytes:
 
 def plain(path: str, is_program: bool) -> bytes:
     if not is_program:
-        return examples.contents(path)
+        return contents(path)
     return "".join(line + "\n" for _, line in asmx.processed(path)[0]).encode()

@@ -12,7 +12,7 @@ import tempfile
 from typing import Any
 
 from . import pages, playground
-from .running import REPOSITORY, Differs
+from .running import REPOSITORY, Differs, contents, write
 
 STEPS = 24               # of each window
 MOST_WITH_LINES = 6000   # steps among which windows are
@@ -36,12 +36,9 @@ def sources() -> list[str]:
 def same_states(given: tuple[str, str, str, str, int]) -> str:
     """What differs, in a sentence; nothing where all is the same."""
     program, path, facts, source, seed = given
-    with open(source, "rb") as file:
-        text = file.read()
+    text = contents(source)
     with tempfile.TemporaryDirectory() as place:
-        image = os.path.join(place, "image")
-        with open(image, "wb") as file:
-            file.write(playground.run([program, "asm"], text)[0])
+        image = write(playground.run([program, "asm"], text)[0], place, "image")
         for first in windows(program, image, seed):
             page, messages, status = pages.stepped(program, image, str(first + STEPS), str(seed), "--source", source,
                                                    "--from", str(first), "--jobs", "1")
@@ -55,9 +52,8 @@ def same_states(given: tuple[str, str, str, str, int]) -> str:
 
 def windows(program: str, image: str, seed: int) -> list[int]:
     """Where windows begin: at the beginning, and before some of the lines of the run."""
-    with open(image, "rb") as file:
-        lines = playground.run([program, "run", str(MOST_WITH_LINES), str(seed)],
-                               file.read())[0].decode().splitlines()[1:-1]
+    told, _ = playground.run([program, "run", str(MOST_WITH_LINES), str(seed)], contents(image))
+    lines = told.decode().splitlines()[1:-1]
     steps = [int(line.split(" ")[0]) for line in lines]
     chosen = [steps[k * len(steps) // WINDOWS] for k in range(1, WINDOWS)] if steps else []
     return sorted({0, *(max(0, step - STEPS // 2) for step in chosen)})

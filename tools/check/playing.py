@@ -13,8 +13,8 @@ from collections.abc import Iterator
 from typing import Any
 
 from ..common import meanings
-from . import browser, cheats, examples, pages, playground
-from .running import REPOSITORY, Differs, Skipped
+from . import browser, cheats, pages, playground
+from .running import REPOSITORY, Differs, Skipped, contents
 
 SECONDS = 60
 PAUSE = 0.02
@@ -71,8 +71,7 @@ def loads_nothing(path: str) -> None:
     """But for the texts that it shows, the page names no other place. That the check sees what does is tried on planted
     faults.
     """
-    with open(path, encoding="utf-8") as file:
-        page = file.read()
+    page = contents(path).decode()
     for fault in PLANTED:
         must_load(fault, page.replace("</body>", fault + "</body>"))
     for fault in PLANTED_IN_WORKER:
@@ -197,9 +196,8 @@ def meanings_of_answers(shown: browser.Browser) -> None:
 
 
 def answered(script: str) -> Iterator[tuple[str, str]]:
-    with open(script, encoding="utf-8") as file, open(script[:-len("pip")] + "out", encoding="utf-8") as answers:
-        return zip([line for line in file.read().split("\n") if line and not line.startswith("#")],
-                   answers.read().splitlines())
+    lines = [line for line in contents(script).decode().split("\n") if line and not line.startswith("#")]
+    return zip(lines, contents(script[:-len("pip")] + "out").decode().splitlines())
 
 
 def bad_line(shown: browser.Browser) -> None:
@@ -399,7 +397,7 @@ def exercise(shown: browser.Browser) -> None:
     judged(shown, "boot 64 1\n", "document.getElementById('judge').click()", "store: 1 of 5 goals are reached")
     due(shown, "a hint", text_of("#verdict .missing p"),
         "hint: st 0 A W stores the word W at A; the root's pages begin at 0x400000")
-    solution = examples.contents(cheats.solution_of("store")).decode()
+    solution = contents(cheats.solution_of("store")).decode()
     judged(shown, solution,
            "document.getElementById('text').dispatchEvent(new KeyboardEvent('keydown', {key: 'Enter', ctrlKey: true}))",
            "store: 5 of 5 goals are reached")
@@ -416,7 +414,7 @@ def exercise(shown: browser.Browser) -> None:
         due(shown, "that a long exercise can be read", "(task => task.scrollWidth <= task.clientWidth && "
             "/Where is the root saved then/.test(task.textContent))(document.getElementById('task'))", True)
     shown.value("document.getElementById('student').value = ''")
-    source = examples.contents(os.path.join(REPOSITORY, "examples", "timer_and_services.s")).decode()
+    source = contents("examples/timer_and_services.s").decode()
     judged(shown, source, "document.getElementById('judge').click()", "no-loss: 5 of 5 goals are reached")
     put(shown, CHILD, 2)
     due(shown, "the verdict of another text", text_of("#verdict"), "")

@@ -7,9 +7,8 @@ import re
 import tempfile
 from collections.abc import Iterator
 
-from .running import REPOSITORY, Differs
+from .running import REPOSITORY, Differs, text_of, write
 from .signatures import Library
-from .sources import write
 
 LIST = os.path.join(os.path.dirname(os.path.abspath(__file__)), "public_calls.txt")
 CRATE = re.compile(r"(\w+):$")
@@ -21,7 +20,7 @@ Entry = tuple[str, str, list[str]]
 def public_calls(program: str) -> None:
     """Each call of the list is as it says. That each kind of change is found is tried first, on planted libraries."""
     with tempfile.TemporaryDirectory() as planted:
-        write(planted, PLACE, PLANTED)
+        write(PLANTED, planted, PLACE)
         due = written(planted, "pip_planted:\n    SIZE\n    Table::find\n    Rows::count\n    look\n")
     if due != LISTED:
         raise Differs(f"a planted library is listed as {due}")
@@ -31,18 +30,14 @@ def public_calls(program: str) -> None:
     for what, (old, new) in SAME.items():
         if changes(old, new):
             raise Differs(f"what is no change of a call is refused: {what}")
-    with open(LIST, encoding="utf-8") as file:
-        found = list(differences(REPOSITORY, file.read()))
+    found = list(differences(REPOSITORY, text_of(LIST)))
     if found:
         raise Differs("; ".join(found))
 
 
 def rewrite() -> None:
     """Writes the list anew: the same calls, as the sources have them. Nothing is written where one isn't public."""
-    with open(LIST, encoding="utf-8") as file:
-        text = written(REPOSITORY, file.read())
-    with open(LIST, "w", encoding="utf-8") as file:
-        file.write(text)
+    write(written(REPOSITORY, text_of(LIST)), LIST)
 
 
 def written(top: str, text: str) -> str:
@@ -92,7 +87,7 @@ def changes(old: str, new: str) -> list[str]:
     if PLANTED.count(old) != 1:
         raise Differs(f"the planted library has {old!r} {PLANTED.count(old)} times")
     with tempfile.TemporaryDirectory() as planted:
-        write(planted, PLACE, PLANTED.replace(old, new))
+        write(PLANTED.replace(old, new), planted, PLACE)
         return list(differences(planted, LISTED))
 
 

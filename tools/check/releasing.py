@@ -10,9 +10,9 @@ import tarfile
 import tempfile
 from typing import Any
 
-from .running import REPOSITORY, Differs, Skipped, expect
+from .exporting import SECONDS, finished
+from .running import REPOSITORY, Differs, Skipped, contents, expect, write, write_program
 
-SECONDS = 900            # on a machine whose processors and disk are busy
 GATE = "#!/bin/sh\ncp {program} crates/pip/out/pip\necho '1 passed, 0 failed'\n"
 # Stands in for the kit, which prints its line, and for the page's module
 RT = "#!/bin/sh\necho a kit\n"
@@ -21,9 +21,7 @@ LEFT_OUT = shutil.ignore_patterns("out", ".git", "__pycache__", "*.log")
 
 
 def works(program: str) -> None:
-    """Makes a release of a copy of the checkout, whose gate is a stand-in, unpacks it elsewhere, and uses it as a
-    reader would.
-    """
+    """Makes a release of a copy of the checkout, whose gate is a stand-in, and uses it elsewhere as a reader would."""
     found_in_path("git")
     found_in_path("cmark-gfm")
     with tempfile.TemporaryDirectory() as place:
@@ -31,7 +29,8 @@ def works(program: str) -> None:
         copied(checkout, program, tools)
         to, environment = os.path.join(place, "to"), dict(os.environ, PATH=tools + os.pathsep + os.environ["PATH"])
         for words in (["--gate"], ["1.0", "--to", to, "--module", os.path.join(place, "module")]):
-            finished([os.path.join(checkout, "tools", "release"), *words], cwd=checkout, env=environment)
+            finished("tools/release", [os.path.join(checkout, "tools", "release"), *words],
+                     {"cwd": checkout, "env": environment})
         with tarfile.open(os.path.join(to, "pip-1.0.tar.gz")) as archive:
             archive.extractall(os.path.join(place, "reader"))
         shutil.rmtree(checkout)
@@ -42,17 +41,12 @@ def copied(checkout: str, program: str, tools: str) -> None:
     """A commit of what is checked out here, beside stand-ins."""
     shutil.copytree(REPOSITORY, checkout, ignore=LEFT_OUT, symlinks=True)
     os.makedirs(os.path.join(checkout, "crates", "pip", "out"))
-    os.mkdir(tools)
     for path, text in ((os.path.join(checkout, ".ci", "run"), GATE.format(program=program)),
                        (os.path.join(tools, "rt"), RT)):
-        os.makedirs(os.path.dirname(path), exist_ok=True)
-        with open(path, "w") as file:
-            file.write(text)
-        os.chmod(path, 0o755)
-    with open(os.path.join(os.path.dirname(checkout), "module"), "wb") as file:
-        file.write(MODULE)
+        write_program(text, path)
+    write(MODULE, os.path.dirname(checkout), "module")
     for words in (["init", "-q"], ["add", "-A"], ["-c", "user.name=a", "-c", "user.email=a@b", "commit", "-qm", "all"]):
-        finished(["git", *words], cwd=checkout)
+        finished("git", ["git", *words], {"cwd": checkout})
 
 
 def used(place: str, tools: str) -> None:
@@ -63,8 +57,8 @@ def used(place: str, tools: str) -> None:
     os.symlink(sys.executable, os.path.join(tools, "python3"))
     os.symlink("/usr/bin/env", os.path.join(tools, "env"))
     settings: dict[str, Any] = {"cwd": place, "env": {"PATH": tools}}
-    with open(os.path.join(place, "examples", "first.out"), "rb") as due:
-        expect("./pip of a release", answered("./pip script < examples/first.pip", settings), (due.read(), 0))
+    due = contents(place, "examples", "first.out")
+    expect("./pip of a release", answered("./pip script < examples/first.pip", settings), (due, 0))
     told, status = answered("tools/exercise store examples/solutions/store.pip", settings)
     if status:
         raise Differs(f"tools/exercise of a release ends with {status}: {told!r}")
@@ -86,11 +80,3 @@ def answered(command: str, settings: dict[str, Any]) -> tuple[bytes, int]:
     done = subprocess.run(["sh", "-c", command], stdin=subprocess.DEVNULL, stdout=subprocess.PIPE, timeout=SECONDS,
                           **settings)
     return done.stdout, done.returncode
-
-
-def finished(words: list[str], **settings: Any) -> None:
-    done = subprocess.run(words, stdin=subprocess.DEVNULL, stdout=subprocess.PIPE, stderr=subprocess.STDOUT,
-                          timeout=SECONDS, **settings)
-    if done.returncode:
-        told = done.stdout.decode("utf-8", "replace")[-2000:]
-        raise Differs(f"{' '.join(words)} ends with {done.returncode}: {told}")

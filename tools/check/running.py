@@ -5,6 +5,7 @@ from __future__ import annotations
 import os
 import re
 import subprocess
+import sys
 from collections.abc import Callable, Sequence
 from typing import Any
 
@@ -12,6 +13,31 @@ REPOSITORY = os.path.dirname(os.path.dirname(os.path.dirname(os.path.abspath(__f
 Output = tuple[bytes, int]           # what a program writes to standard output, and its status
 Check = Callable[[str], None]        # is given the program's path, and raises Differs or Skipped
 SECONDS = 300            # no run of a check takes that long, even on a machine whose processors are busy
+
+
+def contents(*parts: str) -> bytes:
+    """The bytes of a file, by its path from the top of the repository, or by its whole path."""
+    with open(os.path.join(REPOSITORY, *parts), "rb") as file:
+        return file.read()
+
+
+def text_of(*parts: str) -> str:
+    return contents(*parts).decode()
+
+
+def write(content: str | bytes, *parts: str) -> str:
+    """Writes a file, in a folder that is made where there is none, and answers its path."""
+    path = os.path.join(*parts)
+    os.makedirs(os.path.dirname(path), exist_ok=True)
+    with open(path, "wb") as file:
+        file.write(content if isinstance(content, bytes) else content.encode())
+    return path
+
+
+def write_program(content: str, *parts: str) -> str:
+    path = write(content, *parts)
+    os.chmod(path, 0o755)
+    return path
 
 
 class Differs(Exception):
@@ -30,6 +56,20 @@ def run(command: Sequence[str | bytes], text: bytes = b"", **streams: Any) -> Ou
     streams.setdefault("cwd", REPOSITORY)
     done = subprocess.run(command, timeout=SECONDS, **streams)
     return done.stdout, done.returncode
+
+
+def tool(program: str, name: str, *words: str, text: bytes = b"") -> tuple[str, str, int]:
+    """Output, messages and status of a tool that needs a program."""
+    return told_by(name, *words, "--program", program, text=text)
+
+
+def told_by(name: str, *words: str, text: bytes = b"") -> tuple[str, str, int]:
+    command = [sys.executable, "-B", os.path.join(REPOSITORY, "tools", name), *words]
+    done = subprocess.run(command, input=text, timeout=SECONDS, stdout=subprocess.PIPE, stderr=subprocess.PIPE)
+    messages = done.stderr.decode()
+    if "Traceback" in messages:
+        raise Differs(f"tools/{name} {' '.join(words)}: {messages[-400:]}")
+    return done.stdout.decode("utf-8", "replace"), messages, done.returncode
 
 
 def expect(what: str, got: tuple[bytes | None, int], wanted: tuple[bytes | None, int]) -> None:

@@ -13,10 +13,8 @@ import tempfile
 import termios
 import time
 
-from . import examples
-from .authors import tool
 from .checkout import heed_interrupts
-from .running import REPOSITORY, SECONDS, Differs, run
+from .running import REPOSITORY, SECONDS, Differs, contents, run, text_of, tool
 
 SHELL = os.path.join(REPOSITORY, "tools", "shell")
 
@@ -41,8 +39,7 @@ def through_a_pipe(program: str) -> None:
 
 
 def session_of_the_page(program: str) -> None:
-    page = examples.contents(os.path.join(REPOSITORY, "tools",
-                                          "README.md")).decode().split("## shell\n")[1].split("\n## ")[0]
+    page = text_of("tools/README.md").split("## shell\n")[1].split("\n## ")[0]
     shown = [line[4:] for line in page.splitlines() if line.startswith("    ")][1:]
     typed = [line[5:] for line in shown if line.startswith("pip> ")]
     expect("as tools/README.md has it", says(program, "\n".join(typed) + "\n"),
@@ -62,16 +59,11 @@ def costs_nothing(program: str) -> None:
            "boot 64 1\ndone\ntaken back: st 0 0x400000 7\n0x00000000\n")
     expect("undo of two lines", says(program, begun + "# a\nundo 2\nlist\nundo\n").splitlines()[-4:][1:],
            ["taken back: st 0 0x400000 7", "no line yet", "there is no line to take back"])
-    tree = says(program,
-                examples.contents(os.path.join(REPOSITORY, "examples", "tutorial", "07_grandchild.pip")).decode()
-                + "tree\naudit\n").splitlines()
+    tree = says(program, text_of("examples/tutorial/07_grandchild.pip") + "tree\naudit\n").splitlines()
     expect("tree and audit", [re.sub(r"\d+ pages, \d+ of them free", "N pages", line) for line in tree[-4:]],
            ["partition 1, the root: N pages, runs on processor 0", "  partition 13, at 0x00401000 of 1: N pages",
-            "    partition 22, at 0xffc0a000 of 13: N pages",
-            tree[-1]])
-    entered = says(program,
-                   examples.contents(os.path.join(REPOSITORY, "examples", "solutions", "enter.pip")).decode()
-                   + "tree\n").splitlines()
+            "    partition 22, at 0xffc0a000 of 13: N pages", tree[-1]])
+    entered = says(program, text_of("examples/solutions/enter.pip") + "tree\n").splitlines()
     expect("what runs", ["runs on processor 0" in line for line in entered[-2:]], [False, True])
     if not tree[-1].startswith("yes    # 3 partitions"):
         raise Differs(f"tools/shell, audit: {tree[-1]!r}")
@@ -82,7 +74,7 @@ def keeps_files(program: str) -> None:
         path, bad = os.path.join(place, "kept.pip"), os.path.join(REPOSITORY, "examples", "bad_line.pip")
         text = "boot 64 1\n# a remark\n\nst 0 0x400000 7\n"
         says(program, f"{text}ld 0 00\nsave {path}\n")
-        expect("what is saved", examples.contents(path).decode(), text)
+        expect("what is saved", text_of(path), text)
         expect("what is loaded", says(program, f"boot 16 1\nload {path}\nld 0 0x400000\n").splitlines()[1:],
                ["4 lines; the last answer: done", "0x00000007"])
         expect("what is loaded at first", says(program, "ld 0 0x400000\n", path).splitlines()[1:], ["0x00000007"])
@@ -100,7 +92,7 @@ def keeps_files(program: str) -> None:
 def each_example(program: str) -> None:
     """Each answer of an example begins with what the program answers."""
     for name in ("first", "deleted_subtree", "translation_caches", "forged_interrupts"):
-        text = examples.contents(os.path.join(REPOSITORY, "examples", name + ".pip"))
+        text = contents("examples", name + ".pip")
         told = [line.split("    # ")[0] for line in says(program, text.decode()).splitlines()]
         expect(f"the answers of {name}.pip", "\n".join(told), run([program, "script"], text)[0].decode().rstrip("\n"))
 
@@ -109,8 +101,7 @@ def on_a_terminal(program: str) -> None:
     """A prompt, the arrow keys, and Ctrl-C that gives up a line and no more."""
     outer, inner = pty.openpty()
     begun = subprocess.Popen([sys.executable, "-B", SHELL, "--program", program], stdin=inner, stdout=inner,
-                             stderr=inner,
-                             start_new_session=True, preexec_fn=lambda: take_terminal(inner),
+                             stderr=inner, start_new_session=True, preexec_fn=lambda: take_terminal(inner),
                              env=dict(os.environ, TERM="dumb"))
     os.close(inner)
     try:

@@ -7,17 +7,17 @@ import re
 import tempfile
 from collections.abc import Iterator
 
-from .running import REPOSITORY, Differs
+from .running import REPOSITORY, Differs, text_of, write
 
 IMPORT = re.compile(r"^\s*ghost use [^{\n]*\{([^}\n]*)\};$")
 
 
 def ghost_imports(program: str) -> None:
-    """Each name that a clause's import brings is used in its file. That the check finds one is tried on a planted file.
-    """
+    """Each name that a clause's import brings is used in its file. A planted file is tried first."""
     with tempfile.TemporaryDirectory() as planted:
-        write(planted, "crates/pip_planted/src/lib.rt", "ghost use Rattle.std.specs.Prelude.{◌≡◌, ◌<◌, length};\n"
-              "fn same(a: u32) -> u32\n    ensures { result ≡ a } // length\n{\n    a\n}\n")
+        write("ghost use Rattle.std.specs.Prelude.{◌≡◌, ◌<◌, length};\n"
+              "fn same(a: u32) -> u32\n    ensures { result ≡ a } // length\n{\n    a\n}\n",
+              planted, "crates/pip_planted/src/lib.rt")
         if [name for _, name in imports_in_vain(planted)] != ["◌<◌", "length"]:
             raise Differs("planted imports aren't found")
     found = [f"{path}: {name}" for path, name in imports_in_vain(REPOSITORY)]
@@ -61,12 +61,4 @@ def texts(top: str, parts: tuple[str, ...], ending: str) -> Iterator[tuple[str, 
                 for name in sorted(names):
                     if name.endswith(ending):
                         path = os.path.join(folder, name)
-                        with open(path, encoding="utf-8") as file:
-                            yield crate, os.path.relpath(path, top), file.read()
-
-
-def write(top: str, name: str, text: str) -> None:
-    path = os.path.join(top, name)
-    os.makedirs(os.path.dirname(path), exist_ok=True)
-    with open(path, "w", encoding="utf-8") as file:
-        file.write(text)
+                        yield crate, os.path.relpath(path, top), text_of(path)

@@ -14,8 +14,7 @@ from .running import REPOSITORY, Check, Differs, Skipped
 
 
 CASES = {"script": 400, "asm": 200, "dis": 200, "run": 200, "tree": 100, "core": 100, "soak": 200, "native": 200,
-         "slots": 200, "audit": 200,
-         "every": 500}
+         "slots": 200, "audit": 200, "every": 500, "against": 500, "apart": 300}
 
 
 def unit_tests(program: str) -> None:

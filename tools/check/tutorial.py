@@ -8,8 +8,8 @@ import re
 import sys
 import tempfile
 
-from .examples import contents, script_gives
-from .running import REPOSITORY, Differs, expect, run
+from .examples import script_gives
+from .running import REPOSITORY, Differs, expect, run, text_of, write_program
 
 FOLDER = "examples/tutorial/"
 
@@ -23,11 +23,8 @@ def sessions(program: str) -> None:
     for name in files(".pip"):
         script_gives(program, os.path.join(REPOSITORY, name))
     with tempfile.TemporaryDirectory() as place:
-        reference = os.path.join(place, "reference")
-        with open(reference, "w") as file:
-            told = os.path.join(REPOSITORY, "tools", "reference", "program.py")
-            file.write(f'#!/bin/sh\nexec "{sys.executable}" -B "{told}" "$@"\n')
-        os.chmod(reference, 0o755)
+        told = os.path.join(REPOSITORY, "tools", "reference", "program.py")
+        reference = write_program(f'#!/bin/sh\nexec "{sys.executable}" -B "{told}" "$@"\n', place, "reference")
         for name in files(".session"):
             for pip, by in (reference, ", by the reference"), (program, ""):
                 commands_give(name, pip, by)
@@ -39,7 +36,7 @@ def commands_give(name: str, pip: str, by: str) -> None:
         for folder in ("examples", "tools"):
             os.symlink(os.path.join(REPOSITORY, folder), os.path.join(place, folder))
         os.symlink(pip, os.path.join(place, "pip"))
-        first, *commands = ("\n" + text(name)).split("\n$ ")
+        first, *commands = ("\n" + text_of(name)).split("\n$ ")
         if first or not commands:
             raise Differs(f"{name} doesn't begin with a command")
         for command in commands:
@@ -49,10 +46,8 @@ def commands_give(name: str, pip: str, by: str) -> None:
 
 
 def blocks(program: str) -> None:
-    """Each block of the tutorial is the file that it names, or a part of it, and the tutorial shows or links each of
-    its files.
-    """
-    tutorial = text("docs/TUTORIAL.md")
+    """Each block of the tutorial is the file that it names, or a part of it, and all files are shown or linked."""
+    tutorial = text_of("docs/TUTORIAL.md")
     found = BLOCK.findall(tutorial)
     if 2 * len(found) != len(re.findall("^```", tutorial, re.M)):
         raise Differs("docs/TUTORIAL.md: a block doesn't name its file in the line above")
@@ -80,17 +75,13 @@ def in_file(name: str, shown: str) -> list[tuple[str, str]]:
 
 def with_answers(name: str) -> list[tuple[str, str]]:
     """The lines of a file, each with its answer in a script."""
-    lines = text(name).splitlines()
+    lines = text_of(name).splitlines()
     if not name.endswith(".pip"):
         return [(line, "") for line in lines]
-    told = iter(text(name[:-len("pip")] + "out").splitlines())
+    told = iter(text_of(name[:-len("pip")] + "out").splitlines())
     return [(line, "" if not line or line.startswith("#") else next(told, "")) for line in lines]
 
 
 def files(ending: str) -> list[str]:
     paths = glob.glob(os.path.join(REPOSITORY, FOLDER, "*" + ending))
     return sorted(os.path.relpath(path, REPOSITORY) for path in paths)
-
-
-def text(name: str) -> str:
-    return contents(os.path.join(REPOSITORY, name)).decode()

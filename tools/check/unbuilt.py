@@ -8,7 +8,7 @@ import subprocess
 import sys
 import tempfile
 
-from .running import REPOSITORY, SECONDS, Differs, expect
+from .running import REPOSITORY, SECONDS, Differs, expect, write_program
 
 FOLDERS = ("tools", "examples", "docs")
 FILES = ("pip", "crates.txt", "README.md", "crates/pip_commands/src/top.rt")
@@ -30,11 +30,7 @@ def nothing_is_proved(program: str) -> None:
         for name in FILES:
             os.makedirs(os.path.dirname(os.path.join(place, name)), exist_ok=True)
             shutil.copy(os.path.join(REPOSITORY, name), os.path.join(place, name))
-        os.mkdir(os.path.join(place, "bin"))
-        prover = os.path.join(place, "bin", "rt")
-        with open(prover, "w") as file:
-            file.write(RT)
-        os.chmod(prover, 0o755)
+        write_program(RT, place, "bin", "rt")
         for name, *words in TOOLS:
             for option, due in (((), "no program is here, as new as the sources: "),
                                 (("--unproved",), "no program that cargo built is here")):

@@ -15,24 +15,10 @@ import time
 from collections.abc import Sequence
 from typing import IO
 
+from ..common import forms
 from .checkout import SOURCES, Checkout, Ended
-from .running import SECONDS, Differs, Skipped, expect as expect_output, part, run
+from .running import SECONDS, Differs, Skipped, contents, expect as expect_output, part, run, text_of
 
-WRONG = ((), ("help",), ("--help", "script"), ("script", "x"), ("run", "06", "1"), ("run", "1", "0"),
-         ("run", "0x", "1"),
-         ("run", "10000001", "1"), ("tree", "1", "4294967296"), ("core", "1", "99999999999"), ("soak", "1000001", "1"),
-         ("native", "1"), ("native", "0", "1"), ("native", "9", "1"), ("native", "1", "10000001"),
-         ("slots", "1", "1"), ("slots", "9", "1", "1"), ("slots", "1", "9999999", "1"), ("slots", "8", "8", "125001"),
-         ("slots", "2", "1", "2:0"), ("slots", "1", "1", "0:9999999"), ("slots", "1", "1", "0:1", "1"),
-         ("slots", "1", "1", "0:01"), ("slots", "1", "0", *65 * ("0:0",)),
-         ("audit",), ("audit", "15"), ("audit", "4097"), ("audit", "016"), ("audit", "16", "1"),
-         ("every",), ("every", "0"), ("every", "1", ""), ("every", "1", "10000001"), ("every", "1", "0", "0"),
-         ("every", "1", "0", "1", "1"),
-         ("run", "0x123456789", "1"), ("run", "1"), ("dis", ""), ("script:1",), ("run", "-1", "1"), ("run", "1", "0xA"))
-RIGHT = (("script",), ("run", "0", "1"), ("run", "0x989680", "4294967295"), ("soak", "1000000", "0xffffffff"),
-         ("native", "0x8", "10000000"), ("slots", "8", "8", "125000"), ("slots", "2", "5", "0:48", "1:0x5"),
-         ("audit", "16"), ("audit", "0x1000"),
-         ("every", "1"), ("every", "0x5f5e100", "0"), ("every", "1", "10000000", "10000000"))
 BUILDS = "proving and building pip; this takes a quarter of an hour or more, and what the prover says goes into "
 BY_CARGO = "building pip of its export by cargo; this takes about a minute, and what cargo says goes into "
 OF_CARGO = "unproved: cargo built this program of the same text, and nothing is proved of it\n"
@@ -50,6 +36,7 @@ EXPLAINED = ((("script", "crates.txt"), "pip reads standard input: ./pip script 
              (("slots", "1", "2", "0:4999999"),
               "a round has at most 10000000 / ROUNDS steps, TURNS + 2 for each slot\n"),
              (("slots", "2", "2", "0:1", "2:1"), "K is at most 1\n"),
+             (("apart", "1", "5", "0"), "SEED is at least 1\n"),
              (("evry",), "evry: did you mean every?\n"),
              (("--unprovd", "script"), "--unprovd: did you mean --unproved?\n"),
              (("[a-z]*",), "[a-z]*: there is no such command\n./pip script < FILE "), ((), "./pip script < FILE "))
@@ -92,9 +79,8 @@ def wrapper(program: str) -> None:
 
 def builds_when_needed(checkout: Checkout) -> None:
     expect_built("the first time", checkout.run("script"))
-    with open(checkout.path("build.log")) as log:
-        if "the prover's log" not in log.read():
-            raise Differs("./pip: the log isn't in build.log")
+    if "the prover's log" not in text_of(checkout.path("build.log")):
+        raise Differs("./pip: the log isn't in build.log")
     expect("built", checkout.run("run", "0", "1"), ("ran run 0 1\n", "", 7, 0))
     for name in SOURCES:
         checkout.age(2000)
@@ -185,8 +171,7 @@ def is_ended(checkout: Checkout) -> None:
     """A signal to ./pip alone ends what builds, too."""
     begun = checkout.begin("script", SECONDS_LONG="100")
     wait_for(checkout)
-    with open(checkout.path("build.log")) as log:
-        builder = part(r"log of build (\d+)", log.read())
+    builder = part(r"log of build (\d+)", text_of(checkout.path("build.log")))
     begun.terminate()
     expect("ended", checkout.ended(begun)[2], 143)
     if os.path.exists("/proc/" + builder):
@@ -243,8 +228,7 @@ def says_what_a_status_means(checkout: Checkout) -> None:
     expect("status 2, without a terminal", checkout.run("script", STATUS="2")[:3], ("bad line 5 operand\n", "", 2))
     with open(checkout.path("image"), "wb") as image:
         expect("status 2, into a file", beside_terminal(checkout, image, 2), (2, "status 2: bad line 5 operand\n"))
-    with open(checkout.path("image"), "rb") as image:
-        expect("what is in the file", image.read(), b"bad line 5 operand\n")
+    expect("what is in the file", contents(checkout.path("image")), b"bad line 5 operand\n")
     expect("status 2, into a pipe", beside_terminal(checkout, subprocess.PIPE, 2),
            (2, "status 2: the input is bad, and the last line of the output says where\n"))
     expect("status 0", beside_terminal(checkout, subprocess.PIPE, 0), (0, ""))
@@ -306,9 +290,7 @@ def says_what_is_built(checkout: Checkout) -> None:
 
 
 def of_an_unproved_release(checkout: Checkout) -> None:
-    """Where a release says that it is unproved, its program runs without a word, with neither kit nor cargo, and says
-    so.
-    """
+    """A release that says that it is unproved runs its program with neither kit nor cargo, and says so."""
     checkout.run("--unproved", "script")
     checkout.write("UNPROVED", "")
     os.remove(checkout.path("bin/rt"))
@@ -339,7 +321,7 @@ def wait_for(checkout: Checkout) -> None:
 
 def answers_wrong_words(checkout: Checkout, program: str) -> None:
     """Wrong words need no build, and are answered as the program answers them."""
-    for words in WRONG:
+    for words in map(forms.words, forms.WRONG):
         told = run([program, *words])
         output, messages, status, builds = checkout.run(*words)
         expect(f"not built, with {words}", (bool(messages), builds), (True, 0))
@@ -347,7 +329,7 @@ def answers_wrong_words(checkout: Checkout, program: str) -> None:
     with open("/dev/full", "wb") as full:
         status = subprocess.run([checkout.path("pip")], stdout=full, stderr=subprocess.DEVNULL).returncode
     expect("wrong words, and a full device", status, 4)
-    for words in RIGHT:
+    for words in map(forms.words, forms.RIGHT):
         checkout.touch("crates.txt")
         expect(f"not built, with {words}", checkout.run(*words)[2:], (7, 1))
 

@@ -119,9 +119,7 @@ def number(text: str, least: int, most: int, what: str) -> int:
 
 
 def guarded(tool: str, work: Callable[[], int | None]) -> NoReturn:
-    """Runs a tool: a failure is one line on standard error and status 2, also a full device; a closed pipe ends it
-    quietly.
-    """
+    """Runs a tool. A failure, also a full device, is one line and status 2; a closed pipe ends it quietly."""
     try:
         status = work()
         sys.stdout.flush()
@@ -144,9 +142,7 @@ def reason(failed: Exception) -> str:
 
 
 def can_flush() -> bool:
-    """Whether the output can be written. Where it can't, what is left goes nowhere, so that Python says no more about
-    it.
-    """
+    """Whether the output can be written. If not, what is left goes nowhere, lest Python speak of it."""
     try:
         sys.stdout.flush()
     except OSError:

@@ -396,8 +396,8 @@ class Adapter:
         return found
 
     def pages(self, part: int) -> list[Variable]:
-        rows = [row for one in self.on.partitions() if one.name == part for row in one.rows]
-        return [variable(f"0x{row.address:08x}", f"frame {row.frame} {row.rights} {row.view} {row.use}",
+        rows = [row for one in self.on.partitions() if one.name == part for row in one.pages]
+        return [variable(f"0x{row.address:08x}", f"frame {row.frame} {row.rights} {row.view} {row.told_use}",
                          reference=self.handle(functools.partial(self.frame_words, row.frame)),
                          memoryReference=f"f{row.frame}:0") for row in rows]
 
@@ -420,7 +420,7 @@ class Adapter:
 
     def tree(self) -> list[Variable]:
         return [variable(f"partition {part.name}",
-                         f"depth {part.depth}, child of {part.up} at 0x{part.born:08x}, {len(part.rows)} pages",
+                         f"depth {part.depth}, child of {part.up} at 0x{part.born:08x}, {len(part.pages)} pages",
                          reference=self.handle(functools.partial(self.pages, part.name)))
                 for part in self.on.partitions()]
 

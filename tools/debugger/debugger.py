@@ -5,13 +5,15 @@ from __future__ import annotations
 import os
 import re
 import tempfile
-from collections.abc import Callable, Iterator
-from dataclasses import dataclass, field
+from collections.abc import Callable
+from dataclasses import dataclass
 from typing import NamedTuple
 
 from ..authors import asmx, every, why
-from ..common import calling, plans
+from ..common import calling
 from ..common.calling import Failed
+from ..draw import texts
+from ..draw.texts import Partition
 from ..reference import instructions, script
 from . import sources
 from .client import EVERY, At, Coming, Refused, States, Stopped, Stops, Turn
@@ -54,27 +56,6 @@ class Target(NamedTuple):
     part: int | None
     address: int | None
     word: Word | None
-
-
-class Row(NamedTuple):
-    """A page of a partition, by the line of `tree`."""
-
-    address: int
-    frame: int
-    rights: str
-    view: str
-    use: str
-
-
-@dataclass
-class Part:
-    """A partition, by the lines of `tree`."""
-
-    name: int
-    depth: int
-    up: int
-    born: int
-    rows: list[Row] = field(default_factory=list)
 
 
 class Event(NamedTuple):
@@ -404,8 +385,8 @@ class Debugger:
 
     # What is told
 
-    def partitions(self) -> list[Part]:
-        return list(parts_of(self.states.tree()[0]))
+    def partitions(self) -> list[Partition]:
+        return texts.partitions("\n".join(self.states.tree()[0]))
 
     def check(self) -> str:
         """Whether the program has the same state after as many steps."""
@@ -537,22 +518,7 @@ def choices(word: str) -> list[str]:
     return [found[1]] * int(found[2] or "1")
 
 
-def parts_of(lines: list[str]) -> Iterator[Part]:
-    """The partitions of the text of `tree`."""
-    part: Part | None = None
-    for line in lines:
-        words = line.split(" ")
-        if words[0] == "part":
-            if part:
-                yield part
-            part = Part(int(words[1]), int(words[3]), int(words[5]), int(words[7], 16))
-        elif part and words[0] == "row":
-            part.rows.append(Row(int(words[1], 16), int(words[2]), words[3], words[4], " ".join(words[5:])))
-    if part:
-        yield part
-
-
-def ancestors(parts: list[Part], name: int) -> list[Part]:
+def ancestors(parts: list[Partition], name: int) -> list[Partition]:
     """A partition and its ancestors, up to the root."""
     by_name = {part.name: part for part in parts}
     found = [by_name[name]] if name in by_name else []

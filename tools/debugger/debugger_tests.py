@@ -9,10 +9,9 @@ import subprocess
 import sys
 import tempfile
 import unittest
-from typing import Any
 
 from ..authors import trace
-from ..common import calling, plans
+from ..common import calling
 from ..common.calling import Failed
 from ..reference import image as images, script
 from ..reference.model import World

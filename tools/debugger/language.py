@@ -289,11 +289,16 @@ class Server:
         return [item(*one) for one in self.assembly_items(path, before)]
 
     def assembly_items(self, path: str, before: list[str]) -> Iterator[tuple[str, int, str]]:
-        if len([word for word in before if word]) < 2 or before[-2:-1] and before[-2].endswith(":"):
+        ahead = [word for word in before[:-1] if word]
+        if ahead[:1] == [".may"] and len(ahead) < 3:
+            yield from deed_items(len(ahead))
+        elif ahead[:1] == [".may"] and ahead[2:] == ["call"]:
+            yield from call_items()
+        elif len([word for word in before if word]) < 2 or before[-2:-1] and before[-2].endswith(":"):
             known = ((name, text) for name, text in assembly_words().items() if NAME_IN.search(name))
             yield from ((name, KEYWORD, text) for name, text in known if name != "NAME:")
         elif before[-2:-1] == ["sys"]:
-            yield from ((str(number), KEYWORD, f"{name}: {told}") for number, (name, told) in meanings.calls().items())
+            yield from call_items()
         else:
             yield from ((f"r{number}", REGISTER, "") for number in range(16))
             for name, one in definitions(path, self.files()).items():
@@ -305,7 +310,19 @@ def script_items(before: list[str]) -> Iterator[tuple[str, int, str]]:
     if len(before) == 1:
         yield from ((name, KEYWORD, text) for name, text in forms().items())
     elif before[0] == "call" and len(before) == 3:
-        yield from ((str(number), KEYWORD, f"{name}: {told}") for number, (name, told) in meanings.calls().items())
+        yield from call_items()
+
+
+def call_items() -> Iterator[tuple[str, int, str]]:
+    yield from ((str(number), KEYWORD, f"{name}: {told}") for number, (name, told) in meanings.calls().items())
+
+
+def deed_items(place: int) -> Iterator[tuple[str, int, str]]:
+    """The words of `.may`: whose deed it is, and then what."""
+    if place == 1:
+        yield "each", KEYWORD, "every partition but the root; else the name of one"
+    else:
+        yield from ((name, KEYWORD, forms()[name]) for name in asmx.DEEDS)
 
 
 def item(label: str, kind: int, told: str) -> dict[str, Any]:

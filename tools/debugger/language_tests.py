@@ -68,7 +68,7 @@ class Session(unittest.TestCase):
     def test_all_examples_are_right(self) -> None:
         for folder, _, names in os.walk(EXAMPLES):
             for name in sorted(names):
-                included = name in ("make_child.asmx", "bad_line.pip")
+                included = name in ("make_child.asmx", "counts.asmx", "guests.asmx", "bad_line.pip")
                 if name.endswith((".pip", ".s", ".asmx")) and not included:
                     path = os.path.join(folder, name)
                     found = [one["message"].split("\n")[0] for one in self.client.opened(path)]
@@ -154,6 +154,20 @@ class Session(unittest.TestCase):
         self.assertLessEqual({"r0", "child", "TABLE"}, set(labels))
         symbols = client.send("textDocument/documentSymbol", True, textDocument={"uri": "file://" + RACE})
         self.assertIn("line", [one["name"] for one in symbols])
+
+    def test_deeds(self) -> None:
+        client, path = self.client, "/nowhere/a.asmx"
+        wrong = client.opened(path, ".frames 16\n.cpus 1\n.may each trap 256 0 0\n.may each call 8 0\n")
+        self.assertEqual([one["range"]["start"] for one in wrong], [{"line": 2, "character": 15}])
+
+        def labels(line: int, column: int) -> set[str]:
+            return {one["label"] for one in client.at("completion", path, line, column)}
+
+        self.assertIn(".may", labels(2, 1))
+        self.assertEqual(labels(2, 6), {"each"})
+        self.assertEqual(labels(2, 11), {"ld", "lb", "st", "sb", "trap", "call"})
+        self.assertIn("8", labels(3, 15))
+        self.assertIn("menu", client.at("hover", path, 2, 2)["contents"]["value"])
 
     def test_scripts(self) -> None:
         client = self.client

@@ -2,12 +2,11 @@
 
 from __future__ import annotations
 
-from bisect import bisect_right
 from collections.abc import Sequence
 from dataclasses import dataclass, field
 from typing import NamedTuple
 
-from ..authors import asmx
+from ..authors import asmx, trace
 from ..authors.asmx import Place
 from ..common.calling import Failed
 from ..reference import image as images
@@ -37,15 +36,7 @@ class Source:
 
     def nearest(self, word: Word | None) -> str:
         """The last name at or before a word of its frame, and how many words after it."""
-        if word is None or word[0] not in self.by_frame:
-            return ""
-        frame, index = word
-        names = self.by_frame[frame]
-        at = bisect_right(names, (index, "\U0010ffff")) - 1
-        if at < 0:
-            return ""
-        start, name = names[at]
-        return name + (f"+{index - start}" if index > start else "")
+        return "" if word is None else trace.nearest(self.by_frame.get(word[0], []), word[1])
 
     def place(self, word: Word | None, holds: int | None) -> Place | None:
         """The line that a word is from, as long as it holds what the image has there."""

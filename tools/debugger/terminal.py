@@ -19,9 +19,10 @@ from typing import Any
 
 from ..common import calling, meanings, plans
 from ..common.calling import Failed
+from ..draw.texts import Partition
 from . import building, sources
 from .client import EVERY, At, States, Stopped
-from .debugger import Debugger, Part, ancestors
+from .debugger import Debugger, ancestors
 from .sources import PAGE
 
 AROUND = 5                       # lines of a source before and after the one that is looked at
@@ -235,8 +236,8 @@ class Terminal(cmd.Cmd):
             if text in ("", str(part.name)):
                 print(part_line(part, masked, self.running(part.name)))
         if text:
-            for row in next((part.rows for part in parts if str(part.name) == text), []):
-                print(f"    0x{row.address:08x} frame {row.frame:<4} {row.rights} {row.view:6} {row.use}")
+            for row in next((part.pages for part in parts if str(part.name) == text), []):
+                print(f"    0x{row.address:08x} frame {row.frame:<4} {row.rights} {row.view:6} {row.told_use}")
         elif pending:
             print(f"lines that are pending: {', '.join(map(str, pending))}")
 
@@ -362,12 +363,13 @@ def registers_of(cpu: int, at: At | None) -> list[str]:
     return [f"processor {cpu} runs partition {at.part}, pc 0x{at.pc:08x}", *rows]
 
 
-def part_line(part: Part, masked: list[int], cpus: list[int]) -> str:
-    free = sum(row.use == "free" and row.view == "user" for row in part.rows)
+def part_line(part: Partition, masked: list[int], cpus: list[int]) -> str:
+    free = sum(row.use == "free" and not row.hidden for row in part.pages)
     where = f"at 0x{part.born:08x} of {part.up}" if part.depth else "the root"
     runs = f", runs on processor {' and '.join(map(str, cpus))}" if cpus else ""
     mask = ", masked" if part.name in masked else ""
-    return f"{'  ' * part.depth}partition {part.name}, {where}: {len(part.rows)} pages, {free} of them free{runs}{mask}"
+    pages = f"{len(part.pages)} pages, {free} of them free"
+    return f"{'  ' * part.depth}partition {part.name}, {where}: {pages}{runs}{mask}"
 
 
 def translation(debugger: Debugger, part: int, address: int) -> list[str]:

@@ -7,13 +7,12 @@ from __future__ import annotations
 
 from typing import NamedTuple
 
+from ..step import walk
+from ..step.walk import LEVELS, PAGE
 from .texts import Memory
 
-ROOT = 1
-PAGE = 4096
 TABLE_OF_HANDLERS = 0xFFFFF000
 LAST_BLOCK = 4028           # where a block may begin in its page at most
-LEVELS = ("page table", "first shadow table", "second shadow table")
 
 
 class Role(NamedTuple):
@@ -29,37 +28,19 @@ def word(memory: Memory, frame: int, index: int) -> int:
 
 def roles(memory: Memory) -> dict[int, Role]:
     """The role of each frame that is configuration of a partition."""
-    found = {}
-    waiting = [ROOT]
-    while waiting:
-        name = waiting.pop()
-        found[name] = Role("descriptor", name)
-        for level in range(3):
-            directory = word(memory, name, 3 + 2 * level)
-            found[directory] = Role("directory", name, level)
-            for index, entry in memory.get(directory, {}).items():
-                found[entry // PAGE] = Role("table", name, level, index)
-        page, number = word(memory, name, 9), 0
-        while page:
-            found[page] = Role("list page", name, place=number)
-            page, number = word(memory, page, 0), number + 1
-        waiting += children(memory, name)
+    found: dict[int, Role] = {}
+    for x in walk.partitions(walk.of_memory(memory)):
+        found[x.name] = Role("descriptor", x.name)
+        found.update((frame, Role("directory", x.name, level)) for level, frame in enumerate(x.directories))
+        found.update((frame, Role("list page", x.name, place=number)) for number, frame in enumerate(x.lists))
+        found.update((frame, Role("table", x.name, level, table.index))
+                     for table in x.tables for level, frame in enumerate(table.frames))
     return found
 
 
 def table(memory: Memory, name: int, level: int, index: int) -> int:
     """The frame of a table of a partition, or 0."""
     return word(memory, word(memory, name, 3 + 2 * level), index) // PAGE
-
-
-def children(memory: Memory, name: int) -> list[int]:
-    """The names of a partition's children: the pages that its first shadow calls descriptors."""
-    found = []
-    for index, entry in sorted(memory.get(word(memory, name, 5), {}).items()):
-        for place, given in memory.get(entry // PAGE, {}).items():
-            if given % PAGE == 1:
-                found.append(word(memory, table(memory, name, 0, index), place) // PAGE)
-    return found
 
 
 def loaded(memory: Memory, name: int, address: int) -> int | None:
@@ -73,10 +54,6 @@ def block(memory: Memory, name: int, address: int | None) -> list[int] | None:
     if address is None or address % 4 or address % PAGE > LAST_BLOCK or loaded(memory, name, address) is None:
         return None
     return [loaded(memory, name, address + 4 * place) or 0 for place in range(17)]
-
-
-def rights(leaf: int) -> str:
-    return ("r" if leaf & 4 else "-") + ("w" if leaf & 8 else "-") + ("x" if leaf & 16 else "-")
 
 
 def given(shadow: int) -> str:
@@ -98,9 +75,8 @@ def meaning(role: Role, index: int, value: int) -> str:
     if role.kind == "descriptor":
         if index < 10:
             return DESCRIPTOR[index // 2] + (": its address in the parent" if index % 2 == 0 else f": frame {value}")
-        lines = ", ".join(str(k) for k in range(16) if value >> k & 1)
         named = {11: f"the parent's descriptor: frame {value}", 12: f"number of tables: {value}",
-                 14: "masked", 15: f"pending lines: {lines}"}
+                 14: "masked", 15: f"pending lines: {walk.lines(value)}"}
         return named.get(index, "")
     if role.kind == "directory":
         return f"{LEVELS[role.level]} in frame {value // PAGE}, for 0x{index << 22:08x} and above"

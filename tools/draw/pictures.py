@@ -12,13 +12,13 @@ import re
 import sys
 
 from ..common import calling
+from ..step.walk import LEVELS, PAGE
 from . import frames, texts, translation
 from .svg import INK, PALE, PAPER, Drawing
 
 COLOURS = {"free": "#e3f1e1", "lent": "#c9dcf6", "desc": "#f0a59b", "conf": "#f8dfab"}
 MEANINGS = (("free", "free for the partition"), ("lent", "lent to a child"), ("desc", "descriptor of a child"),
             ("conf", "other configuration of a child"))
-PAGE = 4096
 ADDRESS = re.compile("0x[0-9a-f]{1,8}")
 
 
@@ -186,7 +186,7 @@ def title(role: frames.Role) -> str:
     if role.kind == "directory":
         what = "the directory of the " + ("page tables", "first shadow", "second shadow")[role.level]
     if role.kind == "table":
-        what = f"the {frames.LEVELS[role.level]} of directory index {role.place}"
+        what = f"the {LEVELS[role.level]} of directory index {role.place}"
     return f"{what} of partition {role.partition}"
 
 

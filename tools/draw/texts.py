@@ -15,6 +15,14 @@ class Page(NamedTuple):
     use: str
     child: int | None        # the descriptor's address
 
+    @property
+    def view(self) -> str:
+        return "hidden" if self.hidden else "user"
+
+    @property
+    def told_use(self) -> str:
+        return self.use if self.child is None else f"{self.use} 0x{self.child:08x}"
+
 
 class Partition(NamedTuple):
     name: int

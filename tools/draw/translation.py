@@ -2,9 +2,10 @@
 
 from __future__ import annotations
 
-from .texts import Memory
+from ..step import walk
 from . import frames
 from .svg import INK, PALE, PAPER, Drawing
+from .texts import Memory
 
 EDGE = "#9aa5b1"
 DIRECTORY, TABLE, OFFSET, FIRST, SECOND = "#f8dfab", "#c9dcf6", "#e3f1e1", "#f3cdeb", "#ddd0f5"
@@ -26,7 +27,7 @@ def draw_address(memory: Memory, partition: int, address: int) -> str:
              f"a table in frame {tables[0]}" if tables[0] else "no table: unmapped")
     if tables[0]:
         draw_box(drawing, 276, f"page table, frame {tables[0]}", place, leaf, TABLE,
-                 f"frame {leaf // frames.PAGE}, {frames.rights(leaf)}, {'visible' if leaf & 2 else 'hidden'}" if leaf
+                 f"frame {leaf // walk.PAGE}, {walk.rights(leaf)}, {'visible' if leaf & 2 else 'hidden'}" if leaf
                  else "no page: unmapped")
     if leaf:
         draw_frame(drawing, memory, leaf, address)
@@ -67,7 +68,7 @@ def draw_box(drawing: Drawing, x: float, title: str, index: int, word: int, colo
 
 def draw_frame(drawing: Drawing, memory: Memory, leaf: int, address: int) -> None:
     """The frame, and the word that the offset chooses."""
-    frame, index = leaf // frames.PAGE, address % frames.PAGE // 4
+    frame, index = leaf // walk.PAGE, address % walk.PAGE // 4
     draw_box(drawing, 536, f"frame {frame}", index, 0, OFFSET,
              "the word that is accessed" if leaf & 2 else "hidden: every access faults")
     drawing.rectangle(536 + BOX - 90, 190, 84, 20, OFFSET)

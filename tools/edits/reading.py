@@ -5,6 +5,7 @@ from __future__ import annotations
 import os
 from collections.abc import Iterator
 from dataclasses import dataclass
+from pathlib import Path
 
 FOLDERS = ("must-fail", "tried", os.path.join("tried", "admitted"))
 
@@ -51,8 +52,8 @@ def edits_of(top: str, crate: str) -> Iterator[Edit]:
         place = os.path.join(top, "crates", crate, folder)
         for entry in sorted(os.listdir(place)) if os.path.isdir(place) else ():
             if entry.endswith(".edit"):
-                with open(os.path.join(place, entry), encoding="utf-8") as file:
-                    yield read_edit(crate, folder, entry[:-len(".edit")], file.read())
+                text = Path(place, entry).read_text(encoding="utf-8")
+                yield read_edit(crate, folder, entry[:-len(".edit")], text)
 
 
 def all_edits(top: str) -> Iterator[Edit]:
@@ -67,8 +68,7 @@ def edited(top: str, edit: Edit) -> dict[str, str]:
     for change in edit.changes:
         if change.path not in texts:
             try:
-                with open(os.path.join(top, "crates", edit.crate, change.path), encoding="utf-8") as file:
-                    texts[change.path] = file.read()
+                texts[change.path] = Path(top, "crates", edit.crate, change.path).read_text(encoding="utf-8")
             except OSError:
                 raise NotApplied(f"there is no file {change.path or 'named'}") from None
         text = texts[change.path]

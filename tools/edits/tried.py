@@ -15,9 +15,11 @@ import re
 import shutil
 import subprocess
 import tempfile
+from pathlib import Path
 
 from ..common import calling
 from ..common.calling import REPOSITORY, Failed
+from ..exporter import crates
 from .reading import FOLDERS, Edit, NotApplied, edited, edits_of
 
 TOLD = re.compile(r"(?:note: )?\S+?:\d+:\d+: (.*)")         # a line of the prover about a place
@@ -54,9 +56,7 @@ def tried() -> int:
 
 
 def is_due(folder: str, outcome: str) -> bool:
-    """Whether an edit of this folder may have this outcome. One that is admitted may need a proof of its own, and then
-    names are lost.
-    """
+    """Whether an edit of this folder may have this outcome. One that is admitted may lose names: it needs a proof."""
     if folder == FOLDERS[-1]:
         return outcome == "passes" or outcome.startswith("refused, but names were lost")
     return outcome.startswith("refused: ")
@@ -64,14 +64,8 @@ def is_due(folder: str, outcome: str) -> bool:
 
 def chains(top: str) -> dict[str, list[str]]:
     """Each crate with itself and those below it, as crates.txt has them."""
-    with open(os.path.join(top, "crates.txt"), encoding="utf-8") as file:
-        lines = [line.partition(":") for line in file if re.match("[a-z]", line)]
-    uses = {name.split()[0]: rest.split() for name, _, rest in lines}
-
-    def below(name: str) -> set[str]:
-        return {name}.union(*(below(other) for other in uses[name] if other in uses))
-
-    return {name: sorted(below(name)) for name in uses}
+    found = crates.crates_of(Path(top))
+    return {name: sorted(crate.name for crate in crates.chosen(found, [name])) for name in found}
 
 
 def outcome_of(edit: Edit, chain: list[str]) -> str:
@@ -85,8 +79,7 @@ def outcome_of(edit: Edit, chain: list[str]) -> str:
             copy_crates(place, chain)
             crate = os.path.join(place, "crates", edit.crate)
             for path, text in texts.items():
-                with open(os.path.join(crate, path), "w", encoding="utf-8") as file:
-                    file.write(text)
+                Path(crate, path).write_text(text, encoding="utf-8")
             outcome = judged(crate, place_of(edit))
     print(f"{edit.crate} {edit.name}: {outcome}", flush=True)
     return outcome
@@ -98,10 +91,9 @@ def copy_crates(place: str, chain: list[str]) -> None:
     names = [os.path.join(REPOSITORY, "crates", name) for name in chain]
     subprocess.run(["cp", "-a", "--reflink=auto", *names, os.path.join(place, "crates")], check=True)
     shutil.copy(os.path.join(REPOSITORY, "HANDLES"), place)
-    with open(os.path.join(REPOSITORY, "crates.txt"), encoding="utf-8") as file:
-        lines = [line for line in file if re.split("[ :]", line)[0] in chain]
-    with open(os.path.join(place, "crates.txt"), "w", encoding="utf-8") as file:
-        file.writelines(lines)
+    lines = Path(REPOSITORY, "crates.txt").read_text(encoding="utf-8").splitlines(keepends=True)
+    kept = "".join(line for line in lines if re.split("[ :]", line)[0] in chain)
+    Path(place, "crates.txt").write_text(kept, encoding="utf-8")
 
 
 def place_of(edit: Edit) -> str | None:
@@ -113,8 +105,7 @@ def place_of(edit: Edit) -> str | None:
     if len(paths) != 1 or "src/lib.rt" in paths:
         return None
     path = paths.pop()
-    with open(os.path.join(REPOSITORY, "crates", edit.crate, path), encoding="utf-8") as file:
-        lines = file.read().split("\n")
+    lines = Path(REPOSITORY, "crates", edit.crate, path).read_text(encoding="utf-8").split("\n")
     functions = {function_at(lines, change.old) for change in sources}
     function = functions.pop() if len(functions) == 1 else ""
     if function is None:
@@ -130,18 +121,14 @@ def module_of(path: str) -> str:
 
 def defining(crate: str, name: str) -> str:
     """The path of the file that defines a type, by which the prover names the type's functions."""
-    top = os.path.join(REPOSITORY, "crates", crate)
-    for folder, _, files in os.walk(os.path.join(top, "src")):
-        for path in (os.path.join(folder, file) for file in files):
-            with open(path, encoding="utf-8") as file:
-                if re.search(rf"\b(struct|enum) {name}\b", file.read()):
-                    return os.path.relpath(path, top)
-    return "src/lib.rt"
+    top = Path(REPOSITORY, "crates", crate)
+    files = (path for path in top.glob("src/**/*") if path.is_file())
+    found = (path for path in files if re.search(rf"\b(struct|enum) {name}\b", path.read_text(encoding="utf-8")))
+    return str(next((path.relative_to(top) for path in found), "src/lib.rt"))
 
 
 def function_at(lines: list[str], old: str) -> str | None:
-    """The function in which a text is, with its type; empty where it is a trait's, and None where it is in no function.
-    """
+    """The function of a text, with its type; empty for a trait's, and None where the text is in no function."""
     at = next((k for k, line in enumerate(lines) if old in line), 0)
     begun = next(((k, found) for k in range(at, -1, -1) if (found := FUNCTION.match(lines[k]))), None)
     if begun is None or any(line.startswith("}") for line in lines[begun[0]:at]):
@@ -158,8 +145,7 @@ def judged(crate: str, function: str | None) -> str:
     """What `rt check` says of a crate, or of a function in it."""
     only = ["--only", function] if function else []
     done = subprocess.run(["rt", "check", *only, "--jobs", "1"], cwd=crate, stdin=subprocess.DEVNULL,
-                          stdout=subprocess.PIPE,
-                          stderr=subprocess.STDOUT, encoding="utf-8", errors="replace")
+                          stdout=subprocess.PIPE, stderr=subprocess.STDOUT, encoding="utf-8", errors="replace")
     if done.returncode == 0:
         return "passes"
     return verdict(done.stdout)

@@ -15,7 +15,8 @@ from ..common.calling import Failed
 from . import judging
 
 PAGE_OF = os.path.join(calling.REPOSITORY, "docs", "EXERCISES.md")
-DRAWS = ("break-in", "child-program", "monitor", "tell-apart", "no-loss")     # exercises whose verdict draws something
+# Exercises whose verdict draws something.
+DRAWS = ("break-in", "sum", "child-program", "monitor", "tell-apart", "no-loss")
 
 
 def main() -> None:

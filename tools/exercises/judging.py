@@ -8,7 +8,7 @@ import subprocess
 from dataclasses import dataclass, field
 
 from ..authors import asmx, why
-from ..common import calling, meanings
+from ..common import meanings
 from ..common.calling import Failed
 from ..judge import building
 
@@ -110,8 +110,7 @@ def judged(name: str, path: str, text: bytes, is_program: bool, seed: str | None
     return found
 
 
-def read(found: Judged, answer: str, path: str, is_program: bool, places: Places | None,
-         lines: asmx.Lines) -> None:
+def read(found: Judged, answer: str, path: str, is_program: bool, places: Places | None, lines: asmx.Lines) -> None:
     """Takes the judge's answer apart."""
     trouble: list[str] = []
     for line in answer.splitlines():

@@ -81,8 +81,7 @@ class Program:
         words = ["cargo", "build", "--release", "--quiet", "--offline",
                  *(["--features", ",".join(self.features)] if self.features else [])]
         done = subprocess.run(words, cwd=self.folder / self.source.name, stdin=subprocess.DEVNULL,
-                              stdout=subprocess.DEVNULL,
-                              stderr=subprocess.PIPE, text=True)
+                              stdout=subprocess.DEVNULL, stderr=subprocess.PIPE, text=True)
         if done.returncode:
             raise Failed(f"cargo can't build {self.what}: {done.stderr.strip()[-4000:]}")
         os.utime(self.built)

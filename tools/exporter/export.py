@@ -51,9 +51,7 @@ def done(given: argparse.Namespace) -> int:
 
 
 def untested(repository: Path, only: list[str]) -> list[tuple[str, str]]:
-    """The parts of requirements that no test makes, each after its crate and its public function; those of tests are
-    left out.
-    """
+    """The parts of requirements that no test makes, each after its crate and its public function, but for tests."""
     found = [crate for crate in crates.chosen(crates.crates_of(repository), only)
              if not crate.name.startswith("pip_test")]
     return [(f"{crate.name}::{name}", part) for crate in found for path in crate.sources()

@@ -4,8 +4,6 @@ counts.
 
 from __future__ import annotations
 
-from __future__ import annotations
-
 import re
 from typing import NamedTuple
 
@@ -139,8 +137,8 @@ def term(text: str, types: dict[str, str], fields: bool) -> Term | None:
 def line_of(text: str, types: dict[str, str]) -> Term | None:
     """The interrupt line of a plan."""
     found = re.fullmatch(r"(\w+)(?:\.now|\.old)?\.line", text)
-    return Term(f"{found.group(1)}.line", "u32") if found and re.fullmatch(r"(& )?Plan",
-                                                                           types.get(found.group(1), "")) else None
+    is_plan = found and re.fullmatch(r"(& )?Plan", types.get(found[1], ""))
+    return Term(f"{found[1]}.line", "u32") if found and is_plan else None
 
 
 def size(text: str, types: dict[str, str]) -> Term | None:

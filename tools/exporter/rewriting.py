@@ -65,8 +65,7 @@ def give_runtime(source: Source, edits: Edits) -> None:
 
 
 def runtime_taken(source: Source, place: int) -> str | None:
-    """What `main` or a test whose `fn` is there calls its runtime, or None where it takes none or is another function.
-    """
+    """What a `main` or a test whose `fn` is there calls its runtime; None where it takes none or is neither."""
     if not source.at(place).is_word("fn") or not source.at(place + 2).is_punct("("):
         return None
     if source.at(place + 1).text != "main" and not source.reads(place - 4, "# [ test ]"):

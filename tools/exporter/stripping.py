@@ -91,8 +91,7 @@ def attribute_bracket(source: Source, place: int) -> int | None:
 
 
 def implementation(source: Source, place: int, edits: Edits) -> int | None:
-    """An `impl Model`, which says what a value means in a proof, stays as a comment; an `impl Drop` gets Rust's form.
-    """
+    """An `impl Model`, which is for proofs, stays as a comment; an `impl Drop` gets Rust's form."""
     brace = source.next_punct(place, "{;),")
     names = source.words(place, brace)
     if not source.at(brace).is_punct("{") or "for" not in names:

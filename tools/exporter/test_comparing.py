@@ -175,8 +175,7 @@ class Folders(unittest.TestCase):
 
 
 class RandomChanges(unittest.TestCase):
-    """One token of an export is changed: left out, written twice, or another one of the same file is put in its place.
-    """
+    """One token of an export is left out, written twice, or replaced by another of the same file."""
 
     def test_each_is_refused(self) -> None:
         chance = random.Random(SEED)

@@ -33,73 +33,73 @@ class Tokens(unittest.TestCase):
                 tokens.tokens(text)
 
 
-class Stripping(unittest.TestCase):
+# What is exported of a source, and as what
+EXPORTED = {
+    "clauses of a declared method": (
+        "trait T {\n    fn f(&self) -> u8\n        ensures { result ≡ 1 };\n}\n",
+        "trait T {\n    // ensures { result ≡ 1 }\n    fn f(&self) -> u8;\n}\n"),
+    "clauses of a closure and a loop go": (
+        "fn f() {\n    g(|a| requires { a < 3 } { a + 1 })\n}\n", "fn f() {\n    g(|a| { a + 1 })\n}\n"),
+    "ghost items stay as comments": (
+        "struct S {\n    a: u8,\n    /// Why.\n    pub ghost b: { a < 3 },\n}\n",
+        "struct S {\n    a: u8,\n    // Why.\n    // pub ghost b: { a < 3 },\n}\n"),
+    "imports of definitions go": ("ghost use A.{b, ◌≡◌};\n\nuse a::b;\n", "use a::b;\n"),
+    "a model becomes a comment": (
+        "/// S.\nstruct S(u8);\n\nimpl Model for S {\n    ghost Value = { ℕ };\n}\n\nfn f() {}\n",
+        "/// S.\nstruct S(u8);\n\n// impl Model for S {\n//     ghost Value = { ℕ };\n// }\n\nfn f() {}\n"),
+    "a derive of Drop alone goes": ("#[derive(Drop)]\nstruct S;\n", "struct S;\n"),
+    "Drop goes out of a derive": ("#[derive(Debug, Drop)]\nstruct S;\n", "#[derive(Debug)]\nstruct S;\n"),
+    "bounds of Drop go": ("fn f<T: A + Drop, U: Drop>(t: T) {}\n", "fn f<T: A, U>(t: T) {}\n"),
+    "tactics go": ("#![tactic(auto)]\n\n#[tactic(auto, using(a::b))]\nfn f() {}\n", "fn f() {}\n"),
+    "expect takes the message alone": (
+        "fn f() {\n    a.expect(rt, \"b, c\");\n    a.expect(\"b\");\n}\n",
+        "fn f() {\n    a.expect(\"b, c\");\n    a.expect(\"b\");\n}\n"),
+    "a test gets its runtime": (
+        "#[test]\nfn f(rt: HostRuntime) -> A {\n    g(rt);\n}\n",
+        "use std::prelude::kit::*;\n\n#[test]\nfn f() -> A {\n    let rt = std::rt::host();\n    g(rt);\n}\n"),
+    "clauses of a public function are its documentation": (
+        "/// F.\n#[inline]\npub const fn f(a: u8)\n    requires { a ∈\n        b }\n{}\n",
+        "/// F.\n///\n/// ```text\n/// requires { a ∈\n///     b }\n/// ```\n#[inline]\npub const fn f(a: u8) {}\n"),
+    "comments among clauses stay there": (
+        "/// F.\nfn f(a: A)\n    requires { Is a }\n    // Why.\n    ensures { Is a }\n{}\n",
+        "/// F.\n///\n/// ```text\n/// requires { Is a }\n/// // Why.\n/// ensures { Is a }\n/// ```\nfn f(a: A) {}\n"),
+    "clauses of a private function are a comment": (
+        "// F.\nfn f(a: A)\n    requires { Is a }\n{}\n", "// F.\n// requires { Is a }\nfn f(a: A) {}\n"),
+}
+REFUSED = {
+    "a model with code": "impl Model for S {\n    fn f() {}\n}\n",
+    "a drop of another form": "impl Drop for S {\n    fn drop(self) {\n        free(self.a);\n    }\n}\n",
+    "what only a proof reads": "fn f() {\n    a ≡ b\n}\n",
+    "an unsafe body that can't be tested":
+        "fn f(&self, f: usize)\n    requires { IsGood f }\n{\n    unsafe { g() }\n}\n",
+}
+
+
+class Exported(unittest.TestCase):
+    def test_each_form_is_exported_as_it_should_be(self) -> None:
+        for what, (source, due) in EXPORTED.items():
+            with self.subTest(what=what):
+                self.assertEqual(exported(source), due)
+
+    def test_other_forms_are_refused(self) -> None:
+        for what, source in REFUSED.items():
+            with self.subTest(what=what), self.assertRaises(Trouble):
+                exported(source)
+
     def test_clauses_go_from_their_place(self) -> None:
         self.assertIn("fn f(a: u8) -> u8 {\n",
                       exported("fn f(a: u8) -> u8\n    requires { a < n }\n    // Why.\n"
                                "    ensures* name { \"}\" ≡ x' }\n{\n    a\n}\n"))
 
-    def test_clauses_of_a_declared_method(self) -> None:
-        self.assertEqual(exported("trait T {\n    fn f(&self) -> u8\n        ensures { result ≡ 1 };\n}\n"),
-                         "trait T {\n    // ensures { result ≡ 1 }\n    fn f(&self) -> u8;\n}\n")
-
-    def test_clauses_of_a_closure_and_a_loop_go(self) -> None:
-        self.assertEqual(exported("fn f() {\n    g(|a| requires { a < 3 } { a + 1 })\n}\n"),
-                         "fn f() {\n    g(|a| { a + 1 })\n}\n")
-
     def test_texts_and_remarks_stay(self) -> None:
         text = "// requires { x } ghost\nfn f() -> &'static str {\n    \"ghost requires { x }\"\n}\n"
         self.assertEqual(exported(text), text)
-
-    def test_ghost_items_stay_as_comments(self) -> None:
-        self.assertEqual(exported("struct S {\n    a: u8,\n    /// Why.\n    pub ghost b: { a < 3 },\n}\n"),
-                         "struct S {\n    a: u8,\n    // Why.\n    // pub ghost b: { a < 3 },\n}\n")
-
-    def test_imports_of_definitions_go(self) -> None:
-        self.assertEqual(exported("ghost use A.{b, ◌≡◌};\n\nuse a::b;\n"), "use a::b;\n")
-
-    def test_a_model_becomes_a_comment(self) -> None:
-        self.assertEqual(exported("/// S.\nstruct S(u8);\n\nimpl Model for S {\n    ghost Value = { ℕ };\n}\n\n"
-                                  "fn f() {}\n"),
-                         "/// S.\nstruct S(u8);\n\n// impl Model for S {\n//     ghost Value = { ℕ };\n// }\n\n"
-                         "fn f() {}\n")
-
-    def test_a_model_with_code_is_refused(self) -> None:
-        with self.assertRaises(Trouble):
-            exported("impl Model for S {\n    fn f() {}\n}\n")
-
-    def test_derives_and_bounds_of_drop_go(self) -> None:
-        self.assertEqual(exported("#[derive(Drop)]\nstruct S;\n"), "struct S;\n")
-        self.assertEqual(exported("#[derive(Debug, Drop)]\nstruct S;\n"), "#[derive(Debug)]\nstruct S;\n")
-        self.assertEqual(exported("fn f<T: A + Drop, U: Drop>(t: T) {}\n"), "fn f<T: A, U>(t: T) {}\n")
 
     def test_a_drop_copies_the_parts(self) -> None:
         self.assertIn("fn drop(&mut self) {\n        let (a, b) = unsafe { (std::mem::part_of_dropped(&self.a), "
                       "std::mem::part_of_dropped(&self.b)) };",
                       exported("impl Drop for S {\n    fn drop(self) {\n        let S { a, b } = self;\n"
                                "        free(a, b);\n    }\n}\n"))
-
-    def test_a_drop_of_another_form_is_refused(self) -> None:
-        with self.assertRaises(Trouble):
-            exported("impl Drop for S {\n    fn drop(self) {\n        free(self.a);\n    }\n}\n")
-
-    def test_tactics_go(self) -> None:
-        self.assertEqual(exported("#![tactic(auto)]\n\n#[tactic(auto, using(a::b))]\nfn f() {}\n"), "fn f() {}\n")
-
-    def test_what_only_a_proof_reads_is_refused(self) -> None:
-        with self.assertRaises(Trouble):
-            exported("fn f() {\n    a ≡ b\n}\n")
-
-    def test_expect_takes_the_message_alone(self) -> None:
-        self.assertEqual(exported("fn f() {\n    a.expect(rt, \"b, c\");\n    a.expect(\"b\");\n}\n"),
-                         "fn f() {\n    a.expect(\"b, c\");\n    a.expect(\"b\");\n}\n")
-
-
-class Heads(unittest.TestCase):
-    def test_a_test_gets_its_runtime(self) -> None:
-        self.assertEqual(exported("#[test]\nfn f(rt: HostRuntime) -> A {\n    g(rt);\n}\n"),
-                         "use std::prelude::kit::*;\n\n#[test]\nfn f() -> A {\n    let rt = std::rt::host();\n"
-                         "    g(rt);\n}\n")
 
     def test_another_function_keeps_its_parameter(self) -> None:
         self.assertIn("fn g(rt: HostRuntime) {\n    h", exported("fn g(rt: HostRuntime) {\n    h(rt);\n}\n"))
@@ -115,31 +115,11 @@ class Heads(unittest.TestCase):
         self.assertIn("std::process::started(super::main, count, first)", text)
 
 
-class Clauses(unittest.TestCase):
-    def test_those_of_a_public_function_are_its_documentation(self) -> None:
-        self.assertEqual(exported("/// F.\n#[inline]\npub const fn f(a: u8)\n    requires { a ∈\n        b }\n{}\n"),
-                         "/// F.\n///\n/// ```text\n/// requires { a ∈\n///     b }\n/// ```\n#[inline]\n"
-                         "pub const fn f(a: u8) {}\n")
-
-    def test_comments_among_them_stay_there(self) -> None:
-        self.assertEqual(exported("/// F.\nfn f(a: A)\n    requires { Is a }\n    // Why.\n    ensures { Is a }\n{}\n"),
-                         "/// F.\n///\n/// ```text\n/// requires { Is a }\n/// // Why.\n/// ensures { Is a }\n/// ```\n"
-                         "fn f(a: A) {}\n")
-
-    def test_those_of_a_private_function_are_a_comment(self) -> None:
-        self.assertEqual(exported("// F.\nfn f(a: A)\n    requires { Is a }\n{}\n"),
-                         "// F.\n// requires { Is a }\nfn f(a: A) {}\n")
-
-
 class Requirements(unittest.TestCase):
     def test_an_unsafe_body_is_always_tested(self) -> None:
         self.assertIn("{\n    assert!(f < self.count);\n    unsafe",
                       exported("fn f(&self, f: usize)\n    requires { f < self.now.count }\n"
                                "{\n    unsafe { g() }\n}\n"))
-
-    def test_an_unsafe_body_that_cannot_be_tested_is_refused(self) -> None:
-        with self.assertRaises(Trouble):
-            exported("fn f(&self, f: usize)\n    requires { IsGood f }\n{\n    unsafe { g() }\n}\n")
 
     def test_other_bodies_are_tested_in_debug_builds(self) -> None:
         self.assertIn("{\n    debug_assert!(n < 1048576);\n    g()",

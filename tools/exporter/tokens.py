@@ -27,9 +27,7 @@ class Trouble(Exception):
 
 @dataclass
 class Token:
-    """A piece of the text from `start` to `end`. Its kind is comment, text, char, life, word, number, punct, clause or
-    ghost.
-    """
+    """A piece of the text: a comment, text, char, life, word, number, punct, clause or ghost."""
 
     kind: str
     start: int

@@ -33,8 +33,7 @@ panic = "abort"
 
 
 def files_of(crates: list[Crate], repository: Path, config: str | None) -> dict[str, str]:
-    """All files by their paths: with a configuration of cargo public crates are the registry's, else those of shims/.
-    """
+    """All files by their paths. By a configuration of cargo public crates are the registry's, else those of shims/."""
     license_text = (repository / "LICENSE").read_text(encoding="utf-8")
     shims = [name for name in dependencies.shim_names() if config is None or name not in dependencies.PUBLIC]
     members = [f"crates/{crate.name}" for crate in crates] + [f"shims/{name}" for name in shims]

@@ -265,3 +265,4 @@ def disassembled(data: bytes) -> Iterator[str]:
         for word in words[:used]:
             instruction = instructions.decode(word)
             yield instructions.text(instruction) if instruction else f".word {word_text(word)}"
+    image.ended(reader)

@@ -10,61 +10,41 @@ cache counted.
 
 from __future__ import annotations
 
-import functools
 import sys
 from collections.abc import Callable, Iterable, Sequence
 from typing import Optional
 
-from . import assembly, audit, every, image, native, runs, script, slots
+from . import against, apart, assembly, audit, every, image, native, runs, script, slots
 from .model import World
 
 USAGE = b"usage: pip script | run STEPS SEED | asm | dis | tree STEPS SEED | core STEPS SEED | soak COUNT SEED" \
     b" | native N STEPS | slots N TURNS ROUNDS | slots N ROUNDS K:TURNS .. | audit FRAMES" \
-    b" | every STATES [FROM [DEPTH]]\n"
+    b" | every STATES [FROM [DEPTH]] | against STATES [FROM [DEPTH]] | apart STATES STEPS SEED\n"
 Ended = tuple[bytes, int, Optional[World]]       # output and status, and the world that the command leaves
 OnImage = Callable[[image.Image], tuple[Iterable[str], Optional[World]]]
 MOST_STEPS, MOST_COUNT = 10000000, 1000000
+STEPS, SEED = (0, MOST_STEPS), (1, script.WORD - 1)        # the limits of these words
 ON_IMAGES = {"run": runs.run, "tree": runs.tree, "core": runs.core}
 
 
-def two_numbers(words: Sequence[str]) -> tuple[int, int] | None:
-    """The two numbers after a command, or None where they are none."""
+def numbers_of(words: Sequence[str], *limits: tuple[int, int]) -> tuple[int, ...] | None:
+    """The numbers of words, one for each pair of a least and a most; None where one is none, or beyond its limits."""
     try:
-        first, second = [script.number(word.encode()) for word in words]
+        given = tuple(script.number(word.encode()) for word in words)
     except (ValueError, script.Bad):
         return None
-    return first, second
-
-
-def frames_of(words: Sequence[str]) -> int | None:
-    """The number of frames after `audit`, or None where it is none."""
-    try:
-        frames, = [script.number(word.encode()) for word in words]
-    except (ValueError, script.Bad):
-        return None
-    return frames if audit.LEAST_FRAMES <= frames <= audit.MOST_FRAMES else None
-
-
-def numbers(words: Sequence[str], most: int) -> tuple[int, int] | None:
-    """A count and a seed after a command, or None where they are none or beyond their limits."""
-    given = two_numbers(words)
-    return given if given and given[0] <= most and given[1] >= 1 else None
-
-
-def children_and_steps(words: Sequence[str]) -> tuple[int, int] | None:
-    """The same of `native`: how many children, and how many steps."""
-    given = two_numbers(words)
-    return given if given and 1 <= given[0] <= native.MOST_CHILDREN and given[1] <= MOST_STEPS else None
+    inside = all(least <= number <= most for number, (least, most) in zip(given, limits))
+    return given if inside and len(given) == len(limits) else None
 
 
 def slots_of(words: Sequence[str]) -> tuple[int, slots.Round, int] | None:
     """How many children, the slots of a round, and the rounds, or None where the words don't say it."""
     try:
         if len(words) == 3 and ":" not in words[2]:
-            n, turns, rounds = [script.number(word.encode()) for word in words]
+            n, turns, rounds = map(script.number, map(str.encode, words))
             round = slots.in_turn(min(n, native.MOST_CHILDREN + 1), turns)
         else:
-            n, rounds = [script.number(word.encode()) for word in words[:2]]
+            n, rounds = map(script.number, map(str.encode, words[:2]))
             round = [given_slot(word) for word in words[2:]]
     except (ValueError, script.Bad):
         return None
@@ -82,14 +62,9 @@ def given_slot(word: str) -> tuple[int, int]:
 
 
 def search_of(words: Sequence[str]) -> tuple[int, int, int | None] | None:
-    """How many states, from which turn on, and how deep `every` searches, or None where the words don't say it."""
-    try:
-        given = [script.number(word.encode()) for word in words]
-    except (ValueError, script.Bad):
-        return None
-    if not 1 <= len(given) <= 3 or 0 in given[:1] + given[2:]:
-        return None
-    if given[0] > every.MOST_STATES or any(number > every.MOST for number in given[1:]):
+    """How many states, from which turn on, and how deep is searched, or None where the words don't say it."""
+    given = numbers_of(words, *((1, every.MOST_STATES), (0, every.MOST), (1, every.MOST))[:max(len(words), 1)])
+    if given is None:
         return None
     return given[0], given[1] if len(given) > 1 else 0, given[2] if len(given) > 2 else None
 
@@ -101,41 +76,33 @@ def pip(words: Sequence[str], text: bytes) -> tuple[bytes, int]:
 
 def ended(words: Sequence[str], text: bytes) -> Ended:
     """Output and status, and the world that the command leaves; None where it leaves none, or the status isn't 0."""
-    if words == ["script"]:
-        return script.ended(text)
-    if words == ["asm"]:
-        return asm(text)
-    if words == ["dis"]:
-        return dis(text)
-    if words and words[0] in ON_IMAGES:
-        given = numbers(words[1:], MOST_STEPS)
-        if given:
-            run, (count, seed) = ON_IMAGES[words[0]], given
-            return on_image(lambda machine: run(machine, count, seed), text)
-    if words and words[0] == "soak":
-        given = numbers(words[1:], MOST_COUNT)
-        if given:
-            told, world = runs.soak(*given)
-            return in_lines(told), 0, world
-    if words and words[0] == "native":
-        given = children_and_steps(words[1:])
-        if given:
-            return on_image(functools.partial(native.native, n=given[0], count=given[1]), text, given[0])
-    if words and words[0] == "slots":
-        shares = slots_of(words[1:])
-        if shares:
-            n, round, rounds = shares
-            return on_image(functools.partial(slots.slots, n=n, round=round, rounds=rounds), text, n)
-    if words and words[0] == "audit":
-        frames = frames_of(words[1:])
-        if frames:
-            told, status = audit.audit(frames, text)
-            return in_lines(told), status, None
-    if words and words[0] == "every":
-        asked = search_of(words[1:])
-        if asked:
-            states, first, deepest = asked
-            return on_image(lambda machine: (every.every(machine, states, first, deepest), None), text)
+    command, *rest = words or [""]
+    if command in ON_TEXTS and not rest:
+        return ON_TEXTS[command](text)
+    if command in ON_IMAGES and (given := numbers_of(rest, STEPS, SEED)):
+        run, (count, seed) = ON_IMAGES[command], given
+        return on_image(lambda machine: run(machine, count, seed), text)
+    if command == "soak" and (given := numbers_of(rest, (0, MOST_COUNT), SEED)):
+        told, world = runs.soak(*given)
+        return in_lines(told), 0, world
+    if command == "native" and (given := numbers_of(rest, (1, native.MOST_CHILDREN), STEPS)):
+        n, count = given
+        return on_image(lambda machine: native.native(machine, n, count), text, n)
+    if command == "slots" and (shares := slots_of(rest)):
+        n, round, rounds = shares
+        return on_image(lambda machine: slots.slots(machine, n, round, rounds), text, n)
+    if command == "audit" and (given := numbers_of(rest, (audit.LEAST_FRAMES, audit.MOST_FRAMES))):
+        frames, = given
+        told, status = audit.audit(frames, text)
+        return in_lines(told), status, None
+    if command == "every" and (asked := search_of(rest)):
+        states, first, deepest = asked
+        return on_image(lambda machine: (every.every(machine, states, first, deepest), None), text)
+    if command == "against" and (asked := search_of(rest)):
+        return on_menu(*asked, text)
+    if command == "apart" and (given := numbers_of(rest, (1, every.MOST_STATES), STEPS, SEED)):
+        room, steps, seed = given
+        return on_image(lambda machine: (apart.apart(machine, room, steps, seed), None), text)
     return USAGE, 1, None
 
 
@@ -168,6 +135,9 @@ def dis(data: bytes) -> Ended:
     return in_lines(told), 0, None
 
 
+ON_TEXTS: dict[str, Callable[[bytes], Ended]] = {"script": script.ended, "asm": asm, "dis": dis}
+
+
 def on_image(command: OnImage, data: bytes, children: int = 0) -> Ended:
     """What a command says of an image, which has room for that many children."""
     try:
@@ -178,6 +148,18 @@ def on_image(command: OnImage, data: bytes, children: int = 0) -> Ended:
         return in_lines([native.short_line(few.frames, children)]), 8, None
     told, world = command(machine)
     return in_lines(told), 0, world
+
+
+def on_menu(states: int, first: int, deepest: int | None, data: bytes) -> Ended:
+    """What `against` says of an image with a menu after it."""
+    try:
+        machine, menu = image.parted(data)
+        deeds = against.menu_of(menu)
+    except image.BadImage as bad:
+        return in_lines([f"bad image {bad.kind} {bad.at}"]), 2, None
+    except against.BadLine as bad:
+        return in_lines([f"bad line {bad.line} {bad.kind}"]), 2, None
+    return in_lines(against.against(machine, states, first, deepest, deeds)), 0, None
 
 
 def typed(read: Callable[[], bytes], write: Callable[[bytes], object]) -> int:

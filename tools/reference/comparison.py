@@ -47,9 +47,7 @@ def job(given: tuple[str, str, int]) -> tuple[int, Difference | None]:
 
 
 def do_no_more(*_: object) -> None:
-    """A worker at Ctrl-C: the program that it runs is stopped by that, too, and the one that waits for the worker ends
-    it.
-    """
+    """A worker at Ctrl-C: its program is stopped by that, too, and the one that waits for the worker ends it."""
     signal.pause()
 
 

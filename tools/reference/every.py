@@ -8,7 +8,7 @@ nothing, for its processor runs nothing, stands for all that are left.
 from __future__ import annotations
 
 import itertools
-from collections.abc import Iterable, Iterator
+from collections.abc import Iterable, Iterator, Sequence
 from dataclasses import replace
 from typing import NamedTuple
 
@@ -116,10 +116,10 @@ class Moments:
         world = image_world(image)
         self.words = world.tree.words
         self.numbers = {page: self.page_number(words) for page, words in self.words.items()}
-        self.start = Moment(0, tuple(world.processors), self.shape_number(list(world.tree.nodes.values())), (), (), ())
+        self.start = self.moment_of(world)
 
     @property
-    def choices(self) -> range:
+    def choices(self) -> Sequence[int]:
         return range(self.cpus + len(self.lines))
 
     def choice_text(self, choice: int) -> str:
@@ -152,17 +152,25 @@ class Moments:
         world.caches = [NoCache()] * self.cpus
         return world
 
+    def moment_of(self, world: World) -> Moment:
+        """The moment of a world of its own, before any turn."""
+        changed = {page: self.page_number(words) for page, words in world.tree.words.items()}
+        return self.as_moment(world, 0, self.shape_number(list(world.tree.nodes.values())), changed)
+
     def moment(self, world: SharedWorld, before: Moment, turns: int) -> Moment:
         """The moment of a world that came out of that of another one."""
         tree = world.tree
         changed = {page: number for page, number in before.changed if page in tree.words}
         changed.update((page, self.page_number(tree.words[page])) for page in tree.own if page in tree.words)
+        shape = self.shape_number(list(tree.nodes.values())) if world.is_shaped else before.shape
+        return self.as_moment(world, turns, shape, changed)
+
+    def as_moment(self, world: World, turns: int, shape: int, pages: dict[int, int]) -> Moment:
+        nodes = world.tree.nodes
         return Moment(
-            turns, tuple(world.processors),
-            self.shape_number(list(tree.nodes.values())) if world.is_shaped else before.shape,
-            tuple(sorted(node.name for node in tree.nodes.values() if node.masked)),
-            tuple(sorted(tree.nodes[ROOT].pending)),
-            tuple(sorted((page, number) for page, number in changed.items() if self.numbers[page] != number)))
+            turns, tuple(world.processors), shape,
+            tuple(sorted(node.name for node in nodes.values() if node.masked)), tuple(sorted(nodes[ROOT].pending)),
+            tuple(sorted((page, number) for page, number in pages.items() if self.numbers[page] != number)))
 
     def after(self, before: Moment, choice: int) -> tuple[Moment, Label | None]:
         """The moment after a choice, and what the choice shows."""
@@ -179,7 +187,15 @@ class Moments:
         Turn(world, cpu, 0, told.append).take()
         stays_idle = before.processors[cpu] is None and world.processors[cpu] is None
         turns = self.first if stays_idle else min(before.turns + 1, self.first)
-        return self.moment(world, before, turns), (cpu, told[0].split(" ", 2)[2]) if told else None
+        return self.moment(world, before, turns), label_of(told)
+
+
+def label_of(told: list[str]) -> Label | None:
+    """What a turn at step 0 says, if it says anything."""
+    if not told:
+        return None
+    _, cpu, text = told[0].split(" ", 2)
+    return int(cpu), text
 
 
 # The search
@@ -267,7 +283,11 @@ def last_line(search: Search) -> str:
 
 
 def every(image: Image, states: int, first: int, deepest: int | None) -> list[str]:
-    moments = Moments(image, first)
+    return text(image, Moments(image, first), states, deepest)
+
+
+def text(image: Image, moments: Moments, states: int, deepest: int | None) -> list[str]:
+    """The text of a search of an image's moments."""
     search = Search(moments, states, deepest)
     told = [first_line(image)]
     for found in search.told():

@@ -10,7 +10,8 @@ import random
 from collections.abc import Callable
 from typing import TypeVar
 
-from . import generate_audit, generate_every, generate_native, generate_programs
+from . import (generate_against, generate_apart, generate_audit, generate_every, generate_native,
+               generate_programs)
 from .model import (HANDLERS, LAST_BLOCK, LINES, NOWHERE, PAGE, READ, ROOT, SAVED, SLOTS, WRITE, Node, Tree, World,
                     pages_needed)
 from .script import LONGEST, Script
@@ -250,8 +251,7 @@ class Story:
             self.say("st", cpu, HANDLERS + 4 * self.random.choice(VECTORS), self.pick(self.odd(block), block, 2, 0))
 
     def give_blocks(self, cpu: int, page: int, vectors: list[int], pcs: tuple[int, ...] = (0x00400100,)) -> None:
-        """Entries and blocks in a page that is, or is to be, a handler table; what runs there stores to it at `page`.
-        """
+        """Entries and blocks in a page that is, or is to be, a handler table, by stores at `page`."""
         for vector in vectors:
             offset = BLOCKS + BLOCK * self.random.randrange((LAST_BLOCK - BLOCKS) // BLOCK + 1)
             if self.chance(0.1):
@@ -543,7 +543,9 @@ def script(seed: int) -> bytes:
     return b"\n".join(lines) + (b"" if rng.random() < 0.1 else b"\n")
 
 
-COMMANDS = ("script", "asm", "dis", "run", "tree", "core", "soak", "native", "slots", "audit", "every")
+COMMANDS = ("script", "asm", "dis", "run", "tree", "core", "soak", "native", "slots", "audit", "every", "against",
+            "apart")
+SEARCHES = {"every": generate_every.case, "against": generate_against.case, "apart": generate_apart.case}
 
 
 def case(command: str, seed: int) -> tuple[list[str], bytes]:
@@ -561,14 +563,13 @@ def case(command: str, seed: int) -> tuple[list[str], bytes]:
     if command == "audit":
         frames, text = generate_audit.case(seed, script(seed))
         return [command, str(frames)], text
-    if command == "every":
-        asked, data = generate_every.case(seed)
+    if command in SEARCHES:
+        asked, data = SEARCHES[command](seed)
         return [command, *asked], data
-    if command == "native":
+    if command in ("native", "slots"):
         n, data = generate_native.case(seed)
-        return [command, str(n), str(count)], data
-    if command == "slots":
-        n, data = generate_native.case(seed)
+        if command == "native":
+            return [command, str(n), str(count)], data
         turns = (0, 1, 2, 5, 11, 30, 100)
         if rng.random() < 0.5:
             each = rng.choice(turns)

@@ -57,8 +57,7 @@ class Small(Text):
         way = self.random.randrange(6)
         if way <= 1:
             end = self.label()
-            self.say(f"{end}:")
-            self.say("beq r0 r0", end)
+            self.code(f"{end}:", f"beq r0 r0 {end}")
         elif way == 2:
             self.say("jal r14", top)
         elif way == 3:
@@ -79,13 +78,8 @@ class Small(Text):
         self.set(7, shared)
         self.set(9, self.pick(1, 1, 2))
         self.set(13, 0)
-        self.say(f"{again}:")
-        self.say("ldw r8 r7 0")
-        self.say("addi r8 r8 1")
-        self.say("stw r8 r7 0")
-        self.say("addi r9 r9 -1")
-        self.say("bne r9 r13", again)
-        self.say("out r8")
+        self.code(f"{again}:", "ldw r8 r7 0", "addi r8 r8 1", "stw r8 r7 0", "addi r9 r9 -1",
+                  f"bne r9 r13 {again}", "out r8")
 
     def taking(self, vectors: list[int], has_child: bool) -> None:
         """The root's handlers of these vectors, and mostly of a few more. Each has a part of its own, or goes on."""

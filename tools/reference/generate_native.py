@@ -31,8 +31,7 @@ class Program(Text):
         self.doomed = 0.97 if self.chance(0.25) else 0.05
 
     def image(self, frames: int) -> list[str]:
-        self.say(".frames", frames)
-        self.say(".cpus", self.pick(1, 1, 2, 3, 4))
+        self.code(f".frames {frames}", f".cpus {self.pick(1, 1, 2, 3, 4)}")
         for line in sorted(self.random.sample(range(16), self.pick(0, 0, 1, 2, 3, 16))):
             self.say(".line", line, self.random.randrange(150), self.pick(0, 1, 7, 20, 60))
         pages = [(PROGRAM + PAGE * i, self.program) for i in range(self.n) if self.chance(0.95)]
@@ -49,8 +48,7 @@ class Program(Text):
     # Pages that the image gives words
 
     def program(self) -> None:
-        """A child's program: a beginning, and a loop. A child that is doomed takes its own handler of vector 63 away.
-        """
+        """A child's program: a beginning, and a loop. One that is doomed takes its own handler of vector 63 away."""
         for register in range(1, 4):
             if self.chance(0.5):
                 self.set(register, self.random.getrandbits(32))
@@ -70,9 +68,7 @@ class Program(Text):
         self.random.choice(self.ways)()
 
     def entries(self) -> None:
-        """A page that becomes a child's handler table: entries for a few vectors beside the one that the command
-        writes.
-        """
+        """A page that becomes a child's handler table, with entries beside the one that the command writes."""
         handled = [vector for vector in ENTRIES if self.chance(0.4)]
         self.table({vector: f"0x{PROGRAM + 4 * self.random.randrange(12):08x}" for vector in handled})
 
@@ -125,18 +121,13 @@ class Program(Text):
         end = self.label()
         if self.chance(0.4):
             self.set(10, self.pick(2, 3, 7))
-            self.say("addi r11 r11 1")
-            self.say("bne r10 r11", end)
-        self.say("stw r8 r7 0")
-        self.say(f"{end}:")
+            self.code("addi r11 r11 1", f"bne r10 r11 {end}")
+        self.code("stw r8 r7 0", f"{end}:")
 
     def keeps(self) -> None:
         """A count in the page of the handlers, which lasts."""
         self.set(7, KEPT)
-        self.say("ldw r8 r7 0")
-        self.say("addi r8 r8 1")
-        self.say("stw r8 r7 0")
-        self.say("out r8")
+        self.code("ldw r8 r7 0", "addi r8 r8 1", "stw r8 r7 0", "out r8")
         if self.chance(0.4):
             end = self.label()
             self.set(9, self.pick(2, 5, 9))

@@ -42,6 +42,9 @@ class Text:
     def say(self, *words: int | str) -> None:
         self.lines.append(" ".join(str(word) for word in words))
 
+    def code(self, *lines: str) -> None:
+        self.lines += lines
+
     def set(self, register: int, value: int) -> None:
         """A register gets a value of 32 bits."""
         self.say("li", f"r{register}", value & 0xFFFF)
@@ -150,8 +153,7 @@ class Text:
         top = self.label()
         self.say(f"{top}:")
         self.random_code(self.random.randrange(1, 25))
-        self.say("jal r14", top)
-        self.say(f".page 0x{d + 0xC000:08x}")
+        self.code(f"jal r14 {top}", f".page 0x{d + 0xC000:08x}")
         handled = [vector for vector in VECTORS if vector == 64 or self.chance(0.8 if vector == SAVED else 0.3)]
         self.table({vector: f"0x{CODE + 4 * self.random.randrange(4):08x}" for vector in handled})
 
@@ -248,8 +250,7 @@ class Text:
             self.set(12, self.random.randrange(1, 5))
             self.say(f"{label}:")
             self.any_instruction()
-            self.say("addi r12 r12 -1")
-            self.say("bne r12 r13", label)
+            self.code("addi r12 r12 -1", f"bne r12 r13 {label}")
 
     def event(self) -> None:
         way = self.random.randrange(8)

@@ -97,7 +97,7 @@ def plans_of(reader: Reader, head: Head) -> Iterator[Plan]:
 
 
 def pages_of(reader: Reader, head: Head) -> Iterator[Page]:
-    """The pages, with which the image ends."""
+    """The pages, with which an image ends."""
     rows = boot_tree(head.frames).nodes[1].rows
     seen = set()
     for _ in range(head.pages):
@@ -110,6 +110,10 @@ def pages_of(reader: Reader, head: Head) -> Iterator[Page]:
         seen.add(vpage)
         words, _ = reader.take(PAGE)
         yield vpage, struct.unpack("<1024I", words)
+
+
+def ended(reader: Reader) -> None:
+    """Nothing is after the image."""
     if reader.at < len(reader.data):
         raise BadImage("long", reader.at)
 
@@ -118,6 +122,19 @@ def read(data: bytes, least: int = 0) -> Image:
     """The image that the bytes are; BadImage where they are none. With fewer frames than `least` it is TooFew, whatever
     stands after the plans."""
     reader = Reader(data)
+    image = front_of(reader, least)
+    ended(reader)
+    return image
+
+
+def parted(data: bytes, least: int = 0) -> tuple[Image, bytes]:
+    """The same of bytes that begin with an image, and what is after it."""
+    reader = Reader(data)
+    return front_of(reader, least), data[reader.at:]
+
+
+def front_of(reader: Reader, least: int) -> Image:
+    """The image with which the bytes begin."""
     head = head_of(reader)
     plans = list(plans_of(reader, head))
     if head.frames < least:

@@ -560,8 +560,7 @@ class World:
         return Done()
 
     def reached(self, cpu: int, address: int, access: int, is_word: bool) -> Place | Fault:
-        """What an access of the partition that runs there reaches. The processor's cache learns of one that is aligned.
-        """
+        """What an access by what runs there reaches. The processor's cache learns of one that is aligned."""
         node = self.node_on(cpu)
         place = self.tree.reach(node, address, access, is_word)
         if place != Fault(ALIGNMENT):
@@ -585,9 +584,7 @@ class World:
         self.tree.save(self.node_on(cpu), SAVED, self.running_on(cpu).context)
 
     def enter(self, cpu: int, node: Node, handler: Context, *told: int) -> None:
-        """The partition runs there with the context of its handler, but for the words that it is told in the first
-        registers.
-        """
+        """The partition runs there as its handler says, but for the words that it is told in the first registers."""
         self.processors[cpu] = Running(node.name, Context(handler.pc, told + handler.registers[len(told):]))
 
     def deliver(self, cpu: int, vector: int, a: int, b: int) -> Outcome:

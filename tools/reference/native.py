@@ -27,8 +27,7 @@ class Dropped(NamedTuple):
 
 
 def frames_needed(n: int) -> int:
-    """The frames without which there is no room for n children: 13 pages for each, and what the kernel has of the root.
-    """
+    """The least frames for n children: 13 pages for each, and what the kernel has of the root."""
     return 13 * n + 13
 
 

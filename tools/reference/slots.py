@@ -37,9 +37,7 @@ class Slots:
         return at is not None and at.name == ROOT
 
     def slot(self, child: int, turns: int) -> None:
-        """The root yields into the child, the processor has its turns while the root doesn't run, and line 0 ends the
-        slot.
-        """
+        """The root yields into the child, the processor has its turns, and line 0 ends the slot."""
         outcome = self.world.call(0, 8, [child, SAVED, NOWHERE, 0, 0])
         self.told.append(f"{self.step} 0 call 8 {outcome_text(outcome)}")
         for step in range(self.step + 1, self.step + 1 + turns):

@@ -2,15 +2,12 @@
 
 from __future__ import annotations
 
-import copy
-import itertools
 import unittest
-from collections.abc import Iterator, Sequence
-from typing import NamedTuple
+from collections.abc import Sequence
 
-from . import assembly, commands, every, generate_every, image, runs
+from . import assembly, every, generate_every, image, runs
 from .image import Image
-from .model import World
+from .second import Second, State
 
 # The root parks at once where no line comes. By a line it runs on any processor, shows a number and traps.
 PARKS = b".frames 16\n.cpus 2\n.line 3 0 0\n.page 0x00400000\nout r1\nint 64\nat:\nout r2\nint 65\n" \
@@ -20,59 +17,24 @@ LOOPS = b".frames 16\n.cpus 1\n.line 0 0 0\n.line 9 0 0\n" \
 COUNTS = b".frames 16\n.cpus 3\n.page 0x00400000\nat:\naddi r1 r1 1\nout r1\nbeq r0 r0 at\n"
 
 
-class Reached(NamedTuple):
-    """What choices lead to, copied as a whole: nothing is shared, and nothing is left out."""
-
-    choices: tuple[int, ...]
-    world: World
-    turns: int
-    shown: str | None
-
-    def value(self) -> object:
-        return tuple(runs.core_lines(self.world.tree)), tuple(self.world.processors), self.turns
-
-
-def made(machine: Image, first: int, before: Reached, choice: int) -> Reached:
-    world, turns = copy.deepcopy(before.world), before.turns
-    told: list[str] = []
-    if choice >= machine.cpus:
-        if turns >= first:
-            world.raise_line(machine.plans[choice - machine.cpus].line)
-    else:
-        was = world.processors[choice]
-        runs.Turn(world, choice, 0, told.append).take()
-        turns = min(turns + 1, first) if was or world.processors[choice] else first
-    return Reached(before.choices + (choice,), world, turns, told[0] if told else None)
-
-
-def all_of(machine: Image, first: int, deepest: int) -> Iterator[Reached]:
-    """What all choices lead to, up to so many in a row, whether or not others lead to the same."""
-    row = [Reached((), image.world(machine), 0, None)]
-    for depth in range(deepest + 1):
-        yield from row
-        if depth < deepest:
-            choices = range(machine.cpus + len(machine.plans))
-            row = [made(machine, first, before, choice) for before in row for choice in choices]
-
-
 def told_of_all(machine: Image, first: int, deepest: int) -> list[str]:
-    """The lines in the middle and the number of states, by going through all rows of choices."""
+    """The lines in the middle and the number of states, by going through all rows of choices: what they lead to is
+    copied as a whole, whether or not others lead to the same.
+    """
+    second = Second(machine, first, [])
     ways: dict[str, tuple[int, ...]] = {}
-    values = set()
-    for reached in all_of(machine, first, deepest):
-        values.add(reached.value())
-        if reached.shown:
-            old = ways.get(reached.shown, reached.choices)
-            ways[reached.shown] = min(old, reached.choices, key=lambda way: (len(way), way))
+    values: set[object] = set()
+    row = [State(image.world(machine), 0, ())]
+    for _ in range(deepest):
+        values.update(state.value() for state in row)
+        made = [second.made(state, choice) for state in row for choice in range(second.choices)]
+        for state, shown in made:
+            if shown:
+                ways[shown] = min(ways.get(shown, state.way), state.way, key=lambda way: (len(way), way))
+        row = [state for state, _ in made]
+    values.update(state.value() for state in row)
     lines = sorted(ways.items(), key=lambda line: (len(line[1]), line[1]))
-    told = [f"{len(way) - 1} {shown.split(' ', 1)[1]}: {text_of(machine, way)}" for shown, way in lines]
-    return told + [str(len(values))]
-
-
-def text_of(machine: Image, way: Sequence[int]) -> str:
-    names = [str(k) if k < machine.cpus else f"raise{machine.plans[k - machine.cpus].line}" for k in way]
-    runs_of = [(name, len(list(same))) for name, same in itertools.groupby(names)]
-    return " ".join(f"{name}x{count}" if count > 1 else name for name, count in runs_of)
+    return [f"{len(way) - 1} {shown}: {second.way(way)}" for shown, way in lines] + [str(len(values))]
 
 
 def read(text: bytes) -> Image:
@@ -150,19 +112,14 @@ class Every(unittest.TestCase):
             moments = every.Moments(machine, first)
             search = every.Search(moments, min(int(count), 30), deepest)
             for found in search.told():
-                self.assertEqual(shown_by(machine, first, search.way(found)), f"0 {found.label[0]} {found.label[1]}")
-            values = {Reached((), moments.world(moment), moment.turns, None).value() for moment in search.places}
+                self.assertEqual(shown_by(machine, first, search.way(found)), f"{found.label[0]} {found.label[1]}")
+            values = {State(moments.world(moment), moment.turns, ()).value() for moment in search.places}
             self.assertEqual(len(values), len(search.visits), seed)
-
-    def test_words_that_are_no_search(self) -> None:
-        for words in ("", "0", "1 2 3 4", "100000001", "1 10000001", "1 0 0", "1 0 10000001", "01", "x", "1 -1"):
-            self.assertEqual(commands.pip(["every", *words.split()], b""), (commands.USAGE, 1), words)
-        self.assertEqual(commands.pip(["every", "0x10", "0", "1"], b"PIPIMG1\n"), (b"bad image oldversion 0\n", 2))
 
 
 def shown_by(machine: Image, first: int, way: Sequence[int]) -> str | None:
-    """What the last of these choices shows, by the reference's own worlds."""
-    reached = Reached((), image.world(machine), 0, None)
+    """What the last of these choices shows, by worlds that are copied as a whole."""
+    second, state, shown = Second(machine, first, []), State(image.world(machine), 0, ()), None
     for choice in way:
-        reached = made(machine, first, reached, choice)
-    return reached.shown
+        state, shown = second.made(state, choice)
+    return shown

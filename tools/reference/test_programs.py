@@ -6,10 +6,20 @@ import io
 import unittest
 from collections.abc import Sequence
 
+from ..common import forms
 from . import assembly, audit, commands, generate, generate_programs, image, instructions, layout, native, runs, script
 from .model import Status, World
 
 TEXT = b".frames 16\n.cpus 1\n.line 0 2 0\n.page 0x00400000\nli r1 7\nout r1\nsys 12\nint 64\n"
+
+
+class Forms(unittest.TestCase):
+    def test_words_that_are_no_form_and_words_that_are_one(self) -> None:
+        for line in forms.WRONG:
+            self.assertEqual(commands.pip(forms.words(line), b""), (commands.USAGE, 1), line)
+        for line in forms.RIGHT:
+            if not line.startswith("soak"):
+                self.assertNotEqual(commands.pip(forms.words(line), b"PIPIMG1\n")[1], 1, line)
 
 
 class Instructions(unittest.TestCase):

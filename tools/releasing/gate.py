@@ -73,9 +73,7 @@ def now() -> str:
 
 
 def passed(found: Checkout) -> Record:
-    """The record of a gate that passed on what is checked out, and built the program that is there; else a reason to
-    refuse.
-    """
+    """The record of a gate that passed on what is checked out and built the program, or a reason to refuse."""
     record = read(found)
     if record.tree != found.tree():
         raise Failed(f"the gate ran on commit {record.commit[:12]}, which has other files: {RUN_IT}")

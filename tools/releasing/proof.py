@@ -82,8 +82,7 @@ def unproved(version: str, found: Checkout, page_sum: str) -> str:
 
 def text(version: str, record: Record, found: Checkout, is_again: bool, page_sum: str) -> str:
     told = TEXT.format(version=version, program=PROGRAM, page=PAGE, commit=record.commit, tree=record.tree,
-                       kit=record.kit,
-                       begun=record.begun, ended=record.ended,
+                       kit=record.kit, begun=record.begun, ended=record.ended,
                        closing="\n".join(f"          {line}" for line in record.closing),
                        again=AGAIN[is_again], trusted=trusted(found))
     return told + sums_of(found, PROGRAM, page_sum)

@@ -66,9 +66,7 @@ def work(given: argparse.Namespace, found: Checkout) -> int:
 
 
 def place_of(given: argparse.Namespace, found: Checkout) -> Path:
-    """Where a release goes: never into the checkout, since the gate refuses sources in other places than those of its
-    crates.
-    """
+    """Where a release goes: never into the checkout, where the gate would refuse its sources."""
     to: Path = given.to or found.place.parent / BESIDE
     if found.place.resolve() in (to.resolve(), *to.resolve().parents):
         raise Failed(f"{to} is inside the checkout, where the next gate would refuse the sources of a release: choose "
@@ -77,8 +75,7 @@ def place_of(given: argparse.Namespace, found: Checkout) -> Path:
 
 
 def made(given: argparse.Namespace, found: Checkout, to: Path) -> Path:
-    """Makes all in a folder of its own, and puts it where it belongs only when it is whole. Answers the tarball's path.
-    """
+    """Makes all in a folder of its own, which takes its place when it is whole. Answers the tarball's path."""
     name = f"pip-{given.version}{'-unproved' if given.unproved else ''}"
     folder, tarball = to / name, to / f"{name}.tar.gz"
     for path in (folder, tarball):
@@ -121,8 +118,7 @@ def need_same(found: Checkout, other: Checkout) -> None:
 # The parts
 
 def copied(found: Checkout, top: Path, program: Path) -> None:
-    """What is committed, and the program with its mark, so that ./pip runs it. Of one that is unproved ./pip says so.
-    """
+    """What is committed, and the program with its mark, so that ./pip runs it, or says that it is unproved."""
     for name in found.files():
         target = top / name
         target.parent.mkdir(parents=True, exist_ok=True)
@@ -165,9 +161,7 @@ def run(what: str, found: Checkout, tool: str, *words: str) -> None:
 
 
 def packed(top: Path, to: Path, seconds: int) -> None:
-    """The tarball: each time the same bytes. All is as old as the commit, so that to ./pip no source is newer than the
-    program.
-    """
+    """The tarball, of the same bytes each time: all is as old as the commit, and no source newer than the program."""
     def plain(member: tarfile.TarInfo) -> tarfile.TarInfo:
         member.mtime, member.uid, member.gid, member.uname, member.gname = seconds, 0, 0, "", ""
         member.mode = 0o755 if member.isdir() or member.mode & 0o100 else 0o644

@@ -43,8 +43,8 @@ class Frames:
         for frame in set(words) | set(self.last):
             told = words.get(frame, {})
             if told is not self.last.get(frame) and told != self.last.get(frame, {}):
-                self.found.setdefault(frame, []).append([at, self.contents.place({index: told[index]
-                                                                                  for index in sorted(told)})])
+                place = self.contents.place({index: told[index] for index in sorted(told)})
+                self.found.setdefault(frame, []).append([at, place])
         self.last = words
 
 
@@ -103,9 +103,7 @@ def as_data(told: object) -> str:
 
 
 def filled(name: str, folders: list[str], told: dict[str, str]) -> str:
-    """A file of the first folder that has it, in which each mark is replaced: those of `told`, and the names of other
-    files.
-    """
+    """A file of the first folder that has it, with each mark replaced: those of `told`, and names of other files."""
     def put(found: re.Match[str]) -> str:
         return told[found.group()] if found.group() in told else filled(found.group(1) or found.group(2), folders, told)
     marks = "|".join(map(re.escape, told))

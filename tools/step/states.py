@@ -76,7 +76,7 @@ def script_states(asked: Asked, text: bytes, last: int | None) -> list[State]:
         if not frames:
             frames, cpus = int(answer.split()[1]), [1] + [0] * (int(answer.split()[2]) - 1)
         ran = ran_on(cpus, line.split(b" "))
-        runs_after(cpus, line.split(b" "), answer.split())
+        runs_after(cpus, line.split(b" ")[1], answer.split())
         last_one = states[-1] if states else None
         before = None if may_change(line, answer) else last_one
         state = script_state(asked, State(place, told, remarks, answer, frames, [], [], {}), cpus, before)
@@ -114,12 +114,10 @@ def ran_on(cpus: list[int], words: list[bytes]) -> int:
     return cpus[int(words[1], 0)] if words[0] not in (b"boot", b"raise", b"peek") else 0
 
 
-def runs_after(cpus: list[int], words: list[bytes], answer: list[str]) -> None:
-    """What runs on each processor after a line, by its answer."""
-    if answer[0] == "switch":
-        cpus[int(words[1], 0)] = int(answer[2])
-    elif answer[0] == "park":
-        cpus[int(words[1], 0)] = 0
+def runs_after(cpus: list[int], cpu: bytes | str, answer: list[str]) -> None:
+    """What runs on each processor after a line of one of them, by its answer."""
+    if answer[0] in ("switch", "park"):
+        cpus[int(cpu, 0)] = int(answer[2]) if answer[0] == "switch" else 0
 
 
 def script_state(asked: Asked, state: State, names: list[int], before: State | None) -> State:
@@ -134,8 +132,7 @@ def script_state(asked: Asked, state: State, names: list[int], before: State | N
 
 
 def check_audit(program: str, state: State) -> None:
-    """The tree read off the words that were seen has to be the one that `audit` finds in them; others are users' words.
-    """
+    """The tree read off the words that were seen has to be the one that `audit` finds in them."""
     told = text_of(program, ["audit", str(state.frames)], walk.core_text(state.words).encode())
     if told != walk.tree_lines(state.tree) + ["yes"]:
         raise Failed(f"line {state.place}: the tree read off the frames isn't the one that 'audit' finds")
@@ -158,8 +155,8 @@ def of_image(program: str, image: bytes, first: int, steps: int, seed: int, jobs
     states: list[State] = []
     kept = Kept()
     with ThreadPoolExecutor(jobs or os.cpu_count()) as pool:
-        for step, texts_of in zip(range(first, steps + 1), pool.map(lambda k: both(program, image, k, seed),
-                                                                    range(first, steps + 1))):
+        shown = range(first, steps + 1)
+        for step, texts_of in zip(shown, pool.map(lambda k: both(program, image, k, seed), shown)):
             line = told.get(str(step - 1)) if step > first else None
             runs_after_step(running, line)
             tree, words = kept_state(kept, frames, step, *texts_of)
@@ -177,13 +174,9 @@ def both(program: str, image: bytes, step: int, seed: int) -> tuple[str, str]:
 
 def runs_after_step(running: list[int], line: str | None) -> None:
     """What runs on each processor after a step with this line: `P switch F T V`, `P park F V` or a call."""
-    if not line:
-        return
-    cpu, *words = line.split()
-    if "switch" in words:
-        running[int(cpu)] = int(words[words.index("switch") + 2])
-    elif words[0] == "park":
-        running[int(cpu)] = 0
+    if line:
+        cpu, *words = line.split()
+        runs_after(running, cpu, words[2:] if words[0] == "call" else words)
 
 
 @dataclass
@@ -200,7 +193,7 @@ def kept_state(kept: Kept, frames: int, step: int, tree: str, core: str) -> tupl
     if kept.core != core:
         words: walk.Words = {frame: {} for frame in range(frames)}
         words.update(texts.memory(core))
-        found = walk.partitions(walk.Looker(lambda frame, indexes: [words.get(frame, {}).get(i, 0) for i in indexes]))
+        found = walk.partitions(walk.of_memory(words))
         if "\n".join(walk.tree_lines(found)) != tree:
             raise Failed(f"step {step}: what 'tree' and 'core' say of the partitions differs")
         kept.core, kept.tree, kept.words = core, found, words
@@ -235,7 +228,7 @@ def node_changes(name: int, old: walk.Partition, new: walk.Partition) -> list[st
     if old.masked != new.masked:
         told.append(f"partition {name} is {'masked' if new.masked else 'unmasked'}")
     if old.pending != new.pending:
-        told.append(f"lines that wait: {lines(new.pending)}")
+        told.append(f"lines that wait: {walk.lines(new.pending)}")
     if len(old.tables) != len(new.tables):
         told.append(f"partition {name} has {len(new.tables)} tables, and had {len(old.tables)}")
     rows = {row.vpage: row for row in old.rows}
@@ -250,10 +243,6 @@ def node_changes(name: int, old: walk.Partition, new: walk.Partition) -> list[st
     told += [f"{view} for partition {name}: frame{'s' if len(views[bit]) > 1 else ''} {', '.join(map(str, views[bit]))}"
              for bit, view in ((0, "hidden"), (2, "visible again")) if views[bit]]
     return told
-
-
-def lines(pending: int) -> str:
-    return ", ".join(str(line) for line in range(16) if pending >> line & 1) or "none"
 
 
 def processor_changes(before: Cpus, after: Cpus) -> list[str]:

@@ -11,8 +11,7 @@ from . import contents, page, states, walk
 
 
 def tree_of(core: str) -> list[walk.Partition]:
-    words = texts.memory(core)
-    return walk.partitions(walk.Looker(lambda frame, indexes: [words.get(frame, {}).get(i, 0) for i in indexes]))
+    return walk.partitions(walk.of_memory(texts.memory(core)))
 
 
 def state(tree: list[walk.Partition], words: walk.Words | None = None,

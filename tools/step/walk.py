@@ -64,6 +64,10 @@ class Looker:
         return {index: word for index, word in enumerate(self.words(frame, range(WORDS))) if word}
 
 
+def of_memory(memory: Words) -> Looker:
+    return Looker(lambda frame, indexes: [memory.get(frame, {}).get(index, 0) for index in indexes])
+
+
 def partitions(looker: Looker) -> list[Partition]:
     """All partitions: each before its children, and these by their addresses."""
     found, waiting = [], [(ROOT, 0)]
@@ -153,8 +157,16 @@ def tree_lines(tree: list[Partition]) -> list[str]:
 
 
 def row_line(row: Row) -> str:
-    rights = "".join(letter if row.word & bit else "-" for bit, letter in ((4, "r"), (8, "w"), (16, "x")))
     view = "user" if row.word & 2 else "hidden"
     use = ("free", "desc", "conf", "lent")[row.first % PAGE]
     child = f" 0x{row.first - row.first % PAGE:08x}" if row.first else ""
-    return f"row 0x{PAGE * row.vpage:08x} {row.word // PAGE} {rights} {view} {use}{child}"
+    return f"row 0x{PAGE * row.vpage:08x} {row.word // PAGE} {rights(row.word)} {view} {use}{child}"
+
+
+def rights(leaf: int) -> str:
+    return "".join(letter if leaf & bit else "-" for bit, letter in ((4, "r"), (8, "w"), (16, "x")))
+
+
+def lines(pending: int) -> str:
+    """The interrupt lines of a word."""
+    return ", ".join(str(line) for line in range(16) if pending >> line & 1) or "none"

@@ -1,16 +1,23 @@
-//! The command `every`: what can happen over all interleavings, breadth first (docs/MODEL.md, "What can happen").
+//! The commands `every` and `against`: what can happen over all interleavings, breadth first (docs/MODEL.md, "What can
+//! happen").
 
 use std::collections::HashSet;
 
+use crate::calls::YIELD;
 use crate::cpu::{put_line, Line};
+use crate::frames::{PARENT, ROOT};
 use crate::hash::Keys;
-use crate::image::{load, put_head, Loaded, Plan};
-use crate::machine::{Context, Machine, Processor, PROCESSORS};
+use crate::image::{load, load_first, put_head, Loaded, Plan, Reader};
+use crate::machine::{Access, Context, Machine, Processor, PROCESSORS};
+use crate::menu::{menu, Deed};
 use crate::output::{Input, Output};
 use crate::Stop;
 
 /// Turns after which the words are as in most states, so that these differ from them in few.
 const LATER: u32 = 1000;
+
+/// The instruction `sys 8`.
+const YIELDS: u32 = 0x20000000 | YIELD;
 
 pub struct Bounds {
     pub states: u32,
@@ -18,15 +25,23 @@ pub struct Bounds {
     pub depth: Option<u32>,
 }
 
-/// A line that a choice shows, and the first state and choice that show it.
+/// A guest that is searched alone: the name of its top, and the processors on which it runs, whose turns are the choices.
+pub struct Guest {
+    pub top: u32,
+    pub cpus: Vec<usize>,
+}
+
+/// A line that a choice shows, and the first state and choice that show it. A guest leaves with it, or doesn't.
 struct Found {
     cpu: u32,
     line: Line,
+    leaves: bool,
     state: u32,
-    choice: u8,
+    choice: u16,
     depth: u32,
 }
 
+#[derive(Clone, Copy)]
 enum End {
     Closed,
     Within,
@@ -39,7 +54,7 @@ struct States {
     starts: Vec<u64>,
     /// From which state by which choice each was reached first.
     parents: Vec<u32>,
-    choices: Vec<u8>,
+    choices: Vec<u16>,
     /// An open table: 32 bits of the hash of a key, and the number of its state plus 1.
     places: Vec<u64>,
     keys: Keys,
@@ -67,7 +82,7 @@ impl States {
 
     /// Notes the state of a key, unless it was noted before or there are as many as there may be.
     #[inline]
-    fn reach(&mut self, key: &[u8], parent: u32, choice: u8, most: u32) -> Result<Reached, Stop> {
+    fn reach(&mut self, key: &[u8], parent: u32, choice: u16, most: u32) -> Result<Reached, Stop> {
         let hash = self.keys.hash(key) >> 32;
         let mask = self.places.len() - 1;
         let mut place = hash as usize & mask;
@@ -89,7 +104,7 @@ impl States {
         Ok(Reached::New)
     }
 
-    fn add(&mut self, key: &[u8], parent: u32, choice: u8) -> Result<(), Stop> {
+    fn add(&mut self, key: &[u8], parent: u32, choice: u16) -> Result<(), Stop> {
         self.bytes.try_reserve(key.len())?;
         self.starts.try_reserve(1)?;
         self.parents.try_reserve(1)?;
@@ -118,7 +133,7 @@ impl States {
     }
 
     /// The choices that lead to a state.
-    fn way(&self, mut state: u32) -> Vec<u8> {
+    fn way(&self, mut state: u32) -> Vec<u16> {
         let mut way = Vec::new();
         while state != 0 {
             way.push(self.choices[state as usize]);
@@ -129,15 +144,19 @@ impl States {
     }
 }
 
-struct Search {
+pub struct Search {
     world: Machine<true>,
     plans: Vec<Plan>,
+    menu: Vec<Deed>,
     bounds: Bounds,
+    pub guest: Option<Guest>,
     /// The words with which those of a state are compared.
     base: Vec<u32>,
     states: States,
     found: Vec<Found>,
-    shown: HashSet<(u32, Line), Keys>,
+    shown: HashSet<(u32, Line, bool), Keys>,
+    /// How the search ended, and the depth of that.
+    end: (End, u32),
     /// Of the state whose choices are made: turns, processors, the words that differ, and how the key says these.
     turns: u32,
     processors: [Processor; PROCESSORS],
@@ -148,26 +167,43 @@ struct Search {
 
 pub fn every(input: &mut Input, output: &mut Output, bounds: Bounds) -> Result<(), Stop> {
     let loaded = load(input, output, 0)?;
+    searched(loaded, vec![], output, bounds)
+}
+
+pub fn against(input: &mut Input, output: &mut Output, bounds: Bounds) -> Result<(), Stop> {
+    let loaded = load_first(&mut Reader::new(input, output), 0)?;
+    let menu = menu(input, output)?;
+    searched(loaded, menu, output, bounds)
+}
+
+fn searched(loaded: Loaded<true>, menu: Vec<Deed>, output: &mut Output, bounds: Bounds) -> Result<(), Stop> {
     let head = loaded.head;
-    let mut search = Search::new(loaded, bounds)?;
-    let (end, depth) = search.search()?;
+    let mut search = Search::new(loaded, menu, bounds)?;
+    search.search()?;
     put_head(output, &head)?;
-    for found in &search.found {
-        if matches!(end, End::Closed) || found.depth < depth {
-            search.put_found(output, found)?;
-        }
+    search.put(output)
+}
+
+/// The guest on a processor: the child of the root that runs there, or is above what does.
+pub fn guest_on(world: &Machine<true>, cpu: usize) -> Option<u32> {
+    let mut part = world.processors[cpu].part;
+    while part > ROOT && world.frames.get(part, PARENT) != ROOT {
+        part = world.frames.get(part, PARENT);
     }
-    output.text("states ").number(search.states.count());
-    match end {
-        End::Closed => output.text(" depth ").number(depth).text(" closed"),
-        End::Within => output.text(" within ").number(depth),
-        End::Stopped => output.text(" depth ").number(depth).text(" stopped"),
-    };
-    output.end_line()
+    (part > ROOT).then_some(part)
+}
+
+/// Whether the top of a guest is about to yield to its parent.
+fn asks(world: &mut Machine<true>, top: u32, cpu: usize) -> bool {
+    let Processor { part, context } = world.processors[cpu];
+    part == top
+        && context.registers[1] == 0
+        && world.loaded(cpu, context.pc, Access::Fetch, true).is_ok_and(|word| word == YIELDS)
 }
 
 impl Search {
-    fn new(loaded: Loaded<true>, bounds: Bounds) -> Result<Self, Stop> {
+    /// A search from the world that is loaded on, with a menu.
+    pub fn new(loaded: Loaded<true>, menu: Vec<Deed>, bounds: Bounds) -> Result<Self, Stop> {
         let Loaded { mut world, plans, .. } = loaded;
         let processors = world.processors;
         for turn in 0..LATER {
@@ -188,10 +224,59 @@ impl Search {
         put_words(&mut tail, &differing);
         let states = States::new();
         let (found, shown, key) = (Vec::new(), HashSet::default(), Vec::new());
-        Ok(Search { world, plans, bounds, base, states, found, shown, turns: 0, processors, differing, tail, key })
+        let (turns, guest, end) = (0, None, (End::Stopped, 0));
+        Ok(Search {
+            world,
+            plans,
+            menu,
+            bounds,
+            guest,
+            base,
+            states,
+            found,
+            shown,
+            end,
+            turns,
+            processors,
+            differing,
+            tail,
+            key,
+        })
     }
 
-    fn search(&mut self) -> Result<(End, u32), Stop> {
+    /// How many choices there are before the deeds.
+    fn usual(&self) -> usize {
+        self.world.count + self.plans.len()
+    }
+
+    /// What a choice after those is: a processor, and a deed.
+    fn deed(&self, choice: usize) -> Option<(usize, usize)> {
+        let deed = choice.checked_sub(self.usual())?;
+        Some((deed % self.world.count, deed / self.world.count))
+    }
+
+    fn is_hostile(&self, cpu: usize) -> bool {
+        let part = self.processors[cpu].part;
+        part != 0 && self.menu.iter().any(|deed| deed.is_of(part))
+    }
+
+    pub fn search(&mut self) -> Result<(), Stop> {
+        self.end = self.searched()?;
+        Ok(())
+    }
+
+    /// Whether nothing is left to be found, and the guest never leaves.
+    pub fn stays(&self) -> bool {
+        matches!(self.end.0, End::Closed) && !self.found.iter().any(|found| found.leaves)
+    }
+
+    /// How many choices there are.
+    fn choices(&self) -> usize {
+        let all = self.usual() + self.world.count * self.menu.len();
+        self.guest.as_ref().map_or(all, |guest| guest.cpus.len())
+    }
+
+    fn searched(&mut self) -> Result<(End, u32), Stop> {
         self.world.processors = self.processors;
         self.put_key(0);
         self.states.reach(&self.key, 0, 0, self.bounds.states)?;
@@ -204,7 +289,7 @@ impl Search {
                 return Ok((End::Within, depth));
             }
             self.visit(state);
-            for choice in 0..self.world.count + self.plans.len() {
+            for choice in 0..self.choices() {
                 if !self.choose(state, choice, depth)? {
                     return Ok((End::Stopped, depth));
                 }
@@ -242,27 +327,60 @@ impl Search {
     fn choose(&mut self, state: u32, choice: usize, depth: u32) -> Result<bool, Stop> {
         self.world.processors = self.processors;
         self.world.empty_caches();
-        if choice >= self.world.count {
+        if self.guest.is_some() {
+            return self.choose_alone(state, choice, depth);
+        }
+        let (cpu, deed) = self.deed(choice).map_or((choice, None), |(cpu, deed)| (cpu, Some(&self.menu[deed])));
+        if cpu >= self.world.count {
             if self.turns < self.bounds.from {
                 return Ok(true);
             }
             self.world.raise(self.plans[choice - self.world.count].line);
             self.put_key(self.turns);
         } else {
-            let line = self.world.turn(choice);
-            let is_idle = self.processors[choice].part == 0 && self.world.processors[choice].part == 0;
+            let part = self.processors[cpu].part;
+            if deed.is_some_and(|deed| part == 0 || !deed.is_of(part)) {
+                return Ok(true);
+            }
+            let is_hostile = deed.is_some() || self.is_hostile(cpu);
+            let line = if is_hostile { self.world.hostile_turn(cpu, deed) } else { self.world.turn(cpu) };
+            let is_idle = part == 0 && self.world.processors[cpu].part == 0;
             self.put_key(if is_idle { self.bounds.from } else { self.bounds.from.min(self.turns + 1) });
             if let Some(line) = line {
-                self.note(Found { cpu: choice as u32, line, state, choice: choice as u8, depth });
+                self.note(Found { cpu: cpu as u32, line, leaves: false, state, choice: choice as u16, depth });
             }
         }
+        self.reach(state, choice)
+    }
+
+    /// Makes a turn of a guest. One in which it leaves leads nowhere.
+    fn choose_alone(&mut self, state: u32, choice: usize, depth: u32) -> Result<bool, Stop> {
+        let Some(Guest { top, ref cpus }) = self.guest else { return Ok(true) };
+        let cpu = cpus[choice];
+        let asks = asks(&mut self.world, top, cpu);
+        let line = self.world.turn(cpu);
+        let leaves = asks || guest_on(&self.world, cpu) != Some(top);
+        if let Some(line) = line {
+            self.note(Found { cpu: cpu as u32, line, leaves, state, choice: choice as u16, depth });
+        }
+        if leaves {
+            self.world.frames.undo();
+            return Ok(true);
+        }
+        self.put_key(0);
+        self.reach(state, choice)
+    }
+
+    /// Notes the state that a choice leads to.
+    #[inline]
+    fn reach(&mut self, state: u32, choice: usize) -> Result<bool, Stop> {
         self.world.frames.undo();
-        let reached = self.states.reach(&self.key, state, choice as u8, self.bounds.states)?;
+        let reached = self.states.reach(&self.key, state, choice as u16, self.bounds.states)?;
         Ok(!matches!(reached, Reached::Full))
     }
 
     fn note(&mut self, found: Found) {
-        if self.shown.insert((found.cpu, found.line)) {
+        if self.shown.insert((found.cpu, found.line, found.leaves)) {
             self.found.push(found);
         }
     }
@@ -303,7 +421,27 @@ impl Search {
         put_words(&mut self.key, &words);
     }
 
+    /// The lines that were found, and the last line.
+    pub fn put(&self, output: &mut Output) -> Result<(), Stop> {
+        let (end, depth) = self.end;
+        for found in &self.found {
+            if matches!(end, End::Closed) || found.depth < depth {
+                self.put_found(output, found)?;
+            }
+        }
+        output.text("states ").number(self.states.count());
+        match end {
+            End::Closed => output.text(" depth ").number(depth).text(" closed"),
+            End::Within => output.text(" within ").number(depth),
+            End::Stopped => output.text(" depth ").number(depth).text(" stopped"),
+        };
+        output.end_line()
+    }
+
     fn put_found(&self, output: &mut Output, found: &Found) -> Result<(), Stop> {
+        if found.leaves {
+            output.text("leaves ");
+        }
         output.number(found.depth).text(" ").number(found.cpu).text(" ");
         put_line(output, found.line);
         output.text(":");
@@ -311,9 +449,11 @@ impl Search {
         way.push(found.choice);
         for same in way.chunk_by(|one, next| one == next) {
             let choice = usize::from(same[0]);
-            match choice.checked_sub(self.world.count) {
-                None => output.text(" ").number(choice as u32),
-                Some(plan) => output.text(" raise").number(self.plans[plan].line),
+            let choice = self.guest.as_ref().map_or(choice, |guest| guest.cpus[choice]);
+            match (self.deed(choice), choice.checked_sub(self.world.count)) {
+                (Some((cpu, deed)), _) => output.text(" ").number(cpu as u32).text(":d").number(deed as u32 + 1),
+                (None, None) => output.text(" ").number(choice as u32),
+                (None, Some(plan)) => output.text(" raise").number(self.plans[plan].line),
             };
             if same.len() > 1 {
                 output.text("x").number(same.len() as u32);

@@ -32,6 +32,7 @@ pub const CONFIGURATION: u32 = 2;
 pub const LENT: u32 = 3;
 
 /// With LOGGED each word that changes is noted with what it was.
+#[derive(Clone)]
 pub struct Frames<const LOGGED: bool> {
     words: Vec<u32>,
     pub log: Vec<(u32, u32)>,

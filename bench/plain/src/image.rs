@@ -146,6 +146,7 @@ pub fn word_of(bytes: &[u8]) -> u32 {
 }
 
 /// A machine with the words of its image, and the rest of that.
+#[derive(Clone)]
 pub struct Loaded<const LOGGED: bool> {
     pub world: Machine<LOGGED>,
     pub head: Head,
@@ -155,6 +156,13 @@ pub struct Loaded<const LOGGED: bool> {
 /// Loads an image for so many children, for each of which 13 pages of the root are needed.
 pub fn load<const LOGGED: bool>(input: &mut Input, output: &mut Output, children: u32) -> Result<Loaded<LOGGED>, Stop> {
     let mut reader = Reader::new(input, output);
+    let loaded = load_first(&mut reader, children)?;
+    reader.end()?;
+    Ok(loaded)
+}
+
+/// The same of an image that something may come after.
+pub fn load_first<const LOGGED: bool>(reader: &mut Reader, children: u32) -> Result<Loaded<LOGGED>, Stop> {
     let head = reader.head()?;
     let plans = reader.plans(&head)?;
     if children > 0 && head.frames < 13 * children + 13 {
@@ -167,7 +175,6 @@ pub fn load<const LOGGED: bool>(input: &mut Input, output: &mut Output, children
             world.frames.set_word(place, word_of(word));
         }
     }
-    reader.end()?;
     world.frames.log = Vec::new();
     Ok(Loaded { world, head, plans })
 }

@@ -101,6 +101,7 @@ struct Entry {
     row: u32,
 }
 
+#[derive(Clone)]
 pub struct Machine<const LOGGED: bool> {
     pub frames: Frames<LOGGED>,
     pub processors: [Processor; PROCESSORS],

@@ -1,6 +1,7 @@
 //! What pip does, in plain Rust: no contracts and no dependencies, written for speed. It is there to be measured beside
 //! the proved program, which shares nothing with it. docs/MODEL.md and docs/FORMATS.md have its rules.
 
+mod apart;
 mod asm;
 mod audit;
 mod calls;
@@ -13,6 +14,7 @@ mod hash;
 mod image;
 mod isa;
 mod machine;
+mod menu;
 mod native;
 mod output;
 mod runs;
@@ -29,7 +31,7 @@ use output::{Input, Output};
 
 const USAGE: &str = "usage: pip script | run STEPS SEED | asm | dis | tree STEPS SEED | core STEPS SEED | \
     soak COUNT SEED | native N STEPS | slots N TURNS ROUNDS | slots N ROUNDS K:TURNS .. | \
-    audit FRAMES | every STATES [FROM [DEPTH]]";
+    audit FRAMES | every STATES [FROM [DEPTH]] | against STATES [FROM [DEPTH]] | apart STATES STEPS SEED";
 pub const MOST_STEPS: u32 = 10_000_000;
 const MOST_COUNT: u32 = 1_000_000;
 const MOST_STATES: u32 = 100_000_000;
@@ -113,6 +115,8 @@ enum Command {
     Slots(u32, Vec<slots::Slot>, u32),
     Audit(u32),
     Every(every::Bounds),
+    Against(every::Bounds),
+    Apart(u32, u32, u32),
 }
 
 fn done(command: Command, output: &mut Output) -> Result<(), Stop> {
@@ -129,6 +133,8 @@ fn done(command: Command, output: &mut Output) -> Result<(), Stop> {
         Command::Slots(children, round, rounds) => slots::slots(input, output, children, &round, rounds),
         Command::Audit(frames) => audit::audit(input, output, frames),
         Command::Every(bounds) => every::every(input, output, bounds),
+        Command::Against(bounds) => every::against(input, output, bounds),
+        Command::Apart(states, steps, seed) => apart::apart(input, output, states, steps, seed),
     }
 }
 
@@ -156,6 +162,10 @@ fn numbered(words: &[String]) -> Option<Command> {
         }
         ("audit", &[frames @ 16..=4096]) => Command::Audit(frames),
         ("every", given) => Command::Every(bounds_of(given)?),
+        ("against", given) => Command::Against(bounds_of(given)?),
+        ("apart", &[states @ 1..=MOST_STATES, steps @ 0..=MOST_STEPS, seed @ 1..=u32::MAX]) => {
+            Command::Apart(states, steps, seed)
+        }
         _ => return None,
     })
 }

@@ -39,10 +39,10 @@ pub fn put_end(output: &mut Output, steps: u32) -> Result<(), Stop> {
     output.text("end ").number(steps).end_line()
 }
 
-/// Makes the steps, and hands their lines on.
+/// Makes the steps, and hands their lines on. Nothing of them can be undone.
 #[inline]
-fn steps(
-    loaded: &mut Loaded<false>,
+pub fn steps<const LOGGED: bool>(
+    loaded: &mut Loaded<LOGGED>,
     count: u32,
     seed: u32,
     mut told: impl FnMut(u32, u32, Line) -> Result<(), Stop>,
@@ -54,26 +54,27 @@ fn steps(
         if let Some(line) = loaded.world.turn(cpu as usize) {
             told(step, cpu, line)?;
         }
+        loaded.world.frames.log.clear();
     }
     Ok(())
 }
 
 pub fn run(input: &mut Input, output: &mut Output, count: u32, seed: u32) -> Result<(), Stop> {
-    let mut loaded = load(input, output, 0)?;
+    let mut loaded = load::<false>(input, output, 0)?;
     put_head(output, &loaded.head)?;
     steps(&mut loaded, count, seed, |step, cpu, line| put_step(output, step, cpu, line))?;
     put_end(output, count)
 }
 
 pub fn tree(input: &mut Input, output: &mut Output, count: u32, seed: u32) -> Result<(), Stop> {
-    let mut loaded = load(input, output, 0)?;
+    let mut loaded = load::<false>(input, output, 0)?;
     steps(&mut loaded, count, seed, |_, _, _| Ok(()))?;
     dump::tree(&loaded.world.frames, output)?;
     put_end(output, count)
 }
 
 pub fn core(input: &mut Input, output: &mut Output, count: u32, seed: u32) -> Result<(), Stop> {
-    let mut loaded = load(input, output, 0)?;
+    let mut loaded = load::<false>(input, output, 0)?;
     steps(&mut loaded, count, seed, |_, _, _| Ok(()))?;
     dump::core(&loaded.world.frames, output)?;
     put_end(output, count)

@@ -7,7 +7,6 @@ use Rattle.std.proofs.Common.{eq-eqb}
 use Rattle.std.proofs.Common.{Option, Some, None, slice_index}
 use Rattle.std.specs.Prelude.{find, option_map, slice_get, unwrap_or}
 use Rattle.std.proofs.lemmas.Bool.{ne_eqb}
-use Rattle.pip_model.specs.Events as E
 use Rattle.pip_model.specs.Lists.{In, has}
 use Rattle.pip_model.specs.Local.{IsAside}
 use Rattle.pip_model.specs.Midway.{find_other}

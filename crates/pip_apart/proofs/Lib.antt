@@ -17,3 +17,6 @@ pub mod Entries
 pub mod OnMachines
 pub mod Untaken
 pub mod Known
+pub mod Once
+pub mod Writing
+pub mod KnownWays

@@ -3,7 +3,7 @@ use Rattle.std.specs.Prelude.{◌≡◌, ◌≢◌, ℕ, ◌+◌, ◌<◌, ◌&&
 use Rattle.std.specs.Prelude.{map}
 use Rattle.std.specs.Prelude.{Option, Some, is_none, slice_get}
 use Rattle.std.specs.List.{AllByRecursion, list_any}
-use Rattle.pip_base.specs.Memory.{Memory}
+use Rattle.pip_base.specs.Memory.{IsMemory, Memory}
 use Rattle.pip_base.specs.declared.types.Plan.{Plan}
 use Rattle.pip_model.specs.Acts.{after_acts, text_of}
 use Rattle.pip_model.specs.Run.{steps}
@@ -33,6 +33,7 @@ pub record IsFoundAt (first : Memory) (w : World) (most limit : ℕ) (g : GuestA
 -- all guests of a world were searched, each alone. Keys compare with some frames
 pub record AreFound (w : World) (most limit : ℕ) (gs : List GuestAlone) : Type 0 where
   pub first : Memory
+  pub shape : IsMemory first
   pub tops_are : map (λ g. g.top) gs ≡ tops w
   pub each : AllByRecursion (IsFoundAt first w most limit) gs
 
@@ -116,3 +117,7 @@ abbrev pub RunsShowKnown : Type 0
 RunsShowKnown = (w : World) (plans : List Plan) (seed c m n most limit : ℕ) (k : Known)
     → IsKnownAt (after_acts w (steps w plans seed c m 0)) most limit k → hold_apart k ≡ true
     → AllByRecursion (λ x. x.line < 16) plans → GoesOnKnown w plans seed c m n k
+
+-- what is known of a world is determined, whatever frames the keys compare with
+abbrev pub KnownOnce : Type 0
+KnownOnce = (w : World) (most limit : ℕ) (j k : Known) → IsKnownAt w most limit j → IsKnownAt w most limit k → j ≡ k

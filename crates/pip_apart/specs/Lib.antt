@@ -5,3 +5,4 @@ pub mod Machines
 pub mod Tops
 pub mod Found
 pub mod Searches
+pub mod Texts

@@ -17,11 +17,12 @@ mod guest;
 mod guests;
 mod searching;
 mod taken;
+mod text;
 
 ghost use Rattle.pip_apart.specs.Alone.{MarkedGuestsLeave, SearchedGuestsStay, SearchesAdd};
 ghost use Rattle.pip_apart.specs.Company.{AloneIsAnOrder, GuestsHoldAmongLines, GuestsHoldInCompany};
 ghost use Rattle.pip_apart.specs.Company.{LinesAreShownAlone};
-ghost use Rattle.pip_apart.specs.Found.{KnownLinesSuffice, RunsShowKnown, SlotsShowKnown};
+ghost use Rattle.pip_apart.specs.Found.{KnownLinesSuffice, KnownOnce, RunsShowKnown, SlotsShowKnown};
 ghost use Rattle.pip_apart.specs.Kept.{InsideTurnsAskNot, KeptTurnsStay};
 
 pub use guest::Guest;
@@ -30,6 +31,7 @@ pub use searching::{
     GuestSearch, Knowledge, find_out, hold_apart, is_marked, search_guest, search_guests, stays,
 };
 pub use taken::{first_taken, might_take};
+pub use text::write_known;
 
 /// Guests that stay inside alone do so in any company, and each has the turns that it has alone.
 pub fn law_company()
@@ -49,8 +51,9 @@ pub fn law_searches()
 {}
 
 /// What is known of the guests of a world by searches of each alone says what all of them can show together: from there
-/// on, after each run that comes there, and of slots of any order.
+/// on, after each run that comes there, and of slots of any order. There is one thing to be known of each world.
 pub fn law_known()
+    ensures once { KnownOnce }
     ensures lines { KnownLinesSuffice }
     ensures slots { SlotsShowKnown }
     ensures runs { RunsShowKnown }

@@ -42,7 +42,7 @@ pub fn search_guest<F: First, L: Ledger>(
 {
     let mut start = Vec::new(alloc);
     guest.add_key(&mut start)?;
-    explore(guest, alloc, start.as_slice(), most, limit)
+    search_key(guest, alloc, start.as_slice(), most, limit)
 }
 
 /// What was found of a guest that was searched alone: its top, its processors, how the search ended, and the ways to

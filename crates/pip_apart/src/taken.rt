@@ -4,7 +4,7 @@ ghost use Rattle.pip_model.specs.Partitions.{HasPartition, InEach};
 ghost use Rattle.pip_model.specs.Tree.{row_at as tree_row_at, vpage};
 ghost use Rattle.pip_apart.specs.Tops as defined;
 
-use pip_base::{Access, Frame, Size, Steps};
+use pip_base::{Access, Frame, LINES, Size, Steps};
 use pip_frames::Frames;
 use pip_kern::{is_free, row_at};
 use pip_mmu::load;
@@ -13,9 +13,6 @@ use std::sync::ledger::Ledger;
 
 /// The address of the root's entry for line 0.
 const ENTRIES: u32 = 0xfffff080;
-
-/// The interrupt lines.
-const INTERRUPT_LINES: u32 = 16;
 
 // Whether a child has the page at an address of the root.
 fn is_lent<M: Frames, L: Ledger>(mem: &M, va: u32, steps: &mut Steps<L>) -> bool
@@ -49,7 +46,7 @@ pub fn first_taken<M: Frames, L: Ledger>(mem: &M, steps: &mut Steps<L>) -> Optio
     requires { HasPartition (M.memory mem.now) 1 }
     ensures { InEach (M.memory mem.now) 1 (λ t x. result ≡ defined.first_taken t) }
 {
-    for line in 0..INTERRUPT_LINES {
+    for line in 0..LINES {
         if might_take(mem, line, steps) {
             return Some(line);
         }

@@ -1,7 +1,8 @@
 -- The numbers of an image that was accepted are within their ranges.
 use Rattle.std.proofs.Common.{◌≡◌, ℕ, zero, suc, ◌&&◌, ◌+◌, ◌≤◌, Bool, true, false, cond, List, [], ◌∷◌, refl}
 use Rattle.std.proofs.Common.{subst, arith}
-use Rattle.std.specs.Prelude.{Option, Some, None, Ok, nat_le, slice_index_or}
+use Rattle.std.specs.Prelude.{◌<◌, Option, Some, None, Ok, nat_le, slice_index_or}
+use Rattle.std.specs.List.{AllByRecursion}
 use Rattle.std.proofs.lemmas.Bool.Decides.{nat_tests}
 use Rattle.pip_asm.proofs.Bytes.{AllBytes}
 use Rattle.pip_asm.proofs.Trim.{AllWords}
@@ -18,6 +19,7 @@ pub record IsAccepted (i : Image) : Type 0 where
   pub frames_most : i.frames ≤ 4096
   pub cpus_least : 1 ≤ i.cpus
   pub cpus_most : i.cpus ≤ 4
+  pub lines : AllByRecursion (λ p. p.line < 16) i.plans
   pub words : ArePageWords (image_word i.frames i.pages)
 
 -- the pages have words
@@ -53,6 +55,24 @@ parts_small n m least (suc k) (Head f ∷ ps) h = absurd h
 parts_small n m least (suc k) (Line p ∷ ps) h = parts_small n m (p.line + 1) k ps h.1
 parts_small n m least (suc k) (Holds p ∷ ps) h = absurd h
 
+-- the lines of plans are below 16
+no_plans : (n : ℕ) (seen : List ℕ) (k : ℕ) (ps : List Part) → ArePages n seen k ps
+    → AllByRecursion (λ p. p.line < 16) (image_from ps).plans
+no_plans n seen zero [] h = tt
+no_plans n seen zero (p ∷ ps) h = absurd h
+no_plans n seen (suc k) [] h = absurd h
+no_plans n seen (suc k) (Head f ∷ ps) h = absurd h
+no_plans n seen (suc k) (Line p ∷ ps) h = absurd h
+no_plans n seen (suc k) (Holds p ∷ ps) h = no_plans n _ k ps h.1
+
+plans_below : (n m least k : ℕ) (ps : List Part) → AreParts n m least k ps
+    → AllByRecursion (λ p. p.line < 16) (image_from ps).plans
+plans_below n m least zero ps h = no_plans n [] m ps h
+plans_below n m least (suc k) [] h = absurd h
+plans_below n m least (suc k) (Head f ∷ ps) h = absurd h
+plans_below n m least (suc k) (Line p ∷ ps) h = (h.0.line, plans_below n m (p.line + 1) k ps h.1)
+plans_below n m least (suc k) (Holds p ∷ ps) h = absurd h
+
 within : (l n h : ℕ) → (nat_le l n && nat_le n h) ≡ true → (l ≤ n) × (n ≤ h)
 within l n h e = (grind (arith, nat_tests, e), grind (arith, nat_tests, e))
 
@@ -68,6 +88,7 @@ all_accepted (Head f ∷ ps) h =
       frames_most = n.1;
       cpus_least = c.0;
       cpus_most = c.1;
+      lines = plans_below f.frames f.pages 0 f.plans ps h.1;
       words = words_small f.frames (image_from ps).pages (parts_small f.frames f.pages 0 f.plans ps h.1);
     }
 

@@ -6,12 +6,13 @@ use Rattle.std.specs.List.{AllByRecursion}
 use Rattle.std.specs.Str.{bytes_eq}
 use Rattle.std.proofs.lemmas.Bool.{leb-true, ltb-true}
 use Rattle.pip_model.specs.Grammar.{number_of}
-use Rattle.pip_slots.specs.Images.{round_steps, steps_in_turn}
+use Rattle.pip_slots.specs.Images.{in_turn, round_steps}
 use Rattle.pip_slots.specs.declared.time_slot.RoundSlot.{RoundSlot}
-use Rattle.pip_commands.specs.Words.{as_round, audit_words, command_of, cons_slot, counted_command, every_words}
-use Rattle.pip_commands.specs.Words.{first_command, fixed_command, four_words, given_command, given_slots, given_words}
-use Rattle.pip_commands.specs.Words.{is_depth, native_words, numbered_slot, single_word, slots_in, slots_words}
-use Rattle.pip_commands.specs.Words.{three_words, two_words}
+use Rattle.pip_slots.proofs.Rounds.{turn_children}
+use Rattle.pip_commands.specs.Words.{apart_words, as_round, audit_words, command_of, cons_slot, counted_command}
+use Rattle.pip_commands.specs.Words.{first_command, fixed_command, four_words, given_command, given_slots, is_depth}
+use Rattle.pip_commands.specs.Words.{native_words, numbered_slot, search_words, single_word, slots_in, slots_words}
+use Rattle.pip_commands.specs.Words.{three_words, turn_words, two_words}
 use Rattle.pip_commands.specs.declared.words.Command.{Command}
 use Rattle.pip_commands.specs.declared.words.Command.TheVariants as C
 
@@ -21,11 +22,12 @@ IsWithin (C.Tree count seed) = 1 ≤ seed
 IsWithin (C.Core count seed) = 1 ≤ seed
 IsWithin (C.Soak count seed) = (count ≤ 1000000) × (1 ≤ seed)
 IsWithin (C.Native n count) = (1 ≤ n) × (n ≤ 8)
-IsWithin (C.Slots n turns rounds) = (1 ≤ n) × (n ≤ 8) × (steps_in_turn n turns rounds < 2 ^ 32)
-IsWithin (C.GivenSlots n rounds round) =
+IsWithin (C.Slots n rounds round) =
     (1 ≤ n) × (n ≤ 8) × (rounds * round_steps round.items < 2 ^ 32) × AllByRecursion (λ x. x.child < n) round.items
 IsWithin (C.Audit frames) = (16 ≤ frames) × (frames ≤ 4096)
 IsWithin (C.Every states from depth) = 1 ≤ states
+IsWithin (C.Against states from depth) = 1 ≤ states
+IsWithin (C.Apart states count seed) = (1 ≤ states) × (1 ≤ seed)
 IsWithin _ = Unit {0}
 
 abbrev pub AreWithin : Option Command → Type 0
@@ -73,30 +75,39 @@ native_within (Some n) (Some count) = go ((nat_le 1 n && nat_le n 8) && nat_le c
         (leb-true 1 n least, leb-true n 8 most)
     go false e = tt
 
-every_within : (a b depth : Option ℕ) → AreWithin (every_words a b depth)
-every_within None b depth = tt
-every_within (Some n) None depth = tt
-every_within (Some n) (Some from) depth =
-    go ((nat_le 1 n && nat_le n 100000000) && nat_le from 10000000) refl
-  where
-    go : (b : Bool) → ((nat_le 1 n && nat_le n 100000000) && nat_le from 10000000) ≡ b
-        → AreWithin (cond b (Some (C.Every n from depth)) None)
-    go true e =
-        let (x, y) = both (nat_le 1 n && nat_le n 100000000) (nat_le from 10000000) e in
-        leb-true 1 n (both (nat_le 1 n) (nat_le n 100000000) x).0
-    go false e = tt
+module _ (command : ℕ → ℕ → Option ℕ → Command) (some : (n from : ℕ) (depth : Option ℕ) → 1 ≤ n
+    → IsWithin (command n from depth)) where
+  search_within : (a b depth : Option ℕ) → AreWithin (search_words command a b depth)
+  search_within None b depth = tt
+  search_within (Some n) None depth = tt
+  search_within (Some n) (Some from) depth =
+      go ((nat_le 1 n && nat_le n 100000000) && nat_le from 10000000) refl
+    where
+      go : (b : Bool) → ((nat_le 1 n && nat_le n 100000000) && nat_le from 10000000) ≡ b
+          → AreWithin (cond b (Some (command n from depth)) None)
+      go true e =
+          let (x, y) = both (nat_le 1 n && nat_le n 100000000) (nat_le from 10000000) e in
+          some n from depth (leb-true 1 n (both (nat_le 1 n) (nat_le n 100000000) x).0)
+      go false e = tt
+
+every_within : (a b depth : Option ℕ) → AreWithin (search_words C.Every a b depth)
+every_within = search_within C.Every (λ n from depth h. h)
+
+against_within : (a b depth : Option ℕ) → AreWithin (search_words C.Against a b depth)
+against_within = search_within C.Against (λ n from depth h. h)
 
 three_within : (word : List ℕ) (a b : Option ℕ) → AreWithin (three_words word a b)
 three_within word a b =
     first_or (bytes_eq word (codes "native")) (native_words a b) _ (native_within a b)
-    (one_of_five (bytes_eq word (codes "every")) (bytes_eq word (codes "run")) (bytes_eq word (codes "tree"))
+    (first_or (bytes_eq word (codes "every")) (search_words C.Every a b None) _ (every_within a b None)
+    (one_of_five (bytes_eq word (codes "against")) (bytes_eq word (codes "run")) (bytes_eq word (codes "tree"))
     (bytes_eq word (codes "core")) (bytes_eq word (codes "soak"))
-    (every_words a b None) (counted_command C.Run 10000000 a b) (counted_command C.Tree 10000000 a b)
+    (search_words C.Against a b None) (counted_command C.Run 10000000 a b) (counted_command C.Tree 10000000 a b)
     (counted_command C.Core 10000000 a b)
     (counted_command C.Soak 1000000 a b)
-    (every_within a b None)
+    (against_within a b None)
     (counted_within C.Run 10000000 a b (λ n s h k. k)) (counted_within C.Tree 10000000 a b (λ n s h k.
-    k)) (counted_within C.Core 10000000 a b (λ n s h k. k)) (counted_within C.Soak 1000000 a b (λ n s h k. (h, k))))
+    k)) (counted_within C.Core 10000000 a b (λ n s h k. k)) (counted_within C.Soak 1000000 a b (λ n s h k. (h, k)))))
 
 audit_within : (a : Option ℕ) → AreWithin (audit_words a)
 audit_within None = tt
@@ -109,40 +120,62 @@ audit_within (Some n) = go (nat_le 16 n && nat_le n 4096) refl
 two_within : (word : List ℕ) (a : Option ℕ) → AreWithin (two_words word a)
 two_within word a =
     first_or (bytes_eq word (codes "audit")) (audit_words a) _ (audit_within a)
-    (first_or (bytes_eq word (codes "every")) (every_words a (Some 0) None) None (every_within a (Some 0) None) tt)
+    (first_or (bytes_eq word (codes "every")) (search_words C.Every a (Some 0) None) _ (every_within a (Some 0) None)
+    (first_or (bytes_eq word (codes "against")) (search_words C.Against a (Some 0) None) None
+    (against_within a (Some 0) None) tt))
 
-slots_within : (a b c : Option ℕ) → AreWithin (slots_words a b c)
-slots_within None b c = tt
-slots_within (Some n) None c = tt
-slots_within (Some n) (Some turns) None = tt
-slots_within (Some n) (Some turns) (Some rounds) = go (few && small) refl
+slots_within : (n c : ℕ) (xs : List RoundSlot) → AllByRecursion (λ x. x.child < n) xs
+    → AreWithin (slots_words n c (as_round xs))
+slots_within n c xs h = go ((nat_le 1 n && nat_le n 8) && (nat_le c 10000000 && few)) refl
   where
     few : Bool
-    few = nat_le 1 n && nat_le n 8
+    few = nat_le (c * round_steps xs) 10000000
 
-    numbers : Bool
-    numbers = nat_le turns 10000000 && nat_le rounds 10000000
+    go : (b : Bool) → ((nat_le 1 n && nat_le n 8) && (nat_le c 10000000 && few)) ≡ b
+        → AreWithin (cond b (Some (C.Slots n c (as_round xs))) None)
+    go true e =
+        let (x, y) = both (nat_le 1 n && nat_le n 8) (nat_le c 10000000 && few) e in
+        let (least, most) = both (nat_le 1 n) (nat_le n 8) x in
+        let within = leb-true (c * round_steps xs) 10000000 (both (nat_le c 10000000) few y).1 in
+        (leb-true 1 n least, leb-true n 8 most, omega (arith, within), h)
+    go false e = tt
+
+turn_within : (a b c : Option ℕ) → AreWithin (turn_words a b c)
+turn_within None b c = tt
+turn_within (Some n) None c = tt
+turn_within (Some n) (Some turns) None = tt
+turn_within (Some n) (Some turns) (Some c) = first_or (nat_le n 8 && nat_le turns 10000000)
+    (slots_words n c (as_round (in_turn n turns))) None (slots_within n c (in_turn n turns) (turn_children n turns)) tt
+
+apart_within : (a b c : Option ℕ) → AreWithin (apart_words a b c)
+apart_within None b c = tt
+apart_within (Some n) None c = tt
+apart_within (Some n) (Some count) None = tt
+apart_within (Some n) (Some count) (Some seed) = go (room && steps) refl
+  where
+    room : Bool
+    room = nat_le 1 n && nat_le n 100000000
 
     steps : Bool
-    steps = nat_le (steps_in_turn n turns rounds) 10000000
+    steps = nat_le count 10000000 && nat_le 1 seed
 
-    small : Bool
-    small = numbers && steps
-
-    go : (b : Bool) → (few && small) ≡ b → AreWithin (cond b (Some (C.Slots n turns rounds)) None)
+    go : (b : Bool) → (room && steps) ≡ b → AreWithin (cond b (Some (C.Apart n count seed)) None)
     go true e =
-        let (x, y) = both few small e in
-        let (least, most) = both (nat_le 1 n) (nat_le n 8) x in
-        let within = leb-true (steps_in_turn n turns rounds) 10000000 (both numbers steps y).1 in
-        (leb-true 1 n least, leb-true n 8 most, omega (arith, within))
+        let (x, y) = both room steps e in (
+          leb-true 1 n (both (nat_le 1 n) (nat_le n 100000000) x).0,
+          leb-true 1 seed (both (nat_le count 10000000) (nat_le 1 seed) y).1,
+        )
     go false e = tt
 
 four_within : (word : List ℕ) (a b c : Option ℕ) → AreWithin (four_words word a b c)
 four_within word a b None = tt
 four_within word a b (Some third) =
-    first_or (bytes_eq word (codes "slots")) (slots_words a b (Some third)) _ (slots_within a b (Some third))
-    (first_or (bytes_eq word (codes "every") && is_depth third) (every_words a b (Some third)) None
-    (every_within a b (Some third)) tt)
+    first_or (bytes_eq word (codes "slots")) (turn_words a b (Some third)) _ (turn_within a b (Some third))
+    (first_or (bytes_eq word (codes "apart")) (apart_words a b (Some third)) _ (apart_within a b (Some third))
+    (first_or (bytes_eq word (codes "every") && is_depth third) (search_words C.Every a b (Some third)) _
+    (every_within a b (Some third))
+    (first_or (bytes_eq word (codes "against") && is_depth third) (search_words C.Against a b (Some third)) None
+    (against_within a b (Some third)) tt)))
 
 no_numbers : (a b c : Bool)
     → AreWithin (cond a (Some C.Script) (cond b (Some C.Assemble) (cond c (Some C.Disassemble) None)))
@@ -194,26 +227,10 @@ all_of : (n : ℕ) (words : List (List ℕ)) → AllOf n (slots_in n words)
 all_of n [] = tt
 all_of n (word ∷ words) = cons_of n _ (slots_in n words) (numbered_of n _ _) (all_of n words)
 
-round_within : (n c : ℕ) (xs : List RoundSlot) → AllByRecursion (λ x. x.child < n) xs
-    → AreWithin (given_words n c (as_round xs))
-round_within n c xs h = go ((nat_le 1 n && nat_le n 8) && (nat_le c 10000000 && few)) refl
-  where
-    few : Bool
-    few = nat_le (c * round_steps xs) 10000000
-
-    go : (b : Bool) → ((nat_le 1 n && nat_le n 8) && (nat_le c 10000000 && few)) ≡ b
-        → AreWithin (cond b (Some (C.GivenSlots n c (as_round xs))) None)
-    go true e =
-        let (x, y) = both (nat_le 1 n && nat_le n 8) (nat_le c 10000000 && few) e in
-        let (least, most) = both (nat_le 1 n) (nat_le n 8) x in
-        let within = leb-true (c * round_steps xs) 10000000 (both (nat_le c 10000000) few y).1 in
-        (leb-true 1 n least, leb-true n 8 most, omega (arith, within), h)
-    go false e = tt
-
 rounds_within : (n c : ℕ) (xs : Option (List RoundSlot)) → AllOf n xs
-    → AreWithin (option_and_then (λ round. given_words n c (as_round round)) xs)
+    → AreWithin (option_and_then (λ round. slots_words n c (as_round round)) xs)
 rounds_within n c None h = tt
-rounds_within n c (Some xs) h = round_within n c xs h
+rounds_within n c (Some xs) h = slots_within n c xs h
 
 slots_given : (a b : Option ℕ) (words : List (List ℕ)) → AreWithin (given_slots a b words)
 slots_given None b words = tt

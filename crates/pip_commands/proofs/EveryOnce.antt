@@ -15,7 +15,7 @@ use Rattle.pip_commands.specs.EveryLaw.{SearchesSayOnce}
 use Rattle.pip_commands.specs.EveryText.{every_text}
 
 -- one memory boots with these words
-same_first : (n : ℕ) (words : ℕ → ℕ → ℕ) (m k : Memory) → IsBooted n words m → IsBooted n words k → m ≡ k
+pub same_first : (n : ℕ) (words : ℕ → ℕ → ℕ) (m k : Memory) → IsBooted n words m → IsBooted n words k → m ≡ k
 same_first n words m k a b =
     same_words m k a.laid.shape b.laid.shape (a.laid.count ∙ sym b.laid.count)
     (λ f i less inside. let at = subst (λ c. f < c) a.laid.count less in

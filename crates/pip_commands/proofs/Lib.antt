@@ -23,7 +23,12 @@ pub mod Loading
 pub mod Reports
 pub mod Running
 pub mod Searched
+pub mod MenuLines
+pub mod MenuReads
+pub mod AgainstEnds
 pub mod EveryOnce
+pub mod OneImage
+pub mod AgainstOnce
 pub mod EveryLines
 pub mod RunsChosen
 pub mod InTime
@@ -42,3 +47,7 @@ pub mod LayoutWords
 pub mod CoreAudited
 -- the law on `slots`
 pub mod SlotsApart
+pub mod SearchEnds
+pub mod ApartFound
+pub mod ApartOnce
+pub mod ApartNames

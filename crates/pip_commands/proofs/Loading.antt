@@ -5,12 +5,12 @@ use Rattle.std.specs.Result.{IsErrAnd}
 use Rattle.pip_base.specs.Memory.{Memory}
 use Rattle.pip_base.specs.declared.types.Plan.{Plan}
 use Rattle.pip_image.specs.Coming.{IsAfter, IsHeader as IsLimited, coming, header_parts}
-use Rattle.pip_image.specs.Loading.{IsLoaded, LoadsAll, LoadsUpTo}
+use Rattle.pip_image.specs.Loading.{IsLoaded, Loads, LoadsAll, LoadsUpTo}
 use Rattle.pip_image.specs.Pacing.{IsFaultless}
 use Rattle.pip_image.specs.Reading.{Refuses, TakesParts, parts_then}
 use Rattle.pip_image.specs.declared.header.Header.{Header}
 use Rattle.pip_image.specs.declared.place.Place.{Place}
-use Rattle.pip_image.proofs.Loaded.{image_loaded, image_with}
+use Rattle.pip_image.proofs.Loaded.{image_begun, image_loaded, image_with, loads_pages}
 use Rattle.pip_image.proofs.Steps.{faultless_after, takes_refused}
 use Rattle.pip_io.specs.Pacing.{MayRead}
 use Rattle.pip_io.specs.Taken.{Taken}
@@ -20,7 +20,8 @@ use Rattle.pip_model.specs.Images.{Holds, Page, Part, PartsRead, image_parts, pa
 use Rattle.pip_model.specs.Worlds.{boot_world_with}
 use Rattle.pip_model.specs.declared.image.ImageError.{ImageError}
 use Rattle.pip_switch.specs.Standing.{StandsAs, State}
-use Rattle.pip_commands.specs.Loading.{LacksMemoryAfterHeader, LoadsFrames, LoadsImage, StoppedAfter, StoppedLoading}
+use Rattle.pip_commands.specs.Loading.{LacksMemoryAfterHeader, LoadsFrames, LoadsFront, LoadsImage, StoppedAfter}
+use Rattle.pip_commands.specs.Loading.{StoppedLoading}
 use Rattle.pip_commands.specs.declared.commands.run.loading.LoadError.{LoadError}
 use Rattle.pip_commands.specs.declared.commands.run.loading.LoadError.TheVariants as T
 
@@ -45,6 +46,13 @@ has_image h p b c m limits all = record {
   booted = is_booted h all.pages m limits all.loaded;
 }
 
+pub front_booted : (h : Header) (a c : Option (List ℕ)) (m : Memory) → LoadsFront a c h m → HasBooted m
+front_booted h a c m l = record {
+  frames = l.parsed.frames;
+  words = image_word l.parsed.frames l.parsed.pages;
+  booted = l.begins.booted;
+}
+
 module _ (h : Header) (p : Place) (a b : Option (List ℕ)) (is : IsAfter h p)
     (none : p.plans ≡ 0) (took : TakesParts image_parts (coming p) (header_parts h) a b) where
   pub loads_frames : (c : Option (List ℕ)) (m : Memory) → IsLimited h → LoadsAll h.frames (coming p) b c m
@@ -55,7 +63,27 @@ module _ (h : Header) (p : Place) (a b : Option (List ℕ)) (is : IsAfter h p)
         input = l.input;
         parsed = image_with h l.pages;
         read = l.read;
-        whole = l.whole;
+        whole = all.whole;
+        good = l.is;
+        begins = record {
+          frames = refl;
+          cpus = refl;
+          plans = refl;
+          pages = sym l.count;
+          booted = is_booted h l.pages m limits l.loaded;
+        };
+      }
+
+  -- the pages were read, and nothing after them
+  pub loads_front : (q : Place) (c : Option (List ℕ)) (seen : List ℕ) (m : Memory) → IsLimited h → q.plans ≡ 0
+      → q.pages ≡ 0 → Loads h.frames (coming p) (coming q) b c seen m → LoadsFront a c h m
+  loads_front q c seen m limits plans pages all =
+      let l = image_begun p h a b c m is none took
+      (loads_pages h.frames (coming p) q b c seen m plans pages all) in
+      record {
+        front = l.input;
+        parsed = image_with h l.pages;
+        read = l.read;
         good = l.is;
         begins = record {
           frames = refl;

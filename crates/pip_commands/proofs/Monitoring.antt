@@ -64,14 +64,12 @@ text_parts : (s : Scheduling) (i : Image) (n : ℕ) → children_text s i n
     ≡ trace_image_line i.frames i.cpus (length i.plans) (length i.pages)
     ++ (built_from 0 (addresses n n) ++ (text_of (image_acts s i n) ++ end_line (children_steps s n)))
 text_parts (S.Monitor count) i n = refl
-text_parts (S.Slots turns c) i n = refl
-text_parts (S.Given xs c) i n = refl
+text_parts (S.Slots round c) i n = refl
 
 world_after : (s : Scheduling) (i : Image) (n : ℕ)
     → children_world s i n ≡ after_acts (ready_world (image_world i) n) (image_acts s i n)
 world_after (S.Monitor count) i n = refl
-world_after (S.Slots turns c) i n = refl
-world_after (S.Given xs c) i n = refl
+world_after (S.Slots round c) i n = refl
 
 module _ (s : Scheduling) (i : Image) (n frames pages : ℕ) (plans : List Plan)
     (p : State) (b : Begins i frames pages plans p) where

@@ -33,10 +33,11 @@ use Rattle.pip_model.proofs.OnLists.Acts.{after-append, after-events, text-appen
 use Rattle.pip_search.specs.Reached.{IsCovered}
 use Rattle.pip_search.specs.Systems.{after_choices}
 use Rattle.pip_search.specs.declared.searching.Extent.{Extent}
-use Rattle.pip_search.specs.declared.searching.Extent.TheVariants.{Closed}
+use Rattle.pip_search.specs.declared.searching.Extent.TheVariants.{Closed, Stopped, Within}
 use Rattle.pip_commands.specs.Dues.{image_scope}
-use Rattle.pip_commands.specs.RunLaw.{AreChosen, AreLinesOf, ArePlansFrom, CanCome, ClosedNamesRuns}
-use Rattle.pip_commands.specs.RunLaw.{IsNamedBy, RunsAreChoices, acts_chosen, image_moment}
+use Rattle.pip_commands.specs.RunLaw.{AreChosen, AreLinesOf, ArePlansFrom, CanComeBy, ClosedNamesRuns}
+use Rattle.pip_commands.specs.RunLaw.{CoveredNamesRuns, IsNamedBy, IsTraceOf, RunsAreChoices, acts_chosen}
+use Rattle.pip_commands.specs.RunLaw.{choices_in, image_moment, lines_raised, with_plans}
 use Rattle.pip_commands.specs.EveryText.{lines_planned}
 use Rattle.pip_commands.proofs.Accepted.{accepted}
 use Rattle.pip_commands.proofs.EveryLines.{lines_are_of_runs}
@@ -143,16 +144,17 @@ module _ (first : Memory) (g : Scope) (m : Moment) where
   abbrev at : List ℕ → Moment
   at cs = after_choices (model_of first g) m cs
 
-  -- acts up to step t are those of choices, by which as many turns were made as have to be counted
-  record IsAt (acts : List Act) (t : ℕ) : Type 0 where
-    chosen : AreChosen first g m acts
+  -- acts up to step t are those of k choices, by which as many turns were made as have to be counted
+  record IsAt (acts : List Act) (t k : ℕ) : Type 0 where
+    chosen : AreChosen first g m k acts
     late : min t g.from ≤ (at chosen.choices).turns
 
   -- acts that make the events of one choice more
-  more : (acts new : List Act) (c : ℕ) (h : AreChosen first g m acts) → c < g.cpus + length g.lines
-      → events_made new ≡ events_made (choice_acts g (at h.choices) c) → AreChosen first g m (acts ++ new)
-  more acts new c h can same = record {
+  more : (acts new : List Act) (c k : ℕ) (h : AreChosen first g m k acts) → c < g.cpus + length g.lines
+      → events_made new ≡ events_made (choice_acts g (at h.choices) c) → AreChosen first g m (k + 1) (acts ++ new)
+  more acts new c k h can same = record {
     choices = c ∷ h.choices;
+    count = omega (arith, h.count);
     can = (can, h.can);
     events = events-append acts new ∙ (ap₂ (λ a b. a ++ b) h.events same
         ∙ sym (events-append (acts_chosen first g m h.choices) (choice_acts g (at h.choices) c)));
@@ -162,99 +164,119 @@ module _ (first : Memory) (g : Scope) (m : Moment) where
   }
 
   -- a line is raised
-  raised : (acts : List Act) (t j : ℕ) → In j g.lines → g.from ≤ t → IsAt acts t
-      → IsAt (acts ++ Makes (E.Raise j) ∷ []) t
+  raised : (acts : List Act) (t k j : ℕ) → In j g.lines → g.from ≤ t → IsAt acts t k
+      → IsAt (acts ++ Makes (E.Raise j) ∷ []) t (k + 1)
   unfolding more
-  raised acts t j i time h =
+  raised acts t k j i time h =
       let s : StandsAt g.lines j = place_in j g.lines i in
-      let k : ℕ = g.cpus + s.place in
-      let above : g.cpus ≤ k = omega arith in
-      let there : k - g.cpus ≡ s.place = omega arith in
+      let c : ℕ = g.cpus + s.place in
+      let above : g.cpus ≤ c = omega arith in
+      let there : c - g.cpus ≡ s.place = omega arith in
       let now : g.from ≤ (at h.chosen.choices).turns = omega (arith, time, h.late) in
-      let is : choice_acts g (at h.chosen.choices) k ≡ Makes (E.Raise j) ∷ [] =
-      raise_chosen g (at h.chosen.choices) k above now
+      let is : choice_acts g (at h.chosen.choices) c ≡ Makes (E.Raise j) ∷ [] =
+      raise_chosen g (at h.chosen.choices) c above now
       ∙ ap (λ l. Makes (E.Raise l) ∷ []) (ap (slice_index g.lines) there ∙ s.is) in
       record {
-        chosen = more acts (Makes (E.Raise j) ∷ []) k h.chosen (omega (arith, s.within)) (ap events_made (sym is));
-        late = subst (λ n. min t g.from ≤ n) (sym (same_turns g (at h.chosen.choices) k above)) h.late;
+        chosen = more acts (Makes (E.Raise j) ∷ []) c k h.chosen (omega (arith, s.within)) (ap events_made (sym is));
+        late = subst (λ n. min t g.from ≤ n) (sym (same_turns g (at h.chosen.choices) c above)) h.late;
       }
 
   -- the lines that are due are raised
-  all_raised : (ps : List Plan) (acts : List Act) (t : ℕ) → ArePlansFrom g.lines g.from ps → IsAt acts t
-      → IsAt (acts ++ raises ps t) t
-  all_raised [] acts t are h = subst (λ v. IsAt v t) (sym (append-nil acts)) h
-  all_raised (p ∷ ps) acts t are h = by (is_due p t) refl (λ v k. all_raised ps v t are.1 k)
+  all_raised : (ps : List Plan) (acts : List Act) (t k : ℕ) → ArePlansFrom g.lines g.from ps → IsAt acts t k
+      → IsAt (acts ++ raises ps t) t (k + length (raises ps t))
+  all_raised [] acts t k are h =
+      let sum : k ≡ k + 0 = omega arith in
+      subst (λ v. IsAt v t (k + 0)) (sym (append-nil acts)) (subst (IsAt acts t) sum h)
+  all_raised (p ∷ ps) acts t k are h = by (is_due p t) refl (λ v n. all_raised ps v t n are.1)
     where
-      by : (b : Bool) → is_due p t ≡ b → ((v : List Act) → IsAt v t → IsAt (v ++ raises ps t) t)
+      by : (b : Bool) → is_due p t ≡ b → ((v : List Act) (n : ℕ) → IsAt v t n
+          → IsAt (v ++ raises ps t) t (n + length (raises ps t)))
           → IsAt (acts ++ (if b then Makes (E.Raise p.line) ∷ raises ps t else raises ps t)) t
+          (k + length (if b then Makes (E.Raise p.line) ∷ raises ps t else raises ps t))
       by true due others =
           let late : g.from ≤ t = omega (arith, due_late p t due, are.0.1) in
-          subst (λ v. IsAt v t) (append_assoc acts (Makes (E.Raise p.line) ∷ []) (raises ps t))
-          (others (acts ++ Makes (E.Raise p.line) ∷ []) (raised acts t p.line are.0.0 late h))
-      by false due others = others acts h
+          let one : List Act = Makes (E.Raise p.line) ∷ [] in
+          let sum : (k + 1) + length (raises ps t) ≡ k + suc (length (raises ps t)) = omega arith in
+          subst (λ v. IsAt v t (k + suc (length (raises ps t)))) (append_assoc acts one (raises ps t))
+          (subst (λ n. IsAt ((acts ++ one) ++ raises ps t) t n) sum
+          (others (acts ++ one) (k + 1) (raised acts t k p.line are.0.0 late h)))
+      by false due others = others acts k h
 
   -- a processor has its turn
-  turned : (acts : List Act) (t k : ℕ) → k < g.cpus → (h : IsAt acts t)
-      → IsAt (acts ++ turn (after_acts m.world acts) k t) (t + 1)
+  turned : (acts : List Act) (t k c : ℕ) → c < g.cpus → (h : IsAt acts t k)
+      → IsAt (acts ++ turn (after_acts m.world acts) c t) (t + 1) (k + 1)
   unfolding more
-  turned acts t k lt h =
+  turned acts t k c lt h =
       let here = at h.chosen.choices in
-      let is : choice_acts g here k ≡ turn (after_acts m.world acts) k 0 =
-      turn_chosen g here k lt ∙ ap (λ w. turn w k 0) (sym h.chosen.world) in
+      let is : choice_acts g here c ≡ turn (after_acts m.world acts) c 0 =
+      turn_chosen g here c lt ∙ ap (λ w. turn w c 0) (sym h.chosen.world) in
       record {
-        chosen = more acts (turn (after_acts m.world acts) k t) k h.chosen (omega (arith, lt))
-            (turn_events (after_acts m.world acts) k t ∙ ap events_made (sym is));
-        late = subst (λ n. min (t + 1) g.from ≤ n) (sym (more_turns g here k lt))
-            (late_after g.from here.turns t (turn_end here.world k) h.late);
+        chosen = more acts (turn (after_acts m.world acts) c t) c k h.chosen (omega (arith, lt))
+            (turn_events (after_acts m.world acts) c t ∙ ap events_made (sym is));
+        late = subst (λ n. min (t + 1) g.from ≤ n) (sym (more_turns g here c lt))
+            (late_after g.from here.turns t (turn_end here.world c) h.late);
       }
 
-  -- what it shows can come
-  shown : (acts : List Act) (t k : ℕ) → k < g.cpus → (h : IsAt acts t)
-      → CanCome first g m (text_of (turn (after_acts m.world acts) k 0))
-  shown acts t k lt h =
+  -- what it shows can come by one choice more
+  shown : (acts : List Act) (t k c most : ℕ) → c < g.cpus → IsAt acts t k → k + 1 ≤ most
+      → CanComeBy first g m most (text_of (turn (after_acts m.world acts) c 0))
+  shown acts t k c most lt h few =
       let here = at h.chosen.choices in
-      let is : choice_acts g here k ≡ turn (after_acts m.world acts) k 0 =
-      turn_chosen g here k lt ∙ ap (λ w. turn w k 0) (sym h.chosen.world) in
-      (k ∷ h.chosen.choices, ((omega (arith, lt), h.chosen.can), ap text_of (sym is)))
+      let is : choice_acts g here c ≡ turn (after_acts m.world acts) c 0 =
+      turn_chosen g here c lt ∙ ap (λ w. turn w c 0) (sym h.chosen.world) in (
+        c ∷ h.chosen.choices,
+        omega (arith, h.chosen.count, few),
+        (
+          (omega (arith, lt), h.chosen.can),
+          ap text_of (sym is),
+        ),
+      )
 
   -- ---- the steps
 
   module _ (ps : List Plan) (seed : ℕ) (are : ArePlansFrom g.lines g.from ps) (some : 1 ≤ g.cpus) where
-    -- after some acts: n steps more
-    on : (n t : ℕ) (acts : List Act) → IsAt acts t
-        → AreChosen first g m (acts ++ steps (after_acts m.world acts) ps seed g.cpus n t)
-        × AreLinesOf (CanCome first g m) t n (text_of (steps (after_acts m.world acts) ps seed g.cpus n t))
-    on zero t acts h = (subst (AreChosen first g m) (sym (append-nil acts)) h.chosen, refl)
-    on (suc n) t acts h =
+    -- after some acts: n steps more, by that many choices in all
+    on : (n t k most : ℕ) (acts : List Act) → IsAt acts t k → k + (n + lines_raised ps n t) ≡ most
+        → AreChosen first g m most (acts ++ steps (after_acts m.world acts) ps seed g.cpus n t)
+        × AreLinesOf (CanComeBy first g m most) t n (text_of (steps (after_acts m.world acts) ps seed g.cpus n t))
+    on zero t k most acts h sum = (
+      subst (λ v. AreChosen first g m most v) (sym (append-nil acts))
+          (subst (λ n. AreChosen first g m n acts) (omega (arith, sum)) h.chosen),
+      refl,
+    )
+    on (suc n) t k most acts h sum =
         let w : World = after_acts m.world acts in
-        let k : ℕ = schedule seed g.cpus t in
-        let lt : k < g.cpus = omega (arith, some) in
+        let c : ℕ = schedule seed g.cpus t in
+        let lt : c < g.cpus = omega (arith, some) in
         let rs : List Act = raises ps t in
-        let r : IsAt (acts ++ rs) t = all_raised ps acts t are h in
+        let j : ℕ = k + length rs in
+        let r : IsAt (acts ++ rs) t j = all_raised ps acts t k are h in
         let w' : World = after_acts w rs in
         let same : after_acts m.world (acts ++ rs) ≡ w' = after-append m.world acts rs in
-        let turn_is : List Act = turn w' k t in
-        let one : IsAt ((acts ++ rs) ++ turn_is) (t + 1) =
-        subst (λ v. IsAt ((acts ++ rs) ++ turn v k t) (t + 1)) same (turned (acts ++ rs) t k lt r) in
-        let st : List Act = step w ps k t in
+        let turn_is : List Act = turn w' c t in
+        let one : IsAt ((acts ++ rs) ++ turn_is) (t + 1) (j + 1) =
+        subst (λ v. IsAt ((acts ++ rs) ++ turn v c t) (t + 1) (j + 1)) same (turned (acts ++ rs) t j c lt r) in
+        let st : List Act = step w ps c t in
         let all : (acts ++ rs) ++ turn_is ≡ acts ++ st = append_assoc acts rs turn_is in
-        let next : IsAt (acts ++ st) (t + 1) = subst (λ v. IsAt v (t + 1)) all one in
+        let next : IsAt (acts ++ st) (t + 1) (j + 1) = subst (λ v. IsAt v (t + 1) (j + 1)) all one in
         let there : after_acts m.world (acts ++ st) ≡ after_acts w st = after-append m.world acts st in
-        let rest = on n (t + 1) (acts ++ st) next in
+        let left : (j + 1) + (n + lines_raised ps n (t + 1)) ≡ most = omega (arith, sum) in
+        let rest = on n (t + 1) (j + 1) most (acts ++ st) next left in
         let others : List Act = steps (after_acts w st) ps seed g.cpus n (t + 1) in
-        let label : CanCome first g m (text_of (turn w' k 0)) =
-        subst (λ v. CanCome first g m (text_of (turn v k 0))) same (shown (acts ++ rs) t k lt r) in (
-          subst (AreChosen first g m) (append_assoc acts st others)
-              (subst (λ v. AreChosen first g m ((acts ++ st) ++ steps v ps seed g.cpus n (t + 1))) there rest.0),
+        let label : CanComeBy first g m most (text_of (turn w' c 0)) =
+        subst (λ v. CanComeBy first g m most (text_of (turn v c 0))) same
+        (shown (acts ++ rs) t j c most lt r (omega (arith, left))) in (
+          subst (AreChosen first g m most) (append_assoc acts st others)
+              (subst (λ v. AreChosen first g m most ((acts ++ st) ++ steps v ps seed g.cpus n (t + 1))) there rest.0),
           record {
-            label = text_of (turn w' k 0);
+            label = text_of (turn w' c 0);
             line = text_of turn_is;
             rest = text_of others;
             whole = text-append st others ∙ ap (λ v. v ++ text_of others)
                 (text-append rs turn_is ∙ ap (λ v. v ++ text_of turn_is) (text-raises ps t));
-            same = lines_are_of_runs w' k t;
+            same = lines_are_of_runs w' c t;
             known = λ _. label;
-            goes_on = subst (λ v. AreLinesOf (CanCome first g m) (t + 1) n
+            goes_on = subst (λ v. AreLinesOf (CanComeBy first g m most) (t + 1) n
                 (text_of (steps v ps seed g.cpus n (t + 1)))) there rest.1;
           },
         )
@@ -262,8 +284,9 @@ module _ (first : Memory) (g : Scope) (m : Moment) where
 -- what the steps of a run from the first moment on do and write, as choices do
 abbrev IsChosenRun : Image → ℕ → List Plan → ℕ → ℕ → Memory → Type 0
 IsChosenRun i from ps seed n first =
-    AreChosen first (image_scope i from) (image_moment i) (steps (image_world i) ps seed i.cpus n 0)
-    × AreLinesOf (CanCome first (image_scope i from) (image_moment i)) 0 n
+    AreChosen first (image_scope i from) (image_moment i) (choices_in ps n)
+    (steps (image_world i) ps seed i.cpus n 0)
+    × AreLinesOf (CanComeBy first (image_scope i from) (image_moment i) (choices_in ps n)) 0 n
     (text_of (steps (image_world i) ps seed i.cpus n 0))
 
 chosen_run : (i : Image) (from : ℕ) (ps : List Plan) (seed n : ℕ) (first : Memory) → 1 ≤ i.cpus
@@ -271,16 +294,16 @@ chosen_run : (i : Image) (from : ℕ) (ps : List Plan) (seed n : ℕ) (first : M
 chosen_run i from ps seed n first some are =
     let g : Scope = image_scope i from in
     let m : Moment = image_moment i in
-    on first g m ps seed are some n 0 [] (record {
-      chosen = record { choices = []; can = tt; events = refl; world = refl };
+    on first g m ps seed are some n 0 0 (choices_in ps n) [] (record {
+      chosen = record { choices = []; count = refl; can = tt; events = refl; world = refl };
       late = omega arith;
-    })
+    }) (omega arith)
 
 pub runs_are_choices : RunsAreChoices
 runs_are_choices input i from ps seed n first bytes is are =
     chosen_run i from ps seed n first (accepted input i bytes is).cpus_least are
 
--- ---- a search that closed
+-- ---- what a search says
 
 lines_known : (P Q : List ℕ → Type 0) (n t : ℕ) (text : List ℕ)
     → ((label : List ℕ) → label ≢ [] → P label → Q label) → AreLinesOf P t n text → AreLinesOf Q t n text
@@ -295,23 +318,32 @@ lines_known P Q (suc n) t text f h = record {
   goes_on = lines_known P Q n (t + 1) h.rest f h.goes_on;
 }
 
-pub closed_names_runs : ClosedNamesRuns
-closed_names_runs states from depth most i v s closed ps seed n are =
+-- fewer choices are covered, too
+fewer_covered : (d : Extent) (j k : ℕ) → j ≤ k → IsCovered d k → IsCovered d j
+fewer_covered (Closed depth) j k le h = tt
+fewer_covered (Within depth) j k le h = omega (arith, le, h)
+fewer_covered (Stopped depth) j k le h = omega (arith, le, h)
+
+pub covered_names_runs : CoveredNamesRuns
+covered_names_runs states from most i v s ps seed n are far =
     let g : Scope = image_scope i from in
     let m : Moment = image_moment i in
-    let k = s.told.counted.all [] tt (covered s.verdict 0 closed) in
+    let k = s.told.counted.all [] tt (fewer_covered s.verdict 0 (choices_in ps n) (omega arith) far) in
     let some : 1 ≤ i.cpus = omega (arith, k.stands.stands.sound.at_least_one, k.stands.cpus) in
     let r = chosen_run i from ps seed n s.first some are in
     record {
       lines = text_of (steps (image_world i) ps seed i.cpus n 0);
       whole = text-trace (image_world i) (trace_image_line i.frames i.cpus (length ps) (length i.pages)) ps seed i.cpus
           n;
-      steps_are = lines_known (CanCome s.first g m) (IsNamedBy s.found) n 0
+      steps_are = lines_known (CanComeBy s.first g m (choices_in ps n)) (IsNamedBy s.found) n 0
           (text_of (steps (image_world i) ps seed i.cpus n 0))
           (λ label nonempty can.
-          let w = s.told.all label can.0 can.1 nonempty (covered s.verdict (length can.0) closed) in
+          let w = s.told.all label can.0 can.2 nonempty
+          (fewer_covered s.verdict (length can.0) (choices_in ps n) can.1 far) in
           record { place = w.place; witness = w.witness; at = w.at; same = w.same }) r.1;
     }
-  where
-    covered : (d : Extent) (k : ℕ) → d ≡ Closed depth → IsCovered d k
-    covered d k e = subst (λ x. IsCovered x k) (sym e) tt
+
+pub closed_names_runs : ClosedNamesRuns
+closed_names_runs states from depth most i v s closed ps seed n are =
+    covered_names_runs states from most i v s ps seed n are
+    (subst (λ d. IsCovered d (choices_in ps n)) (sym closed) tt)

@@ -6,8 +6,10 @@ use Rattle.std.specs.List.{All, AllByRecursion}
 use Rattle.std.proofs.lemmas.List.Elements.{All-cons, All-nil}
 use Rattle.pip_base.specs.Memory.{Memory}
 use Rattle.pip_base.specs.declared.types.Plan.{Plan}
-use Rattle.pip_every.specs.Keys.{model_of}
+use Rattle.pip_every.specs.Menus.{Menu, menu_model}
 use Rattle.pip_every.specs.Moments.{first_moment}
+use Rattle.pip_every.specs.declared.menus.May.{May}
+use Rattle.pip_every.proofs.Usual.{told_usual}
 use Rattle.pip_image.specs.Reading.{IsFault, RefusesAfter}
 use Rattle.pip_image.specs.declared.header.Header.{Header}
 use Rattle.pip_io.specs.Taken.{Taken, Appends, AppendsPart, Keeps, SendsPart}
@@ -15,17 +17,15 @@ use Rattle.pip_io.proofs.Taken.{Appends-kept, cut_sent, part_sent}
 use Rattle.pip_model.specs.Images.{Image, Part, image_parts, image_word}
 use Rattle.pip_model.specs.Run.{trace_image_line}
 use Rattle.pip_model.specs.declared.image.ImageError.{ImageError}
-use Rattle.pip_search.specs.Summary.{IsShownOn, IsTold, Witness}
-use Rattle.pip_search.specs.Systems.{Model}
+use Rattle.pip_search.specs.Summary.{IsTold, Witness}
 use Rattle.pip_search.specs.Ways.{witnesses_of}
-use Rattle.pip_search.specs.declared.searching.Extent.{Extent}
 use Rattle.pip_switch.specs.Standing.{State}
 use Rattle.pip_ways.specs.Texts.{search_text}
-use Rattle.pip_ways.specs.Told.{AreWaysOf}
-use Rattle.pip_commands.specs.EndsBy.{Due, EndsBy, IsAnswered, plainly}
+use Rattle.pip_commands.specs.EndsBy.{Due, EndsBy, IsAnswered, Response, plainly}
 use Rattle.pip_commands.specs.EveryText.{every_text, lines_planned}
 use Rattle.pip_commands.specs.Faults.{image_line}
-use Rattle.pip_commands.specs.Dues.{IsEveryAnswer, IsSearched, every_due, most_choices}
+use Rattle.pip_commands.specs.Dues.{IsEveryAnswer, IsSearched, IsSearchedAgainst, every_due, image_scope}
+use Rattle.pip_commands.specs.Dues.{most_choices}
 use Rattle.pip_commands.specs.Loading.{BeginsFrames, LoadsFrames, StoppedLoading}
 use Rattle.pip_commands.specs.Searches.{EndsSearch, IsToldFrom, told_text}
 use Rattle.pip_commands.specs.Streams.{EndsLine, IsCalm, Streams}
@@ -45,18 +45,6 @@ lines_below [] all = All-nil (λ line. line < 16)
 lines_below (p ∷ plans) all =
     All-cons (λ line. line < 16) p.line (lines_planned plans) all.0 (lines_below plans all.1)
 
-shown_known : (m : Model) (s : m.State) (label way : List ℕ) → IsShownOn m s label way
-    → AllByRecursion (λ c. c < m.choices) way
-shown_known m s label [] shown = absurd shown
-shown_known m s label (c ∷ cs) shown = shown.0
-
--- the ways that a search tells make its choices
-pub ways_known : (m : Model) (s : m.State) (most limit : ℕ) (ws : List Witness) (count : ℕ) (v : Extent)
-    → IsTold m s most limit ws count v → (n : ℕ) → m.choices ≡ n → AreWaysOf n ws
-ways_known m s most limit ws count v told n same = subst (λ k. AreWaysOf k ws) same (record {
-  each = λ k w at. shown_known m s w.label w.way (told.shown k w at).0;
-})
-
 -- ---- how it is written
 
 -- a part was given
@@ -73,7 +61,7 @@ show_settled (Err e) a b c t all kept some = cut_sent a b c t all kept some
 
 -- ---- the answer
 
-module _ (states from : ℕ) (depth : Option ℕ) (h : Header) (m : Memory) (t : Told) (i : Image)
+module _ (may : List May) (states from : ℕ) (depth : Option ℕ) (h : Header) (m : Memory) (t : Told) (i : Image)
     (b : BeginsFrames i h m) where
   abbrev ws : List Witness
   ws = witnesses_of t.verdict t.search.visits.items t.search.found.items
@@ -92,22 +80,40 @@ module _ (states from : ℕ) (depth : Option ℕ) (h : Header) (m : Memory) (t :
       ∙ ap (λ n. trace_image_line i.frames i.cpus (length i.plans) n ++ search_text i.cpus (lines_planned i.plans)
       ws count t.verdict) b.pages))
 
+  abbrev menu_at : ℕ → List Plan → Menu
+  menu_at c ps = record { scope = record { cpus = c; lines = lines_planned ps; from = from }; may = may }
+
   -- what was found from an image's frames is what can happen to the image
-  pub searched : IsToldFrom states from depth h m t → IsSearched states from depth i (plainly 0 (told_text h t) None)
+  pub searched : IsToldFrom may states from depth h m t
+      → IsSearchedAgainst may states from depth i (plainly 0 (told_text h t) None)
   searched found = record {
     first = m;
     booted = b.booted;
     found = ws;
     count = count;
     verdict = t.verdict;
-    told = subst (λ ps. IsTold (model_of m (record { cpus = i.cpus; lines = lines_planned ps; from = from }))
+    told = subst (λ ps. IsTold (menu_model m (menu_at i.cpus ps))
         (first_moment (image_word i.frames i.pages) i.frames i.cpus) (most_choices depth) states ws count t.verdict)
         b.plans
-        (subst (λ c. IsTold (model_of m (record { cpus = c; lines = lines_planned h.plans.items; from = from }))
+        (subst (λ c. IsTold (menu_model m (menu_at c h.plans.items))
         (first_moment (image_word i.frames i.pages) i.frames c) (most_choices depth) states ws count t.verdict)
         b.cpus (found i.frames (image_word i.frames i.pages) b.booted));
     text = ap (λ text. plainly 0 text None) same_text;
   }
+
+-- with an empty menu it is what `every` says
+pub searched_usual : (states from : ℕ) (depth : Option ℕ) (i : Image) (v : Response)
+    → IsSearchedAgainst [] states from depth i v → IsSearched states from depth i v
+searched_usual states from depth i v x = record {
+  first = x.first;
+  booted = x.booted;
+  found = x.found;
+  count = x.count;
+  verdict = x.verdict;
+  told = told_usual x.first (image_scope i from) (first_moment (image_word i.frames i.pages) i.frames i.cpus)
+      (most_choices depth) states x.found x.count x.verdict x.told;
+  text = x.text;
+}
 
 -- ---- the ends
 
@@ -137,10 +143,10 @@ module _ (states from : ℕ) (depth : Option ℕ) (code : ℕ) (p : Option State
 
   -- the search ended, and its text was written or not; or there was no memory for it
   pub every_searched : {h : Header} {m : Memory} (l : LoadsFrames a.left c.left h m) → IsCalm code a c
-      → EndsSearch states from depth l.parsed code a.written c.written a.writes c.writes → EndsBy due code p a c
+      → EndsSearch [] states from depth l.parsed code a.written c.written a.writes c.writes → EndsBy due code p a c
   every_searched {h} {m} l calm (inl (text, (found, ends))) =
       by_plain due code p a c calm settled apart l.input l.read none start 0 text (inl (omega arith))
-      (is_searched h m l text found) ends
+      (is_searched h m l text (searched_usual states from depth l.parsed (plainly 0 text None) found)) ends
   every_searched {h} {m} l calm (inr (is, kept)) =
       by_memory due code p a c calm settled apart l.input l.read none is (inr (l.whole, (l.parsed, l.good))) kept
 

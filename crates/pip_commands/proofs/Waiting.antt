@@ -10,10 +10,11 @@ use Rattle.pip_image.specs.Pacing.{IsFaultless}
 use Rattle.pip_image.specs.Reading.{EndsAtMost, LacksHeader, only_fault}
 use Rattle.pip_io.proofs.Taken.{Appends-nil}
 use Rattle.pip_model.specs.DisText.{parts_lines, text_of_lines}
-use Rattle.pip_model.specs.Images.{fields_of, image_parts}
+use Rattle.pip_model.specs.Images.{Image, fields_of, image_parts}
 use Rattle.pip_model.specs.declared.image.ImageError.TheVariants as F
-use Rattle.pip_commands.specs.Dues.{asm_due, audit_due, children_due, dis_due, every_due, run_due, script_due}
-use Rattle.pip_commands.specs.EndsBy.{Due, IsWithin}
+use Rattle.pip_commands.specs.Dues.{against_due, asm_due, audit_due, children_due, dis_due, every_due, run_due}
+use Rattle.pip_commands.specs.Dues.{script_due, searching_due}
+use Rattle.pip_commands.specs.EndsBy.{Due, IsWithin, Response}
 use Rattle.pip_commands.specs.Pacing.{Waits}
 use Rattle.pip_commands.specs.Streams.{Streams}
 use Rattle.pip_commands.specs.declared.commands.children.scheduling.Scheduling.{Scheduling}
@@ -84,6 +85,12 @@ module _ (a : Streams) (none : a.written.held ≡ []) where
 
   pub every_waits : (states from : ℕ) (depth : Option ℕ) → Waits (every_due states from depth) a a
   every_waits states from depth = waits_first (every_due states from depth) (no_fault, refl) tt
+
+  pub against_waits : (states from : ℕ) (depth : Option ℕ) → Waits (against_due states from depth) a a
+  against_waits states from depth = waits_first (against_due states from depth) (inl no_fault, refl) tt
+
+  pub found_waits : (P : Image → Response → Type 0) → Waits (searching_due P) a a
+  found_waits P = waits_first (searching_due P) (no_fault, refl) tt
 
   pub children_waits : (s : Scheduling) (n : ℕ) → Waits (children_due s n) a a
   children_waits s n = waits_first (children_due s n) (

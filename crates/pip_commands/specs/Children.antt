@@ -7,8 +7,7 @@ use Rattle.pip_model.specs.Images.{Image}
 use Rattle.pip_model.specs.Run.{image_world}
 use Rattle.pip_model.specs.Worlds.{World}
 use Rattle.pip_native.specs.Monitoring.{all_alive}
-use Rattle.pip_slots.specs.Images.{given_text, given_world, placed, round, round_steps, slots_text, slots_world}
-use Rattle.pip_slots.specs.Images.{steps_in_turn}
+use Rattle.pip_slots.specs.Images.{placed, round_steps, slots_text, slots_world}
 use Rattle.pip_slots.specs.Slots.{rounds, slot_run}
 use Rattle.pip_watch.specs.Watching.{addresses, native_text, native_world, ready_world, watched_steps}
 use Rattle.pip_commands.specs.declared.commands.children.scheduling.Scheduling.{Scheduling}
@@ -17,20 +16,17 @@ use Rattle.pip_commands.specs.declared.commands.children.scheduling.Scheduling.T
 -- what is done from a world in which these children are built
 abbrev pub children_acts : Scheduling → List Plan → List ℕ → World → List Act
 children_acts (S.Monitor count) plans ds w = watched_steps w plans (all_alive ds) count 0
-children_acts (S.Slots turns c) plans ds w = slot_run w (rounds (round turns ds) c) 0
-children_acts (S.Given xs c) plans ds w = slot_run w (rounds (placed xs.items ds) c) 0
+children_acts (S.Slots round c) plans ds w = slot_run w (rounds (placed round.items ds) c) 0
 
 -- how many steps that has for n children
 abbrev pub children_steps : Scheduling → ℕ → ℕ
 children_steps (S.Monitor count) n = count
-children_steps (S.Slots turns c) n = steps_in_turn n turns c
-children_steps (S.Given xs c) n = c * round_steps xs.items
+children_steps (S.Slots round c) n = c * round_steps round.items
 
--- the slots that are given are those of n children
+-- the slots are those of n children
 abbrev pub AreOf : ℕ → Scheduling → Type 0
 AreOf n (S.Monitor count) = Unit {0}
-AreOf n (S.Slots turns c) = Unit {0}
-AreOf n (S.Given xs c) = AllByRecursion (λ x. x.child < n) xs.items
+AreOf n (S.Slots round c) = AllByRecursion (λ x. x.child < n) round.items
 
 -- the number of the steps is a word, and each slot is that of a child
 pub record IsBounded (s : Scheduling) (n : ℕ) : Type 0 where
@@ -44,11 +40,9 @@ image_acts s i n = children_acts s i.plans (addresses n n) (ready_world (image_w
 -- the world after it
 abbrev pub children_world : Scheduling → Image → ℕ → World
 children_world (S.Monitor count) i n = native_world i n count
-children_world (S.Slots turns c) i n = slots_world i n turns c
-children_world (S.Given xs c) i n = given_world i n xs.items c
+children_world (S.Slots round c) i n = slots_world i n round.items c
 
 -- the whole text
 abbrev pub children_text : Scheduling → Image → ℕ → List ℕ
 children_text (S.Monitor count) i n = native_text i n count
-children_text (S.Slots turns c) i n = slots_text i n turns c
-children_text (S.Given xs c) i n = given_text i n xs.items c
+children_text (S.Slots round c) i n = slots_text i n round.items c

@@ -4,7 +4,7 @@ use Rattle.std.specs.Io.KnownBytes.{Consumes, IsAtEnd}
 use Rattle.pip_base.specs.Memory.{Memory}
 use Rattle.pip_base.specs.declared.types.Plan.{Plan}
 use Rattle.pip_image.specs.Coming.{header_parts}
-use Rattle.pip_image.specs.Reading.{Refuses, RefusesAfter}
+use Rattle.pip_image.specs.Reading.{IsFaultWithin, Refuses, RefusesAfter}
 use Rattle.pip_image.specs.declared.header.Header.{Header}
 use Rattle.pip_io.specs.Taken.{Taken, Appends, AppendsPart, SendsPart}
 use Rattle.pip_model.specs.Booted.{IsBooted}
@@ -40,6 +40,19 @@ pub record LoadsFrames (left left' : Option (List ℕ)) (h : Header) (m : Memory
   pub whole : IsAtEnd left'
   pub good : image input ≡ Ok parsed
   pub begins : BeginsFrames parsed h m
+
+-- what was read is an image, of which nothing is left
+pub record LoadsFront (left left' : Option (List ℕ)) (h : Header) (m : Memory) : Type 0 where
+  pub front : List ℕ
+  pub parsed : Image
+  pub read : Consumes left left' front
+  pub good : image front ≡ Ok parsed
+  pub begins : BeginsFrames parsed h m
+
+-- a fault that stops loading is one of the image itself
+abbrev pub IsStopInside : LoadError → Type 0
+IsStopInside (T.Image e) = IsFaultWithin e
+IsStopInside T.Memory = Unit {0}
 
 -- the whole input was read, and it is an image
 pub record LoadsImage (left left' : Option (List ℕ)) (frames pages : ℕ) (plans : List Plan) (p : State) : Type 0 where

@@ -1,5 +1,5 @@
 -- That what a run does, by any seed and with lines at any steps, is among the choices of `every`; and what a search
--- that closed says of it.
+-- says of it, however it ended.
 use Rattle.std.specs.Prelude.{◌≡◌, ◌≢◌, ℕ, zero, suc, ◌+◌, ◌-◌, ◌<◌, ◌≤◌, List, [], ◌∷◌, ◌++◌, length, Option, Some}
 use Rattle.std.specs.Prelude.{if◌then◌else◌, nat_lt, slice_get, slice_index, Ok}
 use Rattle.std.specs.List.{AllByRecursion}
@@ -12,10 +12,10 @@ use Rattle.pip_model.specs.Events as E
 use Rattle.pip_asm.specs.Laws.{AreBytes}
 use Rattle.pip_model.specs.Images.{Image, image, image_word}
 use Rattle.pip_model.specs.Lists.{In}
-use Rattle.pip_model.specs.Run.{end_line, image_world, run_text, steps, trace_image_line}
+use Rattle.pip_model.specs.Run.{end_line, image_world, raises, run_text, steps, trace_image_line}
 use Rattle.pip_model.specs.Turn.{turn}
 use Rattle.pip_model.specs.Worlds.{World}
-use Rattle.pip_search.specs.Reached.{AreChoices}
+use Rattle.pip_search.specs.Reached.{AreChoices, IsCovered}
 use Rattle.pip_search.specs.Summary.{IsShownOn, Witness}
 use Rattle.pip_search.specs.Systems.{after_choices}
 use Rattle.pip_search.specs.declared.searching.Extent.TheVariants.{Closed}
@@ -35,9 +35,19 @@ abbrev pub acts_chosen : Memory → Scope → Moment → List ℕ → List Act
 acts_chosen first g m [] = []
 acts_chosen first g m (c ∷ cs) = acts_chosen first g m cs ++ choice_acts g (after_choices (model_of first g) m cs) c
 
--- choices from a moment on make the same events as these acts, and lead to the world after them
-pub record AreChosen (first : Memory) (g : Scope) (m : Moment) (acts : List Act) : Type 0 where
+-- how many lines plans raise in n steps from step t on
+abbrev pub lines_raised : List Plan → ℕ → ℕ → ℕ
+lines_raised plans zero t = 0
+lines_raised plans (suc n) t = length (raises plans t) + lines_raised plans n (t + 1)
+
+-- n steps from the first on are that many choices: a turn each, and the lines that are raised
+abbrev pub choices_in : List Plan → ℕ → ℕ
+choices_in plans n = n + lines_raised plans n 0
+
+-- that many choices from a moment on make the same events as these acts, and lead to the world after them
+pub record AreChosen (first : Memory) (g : Scope) (m : Moment) (number : ℕ) (acts : List Act) : Type 0 where
   pub choices : List ℕ
+  pub count : length choices ≡ number
   pub can : AreChoices (model_of first g) choices
   pub events : events_made acts ≡ events_made (acts_chosen first g m choices)
   pub world : after_acts m.world acts ≡ (after_choices (model_of first g) m choices).world
@@ -71,18 +81,24 @@ pub record IsTraceOf (P : List ℕ → Type 0) (i : Image) (n : ℕ) (text : Lis
 abbrev pub CanCome : Memory → Scope → Moment → List ℕ → Type 0
 CanCome first g m label = (cs : List ℕ) × IsShownOn (model_of first g) m label cs
 
+-- that many choices, or fewer, show it
+abbrev pub CanComeBy : Memory → Scope → Moment → ℕ → List ℕ → Type 0
+CanComeBy first g m number label =
+    (cs : List ℕ) × (length cs ≤ number) × IsShownOn (model_of first g) m label cs
+
 -- the first moment of an image
 abbrev pub image_moment : Image → Moment
 image_moment i = first_moment (image_word i.frames i.pages) i.frames i.cpus
 
 -- what any number of steps of an image that is read do, by any seed and with any plans of its lines that raise none
--- before the step `from`, choices do; and what they write are, step by step, lines that choices show. (The frames are
--- only those with which keys of moments compare.)
+-- before the step `from`, choices do, one for each turn and one for each line that is raised; and what they write are,
+-- step by step, lines that no more choices show. (The frames are only those with which keys of moments compare.)
 abbrev pub RunsAreChoices : Type 0
 RunsAreChoices = (input : List ℕ) (i : Image) (from : ℕ) (plans : List Plan) (seed n : ℕ) (first : Memory)
     → AreBytes input → image input ≡ Ok i → ArePlansFrom (lines_planned i.plans) from plans
-    → AreChosen first (image_scope i from) (image_moment i) (steps (image_world i) plans seed i.cpus n 0)
-    × AreLinesOf (CanCome first (image_scope i from) (image_moment i)) 0 n
+    → AreChosen first (image_scope i from) (image_moment i) (choices_in plans n)
+    (steps (image_world i) plans seed i.cpus n 0)
+    × AreLinesOf (CanComeBy first (image_scope i from) (image_moment i) (choices_in plans n)) 0 n
     (text_of (steps (image_world i) plans seed i.cpus n 0))
 
 -- how many of these choices are turns
@@ -130,8 +146,16 @@ pub record IsNamedBy (ws : List Witness) (label : List ℕ) : Type 0 where
 abbrev pub with_plans : Image → List Plan → Image
 with_plans i plans = record i { plans = plans }
 
--- where `every` closes on an image, it names each line of each run, by any seed, of any number of steps and with any
--- plans of the image's lines that raise none before the step `from`
+-- however `every` ends on an image, it names each line of each run whose choices it covers, by any seed and with any
+-- plans of the image's lines that raise none before the step `from`: where it ends with `within` or `stopped`, of a run
+-- that has no more turns and lines than its last line says
+abbrev pub CoveredNamesRuns : Type 0
+CoveredNamesRuns = (states from : ℕ) (most : Option ℕ) (i : Image) (v : Response)
+    (s : IsSearched states from most i v) (plans : List Plan) (seed n : ℕ)
+    → ArePlansFrom (lines_planned i.plans) from plans → IsCovered s.verdict (choices_in plans n)
+    → IsTraceOf (IsNamedBy s.found) (with_plans i plans) n (run_text (with_plans i plans) n seed)
+
+-- where it closes, so it is of a run of any number of steps
 abbrev pub ClosedNamesRuns : Type 0
 ClosedNamesRuns = (states from depth : ℕ) (most : Option ℕ) (i : Image) (v : Response)
     (s : IsSearched states from most i v) → s.verdict ≡ Closed depth → (plans : List Plan) (seed n : ℕ)

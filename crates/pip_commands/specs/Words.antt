@@ -5,7 +5,7 @@ use Rattle.std.specs.List.{after_first, before_first}
 use Rattle.std.specs.Str.{bytes_eq}
 use Rattle.pip_model.specs.Grammar.{number_of}
 use Rattle.arrayvec.specs.ArrayVec.{ArrayVec}
-use Rattle.pip_slots.specs.Images.{round_steps, steps_in_turn}
+use Rattle.pip_slots.specs.Images.{in_turn, round_steps}
 use Rattle.pip_slots.specs.declared.time_slot.RoundSlot.{RoundSlot}
 use Rattle.pip_commands.specs.declared.words.Command.{Command}
 use Rattle.pip_commands.specs.declared.words.Command.TheVariants as C
@@ -30,19 +30,28 @@ abbrev pub audit_words : Option ℕ → Option Command
 audit_words (Some frames) = if nat_le 16 frames && nat_le frames 4096 then Some (C.Audit frames) else None
 audit_words None = None
 
--- `every` takes how many states there is room for, 1 to 100,000,000, the turns before which no line comes, at most
--- 10,000,000, and how many choices are made at most, 1 to 10,000,000, if there is a bound
-abbrev pub every_words : Option ℕ → Option ℕ → Option ℕ → Option Command
-every_words (Some states) (Some from) depth =
-    if (nat_le 1 states && nat_le states 100000000) && nat_le from 10000000 then Some (C.Every states from depth)
+-- `every` and `against` take how many states there is room for, 1 to 100,000,000, the turns before which no line comes,
+-- at most 10,000,000, and how many choices are made at most, 1 to 10,000,000, if there is a bound
+abbrev pub search_words : (ℕ → ℕ → Option ℕ → Command) → Option ℕ → Option ℕ → Option ℕ → Option Command
+search_words command (Some states) (Some from) depth =
+    if (nat_le 1 states && nat_le states 100000000) && nat_le from 10000000 then Some (command states from depth)
     else None
-every_words _ _ depth = None
+search_words command _ _ depth = None
+
+-- `apart` takes how many states there is room for, as `every` does, the steps, at most 10,000,000, and a seed, which is
+-- not 0
+abbrev pub apart_words : Option ℕ → Option ℕ → Option ℕ → Option Command
+apart_words (Some states) (Some count) (Some seed) =
+    if (nat_le 1 states && nat_le states 100000000) && (nat_le count 10000000 && nat_le 1 seed) then Some
+    (C.Apart states count seed) else None
+apart_words _ _ _ = None
 
 -- a frame count, or states and nothing else
 abbrev pub two_words : List ℕ → Option ℕ → Option Command
 two_words word number =
     if bytes_eq word (codes "audit") then audit_words number
-    else if bytes_eq word (codes "every") then every_words number (Some 0) None
+    else if bytes_eq word (codes "every") then search_words C.Every number (Some 0) None
+    else if bytes_eq word (codes "against") then search_words C.Against number (Some 0) None
     else None
 
 -- `native` takes a number of children, 1 to 8, and the steps
@@ -51,19 +60,29 @@ native_words (Some n) (Some count) = if (nat_le 1 n && nat_le n 8) && nat_le cou
     else None
 native_words _ _ = None
 
--- `slots` takes a number of children, 1 to 8, the turns of a slot and the rounds, at most 10,000,000 each, and so many
--- that there are at most 10,000,000 steps
-abbrev pub slots_words : Option ℕ → Option ℕ → Option ℕ → Option Command
-slots_words (Some n) (Some turns) (Some rounds) =
-    if (nat_le 1 n && nat_le n 8) && ((nat_le turns 10000000 && nat_le rounds 10000000)
-    && nat_le (steps_in_turn n turns rounds) 10000000) then Some (C.Slots n turns rounds) else None
-slots_words _ _ _ = None
+-- slots as a round has them
+abbrev pub as_round : List RoundSlot → ArrayVec RoundSlot
+as_round round = record { items = round }
 
--- `run`, `tree` and `core` take the steps of a run, `soak` takes its events, `every` the turns before the first line
+-- `slots` takes a number of children, 1 to 8, and at most 10,000,000 rounds, which have at most that many steps
+abbrev pub slots_words : ℕ → ℕ → ArrayVec RoundSlot → Option Command
+slots_words n c round =
+    if (nat_le 1 n && nat_le n 8) && (nat_le c 10000000 && nat_le (c * round_steps round.items) 10000000) then Some
+    (C.Slots n c round) else None
+
+-- a round in which each child has a slot of that many turns in turn, at most 10,000,000
+abbrev pub turn_words : Option ℕ → Option ℕ → Option ℕ → Option Command
+turn_words (Some n) (Some turns) (Some c) =
+    if nat_le n 8 && nat_le turns 10000000 then slots_words n c (as_round (in_turn n turns)) else None
+turn_words _ _ _ = None
+
+-- `run`, `tree` and `core` take the steps of a run, `soak` takes its events, `every` and `against` the turns before the
+-- first line
 abbrev pub three_words : List ℕ → Option ℕ → Option ℕ → Option Command
 three_words word count seed =
     if bytes_eq word (codes "native") then native_words count seed
-    else if bytes_eq word (codes "every") then every_words count seed None
+    else if bytes_eq word (codes "every") then search_words C.Every count seed None
+    else if bytes_eq word (codes "against") then search_words C.Against count seed None
     else if bytes_eq word (codes "run") then counted_command C.Run 10000000 count seed
     else if bytes_eq word (codes "tree") then counted_command C.Tree 10000000 count seed
     else if bytes_eq word (codes "core") then counted_command C.Core 10000000 count seed
@@ -74,11 +93,14 @@ three_words word count seed =
 abbrev pub is_depth : ℕ → Bool
 is_depth depth = nat_le 1 depth && nat_le depth 10000000
 
--- children with their slots, or `every` with a bound for choices
+-- children with their slots, guests after steps, or `every` or `against` with a bound for choices
 abbrev pub four_words : List ℕ → Option ℕ → Option ℕ → Option ℕ → Option Command
 four_words word first second (Some third) =
-    if bytes_eq word (codes "slots") then slots_words first second (Some third)
-    else if bytes_eq word (codes "every") && is_depth third then every_words first second (Some third) else None
+    if bytes_eq word (codes "slots") then turn_words first second (Some third)
+    else if bytes_eq word (codes "apart") then apart_words first second (Some third)
+    else if bytes_eq word (codes "every") && is_depth third then search_words C.Every first second (Some third)
+    else if bytes_eq word (codes "against") && is_depth third then search_words C.Against first second (Some third)
+    else None
 four_words word first second None = None
 
 -- the commands of one word to four
@@ -111,19 +133,9 @@ abbrev pub slots_in : ℕ → List (List ℕ) → Option (List RoundSlot)
 slots_in n [] = Some []
 slots_in n (word ∷ words) = cons_slot (slot_in n word) (slots_in n words)
 
--- slots as a round has them
-abbrev pub as_round : List RoundSlot → ArrayVec RoundSlot
-as_round round = record { items = round }
-
--- 1 to 8 children, at most 10,000,000 rounds, and at most so many steps
-abbrev pub given_words : ℕ → ℕ → ArrayVec RoundSlot → Option Command
-given_words n c round =
-    if (nat_le 1 n && nat_le n 8) && (nat_le c 10000000 && nat_le (c * round_steps round.items) 10000000) then Some
-    (C.GivenSlots n c round) else None
-
 -- with the slots that words write
 abbrev pub given_slots : Option ℕ → Option ℕ → List (List ℕ) → Option Command
-given_slots (Some n) (Some c) words = option_and_then (λ round. given_words n c (as_round round)) (slots_in n words)
+given_slots (Some n) (Some c) words = option_and_then (λ round. slots_words n c (as_round round)) (slots_in n words)
 given_slots _ _ words = None
 
 -- there are 1 to 64 slots of a round
@@ -147,4 +159,4 @@ command_of words = first_command (fixed_command words) (given_command words)
 
 -- the usage line
 abbrev pub usage : List ℕ
-usage = codes "usage: pip script | run STEPS SEED | asm | dis | tree STEPS SEED | core STEPS SEED | soak COUNT SEED | native N STEPS | slots N TURNS ROUNDS | slots N ROUNDS K:TURNS .. | audit FRAMES | every STATES [FROM [DEPTH]]"
+usage = codes "usage: pip script | run STEPS SEED | asm | dis | tree STEPS SEED | core STEPS SEED | soak COUNT SEED | native N STEPS | slots N TURNS ROUNDS | slots N ROUNDS K:TURNS .. | audit FRAMES | every STATES [FROM [DEPTH]] | against STATES [FROM [DEPTH]] | apart STATES STEPS SEED"

@@ -1,4 +1,6 @@
 //! The commands, one file each.
+pub mod against;
+pub mod apart;
 pub mod asm;
 pub mod audit;
 pub mod children;

@@ -1,6 +1,6 @@
 //! The commands of the program, over any source and any sink.
 //!
-//! [`pip`] and the eleven commands carry the headline: by the words and the status, what was read and what was written
+//! [`pip`] and the twelve commands carry the headline: by the words and the status, what was read and what was written
 //! (`EndsBy`, one record for all). What is due of a command, a value of `Due`, is in specs/Dues, which chooses it by
 //! the words. Each command's proof ends with one of the lemmas of proofs/Endings, the ways to end. `words` reads the
 //! command line, `commands/` has a file for each command, `ended` says how the program ends, and `text` has the lines
@@ -19,6 +19,11 @@
 //!   `audit` answers it with the text of that tree.
 //! - `every/loading` reads an image into frames (`LoadsFrames`), and `every/searching` has pip_every search what can
 //!   happen to them and pip_ways find the ways. Its answer is stated without keys and visits (`IsSearched`).
+//! - `against` is `every` with a menu: `against/menu` reads one after the image, line by line (`IsAtLine`), and
+//!   `against/menu_line` says what a line says (`said_of`), by the grammar of scripts. `every` is the search with none.
+//! - `apart/searching` makes the steps of such an image twice: once for the words with which keys compare, and once on
+//!   the machine on which pip_apart searches each guest alone (`IsFoundApart`). `law_apart` says what its last line
+//!   says of all runs.
 #![tactic(auto)]
 
 mod commands;
@@ -30,6 +35,8 @@ mod text;
 mod top;
 mod words;
 
+pub use commands::against::against;
+pub use commands::apart::apart;
 pub use commands::asm::asm;
 pub use commands::audit::audit;
 pub use commands::dis::dis;
@@ -37,10 +44,13 @@ pub use commands::every::every;
 pub use commands::native::native;
 pub use commands::run::{core_dump, run, tree};
 pub use commands::script::script;
-pub use commands::slots::{given_slots, slots};
+pub use commands::slots::slots;
 pub use commands::soak::soak;
 pub use ended::Ended;
-pub use laws::{law_core_audited, law_every, law_every_runs, law_inputs_answered, law_slots_apart};
+pub use laws::{
+    law_against, law_apart, law_core_audited, law_every, law_every_runs, law_inputs_answered,
+    law_slots_apart,
+};
 pub use machines::new_machine;
 pub use monitor::MONITOR;
 pub use top::pip;

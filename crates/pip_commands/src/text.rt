@@ -7,7 +7,10 @@ ghost use Rattle.pip_audit.specs.Verdict.{verdict_of};
 ghost use Rattle.pip_model.specs.Audit.{Finding};
 ghost use Rattle.pip_commands.specs.AuditTexts.{differs_line, no_line, place_text, unread_line, unsound_line};
 ghost use Rattle.pip_commands.specs.Faults.{asm_kind, asm_line, bad_image, image_line};
+ghost use Rattle.pip_commands.specs.MenuText.{bad_menu_line, menu_kind};
 
+use crate::commands::against::menu::MenuFault;
+use crate::commands::against::menu_line::MenuKind;
 use arrayvec::ArrayString;
 use itoa::Buffer;
 use pip_audit::Verdict;
@@ -36,6 +39,32 @@ pub fn bad_asm_line(number: u64, kind: AsmKind) -> ArrayString<64>
     text.push_str(asm_kind(kind));
     text.push_str("\n");
     text
+}
+
+/// `bad line`, the number of a line of a menu, the kind of its fault and a newline.
+pub fn bad_menu_line(fault: MenuFault) -> ArrayString<64>
+    ensures { result.bytes ≡ bad_menu_line fault }
+{
+    let mut text = ArrayString::new();
+    text.push_str("bad line ");
+    push_number(&mut text, fault.line);
+    text.push_str(" ");
+    text.push_str(menu_kind(fault.kind));
+    text.push_str("\n");
+    text
+}
+
+// The word for a kind.
+fn menu_kind(kind: MenuKind) -> &'static str
+    ensures text { result.now ≡ menu_kind kind }
+    ensures short { length result.now ≤ 4 }
+{
+    match kind {
+        MenuKind::Long => "long",
+        MenuKind::Who => "who",
+        MenuKind::What => "what",
+        MenuKind::Many => "many",
+    }
 }
 
 // The word for a kind.

@@ -6,6 +6,8 @@ ghost use Rattle.pip_commands.specs.Pacing.{IsPaced};
 ghost use Rattle.pip_commands.specs.Streams.{streams};
 ghost use Rattle.pip_commands.specs.Words.{command_of};
 
+use crate::commands::against::against;
+use crate::commands::apart::apart;
 use crate::commands::asm::asm;
 use crate::commands::audit::audit;
 use crate::commands::dis::dis;
@@ -13,7 +15,7 @@ use crate::commands::every::every;
 use crate::commands::native::native;
 use crate::commands::run::{core_dump, run, tree};
 use crate::commands::script::script;
-use crate::commands::slots::{given_slots, slots};
+use crate::commands::slots::slots;
 use crate::commands::soak::soak;
 use crate::ended::{Ended, end_with};
 use crate::words::{Command, read_words};
@@ -21,7 +23,7 @@ use pip_io::{Sink, Source};
 use std::alloc::Global;
 
 const USAGE: &[u8] =
-    b"usage: pip script | run STEPS SEED | asm | dis | tree STEPS SEED | core STEPS SEED | soak COUNT SEED | native N STEPS | slots N TURNS ROUNDS | slots N ROUNDS K:TURNS .. | audit FRAMES | every STATES [FROM [DEPTH]]\n";
+    b"usage: pip script | run STEPS SEED | asm | dis | tree STEPS SEED | core STEPS SEED | soak COUNT SEED | native N STEPS | slots N TURNS ROUNDS | slots N ROUNDS K:TURNS .. | audit FRAMES | every STATES [FROM [DEPTH]] | against STATES [FROM [DEPTH]] | apart STATES STEPS SEED\n";
 
 /// Does what the words of the command line ask for. The words leave out the program's name (docs/FORMATS.md,
 /// "Statuses"). The sink holds nothing at first, and at each status but 4 it holds nothing at the end. Whatever the
@@ -53,17 +55,10 @@ pub fn pip<S: Source, K: Sink>(
         Some(
             Command::Slots {
                 children,
-                turns,
-                rounds,
-            },
-        ) => slots(alloc, children, turns, rounds, source, sink),
-        Some(
-            Command::GivenSlots {
-                children,
                 rounds,
                 round,
             },
-        ) => given_slots(alloc, children, rounds, round, source, sink),
+        ) => slots(alloc, children, rounds, round, source, sink),
         Some(Command::Audit { frames }) => audit(alloc, frames, source, sink),
         Some(
             Command::Every {
@@ -72,6 +67,20 @@ pub fn pip<S: Source, K: Sink>(
                 depth,
             },
         ) => every(alloc, states, from, depth, source, sink),
+        Some(
+            Command::Against {
+                states,
+                from,
+                depth,
+            },
+        ) => against(alloc, states, from, depth, source, sink),
+        Some(
+            Command::Apart {
+                states,
+                count,
+                seed,
+            },
+        ) => apart(alloc, states, count, seed, source, sink),
         None => show_usage(source, sink),
     }
 }

@@ -1,14 +1,15 @@
 //! The words of the command line.
-ghost use Rattle.std.specs.Prelude.{◌≡◌, ◌≤◌, ◌+◌, ◌*◌, ◌^◌, length, map, option_map, string_bytes, Some};
-ghost use Rattle.pip_commands.specs.Words.{audit_words, command_of, every_words, four_words, native_words, single_word};
-ghost use Rattle.pip_commands.specs.Words.{as_round, fixed_command, given_command, given_words, rounds_command};
-ghost use Rattle.pip_commands.specs.Words.{slot_in, slots_in, slots_words, three_words, two_words};
+ghost use Rattle.std.specs.Prelude.{◌≡◌, ◌≤◌, ◌+◌, ◌*◌, ◌^◌, ◌&&◌, length, map, nat_le, option_map, string_bytes};
+ghost use Rattle.std.specs.Prelude.{Some};
+ghost use Rattle.pip_commands.specs.Words.{apart_words, as_round, audit_words, command_of, fixed_command, four_words};
+ghost use Rattle.pip_commands.specs.Words.{given_command, native_words, rounds_command, search_words, single_word};
+ghost use Rattle.pip_commands.specs.Words.{slot_in, slots_in, slots_words, three_words, turn_words, two_words};
 ghost use Rattle.pip_slots.specs.Images.{round_steps};
 
 use arrayvec::ArrayVec;
 use pip_base::{MAX_FRAMES, MAX_STEPS, MIN_FRAMES};
 use pip_script::read_number;
-use pip_slots::RoundSlot;
+use pip_slots::{RoundSlot, in_turn};
 
 /// What the words ask for (README, "Commands").
 #[derive(Drop)]
@@ -38,11 +39,6 @@ pub enum Command {
     },
     Slots {
         children: u32,
-        turns: u32,
-        rounds: u32,
-    },
-    GivenSlots {
-        children: u32,
         rounds: u32,
         round: ArrayVec<RoundSlot, 64>,
     },
@@ -53,6 +49,16 @@ pub enum Command {
         states: u32,
         from: u32,
         depth: Option<u32>,
+    },
+    Against {
+        states: u32,
+        from: u32,
+        depth: Option<u32>,
+    },
+    Apart {
+        states: u32,
+        count: u32,
+        seed: u32,
     },
 }
 
@@ -65,10 +71,10 @@ const MAX_SLOTS: usize = 64;
 /// The most events of `soak`.
 const MAX_EVENTS: u32 = 1_000_000;
 
-/// The most states of `every`.
+/// The most states of `every` and `against`, and of each guest of `apart`.
 const MAX_STATES: u32 = 100_000_000;
 
-/// The most turns of `every` before its first line, and the most choices.
+/// The most turns of these two before their first line, and the most choices.
 const MAX_CHOICES: u32 = 10_000_000;
 
 /// The command, or `None` where the words are none of the forms.
@@ -137,6 +143,9 @@ fn read_two(word: &[u8], number: Option<u32>) -> Option<Command>
     if word == b"every".as_slice() {
         return read_every(count, 0, None);
     }
+    if word == b"against".as_slice() {
+        return read_against(count, 0, None);
+    }
     None
 }
 
@@ -158,6 +167,9 @@ fn read_three(word: &[u8], first: Option<u32>, second: Option<u32>) -> Option<Co
     }
     if word == b"every".as_slice() {
         return read_every(count, seed, None);
+    }
+    if word == b"against".as_slice() {
+        return read_against(count, seed, None);
     }
     let (command, most) = if word == b"run".as_slice() {
         (Command::Run { count, seed }, MAX_STEPS)
@@ -195,27 +207,31 @@ fn read_four(
         return None;
     };
     if word == b"slots".as_slice() {
-        return read_slots(first, second, third);
+        return read_in_turn(first, second, third);
     }
-    if word != b"every".as_slice() || third < 1 || third > MAX_CHOICES {
+    if word == b"apart".as_slice() {
+        return read_apart(first, second, third);
+    }
+    if third < 1 || third > MAX_CHOICES {
         return None;
     }
-    read_every(first, second, Some(third))
+    if word == b"every".as_slice() {
+        return read_every(first, second, Some(third));
+    }
+    if word == b"against".as_slice() {
+        return read_against(first, second, Some(third));
+    }
+    None
 }
 
-// 1 to 8 children, the turns of a slot, and the rounds.
-fn read_slots(children: u32, turns: u32, rounds: u32) -> Option<Command>
-    ensures { result ≡ slots_words (Some children) (Some turns) (Some rounds) }
+// Children that have a slot in turn, the turns of a slot, and the rounds.
+fn read_in_turn(children: u32, turns: u32, rounds: u32) -> Option<Command>
+    ensures { result ≡ turn_words (Some children) (Some turns) (Some rounds) }
 {
-    if children < 1 || children > MAX_CHILDREN || turns > MAX_STEPS || rounds > MAX_STEPS {
+    if children > MAX_CHILDREN || turns > MAX_STEPS {
         return None;
     }
-    let steps = rounds as u64 * (children as u64 * (turns as u64 + 2));
-    (steps <= MAX_STEPS as u64).then_some(Command::Slots {
-        children,
-        turns,
-        rounds,
-    })
+    read_slots(children, rounds, in_turn(children, turns))
 }
 
 // Children with the slots of a round.
@@ -249,14 +265,14 @@ fn read_rounds(
         return None;
     };
     match read_slots_of(children, slots) {
-        Some(round) => read_round(children, rounds, round),
+        Some(round) => read_slots(children, rounds, round),
         None => None,
     }
 }
 
 // 1 to 8 children, the rounds, and the slots of a round.
-fn read_round(children: u32, rounds: u32, round: ArrayVec<RoundSlot, 64>) -> Option<Command>
-    ensures { result ≡ given_words children rounds round }
+fn read_slots(children: u32, rounds: u32, round: ArrayVec<RoundSlot, 64>) -> Option<Command>
+    ensures { result ≡ slots_words children rounds round }
 {
     if children < 1 || children > MAX_CHILDREN || rounds > MAX_STEPS {
         return None;
@@ -264,7 +280,7 @@ fn read_round(children: u32, rounds: u32, round: ArrayVec<RoundSlot, 64>) -> Opt
     if rounds as u64 * steps_of(round.as_slice()) > MAX_STEPS as u64 {
         return None;
     }
-    Some(Command::GivenSlots {
+    Some(Command::Slots {
         children,
         rounds,
         round,
@@ -278,8 +294,8 @@ pub(crate) fn steps_of(round: &[RoundSlot]) -> u64
     ensures most { result ≤ 64 * (2 ^ 32 + 1) }
 {
     let mut steps = 0u64;
-    for i in 0..round.len() {
-        steps += round[i].turns as u64 + 2;
+    for slot in round {
+        steps += slot.turns as u64 + 2;
     }
     steps
 }
@@ -290,8 +306,8 @@ fn read_slots_of(children: u32, words: &[String]) -> Option<ArrayVec<RoundSlot, 
     ensures { result ≡ option_map as_round (slots_in children (map string_bytes words.now)) }
 {
     let mut round = ArrayVec::new();
-    for i in 0..words.len() {
-        round.push(read_slot(children, words[i].as_str())?);
+    for word in words {
+        round.push(read_slot(children, word.as_str())?);
     }
     Some(round)
 }
@@ -306,13 +322,42 @@ fn read_slot(children: u32, word: &str) -> Option<RoundSlot>
     (child < children && turns <= MAX_STEPS).then_some(RoundSlot { child, turns })
 }
 
-// Room for 1 to 100,000,000 states, and a bound for choices, if there is one.
 fn read_every(states: u32, from: u32, depth: Option<u32>) -> Option<Command>
-    ensures { result ≡ every_words (Some states) (Some from) depth }
+    ensures { result ≡ search_words Command.Every (Some states) (Some from) depth }
 {
-    (states >= 1 && states <= MAX_STATES && from <= MAX_CHOICES).then_some(Command::Every {
+    are_bounds(states, from).then_some(Command::Every {
         states,
         from,
         depth,
     })
+}
+
+fn read_against(states: u32, from: u32, depth: Option<u32>) -> Option<Command>
+    ensures { result ≡ search_words Command.Against (Some states) (Some from) depth }
+{
+    are_bounds(states, from).then_some(Command::Against {
+        states,
+        from,
+        depth,
+    })
+}
+
+// Room for 1 to 100,000,000 states, and the turns before the first line.
+fn are_bounds(states: u32, from: u32) -> bool
+    ensures { result ≡ ((nat_le 1 states && nat_le states 100000000) && nat_le from 10000000) }
+{
+    states >= 1 && states <= MAX_STATES && from <= MAX_CHOICES
+}
+
+// Room for 1 to 100,000,000 states, the steps, and a seed.
+fn read_apart(states: u32, count: u32, seed: u32) -> Option<Command>
+    ensures { result ≡ apart_words (Some states) (Some count) (Some seed) }
+{
+    (states >= 1 && states <= MAX_STATES && (count <= MAX_STEPS && seed >= 1)).then_some(
+        Command::Apart {
+            states,
+            count,
+            seed,
+        },
+    )
 }

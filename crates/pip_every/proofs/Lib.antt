@@ -6,5 +6,6 @@ pub mod Doing
 pub mod Picking
 pub mod Keying
 pub mod OneKey
-mod Usual
-mod Rebasing
+pub mod Usual
+pub mod Rekeyed
+pub mod Rebasing

@@ -4,3 +4,4 @@ pub mod Menus
 pub mod Reading
 pub mod Choosing
 pub mod Laws
+pub mod Explored

@@ -5,7 +5,7 @@ ghost use Rattle.pip_base.specs.Memory.{IsMemory};
 ghost use Rattle.pip_model.specs.Worlds.{World};
 ghost use Rattle.pip_model.specs.declared.turn_end.TurnEnd.{TurnEnd};
 ghost use Rattle.pip_search.specs.Systems.{IsKey};
-ghost use Rattle.pip_every.specs.Choosing.{ChangesNothing, HasChosen, HasPicked, IsAtWorld, machine_menu};
+ghost use Rattle.pip_every.specs.Choosing.{ChangesNothing, HasChosen, HasPicked, IsAtWorld};
 ghost use Rattle.pip_every.specs.Choosing.{machine_scope};
 ghost use Rattle.pip_every.specs.Keys.{IsKeyOf, key_words};
 ghost use Rattle.pip_every.specs.Menus.{Hostile, Nothing, deed_at, deed_cpu, is_hostile, menu_model, name_on, picked};
@@ -54,6 +54,8 @@ fn turns_after(from: u32, turns: u32, end: TurnEnd) -> u32
 }
 
 impl<F: First, L: Ledger> Explorer<F, L> {
+    ghost use Rattle.pip_every.specs.Explored.{explored};
+
     /// An explorer of a machine, the lines that may be raised, 16 at most, each below 16, and a menu of 1024 deeds at
     /// most.
     pub(crate) fn new(
@@ -100,8 +102,7 @@ impl<F: First, L: Ledger> Explorer<F, L> {
 
     // Takes the machine to the moment of a key, and answers how many turns were made.
     fn go_to(&mut self, key: &[u32]) -> u32
-        requires { IsKey (menu_model F.words
-            (machine_menu self.old.machine self.old.lines.items self.old.from self.old.may.items)) key.now }
+        requires { IsKey (menu_model F.words (explored self.old)) key.now }
         ensures at { (m : Moment) →
             IsKeyOf F.words (machine_scope self.old.machine self.old.lines.items self.old.from) key.now m →
             IsAtWorld self.new.machine m.world × (result ≡ m.turns) }
@@ -118,34 +119,27 @@ impl<F: First, L: Ledger> Explorer<F, L> {
 
     // How many choices there are without the deeds.
     fn usual_choices(&self) -> u32
-        ensures { result ≡ usual_choices
-            (machine_menu self.now.machine self.now.lines.items self.now.from self.now.may.items) }
+        ensures { result ≡ usual_choices (explored self.now) }
     {
         self.machine.cpus() + self.lines.len() as u32
     }
 
     // The line of the menu of a choice that is a deed.
     fn deed(&self, choice: u32) -> May
-        requires least { usual_choices (machine_menu self.now.machine self.now.lines.items self.now.from
-            self.now.may.items) ≤ choice }
-        requires most { choice < usual_choices
-            (machine_menu self.now.machine self.now.lines.items self.now.from self.now.may.items)
+        requires least { usual_choices (explored self.now) ≤ choice }
+        requires most { choice < usual_choices (explored self.now)
             + length self.now.machine.cpus * length self.now.may.items }
-        ensures { deed_at (machine_menu self.now.machine self.now.lines.items self.now.from self.now.may.items) choice ≡
-            Some result }
+        ensures { deed_at (explored self.now) choice ≡ Some result }
     {
         self.may[((choice - self.usual_choices()) / self.machine.cpus()) as usize]
     }
 
     // The processor of a choice that is a deed.
     fn deed_cpu(&self, choice: u32) -> u32
-        requires least { usual_choices (machine_menu self.now.machine self.now.lines.items self.now.from
-            self.now.may.items) ≤ choice }
-        requires most { choice < usual_choices
-            (machine_menu self.now.machine self.now.lines.items self.now.from self.now.may.items)
+        requires least { usual_choices (explored self.now) ≤ choice }
+        requires most { choice < usual_choices (explored self.now)
             + length self.now.machine.cpus * length self.now.may.items }
-        ensures cpu { result ≡ deed_cpu (machine_menu self.now.machine self.now.lines.items self.now.from
-            self.now.may.items) choice }
+        ensures cpu { result ≡ deed_cpu (explored self.now) choice }
         ensures there { result < length self.now.machine.cpus }
     {
         (choice - self.usual_choices()) % self.machine.cpus()
@@ -154,18 +148,14 @@ impl<F: First, L: Ledger> Explorer<F, L> {
     // Whether a choice at the moment of a key changes nothing: a line before its time, or a deed of another partition
     // than runs there.
     fn changes_nothing(&self, key: &[u32], choice: u32) -> bool
-        requires key { IsKey (menu_model F.words
-            (machine_menu self.now.machine self.now.lines.items self.now.from self.now.may.items)) key.now }
-        requires choice { choice < usual_choices
-            (machine_menu self.now.machine self.now.lines.items self.now.from self.now.may.items)
+        requires key { IsKey (menu_model F.words (explored self.now)) key.now }
+        requires choice { choice < usual_choices (explored self.now)
             + length self.now.machine.cpus * length self.now.may.items }
         ensures nothing { IsTrue result → (m : Moment)
             → IsKeyOf F.words (machine_scope self.now.machine self.now.lines.items self.now.from) key.now m
-            → ChangesNothing (machine_menu self.now.machine self.now.lines.items self.now.from self.now.may.items) m
-            choice }
-        ensures opened { result ≡ false → length self.now.machine.cpus ≤ choice → choice < usual_choices
-            (machine_menu self.now.machine self.now.lines.items self.now.from self.now.may.items)
-            → self.now.from ≤ slice_index key.now 0 }
+            → ChangesNothing (explored self.now) m choice }
+        ensures opened { result ≡ false → length self.now.machine.cpus ≤ choice
+            → choice < usual_choices (explored self.now) → self.now.from ≤ slice_index key.now 0 }
     {
         if choice >= self.usual_choices() {
             return !self.is_own(key, choice);
@@ -178,17 +168,13 @@ impl<F: First, L: Ledger> Explorer<F, L> {
 
     // Whether a choice is a deed of the partition that runs there at the moment of a key.
     fn is_own(&self, key: &[u32], choice: u32) -> bool
-        requires key { IsKey (menu_model F.words
-            (machine_menu self.now.machine self.now.lines.items self.now.from self.now.may.items)) key.now }
-        requires least { usual_choices (machine_menu self.now.machine self.now.lines.items self.now.from
-            self.now.may.items) ≤ choice }
-        requires most { choice < usual_choices
-            (machine_menu self.now.machine self.now.lines.items self.now.from self.now.may.items)
+        requires key { IsKey (menu_model F.words (explored self.now)) key.now }
+        requires least { usual_choices (explored self.now) ≤ choice }
+        requires most { choice < usual_choices (explored self.now)
             + length self.now.machine.cpus * length self.now.may.items }
         ensures { result ≡ false → (m : Moment)
             → IsKeyOf F.words (machine_scope self.now.machine self.now.lines.items self.now.from) key.now m
-            → picked (machine_menu self.now.machine self.now.lines.items self.now.from self.now.may.items) m.world
-            choice ≡ Nothing }
+            → picked (explored self.now) m.world choice ≡ Nothing }
     {
         let (runs, _) = read_processors(&key[1..], self.machine.cpus());
         let name = name_at(&runs, self.deed_cpu(choice));
@@ -198,17 +184,14 @@ impl<F: First, L: Ledger> Explorer<F, L> {
     // Makes a choice after `turns` turns, and answers how many were made then. What it shows is in the label. The only
     // error is that memory is out.
     fn choose(&mut self, choice: u32, turns: u32) -> Result<u32, AllocError>
-        requires choice { choice < usual_choices
-            (machine_menu self.old.machine self.old.lines.items self.old.from self.old.may.items)
+        requires choice { choice < usual_choices (explored self.old)
             + length self.old.machine.cpus * length self.old.may.items }
-        requires opened { length self.old.machine.cpus ≤ choice → choice < usual_choices
-            (machine_menu self.old.machine self.old.lines.items self.old.from self.old.may.items)
+        requires opened { length self.old.machine.cpus ≤ choice → choice < usual_choices (explored self.old)
             → self.old.from ≤ turns }
         requires empty { self.old.label.bytes.items ≡ [] }
         ensures made { IfOk result (λ n. (m : Moment) → IsAtWorld self.old.machine m.world → turns ≡ m.turns
-            → HasPicked (machine_menu self.old.machine self.old.lines.items self.old.from self.old.may.items) m choice
-            (picked (machine_menu self.old.machine self.old.lines.items self.old.from self.old.may.items) m.world
-            choice) self.new.machine n self.new.label.bytes.items) }
+            → HasPicked (explored self.old) m choice (picked (explored self.old) m.world choice) self.new.machine n
+            self.new.label.bytes.items) }
         ensures count { length self.new.machine.cpus ≡ length self.old.machine.cpus }
         ensures lines { self.new.lines ≡ self.old.lines }
         ensures from { self.new.from ≡ self.old.from }
@@ -238,16 +221,13 @@ impl<F: First, L: Ledger> Explorer<F, L> {
 
     // Makes a choice that is a deed.
     fn choose_deed(&mut self, choice: u32, turns: u32) -> Result<u32, AllocError>
-        requires least { usual_choices (machine_menu self.old.machine self.old.lines.items self.old.from
-            self.old.may.items) ≤ choice }
-        requires most { choice < usual_choices
-            (machine_menu self.old.machine self.old.lines.items self.old.from self.old.may.items)
+        requires least { usual_choices (explored self.old) ≤ choice }
+        requires most { choice < usual_choices (explored self.old)
             + length self.old.machine.cpus * length self.old.may.items }
         requires empty { self.old.label.bytes.items ≡ [] }
         ensures made { IfOk result (λ n. (m : Moment) → IsAtWorld self.old.machine m.world → turns ≡ m.turns
-            → HasPicked (machine_menu self.old.machine self.old.lines.items self.old.from self.old.may.items) m choice
-            (picked (machine_menu self.old.machine self.old.lines.items self.old.from self.old.may.items) m.world
-            choice) self.new.machine n self.new.label.bytes.items) }
+            → HasPicked (explored self.old) m choice (picked (explored self.old) m.world choice) self.new.machine n
+            self.new.label.bytes.items) }
         ensures count { length self.new.machine.cpus ≡ length self.old.machine.cpus }
         ensures lines { self.new.lines ≡ self.old.lines }
         ensures from { self.new.from ≡ self.old.from }
@@ -265,9 +245,8 @@ impl<F: First, L: Ledger> Explorer<F, L> {
     fn act(&mut self, cpu: u32, deed: &Option<Deed>, turns: u32) -> Result<u32, AllocError>
         requires cpu { cpu < length self.old.machine.cpus }
         requires empty { self.old.label.bytes.items ≡ [] }
-        ensures made { IfOk result (λ n. (m : Moment) (k : ℕ) → IsAtWorld self.old.machine m.world → turns ≡ m.turns
-            → HasPicked (machine_menu self.old.machine self.old.lines.items self.old.from self.old.may.items) m k
-            (Hostile cpu deed.now) self.new.machine n self.new.label.bytes.items) }
+        ensures made { IfOk result (λ n. (m : Moment) (k : ℕ) → IsAtWorld self.old.machine m.world → turns ≡ m.turns →
+            HasPicked (explored self.old) m k (Hostile cpu deed.now) self.new.machine n self.new.label.bytes.items) }
         ensures count { length self.new.machine.cpus ≡ length self.old.machine.cpus }
         ensures lines { self.new.lines ≡ self.old.lines }
         ensures from { self.new.from ≡ self.old.from }
@@ -321,12 +300,12 @@ impl<F: First, L: Ledger> Explorer<F, L> {
 impl<F: First, L: Ledger> System for Explorer<F, L> {
     ghost use Rattle.std.specs.Prelude.{◌≡◌, ◌<◌, IfOk};
     ghost use Rattle.pip_search.specs.Systems.{IsKey};
-    ghost use Rattle.pip_every.specs.Choosing.{machine_menu};
+    ghost use Rattle.pip_every.specs.Explored.{explored};
     ghost use Rattle.pip_every.specs.Menus.{Menu, menu_model};
 
     ghost Base = { Menu };
 
-    ghost base = { λ s. machine_menu s.machine s.lines.items s.from s.may.items };
+    ghost base = { λ s. explored s };
 
     ghost model = { λ b. menu_model F.words b };
 

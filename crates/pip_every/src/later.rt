@@ -64,8 +64,8 @@ fn note_frame<L: Ledger>(from: &RawFrames, to: &mut RawFrames, frame: Frame, ste
     }
 }
 
-// Notes the words of frames that aren't 0.
-fn note_words<L: Ledger>(from: &RawFrames, to: &mut RawFrames, steps: &mut Steps<L>)
+/// Notes the words of frames that aren't 0.
+pub fn note_words<L: Ledger>(from: &RawFrames, to: &mut RawFrames, steps: &mut Steps<L>)
     requires shape { IsMemory to.old.block.frames }
     ensures count { length to.new.block.frames ≡ length to.old.block.frames }
     ensures shape { IsMemory to.new.block.frames }

@@ -21,6 +21,7 @@ mod processors;
 mod searching;
 
 pub use label::Label;
+pub use later::note_words;
 pub use laws::law_keys;
 pub use menus::{Deed, MAX_DEEDS, May};
 pub use parts::part;

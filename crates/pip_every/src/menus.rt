@@ -27,6 +27,19 @@ pub struct May {
     pub deed: Deed,
 }
 
+// What room for a menu holds at first.
+impl Default for May {
+    fn default() -> May {
+        May {
+            name: None,
+            deed: Deed::Load {
+                va: 0,
+                size: Size::Word,
+            },
+        }
+    }
+}
+
 // Whether a partition has this name, or, without one, isn't the root.
 fn is_meant(partition: Frame, name: Option<u32>) -> bool
     ensures { result ≡ menus.is_meant 1 partition name }

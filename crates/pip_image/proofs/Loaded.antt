@@ -1,7 +1,7 @@
 -- Pages that are loaded one after another.
 use Rattle.std.specs.Prelude.{◌≡◌, ℕ, zero, suc, ◌+◌, ◌≤◌, true, false, List, [], ◌∷◌, ◌++◌, drop, length, map, Option}
-use Rattle.std.specs.Prelude.{Some, None, Result, Ok, Err, is_some, IfSome, MatchOption}
-use Rattle.std.specs.Io.KnownBytes.{Consumes, IsAtEnd}
+use Rattle.std.specs.Prelude.{Some, None, Result, Ok, Err, is_some, MatchResult}
+use Rattle.std.specs.Io.KnownBytes.{Consumes}
 use Rattle.std.proofs.Common.{ap, sym, subst, ◌∙◌, refl, append-nil}
 use Rattle.std.proofs.KnownBytes.{Consumes-trans}
 use Rattle.pip_base.specs.declared.types.Plan.{Plan}
@@ -14,7 +14,8 @@ use Rattle.pip_model.specs.Layout.{LaysOut}
 use Rattle.pip_model.specs.Tree.{Tree}
 use Rattle.pip_image.specs.Coming.{IsAfter, coming, header_parts}
 use Rattle.pip_image.specs.Reading.{TakesParts, EndsInput, Refuses, parts_then, no_more_parts}
-use Rattle.pip_image.specs.Loading.{AreWords, IsLoaded, Loads, LoadsAll, LoadsUpTo, tree_with, with_page}
+use Rattle.pip_image.specs.Loading.{AreWords, IsLoaded, Loads, LoadsAll, LoadsPages, LoadsUpTo, tree_with}
+use Rattle.pip_image.specs.Loading.{with_page}
 use Rattle.pip_image.specs.declared.header.Header.{Header}
 use Rattle.pip_image.specs.declared.place.Place.{Place}
 use Rattle.pip_image.proofs.Held.{lays_more, small_held, small_page, still_open}
@@ -69,12 +70,28 @@ loads_refused n t u a b c seen i j k m e h l r = record {
   loaded = record { laid = l.laid; small = small_held n l.pages l.small };
 }
 
-pub match_some : {T : Type 0} (o : Option T) (A : Type 0) (P : T → Type 0) (v : T) → o ≡ Some v → MatchOption o A P
-    → P v
-match_some o A P v e h = subst (λ o. MatchOption o A P) e h
+-- after all pages comes the end, or more
+pub loads_to_end : {T : Type 0} (n : ℕ) (t u : List ℕ → PartsRead) (a b c : Option (List ℕ)) (seen : List ℕ)
+    (i j k : ℕ) (m : List (List ℕ)) (r : Result T ImageError) → j ≡ i → Loads n t u a b seen m
+    → MatchResult r (λ _. EndsInput u b c) (Refuses u [] b c j k)
+    → MatchResult r (λ _. LoadsAll n t a c m) (LoadsUpTo n t a c i k m)
+loads_to_end n t u a b c seen i j k m (Ok v) same l x = loads_all n t u a b c seen m l x
+loads_to_end n t u a b c seen i j k m (Err e) same l x = loads_refused n t u a b c seen i j k m e same l x
 
-pub some_is : {T : Type 0} (o : Option T) (P : T → Type 0) (v : T) → o ≡ Some v → IfSome o P → P v
-some_is o P v e h = subst (λ o. IfSome o P) e h
+-- where no part is left, the bytes that were taken are the pages
+pub loads_pages : (n : ℕ) (t : List ℕ → PartsRead) (q : Place) (a b : Option (List ℕ)) (seen : List ℕ)
+    (m : List (List ℕ)) → q.plans ≡ 0 → q.pages ≡ 0 → Loads n t (coming q) a b seen m → LoadsPages n t a b m
+loads_pages n t q a b seen m plans pages l = record {
+  pages = l.pages;
+  bytes = l.took.bytes;
+  read = l.took.taken;
+  is = ap t (sym (append-nil l.took.bytes)) ∙ l.took.is [] ∙ ap (parts_then (map Holds l.pages)) none;
+  loaded = record { laid = l.laid; small = small_held n l.pages l.small };
+}
+  where
+    none : coming q [] ≡ no_more_parts
+    none = ap (λ k. plan_parts q.at q.line k [] (λ at rest. page_parts q.frames q.seen.items at q.pages rest)) plans
+        ∙ ap (λ k. page_parts q.frames q.seen.items q.at k []) pages
 
 -- ---- the header and the pages are an image
 
@@ -122,26 +139,24 @@ count_coming h p b none bs ps is =
     (ap (λ t. t.fault) all_parts ∙ after_fault (map Holds ps) no_more_parts)
     ∙ b.pages
 
--- what `header` and then `load_from_joint` took is an image, and its pages are in memory
+-- what `header` and then `load_pages` took is an image, and its pages are in memory
 pub record Holding (a c : Option (List ℕ)) (h : Header) (m : List (List ℕ)) : Type 0 where
   pub input : List ℕ
   pub read : Consumes a c input
-  pub whole : IsAtEnd c
   pub pages : List Page
   pub count : length pages ≡ h.pages
   pub is : image input ≡ Ok (image_with h pages)
   pub loaded : IsLoaded h.frames pages m
 
-pub image_loaded : (p : Place) (h : Header) (a b c : Option (List ℕ)) (m : List (List ℕ)) → IsAfter h p → p.plans ≡ 0
-    → TakesParts image_parts (coming p) (header_parts h) a b → LoadsAll h.frames (coming p) b c m → Holding a c h m
-image_loaded p h a b c m at_pages none x l =
+pub image_begun : (p : Place) (h : Header) (a b c : Option (List ℕ)) (m : List (List ℕ)) → IsAfter h p → p.plans ≡ 0
+    → TakesParts image_parts (coming p) (header_parts h) a b → LoadsPages h.frames (coming p) b c m → Holding a c h m
+image_begun p h a b c m at_pages none x l =
     let all_parts : image_parts (x.bytes ++ l.bytes) ≡ parts_then (header_parts h)
     (parts_then (map Holds l.pages) no_more_parts) =
     x.is l.bytes ∙ ap (parts_then (header_parts h)) l.is in
     record {
       input = x.bytes ++ l.bytes;
       read = Consumes-trans _ _ _ _ _ x.taken l.read;
-      whole = l.whole;
       pages = l.pages;
       count = count_coming h p at_pages none l.bytes l.pages l.is;
       is = ap (λ t. image_or_fault t.parts t.fault) all_parts ∙ (λ j. image_or_fault (parts j) (fault j)) ∙ ap Ok
@@ -160,3 +175,9 @@ image_loaded p h a b c m at_pages none x l =
     fault = after_fault (header_parts h) (parts_then (map Holds l.pages) no_more_parts)
         ∙ after_fault (map Holds l.pages)
         no_more_parts
+
+-- what `header` and then `load_from_joint` took is an image, and the input ends with it
+pub image_loaded : (p : Place) (h : Header) (a b c : Option (List ℕ)) (m : List (List ℕ)) → IsAfter h p → p.plans ≡ 0
+    → TakesParts image_parts (coming p) (header_parts h) a b → LoadsAll h.frames (coming p) b c m → Holding a c h m
+image_loaded p h a b c m at_pages none x l = image_begun p h a b c m at_pages none x
+    (record { pages = l.pages; bytes = l.bytes; read = l.read; is = l.is; loaded = l.loaded })

@@ -51,6 +51,15 @@ pub record Loads (n : ℕ) (tell tell' : List ℕ → PartsRead) (left left' : O
   pub laid : LaysOut (tree_with n pages) m
   pub small : AreSmall pages
 
+-- All pages were taken and are in memory. What is left comes after the image
+pub record LoadsPages (n : ℕ) (tell : List ℕ → PartsRead) (left left' : Option (List ℕ))
+    (m : List (List ℕ)) : Type 0 where
+  pub pages : List Page
+  pub bytes : List ℕ
+  pub read : Consumes left left' bytes
+  pub is : tell bytes ≡ parts_then (map Holds pages) no_more_parts
+  pub loaded : IsLoaded n pages m
+
 -- All pages were taken and are in memory, and the input is at its end
 pub record LoadsAll (n : ℕ) (tell : List ℕ → PartsRead) (left left' : Option (List ℕ))
     (m : List (List ℕ)) : Type 0 where

@@ -32,6 +32,11 @@ pub record EndsInput (tell : List ℕ → PartsRead) (left left' : Option (List 
   pub over : IsAtEnd left'
   pub is : tell [] ≡ no_more_parts
 
+-- a fault of the image itself, and not that the input goes on after it
+abbrev pub IsFaultWithin : ImageError → Type 0
+IsFaultWithin (F.Long at) = ⊥
+IsFaultWithin e = ⊤
+
 -- no fault but the end of the bytes
 abbrev pub EndsAtMost : Option ImageError → Type 0
 EndsAtMost None = ⊤

@@ -4,7 +4,7 @@ ghost use Rattle.pip_io.specs.Moments.{joined};
 ghost use Rattle.pip_io.specs.Pacing.{MayReadOn};
 ghost use Rattle.pip_image.specs.Filling.{IsFilled};
 ghost use Rattle.pip_image.specs.Pacing.{IsUnfilled};
-ghost use Rattle.pip_image.specs.Reading.{fault_of};
+ghost use Rattle.pip_image.specs.Reading.{IsFaultWithin, fault_of};
 ghost use Rattle.pip_image.specs.Sought.{IsSought, is_wrong};
 
 use crate::parse;
@@ -50,7 +50,8 @@ pub struct Filled {
 impl Filled {
     /// What is wrong with bytes that have this fault: where they only end too early, a read that failed.
     pub fn fault(self, error: ImageError) -> ImageError
-        ensures { result ≡ fault_of error self.failed }
+        ensures fault { result ≡ fault_of error self.failed }
+        ensures inside { IsFaultWithin error → IsFaultWithin result }
     {
         match error {
             ImageError::Short { .. } if self.failed => ImageError::Read,

@@ -1,5 +1,5 @@
 //! The pages of an image, into memory.
-ghost use Rattle.std.specs.Prelude.{ℕ, ◌≡◌, ◌<◌, ◌≤◌, [], length, MatchResult, OnOk, Some, is_some, true};
+ghost use Rattle.std.specs.Prelude.{ℕ, ◌≡◌, ◌<◌, ◌≤◌, [], length, IfErr, MatchResult, OnOk, Some, is_some, true};
 ghost use Rattle.pip_model.specs.Boot.{boot_tree, frame_of_root};
 ghost use Rattle.pip_model.specs.Images.{has_row};
 ghost use Rattle.pip_model.specs.Layout.{LaysOut};
@@ -7,8 +7,9 @@ ghost use Rattle.pip_model.specs.Tree.{Tree};
 ghost use Rattle.pip_io.specs.Moments.{joined};
 ghost use Rattle.pip_io.specs.Pacing.{MayReadOn};
 ghost use Rattle.pip_image.specs.Coming.{coming, IsAfter};
-ghost use Rattle.pip_image.specs.Loading.{AreWords, LoadsAll, LoadsUpTo, with_page};
+ghost use Rattle.pip_image.specs.Loading.{AreWords, Loads, LoadsAll, LoadsUpTo, with_page};
 ghost use Rattle.pip_image.specs.Pacing.{IsFaultless};
+ghost use Rattle.pip_image.specs.Reading.{IsFaultWithin};
 
 use crate::header::Header;
 use crate::reader::JointReader;
@@ -41,14 +42,49 @@ pub fn load_from_joint<S: Source, K: Sink, M: Frames>(
     ensures calm { OnOk result (S.faults joint.new.source.now ≡ S.faults joint.old.source.now) }
     ensures count { length (M.memory mem.new) ≡ length (M.memory mem.old) }
 {
+    match load_pages(reader, joint, head, mem) {
+        Ok(()) => reader.end(joint),
+        Err(error) => Err(error),
+    }
+}
+
+/// Loads the pages of an image as `load_from_joint` does, and reads nothing after the last.
+pub fn load_pages<S: Source, K: Sink, M: Frames>(
+    reader: &mut JointReader,
+    joint: &mut Joint<'_, S, K>,
+    head: &Header,
+    mem: &mut M,
+) -> Result<(), ImageError>
+    requires plans { reader.old.place.plans ≡ 0 }
+    requires after { IsAfter head.now reader.old.place }
+    requires boot { LaysOut (boot_tree head.now.frames) (M.memory mem.old) }
+    requires is_open { S.is_open joint.old.source.now }
+    requires settled { (K.written joint.old.sink.now).held ≡ [] }
+    requires paced { MayReadOn S.allows (IsFaultless (coming reader.old.place))
+        (joined S.left S.faults K.written K.faults joint.old) }
+    ensures same_source { joint.new.source.ghost_name ≡ joint.old.source.ghost_name }
+    ensures sink { joint.new.sink ≡ joint.old.sink }
+    ensures loaded { let a = joined S.left S.faults K.written K.faults joint.old in
+        let b = joined S.left S.faults K.written K.faults joint.new in
+        MatchResult result (λ _. Loads head.now.frames (coming reader.old.place) (coming reader.new.place) a.left b.left
+        reader.new.place.seen.items (M.memory mem.new))
+        (LoadsUpTo head.now.frames (coming reader.old.place) a.left b.left a.reads b.reads (M.memory mem.new)) }
+    ensures plans { OnOk result (reader.new.place.plans ≡ 0) }
+    ensures pages { OnOk result (reader.new.place.pages ≡ 0) }
+    ensures inside { IfErr result IsFaultWithin }
+    ensures is_open { OnOk result (S.is_open joint.new.source.now) }
+    ensures later { S.faults joint.old.source.now ≤ S.faults joint.new.source.now }
+    ensures calm { OnOk result (S.faults joint.new.source.now ≡ S.faults joint.old.source.now) }
+    ensures count { length (M.memory mem.new) ≡ length (M.memory mem.old) }
+{
     let mut words = [0; 1024];
-    loop {
-        match reader.page(joint, &mut words) {
-            Ok(Some(vpage)) => load_page(mem, head.frames, vpage, &words),
-            Ok(None) => return Ok(()),
+    while reader.has_page() {
+        match reader.next_page(joint, &mut words) {
+            Ok(vpage) => load_page(mem, head.frames, vpage, &words),
             Err(error) => return Err(error),
         }
     }
+    Ok(())
 }
 
 // The words of a page into its frame.

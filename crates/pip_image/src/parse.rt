@@ -1,7 +1,8 @@
 //! Parts of an image, read from slices.
-ghost use Rattle.std.specs.Prelude.{◌≡◌, ◌+◌, ◌<◌, ◌≤◌, ◌^◌, length, drop, IfOk, IsTrue, true, false};
+ghost use Rattle.std.specs.Prelude.{◌≡◌, ◌+◌, ◌<◌, ◌≤◌, ◌^◌, length, drop, IfErr, IfOk, IsTrue, true, false};
 ghost use Rattle.pip_model.specs.Images.{words_in, front_word, magic_of, frames_at, cpus_at, plans_at, pages_at};
 ghost use Rattle.pip_model.specs.Images.{fields_of, plan_at, front_page, has_row, is_seen};
+ghost use Rattle.pip_image.specs.Reading.{IsFaultWithin};
 ghost use Rattle.pip_image.specs.Sought.{is_fault};
 ghost use Rattle.pip_image.specs.Taking.{seen, fields_seen, HasFieldsWithin};
 
@@ -12,7 +13,8 @@ use pip_model::{ImageError, root_frame};
 
 fn word(at: u64, bytes: &[u8]) -> Result<(u32, &[u8]), ImageError>
     requires { at + length bytes.now < 2 ^ 64 }
-    ensures { seen (λ x. (x.0, x.1.now)) result ≡ front_word at bytes.now }
+    ensures same { seen (λ x. (x.0, x.1.now)) result ≡ front_word at bytes.now }
+    ensures inside { IfErr result IsFaultWithin }
 {
     if bytes.len() < 4 {
         return Err(ImageError::Short {
@@ -24,7 +26,8 @@ fn word(at: u64, bytes: &[u8]) -> Result<(u32, &[u8]), ImageError>
 
 fn magic(bytes: &[u8]) -> Result<&[u8], ImageError>
     requires { length bytes.now < 2 ^ 64 }
-    ensures { seen (λ x. x.now) result ≡ magic_of bytes.now }
+    ensures same { seen (λ x. x.now) result ≡ magic_of bytes.now }
+    ensures inside { IfErr result IsFaultWithin }
 {
     if bytes.len() < 8 {
         return Err(ImageError::Short {
@@ -46,6 +49,7 @@ fn frames(bytes: &[u8]) -> Result<(u32, &[u8]), ImageError>
     requires { length bytes.now < 2 ^ 63 }
     ensures same { seen (λ x. (x.0, x.1.now)) result ≡ frames_at bytes.now }
     ensures within { IfOk result (λ x. (16 ≤ x.0) × (x.0 ≤ 4096)) }
+    ensures inside { IfErr result IsFaultWithin }
 {
     let (number, rest) = word(8, bytes)?;
     if 16 <= number && number <= 4096 {
@@ -60,6 +64,7 @@ fn cpus(bytes: &[u8]) -> Result<(u32, &[u8]), ImageError>
     requires { length bytes.now < 2 ^ 63 }
     ensures same { seen (λ x. (x.0, x.1.now)) result ≡ cpus_at bytes.now }
     ensures within { IfOk result (λ x. (1 ≤ x.0) × (x.0 ≤ 4)) }
+    ensures inside { IfErr result IsFaultWithin }
 {
     let (number, rest) = word(12, bytes)?;
     if 1 <= number && number <= 4 {
@@ -74,6 +79,7 @@ fn plans(bytes: &[u8]) -> Result<(u32, &[u8]), ImageError>
     requires { length bytes.now < 2 ^ 63 }
     ensures same { seen (λ x. (x.0, x.1.now)) result ≡ plans_at bytes.now }
     ensures within { IfOk result (λ x. x.0 ≤ 16) }
+    ensures inside { IfErr result IsFaultWithin }
 {
     let (number, rest) = word(16, bytes)?;
     if number <= 16 {
@@ -88,6 +94,7 @@ fn pages(bytes: &[u8]) -> Result<(u32, &[u8]), ImageError>
     requires { length bytes.now < 2 ^ 63 }
     ensures same { seen (λ x. (x.0, x.1.now)) result ≡ pages_at bytes.now }
     ensures within { IfOk result (λ x. x.0 ≤ 4096) }
+    ensures inside { IfErr result IsFaultWithin }
 {
     let (number, rest) = word(20, bytes)?;
     if number <= 4096 {
@@ -102,6 +109,7 @@ fn pages(bytes: &[u8]) -> Result<(u32, &[u8]), ImageError>
 pub fn read_fields(bytes: &[u8]) -> Result<(Fields, &[u8]), ImageError>
     ensures same { seen (λ x. (fields_seen x.0, x.1.now)) result ≡ fields_of bytes.now }
     ensures within { IfOk result (λ x. HasFieldsWithin x.0) }
+    ensures inside { IfErr result IsFaultWithin }
 {
     let rest = magic(bytes)?;
     let (frames, rest) = frames(rest)?;
@@ -135,6 +143,7 @@ pub fn plan(at: u64, least: u32, bytes: &[u8]) -> Result<(Plan, &[u8]), ImageErr
     requires { at + length bytes.now < 2 ^ 64 }
     ensures same { seen (λ x. (x.0, x.1.now)) result ≡ plan_at at least bytes.now }
     ensures line { IfOk result (λ x. (least ≤ x.0.line) × (x.0.line < 16)) }
+    ensures inside { IfErr result IsFaultWithin }
 {
     if bytes.len() < 12 {
         return Err(ImageError::Short {
@@ -184,6 +193,7 @@ pub fn page(
         ≡ front_page frames before.now at bytes.now }
     ensures row { IfOk result (λ v. has_row frames v ≡ true) }
     ensures unseen { IfOk result (λ v. is_seen v before.now ≡ false) }
+    ensures inside { IfErr result IsFaultWithin }
 {
     if bytes.len() < 4 {
         return Err(ImageError::Short {

@@ -1,11 +1,12 @@
 //! A reader of images.
-ghost use Rattle.std.specs.Prelude.{◌≡◌, ◌+◌, ◌≤◌, ◌<◌, ◌∷◌, [], MatchResult, MatchOption, IfOk, IfSome, OnOk, nat_lt};
+ghost use Rattle.std.specs.Prelude.{◌≡◌, ◌+◌, ◌≤◌, ◌<◌, ◌∷◌, [], MatchResult, MatchOption, IfErr, IfOk, IfSome, OnOk};
+ghost use Rattle.std.specs.Prelude.{nat_lt};
 ghost use Rattle.pip_model.specs.Images.{Head, Line, Holds, image_parts};
 ghost use Rattle.pip_io.specs.Moments.{joined};
 ghost use Rattle.pip_io.specs.Pacing.{MayReadOn};
 ghost use Rattle.pip_image.specs.Coming.{coming, IsNew, IsAfter, IsHeader, IsNextPage, header_parts};
 ghost use Rattle.pip_image.specs.Pacing.{IsHeaderless, IsPartless};
-ghost use Rattle.pip_image.specs.Reading.{TakesParts, EndsInput, Refuses, RefusesHeader};
+ghost use Rattle.pip_image.specs.Reading.{EndsInput, IsFaultWithin, Refuses, RefusesHeader, TakesParts};
 ghost use Rattle.pip_image.specs.Taking.{fields_seen, HasFieldsWithin};
 
 use crate::fields::Fields;
@@ -56,6 +57,7 @@ impl JointReader {
         ensures limits { IfOk result IsHeader }
         ensures later { S.faults joint.old.source.now ≤ S.faults joint.new.source.now }
         ensures is_open { OnOk result (S.is_open joint.new.source.now) }
+        ensures inside { IfErr result IsFaultWithin }
         ensures calm { OnOk result (S.faults joint.new.source.now ≡ S.faults joint.old.source.now) }
     {
         let fields = self.fields(joint)?;
@@ -103,6 +105,7 @@ impl JointReader {
             × (self.new.place.seen.items ≡ [])) }
         ensures later { S.faults joint.old.source.now ≤ S.faults joint.new.source.now }
         ensures is_open { OnOk result (S.is_open joint.new.source.now) }
+        ensures inside { IfErr result IsFaultWithin }
         ensures calm { OnOk result (S.faults joint.new.source.now ≡ S.faults joint.old.source.now) }
     {
         let mut bytes = [0; 24];
@@ -140,6 +143,7 @@ impl JointReader {
             × (self.new.place.pages ≡ self.old.place.pages) × (self.new.place.seen ≡ self.old.place.seen)) }
         ensures later { S.faults joint.old.source.now ≤ S.faults joint.new.source.now }
         ensures is_open { OnOk result (S.is_open joint.new.source.now) }
+        ensures inside { IfErr result IsFaultWithin }
         ensures calm { OnOk result (S.faults joint.new.source.now ≡ S.faults joint.old.source.now) }
     {
         let mut bytes = [0; 12];
@@ -155,6 +159,13 @@ impl JointReader {
             }
             Err(error) => Err(filled.fault(error)),
         }
+    }
+
+    /// Whether a page is left to be read.
+    pub fn has_page(&self) -> bool
+        ensures { result ≡ nat_lt 0 self.now.place.pages }
+    {
+        self.place.pages > 0
     }
 
     /// The next page and its words, or None at the end of the image. All plans were read.
@@ -192,8 +203,11 @@ impl JointReader {
         Ok(Some(vpage))
     }
 
-    // The end of the input.
-    fn end<S: Source, K: Sink>(&mut self, joint: &mut Joint<'_, S, K>) -> Result<(), ImageError>
+    /// The end of the input, after the last page.
+    pub(crate) fn end<S: Source, K: Sink>(
+        &mut self,
+        joint: &mut Joint<'_, S, K>,
+    ) -> Result<(), ImageError>
         requires plans { self.old.place.plans ≡ 0 }
         requires pages { self.old.place.pages ≡ 0 }
         requires is_open { S.is_open joint.old.source.now }
@@ -218,8 +232,8 @@ impl JointReader {
         }
     }
 
-    // A page that is there.
-    fn next_page<S: Source, K: Sink>(
+    /// A page that is there.
+    pub(crate) fn next_page<S: Source, K: Sink>(
         &mut self,
         joint: &mut Joint<'_, S, K>,
         words: &mut [u32; 1024],
@@ -243,6 +257,7 @@ impl JointReader {
         ensures next { IfOk result (IsNextPage self.old.place self.new.place) }
         ensures later { S.faults joint.old.source.now ≤ S.faults joint.new.source.now }
         ensures is_open { OnOk result (S.is_open joint.new.source.now) }
+        ensures inside { IfErr result IsFaultWithin }
         ensures calm { OnOk result (S.faults joint.new.source.now ≡ S.faults joint.old.source.now) }
     {
         let mut bytes = [0; 4100];

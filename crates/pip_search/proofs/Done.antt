@@ -2,6 +2,7 @@
 use Rattle.std.proofs.Common.{◌≡◌, ℕ, ◌-◌, ◌<◌, ◌≤◌, List, Some, get_or, length, slice_get, refl, subst, arith}
 use Rattle.std.proofs.lemmas.Option.{slice_get_read}
 use Rattle.std.specs.Prelude.{vec_len}
+use Rattle.pip_search.specs.Again.{HasClosed}
 use Rattle.pip_search.specs.Ending.{Ends, IsBeyond}
 use Rattle.pip_search.specs.Keys.{keys, labels}
 use Rattle.pip_search.specs.Naming.{AreDistinct}
@@ -38,6 +39,7 @@ IsDone m start s most limit verdict old now = record {
   distinct : AreDistinct (keys s.visits.items);
   labels : AreDistinct (labels s.found.items);
   traced : AreTraced s.visits.items s.found.items;
+  closed : (depth : ℕ) → verdict ≡ Closed depth → HasClosed m start s;
   base : now ≡ old;
 }
 
@@ -45,8 +47,9 @@ module _ {B : Type 0} {old now : B} {m : Model} {start : List ℕ} {s : Search} 
     (base : now ≡ old) (h : IsSearching m start s i c) (room : vec_len s.visits ≤ limit) where
   -- all of it follows from what the search explains, and from why it ended
   done : (verdict : Extent) → Explains m start s.visits.items s.found.items verdict
-      → Ends m s.visits.items most limit verdict → IsDone m start s most limit verdict old now
-  done verdict explains ends =
+      → Ends m s.visits.items most limit verdict → ((depth : ℕ) → verdict ≡ Closed depth → HasClosed m start s)
+      → IsDone m start s most limit verdict old now
+  done verdict explains ends closed =
       let traced = are_traced m start s.visits.items s.found.items i c h.exploring in
       let distinct = distinct_keys s.visits.items h.kept h.named.distinct in
       let few : length s.visits.items ≤ limit = omega (arith, s.visits.ok.0, room) in
@@ -59,6 +62,7 @@ module _ {B : Type 0} {old now : B} {m : Model} {start : List ℕ} {s : Search} 
         distinct = distinct;
         labels = h.told.distinct;
         traced = traced;
+        closed = closed;
         base = base;
       }
 
@@ -68,7 +72,7 @@ module _ {B : Type 0} {old now : B} {m : Model} {start : List ℕ} {s : Search} 
   within_done v none at shallow deep = done (Within v.depth)
       (within_tells m start s.visits.items s.found.items i c h.exploring h.ranked v at v.depth refl)
       (within_ends m start s.visits.items s.found.items i c most limit h.exploring v at
-      (subst (λ k. IsRanked s.visits.items s.found.items i k) none h.ranked) shallow deep)
+      (subst (λ k. IsRanked s.visits.items s.found.items i k) none h.ranked) shallow deep) (λ depth e. absurd (cc))
 
   -- a choice of visit i leads to a state for which there is no room
   pub stopped_done : (v : Visit) → slice_get s.visits.items i ≡ Some v → v.depth < most
@@ -76,16 +80,21 @@ module _ {B : Type 0} {old now : B} {m : Model} {start : List ℕ} {s : Search} 
   stopped_done v at low beyond = done (Stopped v.depth)
       (stopped_tells m start s.visits.items s.found.items i c h.exploring h.ranked v at v.depth refl)
       (stopped_ends m start s.visits.items s.found.items i c most limit h.exploring v at low beyond)
+      (λ depth e. absurd (cc))
 
   -- the choices of all visits were made, and the visit that was read at place j is the last
-  pub closed_done : (v : Visit) (j : ℕ) → vec_len s.visits ≤ i → j ≡ vec_len s.visits - 1
+  pub closed_done : (v : Visit) (j : ℕ) → c ≡ 0 → vec_len s.visits ≤ i → j ≡ vec_len s.visits - 1
       → v ≡ get_or s.visits.items j v → IsShallow s.visits.items i most
       → IsDone m start s most limit (Closed v.depth) old now
-  closed_done v j none last read shallow =
+  closed_done v j first none last read shallow =
       let some = h.exploring.some in
       let place : j ≡ length s.visits.items - 1 = omega (arith, s.visits.ok.0, last) in
       let all : length s.visits.items ≤ i = omega (arith, s.visits.ok.0, none) in
       let at = visit_read s j v (omega (arith, s.visits.ok.0, last, some)) read in
       done (Closed v.depth) (closed_tells m start s.visits.items s.found.items i c h.exploring h.ranked all v.depth)
       (closed_ends m start s.visits.items s.found.items i c most limit h.exploring v
-      (subst (λ k. slice_get s.visits.items k ≡ Some v) place at) shallow all)
+      (subst (λ k. slice_get s.visits.items k ≡ Some v) place at) shallow all) (λ depth e. record {
+        end = i;
+        all = all;
+        searching = subst (λ k. IsSearching m start s i k) first h;
+      })

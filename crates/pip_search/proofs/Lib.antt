@@ -19,3 +19,6 @@ pub mod Certified
 pub mod Parting
 pub mod Answered
 pub mod Rising
+pub mod Spreading
+pub mod Looking
+pub mod Lost

@@ -15,3 +15,5 @@ pub mod Ways
 pub mod Certificates
 pub mod Parts
 pub mod Merging
+pub mod Graphs
+pub mod Again

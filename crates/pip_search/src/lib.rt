@@ -10,6 +10,10 @@
 //! (specs/Packing). Keys and labels are found by their hashes (specs/Filing); it is proved that the table has none
 //! twice, whatever the hash is.
 //!
+//! Of a search that closed [`come_again`] says whether a label can come again wherever choices lead, by some of the
+//! choices alone (`CanComeAgain` of specs/Again), or after which state it can't. It spreads marks against the choices,
+//! from those that show the label (specs/Graphs).
+//!
 //! A search that is too large for one process is a certificate of parts (specs/Certificates). [`check_part`] checks a
 //! part by itself: it begins where a way leads, makes every choice at every key of the part, and a mark for each choice
 //! says whether the next key is the part's own; any other key it asks of the other parts. So it reads no keys, only a
@@ -17,7 +21,9 @@
 //! twice, and [`law_certificates`] says what follows.
 #![tactic(auto)]
 
+mod again;
 mod found;
+mod graph;
 mod hashes;
 mod index;
 mod laws;
@@ -30,6 +36,7 @@ mod system;
 mod visits;
 mod ways;
 
+pub use again::come_again;
 pub use found::Found;
 pub use laws::{law_certificates, law_once};
 pub use merging::{are_rising, merged};
@@ -37,4 +44,4 @@ pub use parts::{Part, Reached, check_part};
 pub use searching::{Extent, Search, explore};
 pub use system::System;
 pub use visits::Visit;
-pub use ways::{Run, runs};
+pub use ways::{Run, runs, runs_to};

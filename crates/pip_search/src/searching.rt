@@ -1,5 +1,6 @@
 //! The search.
 ghost use Rattle.std.specs.Prelude.{◌≡◌, ◌<◌, ◌≤◌, ◌+◌, ℕ, false, slice_get, IfOk, IsTrue, length, vec_len};
+ghost use Rattle.pip_search.specs.Again.{HasClosed};
 ghost use Rattle.pip_search.specs.Began.{HasBegun};
 ghost use Rattle.pip_search.specs.Ending.{Ends, IsBeyond};
 ghost use Rattle.pip_search.specs.Keys.{AreKept, IsAtHand, key_bytes, keys, labels};
@@ -9,6 +10,7 @@ ghost use Rattle.pip_search.specs.Searching.{IsSearching};
 ghost use Rattle.pip_search.specs.Systems.{IsKey};
 ghost use Rattle.pip_search.specs.Summary.{HasOneKey, IsTold};
 ghost use Rattle.pip_search.specs.Ways.{AreTraced, is_covered, witnesses_of};
+ghost use Rattle.pip_search.specs.declared.searching.Extent.TheVariants.{Closed};
 
 use crate::found::{Found, tell};
 use crate::hashes::hash_bytes;
@@ -225,6 +227,8 @@ pub fn explore<S: System>(
     ensures distinct { IfOk result (λ r. AreDistinct (keys r.0.visits.items)) }
     ensures labels { IfOk result (λ r. AreDistinct (labels r.0.found.items)) }
     ensures traced { IfOk result (λ r. AreTraced r.0.visits.items r.0.found.items) }
+    ensures closed { IfOk result (λ r. (depth : ℕ) → r.1 ≡ Closed depth
+        → HasClosed (S.model (S.base system.old)) start.now r.0) }
     ensures base { S.base system.new ≡ S.base system.old }
 {
     let mut buffers = Buffers::new(alloc);

@@ -1,6 +1,7 @@
 //! The ways that lead to labels.
-ghost use Rattle.std.specs.Prelude.{◌≡◌, ◌<◌, IfOk, Some, length, reverse, slice_get};
-ghost use Rattle.pip_search.specs.Ways.{AreRuns, AreTraced, found_way, runs_of, choices_of};
+ghost use Rattle.std.specs.Prelude.{◌≡◌, ◌<◌, ◌+◌, ◌∷◌, IfOk, Some, length, reverse, slice_get};
+ghost use Rattle.pip_search.specs.Ways.{AreRuns, AreTraced, choices_of, found_way, runs_of, way_to};
+ghost use Rattle.pip_search.specs.declared.visits.Visit.{Visit};
 ghost use Rattle.pip_search.specs.declared.found.Found.{Found};
 
 use crate::searching::Search;
@@ -11,6 +12,44 @@ use std::alloc::{AllocError, Global};
 pub struct Run {
     pub choice: u32,
     pub count: u32,
+}
+
+// The way to visit `at` and a choice after it, `depth` choices in all, as runs of equal choices, in the order in which
+// they are made.
+fn runs_with(
+    alloc: Global,
+    search: &Search,
+    at: u32,
+    choice: u32,
+    depth: u32,
+) -> Result<Vec<Run>, AllocError>
+    requires place { at < length search.now.visits.items }
+    requires traced { AreTraced search.now.visits.items search.now.found.items }
+    requires depth { (u : Visit) → slice_get search.now.visits.items at ≡ Some u → depth ≡ u.depth + 1 }
+    ensures { IfOk result (λ rs. rs.items ≡ reverse (runs_of (choice ∷ way_to search.now.visits.items at))) }
+{
+    let mut runs = Vec::new(alloc);
+    let mut last = choice;
+    let mut end = depth;
+    let mut j = at;
+    while j != 0 {
+        let visit = &search.visits[j as usize];
+        if visit.choice != last {
+            runs.push(Run {
+                choice: last,
+                count: end - visit.depth,
+            })?;
+            last = visit.choice;
+            end = visit.depth;
+        }
+        j = visit.run;
+    }
+    runs.push(Run {
+        choice: last,
+        count: end,
+    })?;
+    runs.reverse();
+    Ok(runs)
 }
 
 /// The way to label `k` as runs of equal choices, the label's own choice included, in the order in which they are made.
@@ -25,23 +64,21 @@ pub fn runs(alloc: Global, search: &Search, k: usize) -> Result<Vec<Run>, AllocE
     ensures differ { IfOk result (λ rs. AreRuns (reverse rs.items)) }
 {
     let found = &search.found[k];
-    let mut runs = Vec::new(alloc);
-    let mut choice = found.choice;
-    let mut end = found.depth;
-    let mut j = found.at;
-    while j != 0 {
-        let visit = &search.visits[j as usize];
-        if visit.choice != choice {
-            runs.push(Run {
-                choice,
-                count: end - visit.depth,
-            })?;
-            choice = visit.choice;
-            end = visit.depth;
-        }
-        j = visit.run;
+    let runs = runs_with(alloc, search, found.at, found.choice, found.depth)?;
+    Ok(runs)
+}
+
+/// The way to visit `place` as runs of equal choices, in the order in which they are made. The only error is that
+/// memory is out.
+pub fn runs_to(alloc: Global, search: &Search, place: usize) -> Result<Vec<Run>, AllocError>
+    requires place { place < length search.now.visits.items }
+    requires traced { AreTraced search.now.visits.items search.now.found.items }
+    ensures { IfOk result (λ rs. rs.items ≡ reverse (runs_of (way_to search.now.visits.items place))) }
+{
+    if place == 0 {
+        return Ok(Vec::new(alloc));
     }
-    runs.push(Run { choice, count: end })?;
-    runs.reverse();
+    let visit = &search.visits[place];
+    let runs = runs_with(alloc, search, visit.parent, visit.choice, visit.depth)?;
     Ok(runs)
 }

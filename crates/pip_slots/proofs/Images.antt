@@ -1,7 +1,7 @@
 -- The law of slots, for the children that are built of an image's pages.
 use Rattle.std.proofs.Common.{◌++◌, ◌≡◌, ◌≢◌, ℕ, zero, suc, ◌<◌, ◌&&◌, ◌⊎◌, inl, inr, Bool, true, false, cond}
 use Rattle.std.proofs.Common.{◌≤◌, List, [], ◌∷◌, refl, sym, ap, ap₂, ◌∙◌, subst, Option, Some, None, arith, eq-eqb}
-use Rattle.std.specs.Prelude.{nat_le, nat_lt}
+use Rattle.std.specs.Prelude.{nat_le, nat_lt, slice_index}
 use Rattle.std.specs.List.{AllByRecursion}
 use Rattle.pip_model.specs.Boot.{boot_tree_with, first_user, frame_of_root}
 use Rattle.pip_model.specs.Cache.{empty_caches}
@@ -18,9 +18,9 @@ use Rattle.pip_model.proofs.Trees.Lookup.{in_other, root_found}
 use Rattle.pip_guests.specs.Guests.{IsSameGuest}
 use Rattle.pip_watch.specs.Watching.{addresses, fresh, page_address, ready_world, with_handlers}
 use Rattle.pip_watch.proofs.Beginning.{room_first}
-use Rattle.pip_slots.specs.Images.{AgreeOnChild, HasRooms, ImagesBegin, ImagesSeparate, ImagesSeparateInTurn}
-use Rattle.pip_slots.specs.Images.{ImagesSeparateSlots, in_turn}
-use Rattle.pip_slots.specs.Images.{round}
+use Rattle.pip_slots.specs.Images.{AgreeOnChild, HasRooms, ImagesBegin, ImagesSeparate, ImagesSeparateRounds}
+use Rattle.pip_slots.specs.Images.{ImagesSeparateSlots, placed, round_plan}
+use Rattle.pip_slots.specs.declared.time_slot.RoundSlot.{RoundSlot}
 use Rattle.pip_slots.specs.Slots.{IsBetweenSlots, IsRootsChild, IsSameInSlots, rounds}
 use Rattle.pip_watch.specs.Watching.{is_root}
 use Rattle.pip_slots.specs.declared.time_slot.TimeSlot.{TimeSlot}
@@ -161,19 +161,14 @@ images_separate a b n k t ss low ra rb g all = (images_same a b n k t ss low ra 
 pub images_separate_slots : ImagesSeparateSlots
 images_separate_slots a b n k t ss low ra rb g all = (images_same a b n k t ss low ra rb g all).1.texts
 
--- ---- in turn
+-- ---- rounds
 
 words_append : (xs ys : List TimeSlot) → AllByRecursion (λ s. IsWord s.child) xs
     → AllByRecursion (λ s. IsWord s.child) ys → AllByRecursion (λ s. IsWord s.child) (xs ++ ys)
 words_append [] ys h k = k
 words_append (x ∷ xs) ys h k = (h.0, words_append xs ys h.1 k)
 
-round_words : (turns : ℕ) (ds : List ℕ) → AllByRecursion IsWord ds
-    → AllByRecursion (λ s. IsWord s.child) (round turns ds)
-round_words turns [] h = tt
-round_words turns (d ∷ ds) h = (h.0, round_words turns ds h.1)
-
-pub rounds_words : (ss : List TimeSlot) (c : ℕ) → AllByRecursion (λ s. IsWord s.child) ss
+rounds_words : (ss : List TimeSlot) (c : ℕ) → AllByRecursion (λ s. IsWord s.child) ss
     → AllByRecursion (λ s. IsWord s.child) (rounds ss c)
 rounds_words ss zero h = tt
 rounds_words ss (suc c) h = words_append ss (rounds ss c) h (rounds_words ss c h)
@@ -182,15 +177,27 @@ one_more : (xs : List ℕ) (d : ℕ) → AllByRecursion IsWord xs → IsWord d �
 one_more [] d h k = (k, tt)
 one_more (x ∷ xs) d h k = (h.0, one_more xs d h.1 k)
 
-pub addresses_words : (n i : ℕ) → n ≤ 8 → i ≤ n → AllByRecursion IsWord (addresses n i)
+addresses_words : (n i : ℕ) → n ≤ 8 → i ≤ n → AllByRecursion IsWord (addresses n i)
 addresses_words n zero most l = tt
 addresses_words n (suc i) most l = one_more (addresses n i) (fresh n i 0) (addresses_words n i most (omega (arith, l)))
     (omega (arith, most, l))
 
-pub in_turn_words : (n turns c : ℕ) → n ≤ 8 → AllByRecursion (λ s. IsWord s.child) (in_turn n turns c)
-in_turn_words n turns c most = rounds_words (round turns (addresses n n)) c
-    (round_words turns (addresses n n) (addresses_words n n most (omega arith)))
+-- the addresses of a round's slots are words
+index_word : (ds : List ℕ) (i : ℕ) → AllByRecursion IsWord ds → IsWord (slice_index ds i)
+index_word [] i h = omega arith
+index_word (d ∷ ds) zero h = h.0
+index_word (d ∷ ds) (suc i) h = index_word ds i h.1
 
-pub images_separate_in_turn : ImagesSeparateInTurn
-images_separate_in_turn a b n k turns c low ra rb g =
-    images_separate a b n k 0 (in_turn n turns c) low ra rb g (in_turn_words n turns c ra.most)
+placed_words : (xs : List RoundSlot) (ds : List ℕ) → AllByRecursion IsWord ds
+    → AllByRecursion (λ s. IsWord s.child) (placed xs ds)
+placed_words [] ds h = tt
+placed_words (x ∷ xs) ds h = (index_word ds x.child h, placed_words xs ds h)
+
+pub plan_words : (n : ℕ) (round : List RoundSlot) (c : ℕ) → n ≤ 8
+    → AllByRecursion (λ s. IsWord s.child) (round_plan n round c)
+plan_words n round c most = rounds_words (placed round (addresses n n)) c
+    (placed_words round (addresses n n) (addresses_words n n most (omega arith)))
+
+pub images_separate_rounds : ImagesSeparateRounds
+images_separate_rounds a b n k c round low ra rb g =
+    images_separate a b n k 0 (round_plan n round c) low ra rb g (plan_words n round c ra.most)

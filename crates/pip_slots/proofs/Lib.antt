@@ -16,3 +16,4 @@ pub mod Progressing
 pub mod Texts
 pub mod Machines
 pub mod Limits
+pub mod Rounds

@@ -1,6 +1,6 @@
 -- Time slots of images. The children of the root are built of an image's pages, as `native` builds them, and the plan
 -- of slots runs them. What a child does, and when, depends on its own two pages of the image alone.
-use Rattle.std.specs.Prelude.{◌≡◌, ℕ, ◌+◌, ◌*◌, ◌≤◌, ◌<◌, List, ◌++◌, length, map, Some}
+use Rattle.std.specs.Prelude.{◌≡◌, ℕ, zero, suc, ◌+◌, ◌*◌, ◌≤◌, ◌<◌, List, ◌++◌, length, map, Some}
 use Rattle.std.specs.Prelude.{[], ◌∷◌, slice_get, slice_index}
 use Rattle.std.specs.List.{AllByRecursion}
 use Rattle.pip_model.specs.Acts.{Act, after_acts, text_of}
@@ -55,50 +55,9 @@ ImagesSeparateSlots = (a b : Image) (n k t : ℕ) (ss : List TimeSlot) → k < n
     → slice_get ss j ≡ Some s → s.child ≡ fresh n k 0 → slice_get (slot_texts (ready_world (image_world a) n) ss t) j
     ≡ slice_get (slot_texts (ready_world (image_world b) n) ss t) j
 
--- ---- in turn
+-- ---- rounds: their slots name the children by their numbers, in any order and as often as they like
 
--- a slot of this many turns for each child
-abbrev pub round : ℕ → List ℕ → List TimeSlot
-round turns children = map (λ d. record { child = d; turns = turns }) children
-
--- the plan in which each of n children has a slot in turn
-abbrev pub in_turn : ℕ → ℕ → ℕ → List TimeSlot
-in_turn n turns c = rounds (round turns (addresses n n)) c
-
--- so in any number of rounds of slots in turn, each child's lines are those of its own two pages
-abbrev pub ImagesSeparateInTurn : Type 0
-ImagesSeparateInTurn = (a b : Image) (n k turns c : ℕ) → k < n → HasRooms n a → HasRooms n b → AgreeOnChild n k a b
-    → child_lines a n k (in_turn n turns c) 0 ≡ child_lines b n k (in_turn n turns c) 0
-
--- the law of slots speaks of every image with room: its machine is at the beginning of a slot once the children are
--- built, and each of them is there
-abbrev pub ImagesBegin : Type 0
-ImagesBegin = (a : Image) (n : ℕ) → HasRooms n a → IsBetweenSlots (ready_world (image_world a) n)
-    × ((k : ℕ) → k < n → (p : ℕ) × IsRootsChild (ready_world (image_world a) n) (fresh n k 0) p)
-
--- ---- the command: n children of an image, and then `c` rounds in which each has a slot of this many turns
-
--- what is done in these rounds
-abbrev pub slots_acts : Image → ℕ → ℕ → ℕ → List Act
-slots_acts a n turns c = slot_run (ready_world (image_world a) n) (in_turn n turns c) 0
-
--- the world after them
-abbrev pub slots_world : Image → ℕ → ℕ → ℕ → World
-slots_world a n turns c = after_acts (ready_world (image_world a) n) (slots_acts a n turns c)
-
--- how many steps they have
-abbrev pub steps_in_turn : ℕ → ℕ → ℕ → ℕ
-steps_in_turn n turns c = c * (n * (turns + 2))
-
--- the whole text: the image line, a line for each child, the lines of the steps, and the last line
-abbrev pub slots_text : Image → ℕ → ℕ → ℕ → List ℕ
-slots_text a n turns c =
-    trace_image_line a.frames a.cpus (length a.plans) (length a.pages)
-    ++ (built_from 0 (addresses n n) ++ (text_of (slots_acts a n turns c) ++ end_line (steps_in_turn n turns c)))
-
--- ---- a round that is given: its slots name the children by their numbers, in any order and as often as they like
-
--- its slots, of the children at these addresses
+-- the slots of a round, of the children at these addresses
 abbrev pub placed : List RoundSlot → List ℕ → List TimeSlot
 placed round children = map (λ x. record { child = slice_index children x.child; turns = x.turns }) round
 
@@ -107,20 +66,38 @@ abbrev pub round_steps : List RoundSlot → ℕ
 round_steps [] = 0
 round_steps (x ∷ xs) = (x.turns + 2) + round_steps xs
 
+-- the round in which each of n children has a slot of this many turns, in turn
+abbrev pub in_turn : ℕ → ℕ → List RoundSlot
+in_turn zero turns = []
+in_turn (suc n) turns = in_turn n turns ++ record { child = n; turns = turns } ∷ []
+
 -- the plan of that many rounds for n children
-abbrev pub given_plan : ℕ → List RoundSlot → ℕ → List TimeSlot
-given_plan n round c = rounds (placed round (addresses n n)) c
+abbrev pub round_plan : ℕ → List RoundSlot → ℕ → List TimeSlot
+round_plan n round c = rounds (placed round (addresses n n)) c
+
+-- so in any rounds each child's lines are those of its own two pages
+abbrev pub ImagesSeparateRounds : Type 0
+ImagesSeparateRounds = (a b : Image) (n k c : ℕ) (round : List RoundSlot) → k < n → HasRooms n a → HasRooms n b
+    → AgreeOnChild n k a b → child_lines a n k (round_plan n round c) 0 ≡ child_lines b n k (round_plan n round c) 0
+
+-- the law of slots speaks of every image with room: its machine is at the beginning of a slot once the children are
+-- built, and each of them is there
+abbrev pub ImagesBegin : Type 0
+ImagesBegin = (a : Image) (n : ℕ) → HasRooms n a → IsBetweenSlots (ready_world (image_world a) n)
+    × ((k : ℕ) → k < n → (p : ℕ) × IsRootsChild (ready_world (image_world a) n) (fresh n k 0) p)
+
+-- ---- the command: n children of an image, and then `c` rounds of slots
 
 -- what is done in these rounds
-abbrev pub given_acts : Image → ℕ → List RoundSlot → ℕ → List Act
-given_acts a n round c = slot_run (ready_world (image_world a) n) (given_plan n round c) 0
+abbrev pub slots_acts : Image → ℕ → List RoundSlot → ℕ → List Act
+slots_acts a n round c = slot_run (ready_world (image_world a) n) (round_plan n round c) 0
 
 -- the world after them
-abbrev pub given_world : Image → ℕ → List RoundSlot → ℕ → World
-given_world a n round c = after_acts (ready_world (image_world a) n) (given_acts a n round c)
+abbrev pub slots_world : Image → ℕ → List RoundSlot → ℕ → World
+slots_world a n round c = after_acts (ready_world (image_world a) n) (slots_acts a n round c)
 
 -- the whole text: the image line, a line for each child, the lines of the steps, and the last line
-abbrev pub given_text : Image → ℕ → List RoundSlot → ℕ → List ℕ
-given_text a n round c =
+abbrev pub slots_text : Image → ℕ → List RoundSlot → ℕ → List ℕ
+slots_text a n round c =
     trace_image_line a.frames a.cpus (length a.plans) (length a.pages)
-    ++ (built_from 0 (addresses n n) ++ (text_of (given_acts a n round c) ++ end_line (c * round_steps round)))
+    ++ (built_from 0 (addresses n n) ++ (text_of (slots_acts a n round c) ++ end_line (c * round_steps round)))

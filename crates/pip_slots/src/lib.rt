@@ -12,14 +12,14 @@ mod edges;
 mod running;
 mod time_slot;
 
-ghost use Rattle.pip_slots.specs.Images.{ImagesBegin, ImagesSeparate, ImagesSeparateInTurn};
+ghost use Rattle.pip_slots.specs.Images.{ImagesBegin, ImagesSeparate, ImagesSeparateRounds};
 ghost use Rattle.pip_slots.specs.Images.{ImagesSeparateSlots};
 ghost use Rattle.pip_slots.specs.Limits.{NativeIsNotSeparate};
 ghost use Rattle.pip_slots.specs.Machines.{MachinesBegin, MachinesSeparate};
 ghost use Rattle.pip_slots.specs.Slots.{SlotsSeparate};
 
 pub use running::{run_rounds, run_slots};
-pub use time_slot::{RoundSlot, TimeSlot};
+pub use time_slot::{RoundSlot, TimeSlot, in_turn};
 
 /// What a child does in its slots, and at which steps, depends on that child alone. The law computes nothing: what it
 /// says is its contract.
@@ -27,7 +27,7 @@ pub fn law_slots()
     ensures separate { SlotsSeparate }
     ensures images { ImagesSeparate }
     ensures slots { ImagesSeparateSlots }
-    ensures in_turn { ImagesSeparateInTurn }
+    ensures rounds { ImagesSeparateRounds }
     ensures begins { ImagesBegin }
 {}
 

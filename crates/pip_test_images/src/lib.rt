@@ -2,6 +2,10 @@
 #![tactic(auto)]
 
 #[cfg(test)]
+mod against;
+#[cfg(test)]
+mod apart;
+#[cfg(test)]
 mod asm;
 #[cfg(test)]
 mod audit;

@@ -1,17 +1,16 @@
 //! Tests of the command `slots`.
-ghost use Rattle.std.specs.Prelude.{◌≤◌, ◌<◌, ◌^◌};
-ghost use Rattle.pip_slots.specs.Images.{steps_in_turn};
+ghost use Rattle.std.specs.Prelude.{◌≤◌, ◌<◌, ◌+◌, ◌*◌, ◌^◌};
 
 use crate::native::image_of;
 use arrayvec::ArrayVec;
-use pip_commands::{given_slots, slots};
+use pip_commands::slots;
 use pip_io::{MemSink, MemSource};
-use pip_slots::RoundSlot;
+use pip_slots::{RoundSlot, in_turn};
 use std::process::Abort;
 use std::test::Fail;
 
-// Rounds of slots of children of an image, where these calls of the sink fail, and the status and the text that are
-// wanted.
+// Children of an image, the turns of the slots that they have in turn, and the rounds, where these calls of the sink
+// fail, and the status and the text that are wanted.
 fn check(
     rt: &(impl Abort + AllocGlobal),
     lines: &str,
@@ -22,7 +21,7 @@ fn check(
 ) -> Result<(), Fail>
     requires least { 1 ≤ words.0 }
     requires most { words.0 ≤ 8 }
-    requires steps { steps_in_turn words.0 words.1 words.2 < 2 ^ 32 }
+    requires steps { words.2 * (words.0 * (words.1 + 2)) < 2 ^ 32 }
 {
     let image = image_of(rt, lines)?;
     let mut source = MemSource::new(image.bytes(), &[]);
@@ -30,8 +29,8 @@ fn check(
     let ended = slots(
         rt.alloc(),
         words.0,
-        words.1,
         words.2,
+        in_turn(words.0, words.1),
         &mut source,
         &mut sink,
     );
@@ -147,7 +146,7 @@ fn a_child_has_the_slots_that_a_round_gives_it(rt: HostRuntime) -> Result<(), Fa
     round.push(RoundSlot { child: 1, turns: 1 });
     round.push(RoundSlot { child: 0, turns: 2 });
     round.push(RoundSlot { child: 1, turns: 0 });
-    let ended = given_slots(rt.alloc(), 2, 2, round, &mut source, &mut sink);
+    let ended = slots(rt.alloc(), 2, 2, round, &mut source, &mut sink);
     let text =
         "image 39 1 0 2\nbuilt 0 0x00402000\nbuilt 1 0x0040e000\n0 0 call 8 switch 1 26 63\n1 0 switch 26 1 14\n3 0 call 8 switch 1 14 63\n4 0 switch 14 1 64\n7 0 call 8 switch 1 26 63\n8 0 switch 26 1 32\n9 0 call 8 switch 1 26 63\n10 0 switch 26 1 14\n12 0 call 8 switch 1 14 63\n13 0 switch 14 1 6\n16 0 call 8 switch 1 26 63\n17 0 switch 26 1 32\nend 18\n";
     assert_eq!(&rt; sink.bytes(), text.as_bytes());

@@ -1,8 +1,9 @@
-ghost use Rattle.std.specs.Prelude.{◌<◌, length};
+ghost use Rattle.std.specs.Prelude.{◌<◌, ◌≤◌, length};
 
 use crate::Counters;
 use pip_search::{
-    Extent, Part, Reached, Run, Search, are_rising, check_part, explore, merged, runs,
+    Extent, Part, Reached, Run, Search, are_rising, check_part, come_again, explore, merged, runs,
+    runs_to,
 };
 use std::alloc::{AllocError, Global};
 use std::test::Fail;
@@ -125,5 +126,32 @@ fn parts_of_two_counters_are_merged(rt: HostRuntime) -> Result<(), Fail> {
     assert!(rt; are_rising(rt.alloc(), keys.as_slice())?);
     keys.push(key_of(rt.alloc(), 1, 0, 3)?)?;
     assert!(rt; !are_rising(rt.alloc(), keys.as_slice())?);
+    Ok(())
+}
+
+// The visit of two counters below 3 after which a label can't come by the first choices alone, and the way to it.
+fn lost_by(alloc: Global, label: &[u8], width: u32) -> Result<Option<(usize, Vec<Run>)>, AllocError>
+    requires some { 0 < width }
+    requires width { width ≤ 2 }
+{
+    let start = [0u32, 0];
+    let mut system = Counters { bound: 3 };
+    let (search, verdict) = explore(&mut system, alloc, &start, 100, 100)?;
+    let Extent::Closed { .. } = verdict else {
+        return Ok(None);
+    };
+    let Some(place) = come_again(&search, &mut system, alloc, &start, label, width)? else {
+        return Ok(None);
+    };
+    Ok(Some((place, runs_to(alloc, &search, place)?)))
+}
+
+#[test]
+fn a_label_comes_again_or_is_lost(rt: HostRuntime) -> Result<(), Fail> {
+    let alloc = rt.alloc();
+    assert!(rt; lost_by(alloc, &[7], 1)?.is_none());
+    assert!(rt; lost_by(alloc, &[9], 2)?.is_none());
+    assert!(rt; lost_by(alloc, &[9], 1)?.is_some_and(|lost| lost.0 == 0 && lost.1.is_empty()));
+    assert!(rt; lost_by(alloc, &[5], 2)?.is_some());
     Ok(())
 }

@@ -2,7 +2,6 @@
 use Rattle.std.proofs.Common.{◌≡◌, ℕ, zero, suc, ◌+◌, ◌-◌, ◌<◌, ◌≤◌, List, [], ◌∷◌, ◌++◌, length, take, refl, sym, ap}
 use Rattle.std.proofs.Common.{◌∙◌, subst, arith, true, false, Some, map, get_or}
 use Rattle.std.specs.Prelude.{if◌then◌else◌, flat_map, filter, slice_get, option_map, reverse, codes, decimal}
-use Rattle.std.specs.List.{AllByRecursion}
 use Rattle.std.proofs.lemmas.List.{length-map}
 use Rattle.std.proofs.lemmas.Option.{slice_get-get_or, slice_get-map}
 use Rattle.pip_io.specs.Taken.{Taken, Appends}
@@ -14,9 +13,8 @@ use Rattle.pip_search.specs.declared.visits.Visit.{Visit}
 use Rattle.pip_search.specs.declared.ways.Run.{Run}
 use Rattle.pip_search.proofs.Tracing.{way_trail}
 use Rattle.pip_ways.specs.Texts.{inner, spaced_run, witness_line}
-use Rattle.pip_ways.specs.Told.{AreWaysOf, runs_to}
+use Rattle.pip_ways.specs.Told.{runs_to}
 use Rattle.pip_ways.proofs.Pieces.{one_more}
-use Rattle.pip_ways.proofs.Runs.{each_run}
 
 -- what stands at a place of a list
 pub within : {A : Type 0} (xs : List A) (k : ℕ) → k < length xs → (x : A) × (slice_get xs k ≡ Some x)
@@ -51,28 +49,7 @@ module _ (vs : List Visit) where
       ap (λ q. q ++ rs ∷ []) before ∙ ap (λ r. runs_to vs (take k fs) ++ r ∷ []) (way f at)
       ∙ (sym (one_taken fs k f at) ∙ ap (λ j. runs_to vs (take j fs)) one)
 
--- ---- what AreTraced and AreWaysOf say of a label
-
-module _ (vs : List Visit) (v : Extent) where
-  -- one that was covered is among the witnesses
-  pub witnessed : (fs : List Found) (k : ℕ) (f : Found) → slice_get fs k ≡ Some f → is_covered v f.depth ≡ true
-      → (j : ℕ) × (slice_get (witnesses_of v vs fs) j ≡ Some (witness_of vs f))
-  witnessed [] k f at covered = cc
-  witnessed (e ∷ fs) zero f at covered =
-      let is : e ≡ f = cc in
-      let yes : is_covered v e.depth ≡ true = ap (λ f. is_covered v f.depth) is ∙ covered in (
-        0,
-        ap (λ b. slice_get (map (witness_of vs) (if b then e ∷ filter (λ f. is_covered v f.depth) fs
-            else filter (λ f. is_covered v f.depth) fs)) 0) yes ∙ ap (λ f. Some (witness_of vs f)) is,
-      )
-  witnessed (e ∷ fs) (suc k) f at covered =
-      let (j, there) = witnessed fs k f at covered in
-      elim (is_covered v e.depth) as (λ b. (j : ℕ) × (slice_get (map (witness_of vs) (if b
-      then e ∷ filter (λ f. is_covered v f.depth) fs else filter (λ f. is_covered v f.depth) fs)) j
-      ≡ Some (witness_of vs f))) [
-        | true ↦ (suc j, there)
-        | false ↦ (j, there)
-      ]
+-- ---- what AreTraced says of a label
 
 -- a label was found by as many choices as its way has
 pub way_long : (vs : List Visit) (fs : List Found) → AreTraced vs fs → (k : ℕ) (f : Found) → slice_get fs k ≡ Some f
@@ -137,7 +114,7 @@ module _ {W : Type 0} (items : W → List Run) (vs : List Visit) (fs : List Foun
   pub found_at : slice_get fs k ≡ Some f
   found_at = item_at fs k f less here
 
-  runs_here : items w ≡ reverse (runs_of (found_way vs f))
+  pub runs_here : items w ≡ reverse (runs_of (found_way vs f))
   runs_here =
       let count : length ws ≡ length fs = sym (length-map ws items) ∙ (ap (length {A = List Run}) same
       ∙ length-map fs (λ f. reverse (runs_of (found_way vs f)))) in
@@ -155,11 +132,6 @@ module _ {W : Type 0} (items : W → List Run) (vs : List Visit) (fs : List Foun
   some_here t = let e = way_long vs fs t k f found_at in omega (arith, e)
 
   module _ (v : Extent) (covered : true ≡ is_covered v f.depth) where
-    pub known_here : (n : ℕ) → AreWaysOf n (witnesses_of v vs fs) → AllByRecursion (λ r. r.choice < n) (items w)
-    known_here n known =
-        let (j, there) = witnessed vs v fs k f found_at (sym covered) in
-        subst (AllByRecursion (λ r. r.choice < n)) (sym runs_here) (each_run n (found_way vs f) (known.each j _ there))
-
     pub line_here : AreTraced vs fs → (cpus : ℕ) (lines label : List ℕ) (rs : List Run) → label ≡ f.label.items
         → rs ≡ items w
         → decimal (f.depth - 1) ++ inner label ++ codes ":" ++ flat_map (spaced_run cpus lines) rs ++ codes "\n"

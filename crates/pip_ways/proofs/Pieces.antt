@@ -23,7 +23,7 @@ part_longer a b t u (front, more, k, same, some) =
 
 module _ {A : Type 0} (f : A → List ℕ) where
   -- the pieces before one, the piece, and the others
-  flat_split : (xs : List A) (i : ℕ) (x : A) → slice_get xs i ≡ Some x
+  pub flat_split : (xs : List A) (i : ℕ) (x : A) → slice_get xs i ≡ Some x
       → (more : List ℕ) × (flat_map f xs ≡ flat_map f (take i xs) ++ (f x ++ more))
   flat_split [] i x at = cc
   flat_split (y ∷ xs) zero x at = (flat_map f xs, ap (λ k. f k ++ flat_map f xs) (let e : y ≡ x = cc in e))

@@ -1,5 +1,6 @@
 -- The text of what a search found, for this many processors and these lines of plans.
-use Rattle.std.specs.Prelude.{ℕ, ◌-◌, ◌==◌, nat_lt, if◌then◌else◌, List, [], ◌++◌, length, take, drop, flat_map}
+use Rattle.std.specs.Prelude.{ℕ, ◌+◌, ◌-◌, ◌/◌, ◌%◌, ◌==◌, nat_lt, if◌then◌else◌, List, [], ◌++◌, length, take, drop}
+use Rattle.std.specs.Prelude.{flat_map}
 use Rattle.std.specs.Prelude.{reverse, slice_index, codes, decimal}
 use Rattle.pip_search.specs.Summary.{Witness}
 use Rattle.pip_search.specs.Ways.{runs_of}
@@ -7,9 +8,16 @@ use Rattle.pip_search.specs.declared.searching.Extent.{Extent}
 use Rattle.pip_search.specs.declared.searching.Extent.TheVariants.{Closed, Stopped, Within}
 use Rattle.pip_search.specs.declared.ways.Run.{Run}
 
--- a choice: the processor whose turn it is, or the line that is raised
+-- a deed on a processor: those of a menu are numbered from 1, and each is on all processors before the next
+abbrev pub deed_text : ℕ → ℕ → List ℕ
+deed_text cpus k = decimal (k % cpus) ++ codes ":d" ++ decimal (k / cpus + 1)
+
+-- a choice: the processor whose turn it is, or the line that is raised, or after these a deed on a processor
 abbrev pub choice_text : ℕ → List ℕ → ℕ → List ℕ
-choice_text cpus lines k = if nat_lt k cpus then decimal k else codes "raise" ++ decimal (slice_index lines (k - cpus))
+choice_text cpus lines k =
+    if nat_lt k cpus then decimal k
+    else if nat_lt (k - cpus) (length lines) then codes "raise" ++ decimal (slice_index lines (k - cpus))
+    else deed_text cpus (k - cpus - length lines)
 
 -- how often, if more than once
 abbrev pub times_text : ℕ → List ℕ

@@ -1,10 +1,9 @@
 //! The lines of a search.
-ghost use Rattle.std.specs.Prelude.{◌≡◌, ◌+◌, ◌-◌, ◌<◌, ◌++◌, length, map, flat_map, codes, decimal};
-ghost use Rattle.std.specs.List.{AllByRecursion};
+ghost use Rattle.std.specs.Prelude.{◌≡◌, ◌-◌, ◌<◌, ◌≤◌, ◌++◌, length, map, flat_map, codes, decimal};
 ghost use Rattle.pip_io.specs.Writes.{Writes};
 ghost use Rattle.pip_search.specs.Ways.{AreTraced, witnesses_of};
 ghost use Rattle.pip_ways.specs.Texts.{inner, search_text, spaced_run, verdict_line, witness_line};
-ghost use Rattle.pip_ways.specs.Told.{AreWaysOf, runs_to};
+ghost use Rattle.pip_ways.specs.Told.{runs_to};
 
 use crate::words::write_way;
 use arrayvec::ArrayString;
@@ -15,8 +14,8 @@ use pip_script::push_decimal;
 use pip_search::{Extent, Run, Search};
 
 /// Writes a line for each label that was covered, in the order in which they were found, and the last line
-/// (docs/FORMATS.md, "every"). `ways` are those of `ways_of`. Choices below `cpus` are turns, the others raise these
-/// lines.
+/// (docs/FORMATS.md, "every"). `ways` are those of `ways_of`. Choices below `cpus` are turns, the next raise these
+/// lines, and those after them are deeds of a menu.
 pub fn write_search<K: Sink>(
     sink: &mut K,
     cpus: u32,
@@ -27,8 +26,7 @@ pub fn write_search<K: Sink>(
 ) -> Result<(), Failed>
     requires ways { map (λ way. way.items) ways.now ≡ runs_to search.now.visits.items search.now.found.items }
     requires traced { AreTraced search.now.visits.items search.now.found.items }
-    requires known { AreWaysOf (cpus + length lines.now)
-        (witnesses_of verdict search.now.visits.items search.now.found.items) }
+    requires some { 1 ≤ cpus }
     ensures { Writes K.written K.faults sink.old sink.new result
         (search_text cpus lines.now
         (witnesses_of verdict search.now.visits.items search.now.found.items) (length search.now.visits.items)
@@ -49,8 +47,7 @@ fn write_labels<K: Sink>(
 ) -> Result<(), Failed>
     requires ways { map (λ way. way.items) ways.now ≡ runs_to search.now.visits.items search.now.found.items }
     requires traced { AreTraced search.now.visits.items search.now.found.items }
-    requires known { AreWaysOf (cpus + length lines.now)
-        (witnesses_of verdict search.now.visits.items search.now.found.items) }
+    requires some { 1 ≤ cpus }
     ensures { Writes K.written K.faults sink.old sink.new result
         (flat_map (witness_line cpus lines.now) (witnesses_of verdict search.now.visits.items search.now.found.items)) }
 {
@@ -74,7 +71,7 @@ fn write_label<K: Sink>(
     way: &[Run],
 ) -> Result<(), Failed>
     requires some { 0 < depth }
-    requires known { AllByRecursion (λ r. r.choice < cpus + length lines.now) way.now }
+    requires cpus { 1 ≤ cpus }
     ensures { Writes K.written K.faults sink.old sink.new result
         (decimal (depth - 1) ++ inner label.now
         ++ codes ":" ++ flat_map (spaced_run cpus lines.now) way.now ++ codes "\n") }
@@ -84,8 +81,8 @@ fn write_label<K: Sink>(
     write_all(sink, b"\n")
 }
 
-// Writes what is shown at a step, and a colon.
-fn write_shown<K: Sink>(sink: &mut K, label: &[u8], step: u32) -> Result<(), Failed>
+/// Writes what a label shows, at a step, and a colon.
+pub fn write_shown<K: Sink>(sink: &mut K, label: &[u8], step: u32) -> Result<(), Failed>
     ensures { Writes K.written K.faults sink.old sink.new result (decimal step ++ inner label.now ++ codes ":") }
 {
     write_number(sink, step)?;
@@ -111,8 +108,8 @@ fn inner(label: &[u8]) -> &[u8]
     }
 }
 
-// Writes the last line.
-fn write_verdict<K: Sink>(sink: &mut K, count: u64, verdict: Extent) -> Result<(), Failed>
+/// Writes the last line: how many states there are, and how the search ended.
+pub fn write_verdict<K: Sink>(sink: &mut K, count: u64, verdict: Extent) -> Result<(), Failed>
     ensures { Writes K.written K.faults sink.old sink.new result (verdict_line count verdict) }
 {
     let mut buffer = Buffer::new();

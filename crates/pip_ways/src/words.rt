@@ -1,9 +1,8 @@
 //! The words of a way.
-ghost use Rattle.std.specs.Prelude.{◌≡◌, ◌+◌, ◌<◌, ◌≤◌, ◌++◌, length, flat_map};
-ghost use Rattle.std.specs.List.{AllByRecursion};
+ghost use Rattle.std.specs.Prelude.{◌≡◌, ◌+◌, ◌-◌, ◌<◌, ◌≤◌, ◌^◌, ◌++◌, flat_map};
 ghost use Rattle.arrayvec.specs.ArrayString.{array_string_len};
 ghost use Rattle.pip_io.specs.Writes.{Writes};
-ghost use Rattle.pip_ways.specs.Texts.{choice_text, spaced_run, times_text};
+ghost use Rattle.pip_ways.specs.Texts.{choice_text, deed_text, spaced_run, times_text};
 
 use arrayvec::ArrayString;
 use pip_cpu::write_line;
@@ -11,17 +10,18 @@ use pip_io::{Failed, Sink};
 use pip_script::push_decimal;
 use pip_search::Run;
 
-// Room for a run: the longest has 27 bytes.
-const RUN_ROOM: usize = 32;
+// Room for a run: the longest has 34 bytes.
+const RUN_ROOM: usize = 40;
 
-/// Writes the runs of a way, each after a space. Choices below `cpus` are turns, the others raise these lines.
+/// Writes the runs of a way, each after a space. Choices below `cpus` are turns, the next raise these lines, and those
+/// after them are deeds.
 pub(crate) fn write_way<K: Sink>(
     sink: &mut K,
     cpus: u32,
     lines: &[u32],
     way: &[Run],
 ) -> Result<(), Failed>
-    requires { AllByRecursion (λ r. r.choice < cpus + length lines.now) way.now }
+    requires { 1 ≤ cpus }
     ensures { Writes K.written K.faults sink.old sink.new result (flat_map (spaced_run cpus lines.now) way.now) }
 {
     for k in 0..way.len() {
@@ -32,7 +32,7 @@ pub(crate) fn write_way<K: Sink>(
 
 // Writes a run after a space.
 fn write_run<K: Sink>(sink: &mut K, cpus: u32, lines: &[u32], run: Run) -> Result<(), Failed>
-    requires { run.choice < cpus + length lines.now }
+    requires { 1 ≤ cpus }
     ensures { Writes K.written K.faults sink.old sink.new result (spaced_run cpus lines.now run) }
 {
     let mut word: ArrayString<RUN_ROOM> = ArrayString::new();
@@ -43,17 +43,35 @@ fn write_run<K: Sink>(sink: &mut K, cpus: u32, lines: &[u32], run: Run) -> Resul
 }
 
 fn push_choice(word: &mut ArrayString<RUN_ROOM>, cpus: u32, lines: &[u32], choice: u32)
-    requires room { array_string_len word.old + 15 ≤ RUN_ROOM }
-    requires known { choice < cpus + length lines.now }
+    requires room { array_string_len word.old + 22 ≤ RUN_ROOM }
+    requires some { 1 ≤ cpus }
     ensures bytes { word.new.bytes ≡ word.old.bytes ++ choice_text cpus lines.now choice }
-    ensures short { array_string_len word.new ≤ array_string_len word.old + 15 }
+    ensures short { array_string_len word.new ≤ array_string_len word.old + 22 }
 {
     if choice < cpus {
         push_decimal(word, choice);
-    } else {
-        word.push_str("raise");
-        push_decimal(word, lines[(choice - cpus) as usize]);
+        return;
     }
+    let after = choice - cpus;
+    if (after as usize) < lines.len() {
+        word.push_str("raise");
+        push_decimal(word, lines[after as usize]);
+    } else {
+        push_deed(word, cpus, after - lines.len() as u32);
+    }
+}
+
+// The processor of a deed, and the number of its line in the menu.
+fn push_deed(word: &mut ArrayString<RUN_ROOM>, cpus: u32, deed: u32)
+    requires room { array_string_len word.old + 22 ≤ RUN_ROOM }
+    requires some { 1 ≤ cpus }
+    requires most { deed < 2 ^ 32 - 1 }
+    ensures bytes { word.new.bytes ≡ word.old.bytes ++ deed_text cpus deed }
+    ensures short { array_string_len word.new ≤ array_string_len word.old + 22 }
+{
+    push_decimal(word, deed % cpus);
+    word.push_str(":d");
+    push_decimal(word, deed / cpus + 1);
 }
 
 fn push_times(word: &mut ArrayString<RUN_ROOM>, count: u32)
@@ -65,4 +83,13 @@ fn push_times(word: &mut ArrayString<RUN_ROOM>, count: u32)
         word.push_str("x");
         push_decimal(word, count);
     }
+}
+
+/// Writes how often a choice is made, if more than once.
+pub fn write_times<K: Sink>(sink: &mut K, count: u32) -> Result<(), Failed>
+    ensures { Writes K.written K.faults sink.old sink.new result (times_text count) }
+{
+    let mut word: ArrayString<RUN_ROOM> = ArrayString::new();
+    push_times(&mut word, count);
+    write_line(sink, &word)
 }

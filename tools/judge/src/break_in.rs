@@ -8,6 +8,7 @@ use crate::world::{Act, Call, Event, Id, Moved, PAGE, ROOT};
 use alloc::format;
 use alloc::string::{String, ToString};
 use alloc::vec::Vec;
+use core::ops::Range;
 use pip_base::{Outcome, Status};
 use pip_script::outcome_text;
 
@@ -20,6 +21,8 @@ const WORD_AT: u32 = 0x20;
 /// The root's pages are below this, but for its last.
 const MOST_ROOT: u32 = 0x48_0000;
 const LEAST_ATTEMPTS: usize = 12;
+/// The vectors of the interrupt lines.
+const LINES: Range<u32> = 32..48;
 const MAY: [&str; 9] = ["ld", "lb", "st", "sb", "fetch", "trap", "call", "pc", "reg"];
 
 fn made(first: u32, page: u32) -> String {
@@ -47,7 +50,7 @@ fn setup(v: &Values, secret: u32) -> String {
         made(sibling, page),
         kept + WORD_AT
     );
-    for vector in [14, 17, 64] {
+    for vector in [0, 6, 14, 17, 64].into_iter().chain(LINES) {
         text += &format!("st 0 {:#x} 0xfffff400\n", LAST_PAGE + 4 * vector);
     }
     text + &format!("st 0 0xfffff400 0x400100\ncall 0 8 {CHILD:#x} 64 256\n")
@@ -199,7 +202,7 @@ fn meaning(v: &Values, event: &Event) -> Option<(Deed, Aim, u32)> {
 fn forges(vector: u32) -> u32 {
     match vector {
         0 | 6 | 14 | 17 => 1,
-        32..48 => 2,
+        _ if LINES.contains(&vector) => 2,
         _ => 0,
     }
 }

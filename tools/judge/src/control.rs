@@ -4,7 +4,7 @@ use crate::memory::{after, child_at, has_handlers};
 use crate::script::Script;
 use crate::values::Values;
 use crate::verdict::Verdict;
-use crate::world::{Act, At, Call, Event, Id, Moved, ROOT, SAVED, Why, World};
+use crate::world::{Act, At, Call, Event, HANDLERS, Id, Moved, NOBODY, ROOT, SAVED, Why, World};
 use pip_base::{Outcome, Size, Status};
 
 fn moved(event: &Event) -> Option<&Moved> {
@@ -66,10 +66,17 @@ pub fn call_home(v: &Values, script: &Script, verdict: &mut Verdict) {
         }
         let is_at = moved.entered.pc == pc && pc_of(world, event) == Some(pc) && runs_since(world, k);
         let had = event.before.is_some_and(|ctx| ctx.regs[5] == word);
-        let is_saved =
-            matches!(event.call(), Some(Call::Yield { save: SAVED, .. })) && world.is_kept(k) && is_there(world, moved);
+        let is_saved = was_entry(world, k, moved) && world.is_kept(k) && is_there(world, moved);
         verdict.story(&[true, is_at, had, had && is_saved]);
     }
+}
+
+// Whether a partition that yields was saved in its block for 63: by that number, or by another whose block it is, too,
+// and was then.
+fn was_entry(world: &World, number: usize, moved: &Moved) -> bool {
+    let is_older = |at: At| world.writers(at).iter().all(|writer| *writer == NOBODY || (*writer as usize) < number);
+    matches!(world.events[number].call(), Some(Call::Yield { save: SAVED, .. }))
+        || moved.from.and_then(|id| world.at(id, HANDLERS + 4 * SAVED)).is_some_and(is_older)
 }
 
 // Whether the partition that was left still has its block for 63 where it was saved.

@@ -33,7 +33,7 @@ pub fn store(v: &Values, script: &Script, verdict: &mut Verdict) {
     let size = script.boot.0 == 64;
     verdict.story(&[size, false, false, false, false]);
     let (_, row) = world.leaf(ROOT, at);
-    let stays = world.finds(ROOT, at, word, by_root);
+    let is_there = world.finds(ROOT, at, word, by_root);
     for (number, event) in world.events.iter().enumerate().filter(|(_, event)| by_root(event)) {
         let Act::Store { at: place, now, writers, .. } = event.act else { continue };
         if place.is_none() || place != world.at(ROOT, at) || now != word || !world.stored_by(now, &writers, by_root) {
@@ -50,10 +50,12 @@ pub fn store(v: &Values, script: &Script, verdict: &mut Verdict) {
             Act::Peek { at, word: Some(found), writers } => Some(at) == due && (!is_word || by_store(found, &writers)),
             _ => false,
         };
+        // What else changes a word, as configuration or by a saved context, is seen where it is stored again.
+        let changes = |event: &Event| matches!(event.act, Act::Store { at, was, now, .. } if at == place && was != now);
         let any = |test: &dyn Fn(&Event) -> bool| after(world, number).any(|(_, event)| test(event));
         verdict.story(&[
             size,
-            stays,
+            is_there && !any(&changes),
             any(&is_loaded),
             any(&|event| is_shown(event, row, false)),
             any(&|event| is_shown(event, place, true)),

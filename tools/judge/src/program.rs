@@ -193,6 +193,11 @@ pub fn has_parked(world: &World) -> bool {
     world.events.iter().any(|event| matches!(event.outcome, Outcome::Parked { .. }))
 }
 
+/// Whether a processor parked, and none runs anything at the end.
+pub fn is_parked(world: &World) -> bool {
+    has_parked(world) && (0..world.cpus()).all(|cpu| world.runs(cpu).is_none())
+}
+
 pub fn has_refused(world: &World) -> bool {
     world.events.iter().any(|event| event.status().is_some_and(|status| status.number() != 0))
 }

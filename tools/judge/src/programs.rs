@@ -1,7 +1,7 @@
 //! The exercises that are answered by a program.
 
 use crate::memory::has_handlers;
-use crate::program::{Course, Image, Timer, has_parked, has_refused, li, lih, outs, restless, trouble};
+use crate::program::{Course, Image, Timer, has_parked, has_refused, is_parked, li, lih, outs, restless, trouble};
 use crate::random::Random;
 use crate::script::Refused;
 use crate::values::Values;
@@ -17,13 +17,19 @@ use pip_isa::{Instr, Register};
 /// Steps in which a timer has to give each child its turn, and each child has to show or to ask something.
 const LONGEST_SILENCE: u32 = 2000;
 const TIMERS: usize = 24;
+/// The number of the run that is longer than the others, and how many times as long it is.
+const LONG_RUN: usize = TIMERS / 4;
+const TIMES_AS_LONG: u32 = 6;
 
 // sum
 
+/// All numbers up to this one are tried, and some larger ones that are drawn.
 const MOST: u32 = 300;
+const LARGEST: u32 = 5000;
+const LARGER: usize = 8;
 const STEPS_OF_SUM: u32 = 100_000;
 
-pub fn sum(v: &Values, image: &Image, _: u64, verdict: &mut Verdict) -> Result<(), Refused> {
+pub fn sum(v: &Values, image: &Image, secret: u64, verdict: &mut Verdict) -> Result<(), Refused> {
     let (first, place) = (v.get("first"), v.get("place"));
     let due = |last: u32| (first..=last).sum::<u32>();
     let size = image.frames() == 16;
@@ -32,13 +38,14 @@ pub fn sum(v: &Values, image: &Image, _: u64, verdict: &mut Verdict) -> Result<(
         return Ok(());
     }
     let mut holds = [size, true, true, true, true, true];
-    let usual = [100, 0, MOST].into_iter().chain(1..MOST);
-    for last in usual {
+    let mut random = Random::new(secret);
+    let larger: Vec<u32> = (0..LARGER).map(|_| random.within(MOST + 1, LARGEST)).collect();
+    for last in [100, 0, MOST].into_iter().chain(1..MOST).chain(larger) {
         let mut changed = image.clone();
         changed.put(place, last);
         let world = changed.run(Course::plain(STEPS_OF_SUM))?;
         let shown: Vec<u32> = outs(&world).iter().map(|(_, _, word)| *word).collect();
-        let good = [shown.contains(&due(last)), shown.len() == 1, has_parked(&world)];
+        let good = [shown.contains(&due(last)), shown.len() == 1, is_parked(&world)];
         if good != [true; 3] {
             holds[2] &= last != 100 || good[0];
             (holds[3], holds[4], holds[5]) = (holds[3] && good[0], holds[4] && good[1], holds[5] && good[2]);
@@ -206,7 +213,8 @@ fn with_timers(
     let mut holds: Vec<bool> = Vec::new();
     for number in 0..=TIMERS {
         let timer = if number == 0 { Timer::Own } else { drawn(line, number % 2 == 0, &mut random) };
-        let count = if number == 0 { steps.0 } else { random.within(steps.0, steps.1) };
+        let times = if number == LONG_RUN { TIMES_AS_LONG } else { 1 };
+        let count = times * if number == 0 { steps.0 } else { random.within(steps.0, steps.1) };
         let other = if number > TIMERS / 2 { hostile(&mut random) } else { None };
         let stalls = (number > TIMERS / 4).then(|| random.next());
         let is_hostile = other.is_some();

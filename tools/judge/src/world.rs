@@ -23,7 +23,7 @@ pub const HANDLERS: u32 = 0xffff_f000;
 pub const SAVED: u32 = 63;
 
 /// The writer of a byte that no event wrote.
-const NOBODY: u32 = u32::MAX;
+pub const NOBODY: u32 = u32::MAX;
 /// The writer of a byte that an instruction of a program stored.
 const PROGRAM: u32 = u32::MAX - 1;
 
@@ -56,7 +56,7 @@ pub struct Part {
 #[derive(Clone, Copy, PartialEq, Eq)]
 pub enum Act {
     Load { va: u32, size: Size, at: Option<At>, writers: Writers },
-    Store { va: u32, at: Option<At>, now: u32, writers: Writers },
+    Store { va: u32, at: Option<At>, was: u32, now: u32, writers: Writers },
     Fetch,
     Trap { vector: u32 },
     Call { no: u32, args: [u32; 5] },
@@ -533,6 +533,7 @@ impl Port for World {
     fn store<L: Ledger>(&mut self, cpu: u32, va: u32, size: Size, word: u32, steps: &mut Steps<L>) -> Outcome {
         let before = self.before(cpu, SAVED);
         let place = before.who.and_then(|id| self.at(id, va));
+        let was = place.map_or(0, |at| self.word_at(at));
         let outcome = self.machine.store(cpu, va, size, word, steps);
         let at = place.filter(|_| outcome == Outcome::Done);
         let bytes = if size == Size::Word {
@@ -546,7 +547,7 @@ impl Port for World {
         }
         if !self.is_program || outcome != Outcome::Done {
             let (now, writers) = at.map_or((0, [NOBODY; 4]), |at| (self.word_at(at), self.writers(at)));
-            self.log(Some(cpu), before, Act::Store { va, at, now, writers }, outcome);
+            self.log(Some(cpu), before, Act::Store { va, at, was, now, writers }, outcome);
         }
         outcome
     }

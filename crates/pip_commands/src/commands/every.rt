@@ -6,8 +6,8 @@ ghost use Rattle.pip_commands.specs.Dues.{every_due};
 ghost use Rattle.pip_commands.specs.Pacing.{IsPaced};
 ghost use Rattle.pip_commands.specs.Streams.{streams};
 
-mod loading;
-mod searching;
+pub(crate) mod loading;
+pub(crate) mod searching;
 
 use crate::commands::run::loading::LoadError;
 use crate::ended::{Ended, end_at_image};
@@ -67,7 +67,7 @@ fn every_counted<S: Source, K: Sink, L: Ledger>(
     every_joined(alloc, states, from, depth, &mut joint, &mut steps)
 }
 
-// Reads the image, searches, and writes what was found.
+// Reads the image, searches with an empty menu, and writes what was found.
 fn every_joined<S: Source, K: Sink, L: Ledger>(
     alloc: Global,
     states: u32,
@@ -88,7 +88,7 @@ fn every_joined<S: Source, K: Sink, L: Ledger>(
     ensures none { result.status ≢ 4 → (K.written joint.new.sink.now).held ≡ [] }
 {
     match load(alloc, joint, steps) {
-        Ok(begun) => end_search(alloc, begun, states, from, depth, &mut *joint.sink),
+        Ok(begun) => end_search(alloc, begun, &[], states, from, depth, &mut *joint.sink),
         Err(LoadError::Image(fault)) => end_at_image(&mut *joint.sink, fault),
         Err(LoadError::Memory) => Ended::with_status(5),
     }

@@ -10,7 +10,7 @@ ghost use Rattle.pip_commands.specs.Streams.{streams};
 ghost use Rattle.pip_commands.specs.declared.commands.run.report.Report.TheVariants as R;
 
 pub(super) mod loading;
-mod report;
+pub(super) mod report;
 
 use crate::ended::{Ended, end_at_image};
 use loading::{LoadError, load};

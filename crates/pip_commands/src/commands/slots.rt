@@ -1,9 +1,9 @@
 //! The command `slots`: children of the root of an image, each of which has time slots.
 ghost use Rattle.std.specs.Prelude.{◌≡◌, ◌≢◌, ◌≤◌, ◌<◌, ◌*◌, ◌^◌, []};
 ghost use Rattle.std.specs.List.{AllByRecursion};
-ghost use Rattle.pip_slots.specs.Images.{round_steps, steps_in_turn};
+ghost use Rattle.pip_slots.specs.Images.{round_steps};
 ghost use Rattle.pip_commands.specs.EndsBy.{EndsBy};
-ghost use Rattle.pip_commands.specs.Dues.{given_slots_due, slots_due};
+ghost use Rattle.pip_commands.specs.Dues.{slots_due};
 ghost use Rattle.pip_commands.specs.Pacing.{IsPaced};
 ghost use Rattle.pip_commands.specs.Streams.{streams};
 
@@ -17,34 +17,9 @@ use std::alloc::Global;
 use std::marker::Brand;
 use std::sync::ledger::Blank;
 
-/// Builds `n` children of the root of an image, 1 to 8, and writes the trace of `rounds` rounds in which each has a
-/// slot of `turns` turns in turn (docs/FORMATS.md, "slots"). At status 0 the machine is handed back.
-pub fn slots<S: Source, K: Sink>(
-    alloc: Global,
-    n: u32,
-    turns: u32,
-    rounds: u32,
-    source: &mut S,
-    sink: &mut K,
-) -> Ended
-    requires none { (K.written sink.old).held ≡ [] }
-    requires least { 1 ≤ n }
-    requires most { n ≤ 8 }
-    requires steps { steps_in_turn n turns rounds < 2 ^ 32 }
-    requires paced { IsPaced (slots_due n turns rounds) (S.is_open source.old) S.allows
-        (streams S.left S.faults K.written K.faults source.old sink.old) }
-    ensures ends { EndsBy (slots_due n turns rounds) result.status result.machine
-        (streams S.left S.faults K.written K.faults source.old sink.old)
-        (streams S.left S.faults K.written K.faults source.new sink.new) }
-    ensures none { result.status ≢ 4 → (K.written sink.new).held ≡ [] }
-{
-    let scheduling = Scheduling::Slots { turns, rounds };
-    children::<S, K, Brand>(alloc, n, scheduling, source, sink, Blank::new(1))
-}
-
 /// Builds `n` children of the root of an image, 1 to 8, and writes the trace of `rounds` rounds of these slots
 /// (docs/FORMATS.md, "slots"). At status 0 the machine is handed back.
-pub fn given_slots<S: Source, K: Sink>(
+pub fn slots<S: Source, K: Sink>(
     alloc: Global,
     n: u32,
     rounds: u32,
@@ -57,13 +32,13 @@ pub fn given_slots<S: Source, K: Sink>(
     requires most { n ≤ 8 }
     requires steps { rounds * round_steps round.items < 2 ^ 32 }
     requires children { AllByRecursion (λ x. x.child < n) round.items }
-    requires paced { IsPaced (given_slots_due n rounds round) (S.is_open source.old) S.allows
+    requires paced { IsPaced (slots_due n rounds round) (S.is_open source.old) S.allows
         (streams S.left S.faults K.written K.faults source.old sink.old) }
-    ensures ends { EndsBy (given_slots_due n rounds round) result.status result.machine
+    ensures ends { EndsBy (slots_due n rounds round) result.status result.machine
         (streams S.left S.faults K.written K.faults source.old sink.old)
         (streams S.left S.faults K.written K.faults source.new sink.new) }
     ensures none { result.status ≢ 4 → (K.written sink.new).held ≡ [] }
 {
-    let scheduling = Scheduling::Given { round, rounds };
+    let scheduling = Scheduling::Slots { round, rounds };
     children::<S, K, Brand>(alloc, n, scheduling, source, sink, Blank::new(1))
 }

@@ -1,6 +1,6 @@
 # misses: the text has a page with the word at 0x401000
 # misses: with 100 there the program shows their sum
-# misses: with each number from 0 to 300 that the checker puts there, its sum
+# misses: with each number that the checker puts there, its sum
 # misses: once, and nothing else
 # misses: then the processor parks, within 100000 steps
 # The sum is written into the program, which has no number.

@@ -1,4 +1,4 @@
-# misses: with each number from 0 to 300 that the checker puts there, its sum
+# misses: with each number that the checker puts there, its sum
 # The sum is written into the program, and the number is never loaded.
 .frames 16
 .cpus 1

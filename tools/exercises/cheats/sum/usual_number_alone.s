@@ -1,4 +1,4 @@
-# misses: with each number from 0 to 300 that the checker puts there, its sum
+# misses: with each number that the checker puts there, its sum
 # misses: once, and nothing else
 # says: it shows []
 # The program knows the sum for 100, and shows nothing for another number.

@@ -19,6 +19,7 @@ returns-clause-found g c =
     if_both c.search_tops.result _ _ _ c.search_tops.ensures.tops c.search_tops.ensures.each (λ r tops each w s.
     record {
       first = first;
+      shape = c.requires.shape;
       tops_are = tops_found r.items ∙ tops ∙ c.as_slice-tops.ensures.value ∙ c.tops-tops.ensures w s;
       each = each w (begins first n p w c.as_slice-start.result.now s frames count start);
     })

@@ -52,25 +52,10 @@ slots-requires-clause-steps g c =
     (within_as_asked (map string_bytes c.args.words.now) _ _ _ c.read_words.ensures
     c.in-Some-Slots.is c.in-Some-Slots.field-0-is).2
 
-pub given_slots-requires-clause-least : goal.given_slots-requires-clause-least
-given_slots-requires-clause-least g c =
+pub slots-requires-clause-children : goal.slots-requires-clause-children
+slots-requires-clause-children g c =
     (within_as_asked (map string_bytes c.args.words.now) _ _ _ c.read_words.ensures
-    c.in-Some-GivenSlots.is c.in-Some-GivenSlots.field-0-is).0
-
-pub given_slots-requires-clause-most : goal.given_slots-requires-clause-most
-given_slots-requires-clause-most g c =
-    (within_as_asked (map string_bytes c.args.words.now) _ _ _ c.read_words.ensures
-    c.in-Some-GivenSlots.is c.in-Some-GivenSlots.field-0-is).1
-
-pub given_slots-requires-clause-steps : goal.given_slots-requires-clause-steps
-given_slots-requires-clause-steps g c =
-    (within_as_asked (map string_bytes c.args.words.now) _ _ _ c.read_words.ensures
-    c.in-Some-GivenSlots.is c.in-Some-GivenSlots.field-0-is).2
-
-pub given_slots-requires-clause-children : goal.given_slots-requires-clause-children
-given_slots-requires-clause-children g c =
-    (within_as_asked (map string_bytes c.args.words.now) _ _ _ c.read_words.ensures
-    c.in-Some-GivenSlots.is c.in-Some-GivenSlots.field-0-is).3
+    c.in-Some-Slots.is c.in-Some-Slots.field-0-is).3
 
 pub audit-requires-clause-least : goal.audit-requires-clause-least
 audit-requires-clause-least g c =
@@ -122,11 +107,6 @@ slots-requires-clause-paced g c =
     paced_as_asked (map string_bytes c.args.words.now) _ _ _ c.read_words.ensures
     c.in-Some-Slots.is c.in-Some-Slots.field-0-is _ _ _ c.requires.paced
 
-pub given_slots-requires-clause-paced : goal.given_slots-requires-clause-paced
-given_slots-requires-clause-paced g c =
-    paced_as_asked (map string_bytes c.args.words.now) _ _ _ c.read_words.ensures
-    c.in-Some-GivenSlots.is c.in-Some-GivenSlots.field-0-is _ _ _ c.requires.paced
-
 pub audit-requires-clause-paced : goal.audit-requires-clause-paced
 audit-requires-clause-paced g c =
     paced_as_asked (map string_bytes c.args.words.now) _ _ _ c.read_words.ensures
@@ -141,3 +121,28 @@ pub every-requires-clause-paced : goal.every-requires-clause-paced
 every-requires-clause-paced g c =
     paced_as_asked (map string_bytes c.args.words.now) _ _ _ c.read_words.ensures
     c.in-Some-Every.is c.in-Some-Every.field-0-is _ _ _ c.requires.paced
+
+pub against-requires-clause-some : goal.against-requires-clause-some
+against-requires-clause-some g c =
+    within_as_asked (map string_bytes c.args.words.now) _ _ _ c.read_words.ensures
+    c.in-Some-Against.is c.in-Some-Against.field-0-is
+
+pub against-requires-clause-paced : goal.against-requires-clause-paced
+against-requires-clause-paced g c =
+    paced_as_asked (map string_bytes c.args.words.now) _ _ _ c.read_words.ensures
+    c.in-Some-Against.is c.in-Some-Against.field-0-is _ _ _ c.requires.paced
+
+pub apart-requires-clause-some : goal.apart-requires-clause-some
+apart-requires-clause-some g c =
+    (within_as_asked (map string_bytes c.args.words.now) _ _ _ c.read_words.ensures
+    c.in-Some-Apart.is c.in-Some-Apart.field-0-is).0
+
+pub apart-requires-clause-seed : goal.apart-requires-clause-seed
+apart-requires-clause-seed g c =
+    (within_as_asked (map string_bytes c.args.words.now) _ _ _ c.read_words.ensures
+    c.in-Some-Apart.is c.in-Some-Apart.field-0-is).1
+
+pub apart-requires-clause-paced : goal.apart-requires-clause-paced
+apart-requires-clause-paced g c =
+    paced_as_asked (map string_bytes c.args.words.now) _ _ _ c.read_words.ensures
+    c.in-Some-Apart.is c.in-Some-Apart.field-0-is _ _ _ c.requires.paced

@@ -5,9 +5,9 @@ use Rattle.pip_commands.proofs.RoundWords.{onto}
 use Rattle.pip_commands.proofs.words.read_slots_of.Given as goal
 
 -- with the slots of the words that are left they are all
-abbrev pub invariant-loop-i : goal.invariant-loop-i
-invariant-loop-i l = record {
-  len : length l.round.items ≡ l.i;
-  read : onto l.round.items (slots_in l.children (map string_bytes (drop l.i l.words)))
+abbrev pub invariant-loop-word : goal.invariant-loop-word
+invariant-loop-word l = record {
+  len : length l.round.items ≡ l.word-index;
+  read : onto l.round.items (slots_in l.children (map string_bytes (drop l.word-index l.words)))
       ≡ slots_in l.children (map string_bytes l.words);
 }

@@ -3,8 +3,8 @@ use Rattle.pip_slots.specs.Images.{round_steps}
 use Rattle.pip_commands.proofs.words.steps_of.Given as goal
 
 -- with the steps of the slots that are left they are all, and each slot adds few
-abbrev pub invariant-loop-i : goal.invariant-loop-i
-invariant-loop-i l = record {
-  steps : l.steps + round_steps (drop l.i l.round) ≡ round_steps l.round;
-  few : l.steps ≤ l.i * (2 ^ 32 + 1);
+abbrev pub invariant-loop-slot : goal.invariant-loop-slot
+invariant-loop-slot l = record {
+  steps : l.steps + round_steps (drop l.slot-index l.round) ≡ round_steps l.round;
+  few : l.steps ≤ l.slot-index * (2 ^ 32 + 1);
 }

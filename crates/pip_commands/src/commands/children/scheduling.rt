@@ -4,7 +4,7 @@ ghost use Rattle.std.specs.List.{AllByRecursion};
 ghost use Rattle.pip_cpu.specs.Made.{Acts};
 ghost use Rattle.pip_io.specs.Causes.{HasCause};
 ghost use Rattle.pip_native.specs.Choice.{AnswersNext};
-ghost use Rattle.pip_slots.specs.Images.{placed, round};
+ghost use Rattle.pip_slots.specs.Images.{placed};
 ghost use Rattle.pip_switch.specs.Standing.{StandsAs};
 ghost use Rattle.pip_commands.specs.Children.{IsBounded, children_acts, children_steps};
 
@@ -27,13 +27,8 @@ pub enum Scheduling {
     Monitor {
         count: u32,
     },
-    /// Each has a slot of that many turns in turn, for that many rounds.
-    Slots {
-        turns: u32,
-        rounds: u32,
-    },
     /// They have the slots of a round, for that many rounds.
-    Given {
+    Slots {
         round: ArrayVec<RoundSlot, 64>,
         rounds: u32,
     },
@@ -48,10 +43,7 @@ impl Scheduling {
     {
         match self {
             Scheduling::Monitor { count } => *count,
-            Scheduling::Slots { turns, rounds } => {
-                (*rounds as u64 * (n as u64 * (*turns as u64 + 2))) as u32
-            }
-            Scheduling::Given { round, rounds } => {
+            Scheduling::Slots { round, rounds } => {
                 (*rounds as u64 * steps_of(round.as_slice())) as u32
             }
         }
@@ -82,31 +74,12 @@ impl Scheduling {
                 let mut monitor = Monitor::new(children, choose);
                 watch(machine, lines, &mut monitor, *count, sink, steps)
             }
-            Scheduling::Slots { turns, rounds } => {
-                let round = round_of(children.as_slice(), *turns);
-                run_rounds(machine, round.as_slice(), *rounds, sink, steps)
-            }
-            Scheduling::Given { round, rounds } => {
+            Scheduling::Slots { round, rounds } => {
                 let placed = placed_in(round.as_slice(), children.as_slice());
                 run_rounds(machine, placed.as_slice(), *rounds, sink, steps)
             }
         }
     }
-}
-
-// A slot of that many turns for each child, at most 8.
-fn round_of(children: &[u32], turns: u32) -> ArrayVec<TimeSlot, 8>
-    requires { length children.now ≤ 8 }
-    ensures { result.items ≡ round turns children.now }
-{
-    let mut round = ArrayVec::new();
-    for child in children {
-        round.push(TimeSlot {
-            child: *child,
-            turns,
-        });
-    }
-    round
 }
 
 // The slots of a round, at most 64, of the children at these addresses.

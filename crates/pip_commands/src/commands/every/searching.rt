@@ -1,5 +1,5 @@
 //! The search of an image, and its text.
-ghost use Rattle.std.specs.Prelude.{◌≡◌, ◌≢◌, ◌≤◌, ◌+◌, [], length, IfOk, MatchResult, OnOk};
+ghost use Rattle.std.specs.Prelude.{◌≡◌, ◌≢◌, ◌≤◌, [], length, IfOk, MatchResult, OnOk};
 ghost use Rattle.pip_image.specs.Coming.{IsHeader};
 ghost use Rattle.pip_io.specs.Causes.{HasCause};
 ghost use Rattle.pip_io.specs.Taken.{Appends, SendsPart, Wrote};
@@ -13,7 +13,7 @@ use super::loading::Begun;
 use crate::ended::Ended;
 use arrayvec::ArrayVec;
 use pip_base::Plan;
-use pip_every::search;
+use pip_every::{May, search_against};
 use pip_frames::{Frames, RawFrames};
 use pip_image::Header;
 use pip_io::{Failed, Sink};
@@ -30,10 +30,11 @@ pub struct Told {
     pub ways: Vec<Vec<Run>>,
 }
 
-/// Searches, and writes what was found.
+/// Searches with a menu of 1024 deeds at most, and writes what was found.
 pub fn end_search<K: Sink>(
     alloc: Global,
     begun: Begun,
+    may: &[May],
     states: u32,
     from: u32,
     depth: Option<u32>,
@@ -41,17 +42,18 @@ pub fn end_search<K: Sink>(
 ) -> Ended
     requires booted { HasBooted (⟦<RawFrames as Frames>⟧.memory begun.mem) }
     requires limits { IsHeader begun.head }
+    requires short { length may.now ≤ 1024 }
     requires some { 1 ≤ states }
     requires none { (K.written sink.old).held ≡ [] }
     ensures ends { (i : Image) → BeginsFrames i begun.head (⟦<RawFrames as Frames>⟧.memory begun.mem)
-        → EndsSearch states from depth i result.status (K.written sink.old) (K.written sink.new) (K.faults sink.old)
-        (K.faults sink.new) }
+        → EndsSearch may.now states from depth i result.status (K.written sink.old) (K.written sink.new)
+        (K.faults sink.old) (K.faults sink.new) }
     ensures calm { result.status ≢ 4 → K.faults sink.new ≡ K.faults sink.old }
     ensures none { result.machine ≡ None }
     ensures settled { result.status ≢ 4 → (K.written sink.new).held ≡ [] }
 {
     let Begun { head, mem } = begun;
-    match find(alloc, &head, mem, states, from, depth) {
+    match find(alloc, &head, mem, may, states, from, depth) {
         Ok(told) => match show(&head, &told, sink) {
             Ok(()) => Ended::with_status(0),
             Err(_) => Ended::with_status(4),
@@ -65,19 +67,33 @@ fn find(
     alloc: Global,
     head: &Header,
     mem: RawFrames,
+    may: &[May],
     states: u32,
     from: u32,
     depth: Option<u32>,
 ) -> Result<Told, AllocError>
     requires booted { HasBooted (⟦<RawFrames as Frames>⟧.memory mem) }
     requires limits { IsHeader head.now }
+    requires short { length may.now ≤ 1024 }
     requires some { 1 ≤ states }
-    ensures ways { IfOk result (HasWays (head.now.cpus + length head.now.plans.items)) }
-    ensures found { IfOk result (IsToldFrom states from depth head.now (⟦<RawFrames as Frames>⟧.memory mem)) }
+    ensures ways { IfOk result HasWays }
+    ensures found { IfOk result
+        (IsToldFrom may.now states from depth head.now (⟦<RawFrames as Frames>⟧.memory mem)) }
 {
     let lines = planned_lines(head.plans.as_slice());
     let most = depth.unwrap_or(u32::MAX);
-    let (search, verdict) = search(alloc, mem, head.cpus, lines.as_slice(), from, most, states)?;
+    let mut menu = Vec::new(alloc);
+    menu.extend_from_slice(may)?;
+    let (search, verdict) = search_against(
+        alloc,
+        mem,
+        head.cpus,
+        lines.as_slice(),
+        from,
+        menu,
+        most,
+        states,
+    )?;
     let ways = ways_of(alloc, &search)?;
     Ok(Told {
         search,
@@ -100,7 +116,8 @@ fn planned_lines(plans: &[Plan]) -> ArrayVec<u32, 16>
 
 // Writes the text, and all that the sink holds.
 fn show<K: Sink>(head: &Header, told: &Told, sink: &mut K) -> Result<(), Failed>
-    requires { HasWays (head.now.cpus + length head.now.plans.items) told.now }
+    requires ways { HasWays told.now }
+    requires some { 1 ≤ head.now.cpus }
     ensures wrote { MatchResult result
         (λ _. Appends (K.written sink.old) (K.written sink.new) (told_text head.now told.now))
         (λ _. SendsPart (K.written sink.old) (K.written sink.new) (told_text head.now told.now)) }
@@ -113,7 +130,8 @@ fn show<K: Sink>(head: &Header, told: &Told, sink: &mut K) -> Result<(), Failed>
 
 // Writes the text.
 fn give<K: Sink>(head: &Header, told: &Told, sink: &mut K) -> Result<(), Failed>
-    requires { HasWays (head.now.cpus + length head.now.plans.items) told.now }
+    requires ways { HasWays told.now }
+    requires some { 1 ≤ head.now.cpus }
     ensures wrote { Wrote result (K.written sink.old) (K.written sink.new) (told_text head.now told.now) }
     ensures cause { HasCause (K.faults sink.old) (K.faults sink.new) result }
 {

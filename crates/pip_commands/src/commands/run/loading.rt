@@ -160,8 +160,8 @@ pub fn load_frames<S: Source, K: Sink, L: Ledger>(
     Ok(mem)
 }
 
-// The lines of plans. The only error is that there is no memory.
-fn lines_of<G: Fn(Plan) -> F, F: Callback + Drop>(
+/// The lines of plans. The only error is that there is no memory.
+pub fn lines_of<G: Fn(Plan) -> F, F: Callback + Drop>(
     alloc: Global,
     plans: &[Plan],
     make: G,

@@ -98,8 +98,8 @@ impl Report {
     }
 }
 
-// Makes the steps, and shows nothing of them.
-fn pass<M: Frames, F: Callback, L: Ledger>(
+/// Makes the steps, and shows nothing of them.
+pub fn pass<M: Frames, F: Callback, L: Ledger>(
     machine: &mut Machine<M>,
     lines: &[Line<F>],
     count: u32,

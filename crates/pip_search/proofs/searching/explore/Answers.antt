@@ -51,7 +51,7 @@ loop-i-preserved g c =
 pub returns : goal.returns
 returns g c =
     let h = c.loop-i.invariant in
-    closed_done h.base h.searching h.room c.index-2.result.now (c.len-2.result - 1) (omega (arith, c.len.ensures))
+    closed_done h.base h.searching h.room c.index-2.result.now (c.len-2.result - 1) refl (omega (arith, c.len.ensures))
     (omega (arith, c.len-2.ensures)) c.index-2.ensures h.shallow
 
 pub loop-i-init : goal.loop-i-init

@@ -1,8 +1,8 @@
-use Rattle.std.proofs.Common.{rules, ◌+◌, ◌<◌, ◌≤◌, ◌∙◌, sym, ap, subst, arith, length}
-use Rattle.std.specs.List.{AllByRecursion, flat_map}
+use Rattle.std.proofs.Common.{rules, ◌<◌, ◌≤◌, ◌∙◌, ap, subst, arith, length}
+use Rattle.std.specs.List.{flat_map}
 use Rattle.std.proofs.lemmas.Result.{MatchResult-from_err}
 use Rattle.pip_io.specs.Taken.{Appends, AppendsPart}
-use Rattle.pip_ways.proofs.LabelLines.{all_taken, found_at, found_line, found_lines, known_here, line_here, some_here}
+use Rattle.pip_ways.proofs.LabelLines.{all_taken, found_at, found_line, found_lines, line_here, some_here}
 use Rattle.pip_ways.proofs.Pieces.{cut_here, one_more}
 use Rattle.pip_ways.proofs.lines.write_labels.Goals as goal
 
@@ -13,17 +13,6 @@ write_label-requires-clause-some g c =
     some_here (λ way. way.items) c.args.search.now.visits.items c.args.search.now.found.items c.args.ways.now
     c.requires.ways c.loop-k.k less c.index-found.result.now c.index-found.ensures c.index-ways-k.result
     c.index-ways-k.is c.requires.traced
-
-pub write_label-requires-clause-known : goal.write_label-requires-clause-known
-write_label-requires-clause-known g c =
-    let less : c.loop-k.k < length c.args.search.now.found.items =
-    omega (arith, c.loop-k-test.true, c.len-k-end.ensures) in
-    subst (λ rs. AllByRecursion (λ r. r.choice < c.args.cpus + length c.args.lines.now) rs)
-    (sym c.deref-in-loop-k.ensures.value)
-    (known_here (λ way. way.items) c.args.search.now.visits.items c.args.search.now.found.items c.args.ways.now
-    c.requires.ways c.loop-k.k less c.index-found.result.now c.index-found.ensures c.index-ways-k.result
-    c.index-ways-k.is c.args.verdict c.if-not-covers.ensures (c.args.cpus + length c.args.lines.now)
-    c.requires.known)
 
 pub returns-in_err-write_label : goal.returns-in_err-write_label
 returns-in_err-write_label g c = record {

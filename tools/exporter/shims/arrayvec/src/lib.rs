@@ -46,6 +46,24 @@ impl<T, const CAP: usize> ArrayVec<T, CAP> {
         Ok(())
     }
 
+    /// Adds all of these items, where there is room, and else none.
+    pub fn try_extend_from_slice(&mut self, items: &[T]) -> Result<(), CapacityError>
+    where
+        T: Copy,
+    {
+        if CAP - self.len < items.len() {
+            return Err(CapacityError(()));
+        }
+        items.iter().for_each(|item| self.push(*item));
+        Ok(())
+    }
+
+    /// Whether there is no room.
+    #[inline]
+    pub const fn is_full(&self) -> bool {
+        self.len == CAP
+    }
+
     /// Takes the last item away.
     pub fn pop(&mut self) -> Option<T> {
         self.len = self.len.checked_sub(1)?;

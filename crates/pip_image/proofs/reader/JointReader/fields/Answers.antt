@@ -23,7 +23,7 @@ returns-in-Ok-clause-is_open g c =
 
 pub returns-in-Err-clause-reads : goal.returns-in-Err-clause-reads
 returns-in-Err-clause-reads g c =
-    subst (Refuses _ _ _ _ _ _) (sym c.fault.ensures) (fields_refused _ _ _ _ _ _ _ c.fill-filled.ensures.filled
+    subst (Refuses _ _ _ _ _ _) (sym c.fault.ensures.fault) (fields_refused _ _ _ _ _ _ _ c.fill-filled.ensures.filled
     (search (rules, arith)) c.in-Err.ensures.same)
 
 pub fill-filled-requires-clause-paced : goal.fill-filled-requires-clause-paced

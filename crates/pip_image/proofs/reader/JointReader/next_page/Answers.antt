@@ -34,7 +34,7 @@ returns-in-Ok-clause-is_open g c =
 pub returns-in-Err-clause-reads : goal.returns-in-Err-clause-reads
 returns-in-Err-clause-reads g c =
     let place = c.args.self.now.place in
-    subst (Refuses _ _ _ _ _ _) (sym c.fault.ensures) (page_refused place (place.pages - 1) _ _ _ _ _ _ _
+    subst (Refuses _ _ _ _ _ _) (sym c.fault.ensures.fault) (page_refused place (place.pages - 1) _ _ _ _ _ _ _
     c.requires.plans (let h = c.requires.pages in omega (arith, h))
     (page_filled _ _ _ _ _ _ _ _ _ _ c.deref.ensures.0 c.fill-filled.ensures.filled) (search (rules, arith))
     (page_same _ _ _ _ _ _ c.deref-2.ensures.0 c.in-Err.ensures.same))

@@ -26,7 +26,7 @@ returns-in-Ok-clause-is_open g c =
 pub returns-in-Err-clause-reads : goal.returns-in-Err-clause-reads
 returns-in-Err-clause-reads g c =
     let place = c.args.self.now.place in
-    subst (Refuses _ _ _ _ _ _) (sym c.fault.ensures) (plan_refused place (place.plans - 1) _ _ _ _ _ _ _
+    subst (Refuses _ _ _ _ _ _) (sym c.fault.ensures.fault) (plan_refused place (place.plans - 1) _ _ _ _ _ _ _
     (let h = c.requires.plans in omega (arith, h)) c.fill-filled.ensures.filled (search (rules, arith))
     c.in-Err.ensures.same)
 

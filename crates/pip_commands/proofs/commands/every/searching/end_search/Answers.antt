@@ -7,7 +7,8 @@ pub returns-in-Ok-show-clause-ends : goal.returns-in-Ok-show-clause-ends
 returns-in-Ok-show-clause-ends g c = λ i b. inl (
   told_text c.args.begun.head c.in-Ok.told,
   (
-    searched c.args.states c.args.from c.args.depth c.args.begun.head c.args.begun.mem.block.frames c.in-Ok.told i b
+    searched c.args.may.now c.args.states c.args.from c.args.depth c.args.begun.head c.args.begun.mem.block.frames
+        c.in-Ok.told i b
         c.in-Ok.ensures.found,
     inl (ap (λ e. e.status) c.with_status.ensures, c.in-Ok-show.ensures.wrote),
   ),
@@ -17,7 +18,8 @@ pub returns-in-Ok-clause-ends : goal.returns-in-Ok-clause-ends
 returns-in-Ok-clause-ends g c = λ i b. inl (
   told_text c.args.begun.head c.in-Ok.told,
   (
-    searched c.args.states c.args.from c.args.depth c.args.begun.head c.args.begun.mem.block.frames c.in-Ok.told i b
+    searched c.args.may.now c.args.states c.args.from c.args.depth c.args.begun.head c.args.begun.mem.block.frames
+        c.in-Ok.told i b
         c.in-Ok.ensures.found,
     inr (
       ap (λ e. e.status) c.with_status-in-Err-show.ensures,

@@ -1,0 +1,123 @@
+//! What partitions may do, whatever their programs are: the text after an image (docs/FORMATS.md, "against").
+
+use crate::cpu::{moved, Line};
+use crate::frames::ROOT;
+use crate::machine::{Machine, Outcome};
+use crate::output::{Input, Output};
+use crate::texts::{newline, number, Words, LONGEST};
+use crate::Stop;
+
+const MOST_DEEDS: usize = 1024;
+const MOST_LINES: u32 = 65536;
+
+/// What a partition of this name may do, or without one each but the root.
+pub struct Deed {
+    name: Option<u32>,
+    event: Event,
+}
+
+#[derive(Clone, Copy)]
+enum Event {
+    Load(u32, bool),
+    Store(u32, bool, u32),
+    Trap(u32, u32, u32),
+    Call(u32, [u32; 5]),
+}
+
+impl Deed {
+    pub fn is_of(&self, part: u32) -> bool {
+        match self.name {
+            Some(name) => part == name,
+            None => part != ROOT,
+        }
+    }
+}
+
+/// The deeds that the rest of the input has.
+pub fn menu(input: &mut Input, output: &mut Output) -> Result<Vec<Deed>, Stop> {
+    let mut menu = Menu { deeds: vec![], lines: 0 };
+    loop {
+        while let Some(end) = newline(input.held()) {
+            menu.judge(&input.held()[..end])?;
+            input.take(end + 1);
+        }
+        if input.held().len() > LONGEST {
+            menu.judge(&input.held()[..=LONGEST])?;
+        }
+        output.flush()?;
+        if input.read(usize::MAX)? == 0 {
+            if !input.held().is_empty() {
+                menu.judge(input.held())?;
+            }
+            return Ok(menu.deeds);
+        }
+    }
+}
+
+/// A menu on its way.
+struct Menu {
+    deeds: Vec<Deed>,
+    lines: u32,
+}
+
+impl Menu {
+    fn judge(&mut self, line: &[u8]) -> Result<(), Stop> {
+        self.lines += 1;
+        let bad = |kind| Stop::Bad(format!("bad line {} {kind}", self.lines));
+        if line.len() > LONGEST {
+            return Err(bad("long"));
+        }
+        if line.is_empty() || line[0] == b'#' {
+            return if self.lines > MOST_LINES { Err(bad("many")) } else { Ok(()) };
+        }
+        let (who, mut words) = Words::of(line);
+        let name = match who {
+            b"each" => None,
+            who => Some(number(who).ok_or_else(|| bad("who"))?),
+        };
+        let event = event_of(&mut words).ok_or_else(|| bad("what"))?;
+        if self.deeds.len() == MOST_DEEDS || self.lines > MOST_LINES {
+            return Err(bad("many"));
+        }
+        self.deeds.try_reserve(1)?;
+        self.deeds.push(Deed { name, event });
+        Ok(())
+    }
+}
+
+fn event_of(words: &mut Words) -> Option<Event> {
+    let form = words.next()?;
+    let (mut x, mut count) = ([0; 6], 0);
+    for word in words {
+        *x.get_mut(count)? = number(word)?;
+        count += 1;
+    }
+    match (form, count) {
+        (b"ld", 1) => Some(Event::Load(x[0], true)),
+        (b"lb", 1) => Some(Event::Load(x[0], false)),
+        (b"st", 2) => Some(Event::Store(x[0], true, x[1])),
+        (b"sb", 2) if x[1] < 256 => Some(Event::Store(x[0], false, x[1])),
+        (b"trap", 3) if x[0] < 256 => Some(Event::Trap(x[0], x[1], x[2])),
+        (b"call", 1..) => Some(Event::Call(x[0], [x[1], x[2], x[3], x[4], x[5]])),
+        _ => None,
+    }
+}
+
+impl<const LOGGED: bool> Machine<LOGGED> {
+    /// A turn of a partition that does a deed, or none.
+    pub fn hostile_turn(&mut self, cpu: usize, deed: Option<&Deed>) -> Option<Line> {
+        if let Some(switch) = self.polled(cpu) {
+            return Some(Line::Switched(switch));
+        }
+        match deed?.event {
+            Event::Load(address, is_word) => moved(self.load(cpu, address, is_word)),
+            Event::Store(address, is_word, value) => moved(self.store(cpu, address, is_word, value)),
+            Event::Trap(vector, a, b) => moved(self.trap(cpu, vector, a, b)),
+            Event::Call(number, arguments) => match self.call(cpu, number, arguments) {
+                Outcome::Reply(status, value) => Some(Line::Reply(number, status, value)),
+                Outcome::Switched(switch) => Some(Line::Yielded(switch)),
+                _ => None,
+            },
+        }
+    }
+}

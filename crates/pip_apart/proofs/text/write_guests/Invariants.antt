@@ -1,0 +1,13 @@
+use Rattle.std.proofs.Common.{◌≡◌, take}
+use Rattle.std.specs.Prelude.{flat_map}
+use Rattle.pip_io.specs.Taken.{Appends}
+use Rattle.pip_apart.specs.Searches.{alone_of}
+use Rattle.pip_apart.specs.Texts.{guest_text}
+use Rattle.pip_apart.proofs.text.write_guests.Given as goal
+
+abbrev pub invariant-loop-k : goal.invariant-loop-k
+invariant-loop-k g l = record {
+  wrote : Appends (g.K.Sink.written l.fn.sink) (g.K.Sink.written l.sink)
+      (flat_map (λ x. guest_text (alone_of x)) (take l.k l.fn.guests));
+  calm : g.K.Sink.faults l.sink ≡ g.K.Sink.faults l.fn.sink;
+}

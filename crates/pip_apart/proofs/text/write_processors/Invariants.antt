@@ -1,0 +1,12 @@
+use Rattle.std.proofs.Common.{◌≡◌, take}
+use Rattle.std.specs.Prelude.{flat_map}
+use Rattle.pip_io.specs.Taken.{Appends}
+use Rattle.pip_apart.specs.Texts.{spaced}
+use Rattle.pip_apart.proofs.text.write_processors.Given as goal
+
+abbrev pub invariant-loop-k : goal.invariant-loop-k
+invariant-loop-k g l = record {
+  wrote : Appends (g.K.Sink.written l.fn.sink) (g.K.Sink.written l.sink)
+      (flat_map spaced (take l.k l.fn.cpus));
+  calm : g.K.Sink.faults l.sink ≡ g.K.Sink.faults l.fn.sink;
+}

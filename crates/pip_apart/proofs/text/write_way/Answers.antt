@@ -1,0 +1,23 @@
+use Rattle.std.proofs.Common.{rules, ◌∙◌}
+use Rattle.std.proofs.lemmas.Option.{slice_get-get_or}
+use Rattle.std.proofs.lemmas.Result.{MatchResult-from_err}
+use Rattle.pip_ways.proofs.Pieces.{cut_here, one_more}
+use Rattle.pip_apart.specs.Texts.{turns_text}
+use Rattle.pip_apart.proofs.text.write_way.Goals as goal
+
+pub returns-in_err-write_turns : goal.returns-in_err-write_turns
+returns-in_err-write_turns g c = record {
+  wrote = MatchResult-from_err c.from_residual.result _ _ c.from_residual.ensures.0 (λ _.
+      cut_here (turns_text c.args.cpus.now) _ _ _ c.args.way.now c.loop-k.k _
+      (slice_get-get_or c.args.way.now c.loop-k.k _ c.loop-k-test.true) c.loop-k.invariant.wrote
+      c.in_err-write_turns.ensures.wrote);
+  cause = search rules;
+}
+
+pub loop-k-preserved : goal.loop-k-preserved
+loop-k-preserved g c = record {
+  wrote = one_more (turns_text c.args.cpus.now) _ _ _ c.args.way.now c.loop-k.k _
+      (slice_get-get_or c.args.way.now c.loop-k.k _ c.loop-k-test.true) c.loop-k.invariant.wrote
+      c.in_ok-write_turns.ensures.wrote;
+  calm = c.in_ok-write_turns.ensures.cause.calm ∙ c.loop-k.invariant.calm;
+}

@@ -1,0 +1,21 @@
+use Rattle.std.proofs.Common.{◌≡◌, length}
+use Rattle.pip_image.specs.Coming.{coming}
+use Rattle.pip_image.specs.Loading.{Loads}
+use Rattle.pip_image.proofs.load.load_pages.Given as goal
+
+abbrev pub invariant-loop-words : goal.invariant-loop-words
+invariant-loop-words g l = record {
+  name : l.joint.source.ghost_name ≡ l.fn.joint.source.ghost_name;
+  sink : l.joint.sink ≡ l.fn.joint.sink;
+  none : l.reader.place.plans ≡ 0;
+  frames : l.reader.place.frames ≡ l.head.frames;
+  is_open : g.S.Source.is_open l.joint.source.now;
+  calm : g.S.Source.faults l.joint.source.now ≡ g.S.Source.faults l.fn.joint.source.now;
+  count : length (g.M.Frames.memory l.mem) ≡ l.head.frames;
+  kept : length (g.M.Frames.memory l.mem) ≡ length (g.M.Frames.memory l.fn.mem);
+  done : Loads l.head.frames (coming l.fn.reader.place) (coming l.reader.place) (g.S.Source.left l.fn.joint.source.now)
+      (g.S.Source.left l.joint.source.now) l.reader.place.seen.items (g.M.Frames.memory l.mem);
+}
+
+abbrev pub decreases-loop-words : goal.decreases-loop-words
+decreases-loop-words g l = l.reader.place.pages

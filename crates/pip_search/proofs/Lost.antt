@@ -1,0 +1,201 @@
+-- From marks that are spread against the edges of visits to what can come again.
+use Rattle.std.proofs.Common.{◌≡◌, ℕ, zero, suc, ◌+◌, ◌*◌, ◌/◌, ◌%◌, ◌<◌, ◌≤◌, inl, inr, Bool, true, false, List, []}
+use Rattle.std.proofs.Common.{◌∷◌, ◌++◌, length, Some, slice_get, slice_index, refl, ap, sym, subst, ◌∙◌, arith}
+use Rattle.std.proofs.lemmas.Bool.{cases_eq, cases_lt}
+use Rattle.std.proofs.lemmas.Nat.{div-mul-add, mod-mul-add, mul-add-lt}
+use Rattle.std.specs.List.{AllByRecursion}
+use Rattle.pip_search.specs.Again.{AreEdges, AreFlags, CanComeAgain, CanStillCome, HasClosed, IsEdge, IsLost}
+use Rattle.pip_search.specs.Graphs.{AreFollowed, IsMarked, LeadsToMarked, place_after}
+use Rattle.pip_search.specs.Keys.{key_of}
+use Rattle.pip_search.specs.Orders.{IsBefore, IsNoLater, IsTrail}
+use Rattle.pip_search.specs.Reached.{AreChoices}
+use Rattle.pip_search.specs.Summary.{IsShownOn}
+use Rattle.pip_search.specs.Systems.{Model, after_choices}
+use Rattle.pip_search.specs.Ways.{way_to}
+use Rattle.pip_search.specs.declared.searching.Search.{Search}
+use Rattle.pip_search.specs.declared.visits.Visit.{Visit}
+use Rattle.pip_search.proofs.Places.{get-below, get-some}
+use Rattle.pip_search.proofs.Ranking.{before_trans, trail_before, trail_same}
+use Rattle.pip_search.proofs.Telling.{closed_tells}
+use Rattle.pip_search.proofs.Traced.{are_traced}
+use Rattle.pip_search.proofs.Tracing.{way_trail}
+
+-- ---- a choice before others
+
+after_first : (m : Model) (s : m.State) (cs : List ℕ) (c : ℕ)
+    → after_choices m s (cs ++ c ∷ []) ≡ after_choices m (m.act s c) cs
+after_first m s [] c = refl
+after_first m s (d ∷ cs) c = ap (λ x. m.act x d) (after_first m s cs c)
+
+with_first : (P : ℕ → Type 0) (cs : List ℕ) (c : ℕ) → AllByRecursion P cs → P c → AllByRecursion P (cs ++ c ∷ [])
+with_first P [] c h k = (k, tt)
+with_first P (d ∷ cs) c h k = (h.0, with_first P cs c h.1 k)
+
+module _ (m : Model) (vs : List Visit) (label : List ℕ) (width : ℕ) (can : width ≤ m.choices) (targets : List ℕ)
+    (flags marks : List Bool) (edges : AreEdges m vs width targets) (own : AreFlags m vs label width flags)
+    (count : length targets ≡ length vs * width) (places : length flags ≡ length vs)
+    (rows : length marks ≡ length vs)
+    (sound : (j : ℕ) → IsMarked marks j → LeadsToMarked targets width flags j)
+    (keeps : (j : ℕ) → IsMarked flags j → IsMarked marks j)
+    (closed : (k : ℕ) → IsMarked marks k → AreFollowed targets width marks k) where
+  -- where a choice of a visit leads
+  edge_of : (j c : ℕ) (u : Visit) → slice_get vs j ≡ Some u → c < width
+      → IsEdge m vs (key_of u) c (slice_index targets (j * width + c))
+  edge_of j c u at low =
+      let inside : j < length vs = get-below vs j u at in
+      let within : j * width + c < width * length vs = mul-add-lt j width c (length vs) inside low in
+      let few : j * width + c < length targets = omega (arith, within, count) in
+      let row : (j * width + c) / width ≡ j = div-mul-add j width c low in
+      let column : (j * width + c) % width ≡ c = mod-mul-add j width c low in
+      subst (λ k. IsEdge m vs (key_of u) k (slice_index targets (j * width + c))) column
+      (edges (j * width + c) u few (ap (slice_get vs) row ∙ at))
+
+  -- from the states of a marked visit the label can come
+  comes : (cs : List ℕ) (j : ℕ) (u : Visit) (s : m.State) → slice_get vs j ≡ Some u → m.stands (key_of u) s
+      → AllByRecursion (λ c. c < width) cs → IsMarked flags (place_after targets width j cs)
+      → CanStillCome m width s label
+  comes [] j u s at stands all marked =
+      let (c, (low, shows)) = own j u true at marked in
+      (c ∷ [], (low, tt), ((omega (arith, low, can), tt), sym (shows s stands)))
+  comes (c ∷ cs) j u s at stands all marked =
+      let e = edge_of j c u at all.0 in
+      let (ds, low, shown) = comes cs (slice_index targets (j * width + c)) e.to (m.act s c) e.there
+      (e.leads s stands).0 all.1 marked in
+      (ds ++ c ∷ [], with_first (λ k. k < width) ds c low all.0, go ds shown all.0)
+    where
+      go : (ds : List ℕ) → IsShownOn m (m.act s c) label ds → c < width → IsShownOn m s label (ds ++ c ∷ [])
+      go [] shown low = absurd shown
+      go (d ∷ ds) shown low = (
+        (shown.0.0, with_first (λ k. k < m.choices) ds c shown.0.1 (omega (arith, low, can))),
+        shown.1 ∙ ap (λ x. m.label x d) (sym (after_first m s ds c)),
+      )
+
+  pub marked_comes : (j : ℕ) (u : Visit) (s : m.State) → slice_get vs j ≡ Some u → m.stands (key_of u) s
+      → IsMarked marks j → CanStillCome m width s label
+  marked_comes j u s at stands marked =
+      let p = sound j marked in
+      comes p.edges j u s at stands p.are p.marked
+
+  -- a state is that of a visit without a mark
+  record IsStuck (s : m.State) : Type 0 where
+    place : ℕ
+    visit : Visit
+    at : slice_get vs place ≡ Some visit
+    stands : m.stands (key_of visit) s
+    unmarked : slice_get marks place ≡ Some false
+
+  contrary : {A : Type 0} (k : ℕ) → IsMarked marks k → slice_get marks k ≡ Some false → A
+  contrary k h e = absurd (different (sym h ∙ e))
+    where
+      different : Some true ≡ Some false → ⊥
+      different d = cc
+
+  has_mark : (k : ℕ) (v : Visit) → slice_get vs k ≡ Some v → (IsMarked marks k → ⊥) → slice_get marks k ≡ Some false
+  has_mark k v at none =
+      let inside : k < length vs = get-below vs k v at in
+      let (b, is) = get-some marks k (omega (arith, inside, rows)) in
+      go b is
+    where
+      go : (b : Bool) → slice_get marks k ≡ Some b → slice_get marks k ≡ Some false
+      go true e = absurd (none e)
+      go false e = e
+
+  reads : (xs : List ℕ) (i : ℕ) → i < length xs → slice_get xs i ≡ Some (slice_index xs i)
+  reads [] i low = absurd (omega (arith, low))
+  reads (x ∷ xs) zero low = refl
+  reads (x ∷ xs) (suc i) low = reads xs i (omega (arith, low))
+
+  -- by the first choices it stays so
+  stuck_on : (s : m.State) (c : ℕ) → IsStuck s → c < width → IsStuck (m.act s c)
+  stuck_on s c h low =
+      let e = edge_of h.place c h.visit h.at low in
+      let n = h.place * width + c in
+      let inside : h.place < length vs = get-below vs h.place h.visit h.at in
+      let within : n < width * length vs = mul-add-lt h.place width c (length vs) inside low in
+      let few : n < length targets = omega (arith, within, count) in
+      let row : n / width ≡ h.place = div-mul-add h.place width c low in
+      record {
+        place = slice_index targets n;
+        visit = e.to;
+        at = e.there;
+        stands = (e.leads s h.stands).0;
+        unmarked = has_mark (slice_index targets n) e.to e.there (λ marked. contrary h.place
+            (subst (IsMarked marks) row (closed (slice_index targets n) marked n (reads targets n few))) h.unmarked);
+      }
+
+  stuck_after : (s : m.State) (cs : List ℕ) → IsStuck s → AllByRecursion (λ c. c < width) cs
+      → IsStuck (after_choices m s cs)
+  stuck_after s [] h all = h
+  stuck_after s (c ∷ cs) h all = stuck_on (after_choices m s cs) c (stuck_after s cs h all.1) all.0
+
+  pub unmarked_lost : (j : ℕ) (u : Visit) (s : m.State) → slice_get vs j ≡ Some u → m.stands (key_of u) s
+      → slice_get marks j ≡ Some false → CanStillCome m width s label → ⊥
+  unmarked_lost j u s at stands none ([], all, shown) = shown
+  unmarked_lost j u s at stands none (c ∷ cs, all, shown) =
+      let h = stuck_after s cs (record { place = j; visit = u; at = at; stands = stands; unmarked = none }) all.1 in
+      let inside : h.place < length vs = get-below vs h.place h.visit h.at in
+      let (b, is) = get-some flags h.place (omega (arith, inside, places)) in
+      go h b is (sym shown.1)
+    where
+      go : (h : IsStuck (after_choices m s cs)) (b : Bool) → slice_get flags h.place ≡ Some b
+          → m.label (after_choices m s cs) c ≡ label → ⊥
+      go h true is same = contrary h.place (keeps h.place is) h.unmarked
+      go h false is same = own h.place h.visit false h.at is c all.0 (after_choices m s cs) h.stands same
+
+-- ---- what is said of a search
+
+module _ (m : Model) (start : List ℕ) (z : Search) (h : HasClosed m start z) (label : List ℕ) (width : ℕ)
+    (marks : List Bool) (rows : length marks ≡ length z.visits.items)
+    (lasts : (j : ℕ) (u : Visit) (s : m.State) → slice_get z.visits.items j ≡ Some u → m.stands (key_of u) s
+    → IsMarked marks j → CanStillCome m width s label)
+    (ends : (j : ℕ) (u : Visit) (s : m.State) → slice_get z.visits.items j ≡ Some u → m.stands (key_of u) s
+    → slice_get marks j ≡ Some false → CanStillCome m width s label → ⊥)
+    (x : m.State) (stands : m.stands start x) where
+  abbrev vs : List Visit
+  vs = z.visits.items
+
+  -- all are marked
+  pub comes_again : ((j : ℕ) → j < length marks → IsMarked marks j) → CanComeAgain m width x label
+  comes_again all cs can =
+      let t = closed_tells m start vs z.found.items h.end 0 h.searching.exploring h.searching.ranked h.all 0 x stands in
+      let v = t.all cs can tt in
+      let inside : v.place < length vs = get-below vs v.place v.visit v.at in
+      lasts v.place v.visit (after_choices m x cs) v.at v.stands (all v.place (omega (arith, inside, rows)))
+
+  -- this one isn't, and all before it are
+  pub is_lost : (j : ℕ) → slice_get marks j ≡ Some false → ((k : ℕ) → k < j → IsMarked marks k)
+      → IsLost m width x label (way_to vs j)
+  is_lost j none before =
+      let t = closed_tells m start vs z.found.items h.end 0 h.searching.exploring h.searching.ranked h.all 0 x stands in
+      let low : j < length marks = get-below marks j false none in
+      let (u, at) = get-some vs j (omega (arith, low, rows)) in
+      let r = t.reached j u at in
+      let traced = are_traced m start vs z.found.items h.end 0 h.searching.exploring in
+      let trail = (way_trail vs z.found.items traced (suc j) j u (omega arith) at).0 in
+      let same : r.choices ≡ way_to vs j = trail_same vs r.choices (way_to vs j) j r.trail trail in
+      record {
+        can = subst (AreChoices m) same r.can;
+        lost = subst (λ cs. CanStillCome m width (after_choices m x cs) label → ⊥) same
+            (ends j u (after_choices m x r.choices) at r.stands none);
+        first = λ cs can lost.
+            let v = t.all cs can tt in
+            later v.place v.way cs trail v.trail v.first (elim (cases_lt v.place j) [
+              | inl less ↦ absurd (lost (lasts v.place v.visit (after_choices m x cs) v.at v.stands
+                  (before v.place less)))
+              | inr most ↦ most
+            ]);
+      }
+    where
+      later : (k : ℕ) (way cs : List ℕ) → IsTrail vs j (way_to vs j) → IsTrail vs k way → IsNoLater way cs → j ≤ k
+          → IsNoLater (way_to vs j) cs
+      later k way cs own other first le = elim (cases_eq j k) [
+        | inl same ↦ subst (λ ds. IsNoLater ds cs)
+            (trail_same vs way (way_to vs j) j (subst (λ i. IsTrail vs i way) (sym same) other) own) first
+        | inr far ↦
+            let b = trail_before vs z.found.items h.end 0 h.searching.ranked (way_to vs j) way j k (omega arith) own
+            other in
+            elim first [
+              | inl e ↦ inr (subst (λ ds. IsBefore (way_to vs j) ds) e b)
+              | inr f ↦ inr (before_trans (way_to vs j) way cs b f)
+            ]
+      ]

@@ -1,0 +1,49 @@
+use Rattle.std.proofs.Common.{◌≡◌, ◌<◌, length, Some, ap, sym, subst, ◌∙◌, arith}
+use Rattle.pip_search.specs.Keys.{key_of}
+use Rattle.pip_search.specs.Packing.{packed_key, unpacked_key}
+use Rattle.pip_search.specs.Systems.{IsKey, LeadsOn}
+use Rattle.pip_search.proofs.Looking.{edge_to, is_there, key_at}
+use Rattle.pip_search.proofs.Places.{get-below, get-some}
+use Rattle.pip_search.proofs.Walking.{at_named}
+use Rattle.pip_search.proofs.again.look.Goals as goal
+
+pub make-requires-clause-key : goal.make-requires-clause-key
+make-requires-clause-key g c =
+    let m = g.S.System.model (g.S.System.base c.args.system.now) in
+    let vs = c.args.search.now.visits.items in
+    let (u, at) = get-some vs c.args.i c.requires.place in
+    subst (λ k. IsKey m k) (sym (c.as_slice.ensures.value ∙ c.requires.hand u at))
+    (key_at m c.args.start.now c.args.search.now c.requires.closed c.requires.key c.args.i u at)
+
+pub overflow_cast-result : goal.overflow_cast-result
+overflow_cast-result g c =
+    let vs = c.args.search.now.visits.items in
+    let (v, (there, own)) = at_named (λ v. v.key.items) vs c.in-Some.to c.deref-3.result.now c.in-Some.ensures in
+    let low : c.in-Some.to < length vs = get-below vs c.in-Some.to v there in
+    omega (arith, c.requires.few)
+
+pub unreachable-requires : goal.unreachable-requires
+unreachable-requires g c =
+    let m = g.S.System.model (g.S.System.base c.args.system.now) in
+    let vs = c.args.search.now.visits.items in
+    let next = c.make.new.to.items in
+    let shown = c.make.new.shown.items in
+    let (u, at) = get-some vs c.args.i c.requires.place in
+    let leads : LeadsOn m (key_of u) c.args.choice next shown = subst (λ k. LeadsOn m k c.args.choice next shown)
+    (c.as_slice.ensures.value ∙ c.requires.hand u at) c.in_ok-make.ensures.leads in
+    let (j, there) = is_there m c.args.start.now c.args.search.now c.requires.closed c.requires.key c.requires.one
+    c.args.i c.args.choice u next shown at c.requires.choice leads in
+    let bytes : c.deref-3.result.now ≡ packed_key next = c.deref-3.ensures.value ∙ c.in_ok-pack.ensures.packed
+    ∙ ap packed_key c.deref.ensures.value in
+    c.in-None.ensures j (there ∙ ap Some (sym bytes))
+
+pub returns-clause-edge : goal.returns-clause-edge
+returns-clause-edge g c =
+    let m = g.S.System.model (g.S.System.base c.args.system.now) in
+    let next = c.make.new.to.items in
+    let shown = c.make.new.shown.items in
+    let words : unpacked_key c.deref-3.result.now ≡ next = ap unpacked_key c.deref-3.ensures.value
+    ∙ c.in_ok-pack.ensures.words ∙ c.deref.ensures.value in
+    edge_to m c.args.start.now c.args.search.now c.requires.closed c.args.choice c.in-Some.to
+    c.args.buffers.now.from.items c.deref-3.result.now next shown c.in-Some.ensures words
+    (subst (λ k. LeadsOn m k c.args.choice next shown) c.as_slice.ensures.value c.in_ok-make.ensures.leads)

@@ -1,0 +1,25 @@
+"""Words of a command line for tests of all that reads them: the program, the reference and ./pip."""
+
+from __future__ import annotations
+
+WRONG = ("", "x", "script x", "script:1", "help", "--help script", "--version", "dis ",
+         "run", "run 1", "run 5", "run 06 1", "run 1 0", "run 0x 1", "run 10000001 1", "run 0x123456789 1", "run -1 1",
+         "run 1 0xA", "tree 1 4294967296", "core 1 99999999999", "soak 0 0", "soak 1000001 1",
+         "native", "native 1", "native 0 1", "native 9 1", "native 1 10000001", "slots 1 1", "slots 0 1 1",
+         "slots 9 1 1", "slots 1 9999999 1", "slots 8 8 125001", "slots 2 1 2:0", "slots 1 1 0:9999999",
+         "slots 1 1 0:1 1", "slots 1 1 0:01", "slots 1 1 :", "slots 1 1 0:1:1", "slots 1 0" + 65 * " 0:0",
+         "audit", "audit 15", "audit 4097", "audit 016", "audit 16 1",
+         "every", "every 0", "every 01", "every x", "every 1 ", "every 1 -1", "every 100000001", "every 1 10000001",
+         "every 1 0 0", "every 1 0 10000001", "every 1 0 1 1", "against", "against 0", "against 01",
+         "against 100000001", "against 1 10000001", "against 1 0 0", "against 1 0 1 1", "apart", "apart 1",
+         "apart 1 0", "apart 0 0 1", "apart 100000001 0 1", "apart 1 10000001 1", "apart 1 0 0",
+         "apart 1 0 4294967296", "apart 1 0 1 1", "apart 01 0 1", "apart x 0 1", "apart 1 -1 1")
+RIGHT = ("script", "run 0 1", "run 0x989680 4294967295", "soak 1000000 0xffffffff", "native 0x8 10000000",
+         "slots 8 8 125000", "slots 2 5 0:48 1:0x5", "audit 16", "audit 0x1000", "every 1", "every 0x5f5e100 0",
+         "every 1 10000000 10000000", "against 1", "against 1 10000000 1", "apart 1 0 1",
+         "apart 0x5f5e100 10000000 4294967295")
+
+
+def words(line: str) -> list[str]:
+    """The words of such a line, of which the last may be empty."""
+    return line.split(" ") if line else []

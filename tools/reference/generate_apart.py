@@ -1,0 +1,239 @@
+"""Images made from a seed for the command apart, and the words of the command: two to four guests, most of which run on
+processors of their own.
+
+The root makes the guests and enters one after the other, each on the processor that takes a line next. Guests loop over
+few states, fault, trap, ask the root, or count without bound; a top may have a worker below it, whose faults and traps
+it takes, and may be entered once more on another processor. The root may keep a processor, a handler of a line, or lend
+its handler table.
+"""
+
+from __future__ import annotations
+
+import random
+
+from . import assembly, image
+from .generate_programs import Text, joined, spoilt_image
+from .image import Image
+from .model import HANDLERS, NOWHERE, PAGE, ROOT, SAVED
+from .runs import Generator, Turn, raise_lines
+
+SPACE = 22 * PAGE                        # the root's pages of one guest, in bytes
+PROGRAM, WORDS = HANDLERS - PAGE, HANDLERS - 2 * PAGE    # where a guest has its program and a page of its own
+GIVEN = 0xFFC00000                       # where it has further pages, of which a worker is made
+BEGIN, AGAIN, SERVED = 64, 66, (0, 6, 14, 17, 70)        # vectors by which a top begins, once more, and serves a worker
+LONGEST = 6000                           # steps in which all guests begin, if they do
+STATES = (1, 40, 400, 400, 400, 1000)
+
+
+def block(number: int, page: int = HANDLERS) -> int:
+    return page + 4 * (256 + 17 * number)
+
+
+class Company(Text):
+    """The text of an image of some guests."""
+
+    def __init__(self, seed: int) -> None:
+        super().__init__(seed)
+        self.guests = self.pick(2, 2, 2, 3, 3, 4)
+        self.line = self.random.randrange(16)
+        self.entry = HANDLERS + 4 * (32 + self.line)
+        self.with_worker = {k for k in range(self.guests) if self.chance(0.3)} if self.chance(0.7) else set[int]()
+        if len(self.with_worker) > 2:
+            self.with_worker = {self.guests - 1}
+        self.troubled = {k for k in range(self.guests) if self.chance(0.3)}
+        self.begun = [(k, BEGIN) for k in sorted(range(self.guests), key=lambda k: k in self.troubled)]
+        if self.with_worker and self.chance(0.8):
+            self.begun.append((max(self.with_worker), AGAIN))
+
+    def image(self) -> list[str]:
+        self.say(".frames", 128)
+        self.say(".cpus", min(max(len(self.begun) + self.pick(-1, 0, 0, 0, 1), 2), 4))
+        for line in sorted({self.line, *self.random.sample(range(16), self.pick(0, 0, 1, 2))}):
+            self.say(".line", line, self.random.randrange(300), self.pick(17, 40, 90) if line == self.line else 0)
+        self.say(".page 0x00400000")
+        self.boots()
+        for k in range(self.guests):
+            self.guest(k)
+        return self.lines
+
+    def place(self, k: int, page: int = 0) -> int:
+        """Where the root has a page of a guest."""
+        return 0x401000 + k * SPACE + page * PAGE
+
+    # The root
+
+    def boots(self) -> None:
+        self.say("sys 10")
+        for k in range(self.guests):
+            given = 10 if k in self.with_worker else self.pick(0, 0, 5)
+            self.make(self.place(k), [(8, HANDLERS, 3), (9, PROGRAM, 5), (10, WORDS, 3)], given)
+        if self.chance(0.05):
+            self.call(5, HANDLERS, self.place(self.random.randrange(self.guests)), WORDS - PAGE, 1)
+        stages = [self.stage(k) for k in range(len(self.begun))]
+        kept = [self.random.randrange(16)] if self.chance(0.05) else []
+        self.say(".page 0xfffff000")
+        entries = {32 + self.line: block(1), **{vector: block(0) for vector in (14, 64, 65) if self.chance(0.3)}}
+        self.words({**entries, **{32 + line: block(0) for line in kept}}, [stages[0], *stages])
+
+    def make(self, d: int, lent: list[tuple[int, int, int]], given: int) -> None:
+        """A child whose descriptor is at d, with these pages lent to it, and `given` more."""
+        self.call(0, *(d + PAGE * page for page in range(5)))
+        self.store(d + 5 * PAGE, d + 6 * PAGE)
+        self.store(d + 6 * PAGE, d + 7 * PAGE)
+        self.call(3, d, HANDLERS, d + 5 * PAGE)
+        for page, address, rights in lent + [(11 + page, GIVEN + page * PAGE, 7) for page in range(given)]:
+            self.call(5, d + page * PAGE, d, address, rights)
+
+    def stage(self, k: int) -> str:
+        """The next guest begins, on the processor on which none is let go on; the first at once. A top that is to begin
+        once more is asked again as long as it runs elsewhere.
+        """
+        at, asked, (guest, vector), is_last = self.label(), self.label(), self.begun[k], k + 1 == len(self.begun)
+        if k:
+            self.say(f"{at}:")
+        for before in range(k):
+            if self.begun[before][0] not in self.with_worker | self.troubled or self.chance(0.2):
+                self.call(8, self.place(self.begun[before][0]), SAVED, NOWHERE)
+        if not is_last or self.chance(0.93):
+            self.store(self.entry, 0 if is_last else block(k + 2))
+        self.say(f"{asked}:")
+        self.call(8, self.place(guest), vector, NOWHERE)
+        if not k:
+            self.say(f"{at}:")
+        if vector == BEGIN or self.chance(0.1):
+            self.say("out r0")
+            self.say(self.pick("int 64", "beq r0 r0 -1"))
+        self.say("beq r0 r0", asked)
+        return at
+
+    def words(self, entries: dict[int, int], blocks: list[str]) -> None:
+        """A handler table with these words, and the blocks after it."""
+        for vector in range(256):
+            self.say(".word", entries.get(vector, 0))
+        for pc in blocks:
+            self.code(f".word {pc}", ".zero 16")
+
+    # Guests
+
+    def guest(self, k: int) -> None:
+        """The pages of a guest that have words, and those of its worker."""
+        has_worker = k in self.with_worker
+        serves, again = self.program(self.place(k, 9), has_worker, k in self.troubled)
+        self.say(f".page 0x{self.place(k, 8):08x}")
+        vectors = dict.fromkeys((BEGIN, SAVED), block(0))
+        if has_worker:
+            vectors.update(dict.fromkeys((vector for vector in SERVED if self.chance(0.9)), block(1)))
+        self.words({**vectors, AGAIN: block(2)}, [f"0x{pc:08x}" for pc in (PROGRAM, serves, again)])
+        if has_worker:
+            self.program(self.place(k, 20), False, k in self.troubled)
+            self.say(f".page 0x{self.place(k, 19):08x}")
+            self.words({SAVED: block(0)}, [f"0x{PROGRAM:08x}"])
+
+    def program(self, place: int, has_worker: bool, is_troubled: bool) -> tuple[int, int]:
+        """A program, and where it serves and where it begins once more."""
+        self.say(f".page 0x{place:08x}")
+        first = len(self.lines)
+        again = at = 0
+        if has_worker:
+            self.make_worker()
+            at = self.words_since(first)
+            self.say("out r0")
+            self.skips()
+            self.let_run()
+            again = self.words_since(first)
+        self.loop(is_troubled)
+        return PROGRAM + 4 * at, PROGRAM + 4 * again
+
+    def words_since(self, first: int) -> int:
+        return sum(not line.endswith(":") for line in self.lines[first:])
+
+    def make_worker(self) -> None:
+        lent = [(8, HANDLERS, 3), (9, PROGRAM, 5)]
+        self.make(GIVEN, lent, 0)
+        self.let_run()
+
+    def let_run(self) -> None:
+        self.call(8, GIVEN, SAVED, NOWHERE)
+        self.code("out r0", "beq r0 r0 -1")
+
+    def skips(self) -> None:
+        """The worker goes on after the instruction that faulted; where it trapped that one is left out."""
+        self.set(7, block(0, GIVEN + 8 * PAGE))
+        self.code("ldw r8 r7 0", f"addi r8 r8 {self.pick(4, 4, 0)}", "stw r8 r7 0")
+
+    def loop(self, is_troubled: bool) -> None:
+        """Some things over and over, so that it comes back to a state; with trouble one that leaves, or grows."""
+        top = self.label()
+        self.say(f"{top}:")
+        ways = (self.counts, self.counts, self.keeps, self.calls, self.yields, self.makes, self.serves)
+        for _ in range(self.pick(1, 1, 2, 3)):
+            self.random.choice(ways)()
+        if is_troubled and self.chance(0.9):
+            self.random.choice((self.leaves, self.leaves, self.leaves, self.strays, self.grows))()
+        self.say("beq r0 r0", top)
+
+    def counts(self) -> None:
+        self.code("addi r1 r1 1", f"andi r1 r1 {self.pick(1, 3, 3, 7)}")
+        if self.chance(0.6):
+            self.say("out r1")
+
+    def keeps(self) -> None:
+        """A count in a page."""
+        self.set(7, WORDS)
+        self.code("ldw r8 r7 0", "addi r8 r8 1", f"andi r8 r8 {self.pick(1, 3)}", "stw r8 r7 0")
+        if self.chance(0.5):
+            self.say("out r8")
+
+    def calls(self) -> None:
+        self.call(self.pick(2, 4, 6, 7, 9), self.pick(GIVEN, WORDS, 0), self.pick(WORDS, PROGRAM, 5))
+
+    def yields(self) -> None:
+        """To itself: refused where it has no handler, else it begins again, or goes on where it was saved."""
+        self.call(8, 1, self.pick(65, 65, SAVED, BEGIN), self.pick(SAVED, NOWHERE))
+
+    def makes(self) -> None:
+        """A child, and its end."""
+        self.call(0, *(GIVEN + PAGE * page for page in range(5)))
+        if self.chance(0.9):
+            self.call(1, GIVEN)
+
+    def serves(self) -> None:
+        """A trap or a fault that a top may serve, or a line."""
+        self.say(self.pick("int 70", "int 70", "ldw r3 r10 0") if self.chance(0.3) else "out r10")
+
+    def leaves(self) -> None:
+        way = self.random.randrange(5)
+        if way == 0:
+            self.call(8, 0, self.pick(64, 65, SAVED), self.pick(SAVED, NOWHERE))
+        else:
+            self.say(("int 64", "ldw r3 r10 0", ".word 0", "div r1 r2 r10")[way - 1])
+
+    def strays(self) -> None:
+        self.random_code(self.random.randrange(1, 4))
+
+    def grows(self) -> None:
+        self.say("addi r11 r11 1")
+
+
+def step_of_company(machine: Image, seed: int, entry: int) -> int | None:
+    """The step from which on the root runs nowhere and has no handler at an entry, by the schedule of a seed."""
+    world, drawn = image.world(machine), Generator(seed)
+    for step in range(LONGEST):
+        if ROOT not in world.running() and not world.tree.loaded(world.tree.nodes[ROOT], entry):
+            return step
+        raise_lines(machine, world, step)
+        Turn(world, drawn.draw(machine.cpus), step, lambda line: None).take()
+    return None
+
+
+def case(seed: int) -> tuple[list[str], bytes]:
+    """The words after the command, and an image; now and then a faulty one."""
+    rng, company = random.Random(seed), Company(seed)
+    data = assembly.assemble(joined(rng, company.image()))
+    start = rng.choice((1, 4294967295, rng.randrange(1, 1 << 32)))
+    steps = step_of_company(image.read(data), start, company.entry) or rng.randrange(LONGEST)
+    steps += rng.choice((0, 0, 1, 5, 40, 200))
+    if rng.random() < 0.06:
+        steps = rng.randrange(steps + 1)
+    words = [str(rng.choice(STATES)), str(steps), str(start)]
+    return words, data if rng.random() >= 0.03 else spoilt_image(rng, data)
