@@ -85,7 +85,8 @@ class TestOfAsmx(unittest.TestCase):
     def test_what_a_source_adds(self) -> None:
         scopes = [[(name or "").rsplit(".", 1)[0] for name, _ in tokens(line, OF_ASMX)] for line in
                   (".equ A B+8*4096", "  la r1 A+4   # where", "j next", ".page A at 0xffc00000",
-                   ".handler 63 0x400 child r6=0x10", "a: out r1", ".include ../x.s", ".may each ld A")]
+                   ".handler 63 0x400 child r6=0x10", "a: out r1", ".include ../x.s", ".may each ld A",
+                   ".again 0 out 0x00000005")]
         number, name, operator = "constant.numeric", "variable.other.label", "keyword.operator"
         directive, mnemonic = "keyword.control.directive", "support.function.mnemonic"
         register = "variable.language.register"
@@ -95,7 +96,7 @@ class TestOfAsmx(unittest.TestCase):
                                   [directive, name, "keyword.other.at", number],
                                   [directive, number, number, name, register, operator, number],
                                   ["entity.name.label", mnemonic, register], [directive, "string.unquoted.path"],
-                                  [directive, "keyword.other.at", name, name]])
+                                  [directive, "keyword.other.at", name, name], [directive, number, mnemonic, number]])
 
     def test_what_is_wrong_has_no_colour(self) -> None:
         for line in ("ld r1 r0 4", "li r17 00", ".equ A 0X1"):

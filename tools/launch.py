@@ -8,6 +8,7 @@ import sys
 
 COMMANDS = {
     "asmx": "authors.asmx",
+    "certify": "certifier.certify",
     "compare.py": "reference.comparison",
     "count": "bench.count",
     "debug": "debugger.terminal",

@@ -231,7 +231,7 @@ class Text:
         self.labels: dict[str, Label] = {}
         self.pages: list[Page] = []
         self.head: Lines = []
-        self.may: list[tuple[Place, list[Word]]] = []
+        self.may: list[tuple[Place, list[Word]]] = []       # lines .may and .again
         self.menu: Lines = []                               # what becomes of them
 
     def take(self, place: Place, words: list[Word]) -> None:
@@ -245,7 +245,7 @@ class Text:
             self.take_page(place, words[1:])
         elif first in (".frames", ".cpus", ".line"):
             self.head.append((place, Line.of([first] + [self.number_text(place, word) for word in words[1:]])))
-        elif first == ".may":
+        elif first in (".may", ".again"):
             self.may.append((place, words))
         elif not self.pages:
             self.pages.append(Page(place, 0, 0))            # lest all lines after it be told, too
@@ -473,10 +473,10 @@ class Text:
         """The lines of the assembly text, each with its place in the source."""
         for place, words in self.may:
             with collected:
-                self.menu.append((place, self.deed(place, words)))
-        if len(self.may) > against.MOST_DEEDS:
-            place, _ = self.may[against.MOST_DEEDS]
-            collected.wrongs.append(Wrong(place, f"a menu has at most {against.MOST_DEEDS} deeds"))
+                self.menu.append((place, self.deed(place, words) if words[0] == ".may" else asked(place, words)))
+        for first, most, what in ((".may", against.MOST_DEEDS, "deeds"), (".again", against.MOST_LABELS, "labels")):
+            more = [place for place, words in self.may if words[0] == first][most:]
+            collected.wrongs += [Wrong(place, f"a menu has at most {most} {what}") for place in more[:1]]
         lines = list(self.head)
         for page in self.pages:
             lines.append((page.place, Line(f".page 0x{page.address:08x}")))
@@ -497,6 +497,16 @@ class Text:
             lines += [(item.place, line) for line in told]
             end = max(end, item.at + item.size)
         return lines
+
+
+def asked(place: Place, words: list[Word]) -> Line:
+    """The line of a menu that `.again LABEL` is."""
+    if len(words) < 2:
+        raise Wrong(place, ".again has a line without its step, as 0 out 0x00000005", words[0].column)
+    line = Line.of([Word.at(words[0].column, against.AGAIN.decode()), *words[1:]])
+    if len(line.encode()) > script.LONGEST:
+        raise Wrong(place, f"the line has more than {script.LONGEST} bytes in the menu", words[1].column)
+    return line
 
 
 def processed(path: str, files: Files | None = None) -> tuple[Lines, Text]:
@@ -611,7 +621,7 @@ def main() -> None:
     parser.add_argument("file", metavar="FILE", help="the source; - is standard input")
     parser.add_argument("--image", metavar="OUT", help="assemble it, and write the image there")
     parser.add_argument("--against", metavar="OUT",
-                        help="the same, and after the image its menu, the lines .may, as the command against reads it")
+                        help="the same, and after the image its menu, the lines .may and .again, for against")
     parser.add_argument("--line", type=int, metavar="N", help="where line N of the assembly text comes from")
     calling.take_program(parser)
     given = parser.parse_args()

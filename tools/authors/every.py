@@ -1,11 +1,12 @@
 """What can happen to an image or a source over all interleavings: each line in words, and its way as a trace, a script,
 a run or a page.
 
-    tools/every FILE STATES [FROM [DEPTH]]
-    tools/every FILE STATES [FROM [DEPTH]] --trace N
+    tools/every FILE STATES [FROM [DEPTH]] [--after STEPS SEED]
+    tools/every FILE STATES [FROM [DEPTH]] [--after STEPS SEED] --trace N
 
-The lines are those of the program's command `every`, or of `against` where there is a menu. N is a line's number. A way
-is made again by tools/reference, of which nothing is proved, and what it shows at its end is compared with the line.
+The lines are those of the program's command `every`, or of `against` where there is a menu; with --after it searches
+what comes after these steps of `run`. N is a line's number. A way is made again by tools/reference, of which nothing is
+proved, and what it shows at its end is compared with the line.
 """
 
 from __future__ import annotations
@@ -22,7 +23,9 @@ from ..common import calling, meanings, plans
 from ..common.calling import Failed
 from ..common.progress import Progress
 from ..reference import against, image as images
+from ..reference.every import AT_FIRST, After
 from ..reference.image import Image
+from ..reference.script import WORD
 from ..step import page, states
 from . import asmx, trace, ways
 from .ways import Menu, Way
@@ -31,9 +34,12 @@ MOST = 10_000_000
 LINE = re.compile(r"(\d+) (\d+) ([^:]+): (.+)")
 DEED = re.compile(r":d(\d+)")
 END = re.compile(r"states (\d+) (?:depth (\d+) (closed|stopped)|(within) (\d+))")
-BAD = {"long": "it has more than 120 bytes", "who": "its first word is neither 'each' nor a number",
-       "what": "after its first word it is no ld, lb, st, sb, trap or call of a script without the processor",
-       "many": f"a menu has at most {against.MOST_DEEDS} deeds and {against.MOST_LINES} lines"}
+AGAIN = re.compile(r"again (.+): (yes|no|unknown)((?: [^ ]+)*)")
+BAD = {"long": "it has more than 120 bytes", "who": "its first word is neither 'each', 'again' nor a number",
+       "what": "after its first word it is no ld, lb, st, sb, trap or call of a script without its processor, or has "
+               "no label",
+       "many": f"a menu has at most {against.MOST_DEEDS} deeds, {against.MOST_LABELS} labels and "
+               f"{against.MOST_LINES} lines"}
 REASONS = {3: "its input can't be read", 4: "its output can't be written", 5: "no memory was found: give fewer STATES"}
 
 
@@ -55,11 +61,12 @@ class Line(NamedTuple):
 
 
 class Search(NamedTuple):
-    """What the program says: the line of the image, the lines that can come, and the last one."""
+    """What the program says: the line of the image, the lines that can come, the last one, and those on labels."""
 
     head: str
     lines: list[Line]
     last: str
+    again: list[str]
 
 
 # The program
@@ -109,10 +116,12 @@ def waited(program: str, words: list[str], given: int, told: int) -> int:
 
 def read(lines: list[str]) -> Search:
     """The text of a search."""
-    found = [LINE.fullmatch(line) for line in lines[1:-1]]
-    if len(lines) < 2 or None in found or not END.fullmatch(lines[-1]):
+    end = next((at for at, line in enumerate(lines) if END.fullmatch(line)), 0)
+    found = [LINE.fullmatch(line) for line in lines[1:end]]
+    again = lines[end + 1:]
+    if not end or None in found or not all(map(AGAIN.fullmatch, again)):
         raise Failed("what the program wrote is no text of 'every'")
-    return Search(lines[0], [Line(int(x[1]), int(x[2]), x[3], x[4]) for x in found if x], lines[-1])
+    return Search(lines[0], [Line(int(x[1]), int(x[2]), x[3], x[4]) for x in found if x], lines[end], again)
 
 
 # What is told
@@ -127,7 +136,18 @@ def told_of(search: Search, only_trouble: bool, menu: Menu = ()) -> list[str]:
             remarks = [meanings.of_answer(line.text), *(f"d{deed}: {menu[deed - 1].line}" for deed in deeds)]
             remark = "; ".join(filter(None, remarks))
             told.append(f"{number:>4}  {line.step} {line.cpu} {line.text}: {line.way}{remark and '    # ' + remark}")
-    return told + [f"{search.last}    # {meaning_of(search.last, bool(menu))}"]
+    told.append(f"{search.last}    # {meaning_of(search.last, bool(menu))}")
+    return told + [f"{line}    # {meaning_again(line, bool(menu))}" for line in search.again]
+
+
+def meaning_again(line: str, with_menu: bool) -> str:
+    found = AGAIN.fullmatch(line)
+    assert found
+    if found[2] == "yes":
+        return "it can come again, whatever was done" + (" of the menu" if with_menu else "")
+    if found[2] == "no":
+        return "it never comes after this way" if found[3] else "it never comes"
+    return "only a search that closes says this"
 
 
 def meaning_of(last: str, with_menu: bool = False) -> str:
@@ -140,14 +160,14 @@ def meaning_of(last: str, with_menu: bool = False) -> str:
     return f"there are more than {found[1]} states; nothing else can come by {found[2]} choices or fewer"
 
 
-def traced(image: Image, line: Line, way: Way, menu: Menu, source: str | None) -> int:
+def traced(image: Image, line: Line, way: Way, menu: Menu, after: After, source: str | None) -> int:
     """Prints the way choice by choice, and whether it shows what it should."""
     names = trace.Names(image, source)
     if names.warning:
         print(f"every: {names.warning}", file=sys.stderr)
     print("# by the reference: no proof; the last line at the right is compared with the program's")
     shown = ""
-    for made in ways.made(image, way, menu):
+    for made in ways.made(image, way, menu, after):
         if made.turn is None:
             print(f"{made.step:>6}   line {made.line} is raised")
         else:
@@ -161,9 +181,9 @@ def traced(image: Image, line: Line, way: Way, menu: Menu, source: str | None) -
     return 0
 
 
-def scripted(program: str, image: Image, line: Line, way: Way, menu: Menu) -> int:
+def scripted(program: str, image: Image, line: Line, way: Way, menu: Menu, after: After) -> int:
     """Prints a script that makes the same events, and whether the program answers it as the reference does."""
-    text, answers = ways.script(image, way, menu)
+    text, answers = ways.script(image, way, menu, after)
     print(f"# {line.step} {line.cpu} {line.text}")
     print(text, end="")
     told, status = calling.output(program, ["script"], text.encode())
@@ -195,8 +215,10 @@ def main() -> None:
     parser.add_argument("states", metavar="STATES", help="room for so many states")
     parser.add_argument("first", metavar="FROM", nargs="?", help="no line comes before so many turns; without it 0")
     parser.add_argument("depth", metavar="DEPTH", nargs="?", help="at most so many choices; without it any number")
+    parser.add_argument("--after", metavar=("STEPS", "SEED"), nargs=2,
+                        help="begin after so many steps of run by that seed; without it at the first moment")
     parser.add_argument("--source", metavar="FILE", help="of an image: the text that it was made of, for its names")
-    parser.add_argument("--may", metavar="MENU", help="a file with a menu, in the place of the source's lines .may")
+    parser.add_argument("--may", metavar="MENU", help="a file with a menu, in the place of that of the source")
     parser.add_argument("--alone", action="store_true", help="without the source's menu: the partitions' programs run")
     parser.add_argument("--trouble", action="store_true", help="only lines with a refused call, a fault or a park")
     one = parser.add_mutually_exclusive_group()
@@ -234,7 +256,7 @@ def given_of(given: argparse.Namespace) -> Given:
     return Given(data, b"" if given.alone else menu, source or given.source)
 
 
-def deeds_of(given: argparse.Namespace, menu: bytes) -> Menu:
+def menu_of(given: argparse.Namespace, menu: bytes) -> against.Menu:
     try:
         return against.menu_of(menu)
     except against.BadLine as bad:
@@ -247,14 +269,21 @@ def words_of(given: argparse.Namespace, command: str) -> list[str]:
         words.append(str(calling.number(given.first, 0, MOST, "FROM")))
     if given.depth is not None:
         words.append(str(calling.number(given.depth, 1, MOST, "DEPTH")))
-    return words
+    return words + (["after", *map(str, after_of(given))] if given.after else [])
+
+
+def after_of(given: argparse.Namespace) -> After:
+    if given.after is None:
+        return AT_FIRST
+    steps, seed = given.after
+    return After(calling.number(steps, 0, MOST, "STEPS"), calling.number(seed, 1, WORD - 1, "SEED"))
 
 
 def work(given: argparse.Namespace) -> int | None:
     words_of(given, "every")
     image, menu, source = given_of(given)
-    deeds = deeds_of(given, menu)
-    search = read(searched(given.program, words_of(given, "against" if deeds else "every"), image + menu))
+    deeds, labels = menu_of(given, menu)
+    search = read(searched(given.program, words_of(given, "against" if deeds or labels else "every"), image + menu))
     number = given.trace or given.script or given.page or (given.plan and given.plan[0])
     if number is None:
         print("\n".join(told_of(search, given.trouble, deeds)))
@@ -267,15 +296,15 @@ def work(given: argparse.Namespace) -> int | None:
 
 def shown(given: argparse.Namespace, data: bytes, menu: Menu, source: str | None, line: Line) -> int | None:
     """The way to a line, as it was asked for."""
-    image = images.read(data)
+    image, after = images.read(data), after_of(given)
     way = ways.read(image, line.way, menu)
     if given.trace:
-        return traced(image, line, way, menu, source)
+        return traced(image, line, way, menu, after, source)
     if given.script:
-        return scripted(given.program, image, line, way, menu)
+        return scripted(given.program, image, line, way, menu, after)
     if menu:
         raise Failed("a run makes no deeds: --trace and --script show a way with a menu")
-    built, run = planned(given.program, data, line, way)
+    built, run = planned(given.program, data, line, ways.before(image, after) + way)
     if given.page:
         first = max(0, run.steps + 1 - states.MOST_STATES)
         found = states.of_image(given.program, built, first, run.steps, run.seed, None, source)

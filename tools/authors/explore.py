@@ -1,8 +1,7 @@
 """The runs of many seeds and timers side by side, grouped by how they end, with the first run of each group.
 
     tools/explore FILE STEPS FIRST LAST [--line L FIRST PERIOD]
-    tools/explore --merge PART ..
-"""
+    tools/explore --merge PART .."""
 
 from __future__ import annotations
 
@@ -103,7 +102,7 @@ class End:
 def ending(program: str, image: bytes, steps: str, run: Run, with_outs: bool) -> Group:
     """A run as a group of its own. How it ends is a sentence: equal sentences are one group."""
     if run.plan:
-        image = plans.with_plan(image, run.plan)
+        image = plans.with_plans(image, [run.plan])
     trace = calling.text_of(program, ["run", steps, str(run.seed)], image)
     tree = calling.text_of(program, ["tree", steps, str(run.seed)], image)[:-1]
     end = End(trace[0])
@@ -208,4 +207,4 @@ def write(given: argparse.Namespace, image: bytes, varied: Sequence[Plan | None]
     plan, = varied if len(varied) == 1 else [None]
     if plan is None or seeds != 1:
         raise Failed("--write is for one seed, and for one plan of --line")
-    asmx.write_image(given.write, plans.with_plan(image, plan))
+    asmx.write_image(given.write, plans.with_plans(image, [plan]))

@@ -1,15 +1,12 @@
 """A script typed line by line: each answer in words, and a bad line is explained and costs nothing.
 
-    tools/shell [FILE]
-"""
+    tools/shell [FILE]"""
 
 from __future__ import annotations
 
 import argparse
 import io
 import sys
-from collections.abc import Callable
-from dataclasses import dataclass
 
 from ..common import calling, meanings
 from ..common.calling import Failed, text_of
@@ -66,8 +63,11 @@ class Session:
         meaning = meanings.of_answer(answer, line.decode())
         return [answer + (f"    # {meaning}" if meaning else "")]
 
-    def undo(self, count: int) -> list[str]:
+    # The words of the shell, each with what is after it
+
+    def on_undo(self, operand: str) -> list[str]:
         """Takes back the last lines that have an answer, with the remarks after them."""
+        count = calling.number(operand or "1", 1, 1 << 24, "the number of lines")
         places = [place for place, line in enumerate(self.kept) if not is_blank(line)][-count:]
         if not places:
             return ["there is no line to take back"]
@@ -75,7 +75,14 @@ class Session:
         self.again(self.kept[:places[0]])
         return [f"taken back: {line.decode('utf-8', 'replace')}" for line in gone if not is_blank(line)]
 
-    def load(self, path: str) -> list[str]:
+    def on_list(self, _: str) -> list[str]:
+        lines = enumerate(self.kept, 1)
+        return [f"{place:>4}  {line.decode('utf-8', 'replace')}" for place, line in lines] or ["no line yet"]
+
+    def on_help(self, _: str) -> list[str]:
+        return HELP.split("\n")
+
+    def on_load(self, path: str) -> list[str]:
         """Begins again with the lines of a file, up to a bad one."""
         before, lines = list(self.kept), calling.contents(path).split(b"\n")
         self.again([])
@@ -90,7 +97,7 @@ class Session:
             raise Failed(f"{path} has no line with an answer")
         return [f"{len(self.kept)} lines; the last answer: {last[0]}"]
 
-    def save(self, path: str) -> list[str]:
+    def on_save(self, path: str) -> list[str]:
         try:
             with open(path, "wb") as file:
                 file.write(b"".join(line + b"\n" for line in self.kept))
@@ -103,7 +110,7 @@ class Session:
             raise Failed("there is no machine yet: boot 64 1 begins one")
         return walk.Looker(self.asked.words)
 
-    def tree(self) -> list[str]:
+    def on_tree(self, _: str) -> list[str]:
         """The partitions, each below its parent."""
         found, runs = walk.partitions(self.looked()), self.runs()
         return [partition_line(x, [cpu for cpu, name in enumerate(runs) if name == x.name]) for x in found]
@@ -116,12 +123,12 @@ class Session:
             states.runs_after(found, line.split(b" ")[1], answer.split())
         return found
 
-    def audit(self) -> list[str]:
+    def on_audit(self, _: str) -> list[str]:
         """What the program's audit says of the words in which the tree is."""
         looker = self.looked()
         found = walk.partitions(looker)
         frames = int(self.asked.lines[0].split()[1], 0)
-        output, _ = calling.output(self.program, ["audit", str(frames)], walk.core_text(looker.seen).encode())
+        output = calling.output(self.program, ["audit", str(frames)], walk.core_text(looker.seen).encode())[0]
         last = output.decode().splitlines()[-1]
         rows = sum(len(x.rows) for x in found)
         return [f"{last}    # {len(found)} partition{'s' * (len(found) > 1)} and {rows} rows, each word as the tree "
@@ -146,47 +153,20 @@ def explained(kept: list[bytes], line: bytes) -> list[str]:
         return [str(failed)]
 
 
-# The words of the shell
-
-
-@dataclass(frozen=True)
-class Command:
-    """What a word of the shell does, and whether something is after it: must, may or mustn't."""
-
-    do: Callable[[Session, str], list[str]]
-    operand: str = "none"
-
-
-def undo(session: Session, operand: str) -> list[str]:
-    return session.undo(calling.number(operand or "1", 1, 1 << 24, "the number of lines"))
-
-
-def listed(session: Session, operand: str) -> list[str]:
-    lines = enumerate(session.kept, 1)
-    return [f"{place:>4}  {line.decode('utf-8', 'replace')}" for place, line in lines] or ["no line yet"]
-
-
-COMMANDS = {
-    "undo": Command(undo, "may"),
-    "list": Command(listed),
-    "tree": Command(lambda session, _: session.tree()),
-    "audit": Command(lambda session, _: session.audit()),
-    "save": Command(lambda session, operand: session.save(operand), "must"),
-    "load": Command(lambda session, operand: session.load(operand), "must"),
-    "help": Command(lambda session, _: HELP.split("\n")),
-}
+# The words of the shell, and whether something is after each: must, may or mustn't
+WORDS = {"undo": "may", "list": "no", "tree": "no", "audit": "no", "save": "must", "load": "must", "help": "no"}
 
 
 def answered(session: Session, text: str) -> list[str]:
     """What the shell says to a typed line."""
     word, _, operand = text.strip().partition(" ")
-    command = COMMANDS.get(word)
-    if command is None:
+    if word not in WORDS:
         return session.say(text.encode("utf-8", "surrogateescape"))
-    if command.operand == "must" and not operand or command.operand == "none" and operand:
-        return [f"{word} has {'a file' if command.operand == 'must' else 'nothing'} after it: see help"]
+    if WORDS[word] == "must" and not operand or WORDS[word] == "no" and operand:
+        return [f"{word} has {'a file' if WORDS[word] == 'must' else 'nothing'} after it: see help"]
     try:
-        return command.do(session, operand.strip())
+        told: list[str] = getattr(session, "on_" + word)(operand.strip())
+        return told
     except Failed as failed:
         return [str(failed)]
 
@@ -225,7 +205,7 @@ def work(given: argparse.Namespace) -> int:
     session = Session(given.program)
     try:
         if given.file:
-            show(session.load(given.file))
+            show(session.on_load(given.file))
         while (line := typed()) is not None and line != "quit":
             show(answered(session, line))
         if on_terminal:

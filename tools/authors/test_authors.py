@@ -126,10 +126,12 @@ class Preprocessor(unittest.TestCase):
             path = os.path.join(folder, "a.asmx")
             with open(path, "w", encoding="utf-8") as file:
                 file.write(".may each st LAST+4*63 at   # its handler\n.equ LAST 0xfffff000\n.frames 16\n.cpus 1\n"
-                           ".page 0x400000\n.may 12+1 call 8 0 70\nat: out r1\n")
+                           ".page 0x400000\n.may 12+1 call 8 0 70\nat: out r1\n"
+                           ".again  0 out   0x00000005  # it comes again\n")
             lines, text = asmx.processed(path)
         self.assertEqual([str(line) for _, line in lines][2:], [".page 0x00400000", "at:", "out r1"])
-        self.assertEqual(asmx.menu_of(text.menu), b"each st 0xfffff0fc 0x00400000\n0x0000000d call 8 0 70\n")
+        self.assertEqual(asmx.menu_of(text.menu), b"each st 0xfffff0fc 0x00400000\n0x0000000d call 8 0 70\n"
+                                                  b"again 0 out 0x00000005\n")
 
     def test_deeds_that_are_refused(self) -> None:
         for text, told, column in ((".may", "'each' or a partition's name", 1), (".may each", "and a deed", 1),
@@ -139,12 +141,16 @@ class Preprocessor(unittest.TestCase):
                                    (".may 28 ld 0 0", "no processor is named here", 14),
                                    (".may each sb 0 256", "from 0 to 255", 16), (".may each ld -1", "from 0 to", 14),
                                    (".may each trap 256 0 0", "from 0 to 255", 16),
-                                   (".may each call 0 1 2 3 4 5 6", "1 to 6 numbers", 28)):
+                                   (".may each call 0 1 2 3 4 5 6", "1 to 6 numbers", 28),
+                                   ("  .again # x", "has a line without its step", 3),
+                                   (".again " + "x" * 115, "more than 120 bytes", 8)):
             with self.subTest(text=text), self.assertRaisesRegex(asmx.Wrong, told) as found:
                 self.of_page(text)
             self.assertEqual((found.exception.place.line, found.exception.column), (4, column))
         with self.assertRaisesRegex(asmx.Wrong, "at most 1024 deeds"):
             self.of_page(".may each ld 0\n" * 1025)
+        with self.assertRaisesRegex(asmx.Wrong, "at most 16 labels"):
+            self.of_page(".again x\n" * 17)
 
     def test_all_wrong_lines_are_told_in_their_order(self) -> None:
         with self.assertRaises(asmx.Wrong) as found:
@@ -204,11 +210,15 @@ class Reasons(unittest.TestCase):
                           (b"each ld 00", ("number", 9)), (b"each ld", ("count", 8)), (b"each ld 0 0", ("count", 11)),
                           (b"each call 0 1 2 3 4 5 6", ("count", 23)), (b"each trap 256 0 0", ("range", 11)),
                           (b"each ld 0\r", ("return", 10)), (b"each  ld 0", ("spaces", 5)),
+                          (b"again", ("menu what", 6)), (b"Again x", ("menu who", 1)),
+                          (b"again " + b"x" * 115, ("long", 121)),
                           (b"#" * 121, ("long", 121))):
             [(place, cause)] = why.wrong_deeds([b"# a menu", line, b"each ld 0"])
             self.assertEqual((place, (cause.name, cause.column)), (2, due), line)
         [(place, cause)] = why.wrong_deeds([b"each ld 0"] * 1026)
         self.assertEqual((place, cause.name), (1025, "menu many"))
+        [(place, cause)] = why.wrong_deeds([b"again x"] * 17)
+        self.assertEqual((place, cause.name, cause.here), (17, "menu many", "there are 16 labels before"))
 
     def test_what_is_meant(self) -> None:
         for line, kind, due in ((b"ld r1 r0 4", "unknown", "'ld' is no instruction; did you mean ldw?"),
@@ -246,31 +256,6 @@ class Groups(unittest.TestCase):
                          ["processor 0 runs partition 1", "processor 1 runs nothing (parked: 13, vector 14)",
                           "faults: vector 14 of 13", "parks: vector 14 of 13",
                           "refused: call 1 status 14", "tree: 1 (b151e0b3)", "shown: 0x00000001 x 1"])
-
-    def test_the_first_trouble_is_kept_with_its_step(self) -> None:
-        end = explore.End("image 64 1 0 1")
-        for line in ("1 0 call 8 switch 1 13 64", "7 0 call 1 reply 14 0x00000000", "9 0 park 1 14"):
-            end.take(line)
-        self.assertEqual(end.trouble, "step 7: call 1 reply 14 0x00000000")
-
-    def test_groups_are_put_together(self) -> None:
-        groups: dict[str, explore.Group] = {}
-        run = explore.Run
-        for group in (explore.Group(1, run(9), "a"), explore.Group(1, run(3), "b"),
-                      explore.Group(1, run(4, None, "step 2: park 1 14"), "a"), explore.Group(1, run(5), "a")):
-            explore.add(groups, group)
-        self.assertEqual(explore.in_order(groups),
-                         [explore.Group(3, run(4, None, "step 2: park 1 14"), "a"), explore.Group(1, run(3), "b")])
-
-    def test_a_line_of_the_output_is_read_again(self) -> None:
-        first = explore.Run(4, plans.Plan(0, 400, 40), "step 7: call 1 reply 14 0x00000000")
-        found = explore.LINE.fullmatch(f"     3 runs, {first.told()}: processor 0 runs nothing (parked: 13, vector "
-                                       "14); faults: none")
-        assert found is not None
-        self.assertEqual(found.groups(),
-                         ("3", "4", ".line 0 400 40", first.trouble,
-                          "processor 0 runs nothing (parked: 13, vector 14); faults: none"))
-        self.assertEqual(plans.read(found[3]), first.plan)
 
     def test_plans(self) -> None:
         told = [str(plan) for plan in plans.of_words(["3", "400..402", "40..50/10"])]

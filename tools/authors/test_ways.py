@@ -7,7 +7,7 @@ import unittest
 
 from ..common import calling, plans
 from ..common.calling import Failed
-from ..reference import against, assembly, every as searches, generate_every, image as images, runs, script
+from ..reference import against, assembly, commands, every as searches, generate_every, image as images, runs, script
 from ..reference.image import Image
 from . import asmx, every, ways
 
@@ -30,32 +30,43 @@ class Ways(unittest.TestCase):
             self.assertRaises(Failed, ways.read, race, text)
 
     def test_generated_ways_are_made_again_and_are_scripts_and_runs(self) -> None:
-        for seed in (2, 4, 6, 7, 13, 21):
-            (count, *more), data = generate_every.case(seed)
-            image = images.read(data)
-            moments = searches.Moments(image, int(more[0]) if more else 0)
-            search = searches.Search(moments, min(int(count), 100), int(more[1]) if more[1:] else None)
+        for seed in (2, 4, 5, 13, 14, 21, 32):
+            words, data = generate_every.case(seed)
+            asked = commands.search_of(words)
+            assert asked
+            image, after = images.read(data), asked.after
+            moments = searches.Moments(image, asked.first, searches.begun(image, after))
+            search = searches.Search(moments, min(asked.states, 100), asked.deepest)
             for found in list(search.told())[-4:]:
                 way = ways.read(image, searches.way_text(moments, search.way(found)))
                 cpu, text = found.label
-                self.assertEqual(list(ways.made(image, way))[-1].lines, [f"{len(way) - 1} {cpu} {text}"])
-                self.is_script(image, way)
+                self.assertEqual(list(ways.made(image, way, (), after))[-1].lines, [f"{len(way) - 1} {cpu} {text}"])
+                self.is_script(image, way, after)
                 if image.cpus == 1:
-                    self.is_run(image, way, f"{cpu} {text}")
+                    self.is_run(image, ways.before(image, after) + way, f"{cpu} {text}")
 
-    def is_script(self, image: Image, way: ways.Way) -> None:
-        text, answers = ways.script(image, way)
+    def test_the_way_to_where_a_search_begins(self) -> None:
+        race, after = source("every/race.asmx"), searches.After(80, 3)
+        way = ways.before(race, after)
+        self.assertEqual(ways.read(race, ways.text_of(way)), way)
+        *_, last = ways.made(race, way)
+        shown = runs.core(race, after.steps, after.seed)[0]
+        self.assertEqual([*runs.core_lines(last.world.tree), "end 80"], shown)
+        self.assertLess(len(way), 80)
+
+    def is_script(self, image: Image, way: ways.Way, after: searches.After = searches.AT_FIRST) -> None:
+        text, answers = ways.script(image, way, (), after)
         told, status = script.run(text.encode())
         self.assertEqual((told.decode().splitlines(), status), (answers, 0))
 
     def is_run(self, image: Image, way: ways.Way, line: str) -> None:
         run = ways.run_of(image, way)
-        planned = image._replace(plans=[images.Plan(plan.line, plan.first, plan.period) for plan in run.plans])
+        planned = image._replace(plans=run.plans)
         told, _ = runs.run(planned, run.steps, run.seed)
         self.assertEqual(told[-2], f"{run.steps - 1} {line}")
 
     def test_ways_with_deeds(self) -> None:
-        image, menu = source("every/served.asmx"), against.menu_of(b"each trap 63 0 0\n28 st 0xfffff0fc 0\n")
+        image, menu = source("every/served.asmx"), against.menu_of(b"each trap 63 0 0\n28 st 0xfffff0fc 0\n").deeds
         for text, line, did in (("0x43 0:d1 0", "44 0 park 1 14", "each trap 63 0 0"),
                                 ("0x43 0x2 raise0 0", "46 0 switch 28 1 32", "it waits"),
                                 ("0x43 0:d2 0:d1", "44 0 switch 28 1 63", "28 st 0xfffff0fc 0")):
@@ -96,11 +107,19 @@ class Told(unittest.TestCase):
         self.assertTrue(told[3].startswith("   3  4 0 park 1 64: 0x5    # vector 64; nobody takes it"))
 
     def test_the_deeds_of_a_way_are_told(self) -> None:
-        menu = against.menu_of(b"each ld 0\n13 trap 64 0 0\n")
+        menu = against.menu_of(b"each ld 0\n13 trap 64 0 0\n").deeds
         text = ["image 16 2 0 1", "2 1 out 0x00000007: 0 1:d2x3 0:d1", "states 1 depth 0 closed"]
         told = every.told_of(every.read(text), False, menu)
         self.assertTrue(told[1].endswith("0 1:d2x3 0:d1    # d1: each ld 0; d2: 13 trap 64 0 0"), told[1])
         self.assertTrue(told[2].endswith("whatever is done of the menu"))
+
+    def test_what_is_said_of_labels_is_told(self) -> None:
+        text = ["image 16 2 0 1", "states 6 depth 3 closed", "again 0 out 0x00000005: yes", "again 1 x: no",
+                "again 1 y: no 0x3 1:d2"]
+        told = every.told_of(every.read(text), False)
+        self.assertEqual([line.partition("    # ")[2] for line in told[2:]], [
+            "it can come again, whatever was done", "it never comes", "it never comes after this way"])
+        self.assertRaises(Failed, every.read, [*text, "again 1 x"])
 
     def test_trouble_alone(self) -> None:
         told = self.told("states 5 depth 4 closed", True)

@@ -3,8 +3,7 @@
     tools/trace FILE STEPS SEED [--source FILE]
 
 The steps come from tools/reference, of which nothing is proved. Its lines are compared with those of the program, and
-where they differ that is said, and the status is 1.
-"""
+where they differ that is said, and the status is 1."""
 
 from __future__ import annotations
 

@@ -6,6 +6,7 @@ They are made again by tools/reference, of which nothing is proved.
 from __future__ import annotations
 
 import functools
+import itertools
 import re
 from array import array
 from collections.abc import Callable, Iterator, Sequence
@@ -13,8 +14,9 @@ from typing import NamedTuple
 
 from ..common.calling import Failed
 from ..common.plans import Plan
-from ..reference import against, image as images, runs, script as scripts
+from ..reference import against, every as searches, image as images, runs, script as scripts
 from ..reference.against import Deed
+from ..reference.every import AT_FIRST, After
 from ..reference.image import Image
 from ..reference.model import LOAD, NOWHERE, PAGE, ROOT, SAVED, Context, Outcome, Parked, Place, Switched, Tree, World
 from ..reference.script import outcome_text, word_text
@@ -53,6 +55,27 @@ def read(image: Image, text: str, menu: Menu = ()) -> Way:
     return way
 
 
+def before(image: Image, after: After) -> Way:
+    """The choices that the steps before a search are, without the turns that change nothing."""
+    world, drawn, way = images.world(image), runs.Generator(after.seed), list[Choice]()
+    for step in range(after.steps):
+        raised = [plan.line for plan in image.plans if images.is_due(plan, step)]
+        way += [Choice(None, line) for line in raised]
+        runs.raise_lines(image, world, step)
+        cpu = drawn.draw(image.cpus)
+        if str(cpu) not in idle_of(world):
+            way.append(Choice(cpu, None))
+            runs.Turn(world, cpu, step, lambda line: None).take()
+    return way
+
+
+def text_of(way: Way) -> str:
+    """The text of a way without deeds."""
+    words = (f"raise{choice.line}" if choice.cpu is None else str(choice.cpu) for choice in way)
+    groups = ((word, len(list(same))) for word, same in itertools.groupby(words))
+    return " ".join(word if count == 1 else f"{word}x{count}" for word, count in groups)
+
+
 class Waiting(trace.Watched, against.Hostile):
     """A turn of a hostile partition that notes what it did."""
 
@@ -82,8 +105,8 @@ class Made(NamedTuple):
     world: World
 
 
-def made(image: Image, way: Way, menu: Menu = ()) -> Iterator[Made]:
-    world = images.world(image)
+def made(image: Image, way: Way, menu: Menu = (), after: After = AT_FIRST) -> Iterator[Made]:
+    world = searches.begun(image, after)
     for step, choice in enumerate(way):
         lines: list[str] = []
         turn = None
@@ -220,9 +243,18 @@ def reads(tree: Tree, outcome: Outcome, place: Place) -> bool:
     return isinstance(read, Place) and read.page == place.page and abs(read.index - place.index) < BLOCK
 
 
-def script(image: Image, way: Way, menu: Menu = ()) -> tuple[str, list[str]]:
-    """A script that makes the events of a way, and its answers."""
+def script(image: Image, way: Way, menu: Menu = (), after: After = AT_FIRST) -> tuple[str, list[str]]:
+    """A script that makes the events of the steps before a way and those of the way, and its answers."""
     world = Told(image)
+    if after.steps:
+        make(world, before(image, after))
+        world.remark(f"after {after.steps} steps by the seed {after.seed}")
+    make(world, way, menu)
+    ends_as_the_way(world)
+    return "".join(line + "\n" for line in world.lines), world.answers
+
+
+def make(world: Told, way: Way, menu: Menu = ()) -> None:
     for step, choice in enumerate(way):
         if choice.cpu is None:
             assert choice.line is not None
@@ -237,8 +269,6 @@ def script(image: Image, way: Way, menu: Menu = ()) -> tuple[str, list[str]]:
         world.lines.insert(place, f"# {step} {choice.cpu} {did}"[:scripts.LONGEST])
         if lines and " out " in lines[-1]:
             world.remark(lines[-1])
-    ends_as_the_way(world)
-    return "".join(line + "\n" for line in world.lines), world.answers
 
 
 def ends_as_the_way(world: Told) -> None:

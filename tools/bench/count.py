@@ -2,8 +2,7 @@
 
     bench/count FILE [WORD..]      with these words, or with `script`
 
-The run has to end with status 0. Build the program first, by ./pip.
-"""
+The run has to end with status 0. Build the program first, by ./pip."""
 
 from __future__ import annotations
 

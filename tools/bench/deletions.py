@@ -1,8 +1,7 @@
 """Two scripts for a case of deletePartition: one up to the deletion, and the same with it.
 
 A case is `bare` (a child of five pages), `rows N` in one table, `tables N` without rows,
-`children N` of the child, or `chain N` of partitions one below the other, as one word each (`rows1000`).
-"""
+`children N` of the child, or `chain N` of partitions one below the other, as one word each (`rows1000`)."""
 
 from __future__ import annotations
 

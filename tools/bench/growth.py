@@ -2,8 +2,7 @@
 
     bench/growth.py FILE
 
-Callgrind counts, as for bench/run: valgrind is needed, and the program that ./pip builds.
-"""
+Callgrind counts, as for bench/run: valgrind is needed, and the program that ./pip builds."""
 
 from __future__ import annotations
 
@@ -26,37 +25,27 @@ class Curve(NamedTuple):
     aside: tuple[int, int]       # where the last figure is from its point
 
 
-Points = list[tuple[int, int]]      # a size, and the instructions
+Points = list[tuple[int, int]]      # a size, and the instructions of the line that deletes
 CURVES = [
     Curve("chain", "partitions in a chain, each with a table", (1, 2, 5, 10, 20, 50, 100), "#7d4fa8", "end", (-10, 4)),
     Curve("children", "children of the child", (0, 1, 2, 5, 10, 20, 50, 100, 200), "#c0392b", "start", (10, 4)),
     Curve("tables", "tables without rows", (0, 1, 2, 5, 10, 20, 50, 100), "#2f6fbd", "start", (6, 17)),
     Curve("rows", "rows in one table", (0, 1, 2, 5, 10, 20, 50, 100, 200, 500, 1000), "#2e8b57", "end", (0, -12)),
 ]
-
-
-# The counts
-
-def deletion(program: Counted, case: str) -> int:
-    """The instructions of the line that deletes."""
-    before, with_it = deletions.scripts(case)
-    return program.instructions(with_it.encode()) - program.instructions(before.encode())
+# A decade is as long on one axis as on the other, so what is proportional rises by 45 degrees.
+LEFT, TOP, DECADE, GAP = 84, 84, 150, 70
+SIZES, LOWEST, HIGHEST = 3, 3, 6              # decades of sizes from 1 on, and the powers of ten of instructions
+ONE, RIGHT, BOTTOM = LEFT + GAP, LEFT + GAP + SIZES * DECADE, TOP + (HIGHEST - LOWEST) * DECADE
+GRID = "#e4e7eb"
 
 
 def counted(program: Counted, curve: Curve) -> Points:
     points = []
     for size in curve.sizes:
-        points.append((size, deletion(program, f"{curve.kind}{size}")))
+        before, with_it = (program.instructions(text.encode()) for text in deletions.scripts(f"{curve.kind}{size}"))
+        points.append((size, with_it - before))
         print(f"{curve.kind} {size}: {points[-1][1]}", flush=True)
     return points
-
-
-# The picture: a decade is as long on one axis as on the other, so what is proportional rises by 45 degrees.
-
-LEFT, TOP, DECADE, GAP = 84, 84, 150, 70
-SIZES, LOWEST, HIGHEST = 3, 3, 6              # decades of sizes from 1 on, and the powers of ten of instructions
-ONE, RIGHT, BOTTOM = LEFT + GAP, LEFT + GAP + SIZES * DECADE, TOP + (HIGHEST - LOWEST) * DECADE
-GRID = "#e4e7eb"
 
 
 def across(size: int) -> float:
@@ -74,29 +63,23 @@ def draw(curves: list[tuple[Curve, Points]]) -> str:
                  bold=True)
     drawing.text(16, 52, "Both axes are logarithmic. Along the grey diagonal ten times as many take ten times the "
                          "instructions.", colour=PALE)
-    draw_axes(drawing)
-    for curve, points in curves:
-        draw_curve(drawing, curve, points)
-    for place, (curve, points) in enumerate(curves):
-        draw_legend(drawing, curve, points, TOP + 12 + 74 * place)
-    return drawing.written()
-
-
-def draw_axes(drawing: Drawing) -> None:
     for power in range(LOWEST, HIGHEST + 1):
-        y = down(10 ** power)
-        drawing.line([(LEFT, y), (RIGHT, y)], GRID, 1)
-        drawing.text(LEFT - 8, y + 4, f"{10 ** power:,}", anchor="end")
+        drawing.line([(LEFT, down(10 ** power)), (RIGHT, down(10 ** power))], GRID, 1)
+        drawing.text(LEFT - 8, down(10 ** power) + 4, f"{10 ** power:,}", anchor="end")
     for size in [0] + [10 ** power for power in range(SIZES + 1)]:
-        x = across(size)
-        drawing.line([(x, TOP), (x, BOTTOM)], GRID, 1)
-        drawing.text(x, BOTTOM + 18, f"{size:,}", anchor="middle")
+        drawing.line([(across(size), TOP), (across(size), BOTTOM)], GRID, 1)
+        drawing.text(across(size), BOTTOM + 18, f"{size:,}", anchor="middle")
     drawing.line([(across(1), down(10 ** LOWEST)), (across(1000), down(10 ** HIGHEST))], GRID, 3)
     drawing.line([(LEFT, TOP), (LEFT, BOTTOM), (RIGHT, BOTTOM)], INK, 1.3)
     for x in LEFT + GAP / 2 - 3, LEFT + GAP / 2 + 3:
         drawing.line([(x - 3, BOTTOM + 6), (x + 3, BOTTOM - 6)], INK, 1.3)
     drawing.text(LEFT - 68, TOP - 12, "instructions")
     drawing.text((LEFT + RIGHT) / 2, BOTTOM + 38, "how many rows, tables, children or partitions", anchor="middle")
+    for curve, points in curves:
+        draw_curve(drawing, curve, points)
+    for place, (curve, points) in enumerate(curves):
+        draw_legend(drawing, curve, points, TOP + 12 + 74 * place)
+    return drawing.written()
 
 
 def draw_curve(drawing: Drawing, curve: Curve, points: Points) -> None:
@@ -110,18 +93,12 @@ def draw_curve(drawing: Drawing, curve: Curve, points: Points) -> None:
 def draw_legend(drawing: Drawing, curve: Curve, points: Points, top: float) -> None:
     left = RIGHT + 40
     (least, first), (most, last) = points[0], points[-1]
+    begins, ends = ((second - first) / (more - less) for (less, first), (more, second) in (points[:2], points[-2:]))
     drawing.line([(left, top), (left + 24, top)], curve.colour, 2)
     drawing.rectangle(left + 9, top - 3, 6, 6, curve.colour, corner=3)
     drawing.text(left + 34, top + 4, curve.what, size=12, bold=True)
     drawing.text(left + 34, top + 21, f"with {least}: {first:,}; with {most:,}: {last:,}")
-    drawing.text(left + 34, top + 38,
-                 f"each more takes {rise(points[:2]):,.0f} at first, {rise(points[-2:]):,.0f} in the end")
-
-
-def rise(two: Points) -> float:
-    """The instructions for each more, between two points."""
-    (less, first), (more, second) = two
-    return (second - first) / (more - less)
+    drawing.text(left + 34, top + 38, f"each more takes {begins:,.0f} at first, {ends:,.0f} in the end")
 
 
 def main() -> None:

@@ -6,8 +6,7 @@ They are of its start, of a line of each kind, of partitions that are made and d
 assembly texts, of the steps of runs, of texts of frames, and of a generated load. The program is the built one, unless
 PATH is given: build it first, by ./pip. --plain builds the plain program of bench/plain by cargo, and puts its figures
 beside; --beside does so for any program of the same commands. --tables prints the rows of the tables of
-docs/PERFORMANCE.md, with times and worst inputs, too; it takes half an hour.
-"""
+docs/PERFORMANCE.md, with times and worst inputs, too; it takes half an hour."""
 
 from __future__ import annotations
 
@@ -18,12 +17,13 @@ import subprocess
 
 from ..common import calling
 from ..common.calling import REPOSITORY, Failed
-from . import tables
+from . import timing
 from .count import PROGRAM, Counted
 from .figures import Figures
 
 SOURCES = os.path.join(REPOSITORY, "bench", "plain", "Cargo.toml")
 BUILT = os.path.join(REPOSITORY, "out", "plain")
+PAGE = os.path.join(REPOSITORY, "docs", "PERFORMANCE.md")
 
 
 def plain_program() -> str:
@@ -48,12 +48,33 @@ def show(given: argparse.Namespace) -> None:
     if given.tables:
         if path is None:
             raise Failed("the tables have two programs: add --plain or --beside PATH")
-        tables.show(program, Counted(path))
+        tables(program, Counted(path))
         return
     print(f"{'instructions of':90} {'ours':>10}" + ("" if path is None else f" {'beside':>10} {'times':>6}"))
     others = None if path is None else Figures(Counted(path)).figures()
     for what, ours in Figures(program).figures():
         print(shown(what, ours, None if others is None else next(others)[1]), flush=True)
+
+
+def tables(ours: Counted, plain: Counted) -> None:
+    """The rows of the page's tables as they are now, each by the first cell, or by both before its numbers; and then
+    the worst inputs of which the page has no row."""
+    both, worst = [dict(Figures(program).figures()) for program in (ours, plain)], dict.fromkeys(timing.WORST)
+    for line in calling.contents(PAGE).decode().splitlines():
+        name, *numbers = line.strip("| ").split(" | ")
+        if name in both[0]:
+            first, second = (figures[name] for figures in both)
+            line = f"| {name} | {first:,} | {second:,} | {first / second:.2f} |"
+        elif name in timing.TIMES:
+            line = timing.row_of_times(name, ours, plain)
+        elif (key := (name.strip("`"), "".join(numbers[:1]))) in worst:
+            del worst[key]
+            line = timing.row_of_worst(*key, ours, plain)
+        elif not line.startswith("|"):
+            continue
+        print(line, flush=True)
+    for key in worst:
+        print(timing.row_of_worst(*key, ours, plain), flush=True)
 
 
 def main() -> None:

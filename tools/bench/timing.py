@@ -8,38 +8,28 @@ import struct
 import subprocess
 import tempfile
 from collections.abc import Callable
-from typing import NamedTuple
 
 from ..authors import asmx
+from ..common import calling
 from ..common.calling import REPOSITORY, Failed
 from . import worst
 from .count import Counted
-from .figures import ACCESSES, BOOT, COMPUTES, FIVE, HEAD, script
+from .figures import BOOT, FIVE, HEAD, script
 
 ROUNDS = 50              # runs of each program
 PART = 5                 # of the size that is given that is run
 Input = Callable[[Counted], bytes]
 
 
-class Timed(NamedTuple):
-    what: str
-    words: tuple[str, ...]
-    text: Input
-
-
-def example(*names: str) -> Input:
-    """The image of an example."""
-    def image(program: Counted) -> bytes:
-        with open(os.path.join(REPOSITORY, *names), "rb") as file:
-            return program.written(file.read(), "asm")
-    return image
+def example(name: str, folder: str = "examples") -> Input:
+    """The image of a text."""
+    return lambda program: program.written(calling.contents(os.path.join(REPOSITORY, folder, name)), "asm")
 
 
 def guests(numbers: int, shown: int) -> Input:
     """The image of examples/two_guests.s whose workers count to `numbers`, and show one count in `shown`."""
     def image(program: Counted) -> bytes:
-        with open(os.path.join(REPOSITORY, "examples", "two_guests.s"), encoding="utf-8") as file:
-            text = file.read()
+        text = calling.contents(os.path.join(REPOSITORY, "examples", "two_guests.s")).decode()
         for old, new in (("andi r2 r1 7", f"andi r2 r1 {shown - 1}"), ("andi r2 r1 63", f"andi r2 r1 {numbers - 1}"),
                          ("addi r1 r1 -64", f"addi r1 r1 -{numbers}")):
             if text.count(f"\n{old}\n") != 1:
@@ -47,10 +37,6 @@ def guests(numbers: int, shown: int) -> Input:
             text = text.replace(f"\n{old}\n", f"\n{new}\n")
         return program.written(text.encode(), "asm")
     return image
-
-
-def assembled(text: str) -> Input:
-    return lambda program: program.written(text.encode(), "asm")
 
 
 def generated(*words: str) -> Input:
@@ -105,79 +91,77 @@ def nothing(program: Counted) -> bytes:
     return b""
 
 
-TIMES = [
-    Timed("ten million steps of the monitor by `run`", ("run", "2000000", "1"), example("examples", "monitor.s")),
-    Timed("ten million steps of a loop of eight instructions by `run`", ("run", "2000000", "1"), assembled(COMPUTES)),
-    Timed("of seven loads and stores and a branch", ("run", "2000000", "1"), assembled(ACCESSES)),
-    Timed("100,000 pairs of createPartition and deletePartition", ("script",),
-          lambda program: script(BOOT, f"call 0 0 {FIVE}\ncall 0 1 0x401000", 100000 // PART)),
-    Timed("two million lines `li` assembled", ("asm",), many_lines),
-    Timed("five audits of 4096 frames, whole", ("audit", "4096"), core_of_all),
-    Timed("a million events of `soak`", ("soak", str(1000000 // PART), "1"), nothing),
-    Timed("a million lines `ld 0 0x400000`", ("script",),
-          lambda program: script(BOOT, "ld 0 0x400000", 1000000 // PART)),
-]
-CHAIN = ("chain", "111", "16777216")
-WORST = [
-    Timed("`names prefixes 100000`, names that differ only in their last letters", ("asm",),
-          generated("names", "prefixes", "100000")),
-    Timed("16 MB of bare remarks", ("asm",), remarks),
-    Timed("`chain 111 16777216 create`: the lowest of 111 partitions makes and ends a child, 168,000 times",
-          ("script",),
-          generated(*CHAIN, "create")),
-    Timed("`chain 111 16777216 prepare`: it gives a child tables and takes them back", ("script",),
-          generated(*CHAIN, "prepare")),
-    Timed("`build 240 500`: the events by which `build` makes a child with 240 wants, each in a directory of its own, "
-          "500 times", ("script",), generated("build", "240", "500")),
-    Timed("`audit`: 3,000 descriptors that share 1,024 tables, with two alternating sets of first shadows",
-          ("audit", "4096"), generated("audit")),
-    Timed("`calls`: an image whose root makes and ends a child in a loop", ("run", "10000000", "1"), image_of("calls")),
-    Timed("`faults`: an image whose children fault at each instruction", ("native", "8", "10000000"),
-          image_of("faults")),
-    Timed("the same image: slots without turns, so that each step is a switch", ("slots", "8", "0", "625000"),
-          image_of("faults")),
-    Timed("it reads nothing", ("soak", "1000000", "1"), nothing),
-    Timed("an image of 16 MB without a word of 0, all of them instructions", ("dis",), full_image("addi r10 r11 -12")),
-    Timed("the same with words that are none", ("dis",), full_image(".word 0xfedcba98")),
-    Timed("the first of these images", ("tree", "0", "1"), full_image("addi r10 r11 -12")),
-    Timed("the same", ("core", "0", "1"), full_image("addi r10 r11 -12")),
-    Timed("`fill`: an image that stores a word in one place after the other", ("every", "20000"), image_of("fill")),
-    Timed("`bench/collide.asmx`, chosen against hashes without folded products", ("every", "200000"),
-          macros("collide.asmx")),
-    Timed("`bench/spread.asmx`, the same with other registers", ("every", "200000"), macros("spread.asmx")),
-    Timed("`examples/monitor.s`", ("every", "1000000"), example("examples", "monitor.s")),
-    Timed("`examples/retry.s`, on two processors", ("every", "1000000"), example("examples", "retry.s")),
-    Timed("`examples/every/guarded.asmx` with its menu", ("against", "300000"), guarded),
-    Timed("`examples/two_guests.s` with counts to 32,768, of which it shows 8: 110,000 states of each guest, where all "
-          "orders of both have 12,000,000,000", ("apart", "200000", "2100", "1"), guests(32768, 4096)),
-    Timed("the same, of which it shows 4,096: as many lines of each guest, with ways of up to 221,000 turns",
-          ("apart", "300000", "2100", "1"), guests(32768, 8)),
-]
+# By what the rows of docs/PERFORMANCE.md are about: the words of a command, and its input
+TIMES: dict[str, tuple[str, Input]] = {
+    "ten million steps of the monitor by `run`": ("run 2000000 1", example("monitor.s")),
+    "ten million steps of a loop of eight instructions by `run`": ("run 2000000 1", example("computes.s", "bench")),
+    "of seven loads and stores and a branch": ("run 2000000 1", example("accesses.s", "bench")),
+    "100,000 pairs of createPartition and deletePartition": (
+        "script", lambda program: script(BOOT, f"call 0 0 {FIVE}\ncall 0 1 0x401000", 100000 // PART)),
+    "two million lines `li` assembled": ("asm", many_lines),
+    "five audits of 4096 frames, whole": ("audit 4096", core_of_all),
+    "a million events of `soak`": (f"soak {1000000 // PART} 1", nothing),
+    "a million lines `ld 0 0x400000`": (
+        "script", lambda program: script(BOOT, "ld 0 0x400000", 1000000 // PART)),
+}
+# By the words and what the row says of the input
+WORST: dict[tuple[str, str], Input] = {
+    ("asm", "`names prefixes 100000`, names that differ only in their last letters"):
+        generated("names", "prefixes", "100000"),
+    ("asm", "16 MB of bare remarks"): remarks,
+    ("script", "`chain 111 16777216 create`: the lowest of 111 partitions makes and ends a child, 168,000 times"):
+        generated("chain", "111", "16777216", "create"),
+    ("script", "`chain 111 16777216 prepare`: it gives a child tables and takes them back"):
+        generated("chain", "111", "16777216", "prepare"),
+    ("script", "`build 240 500`: the events by which `build` makes a child with 240 wants, each in a directory of its "
+               "own, 500 times"): generated("build", "240", "500"),
+    ("audit 4096", "`audit`: 3,000 descriptors that share 1,024 tables, with two alternating sets of first shadows"):
+        generated("audit"),
+    ("run 10000000 1", "`calls`: an image whose root makes and ends a child in a loop"): image_of("calls"),
+    ("native 8 10000000", "`faults`: an image whose children fault at each instruction"): image_of("faults"),
+    ("slots 8 0 625000", "the same image: slots without turns, so that each step is a switch"): image_of("faults"),
+    ("soak 1000000 1", "it reads nothing"): nothing,
+    ("dis", "an image of 16 MB without a word of 0, all of them instructions"): full_image("addi r10 r11 -12"),
+    ("dis", "the same with words that are none"): full_image(".word 0xfedcba98"),
+    ("tree 0 1", "the first of these images"): full_image("addi r10 r11 -12"),
+    ("core 0 1", "the same"): full_image("addi r10 r11 -12"),
+    ("every 20000", "`fill`: an image that stores a word in one place after the other"): image_of("fill"),
+    ("every 200000", "`bench/collide.asmx`, chosen against hashes without folded products"): macros("collide.asmx"),
+    ("every 200000", "`bench/spread.asmx`, the same with other registers"): macros("spread.asmx"),
+    ("every 1000000", "`examples/monitor.s`"): example("monitor.s"),
+    ("every 1000000", "`examples/retry.s`, on two processors"): example("retry.s"),
+    ("every 1000000 after 2100 1", "`examples/two_guests.s`: 224,536 states, where `apart` has 508 + 442 in less than "
+                                   "0.01"): example("two_guests.s"),
+    ("against 300000", "`examples/every/guarded.asmx` with its menu"): guarded,
+    ("apart 200000 2100 1", "`examples/two_guests.s` with counts to 32,768, of which it shows 8: 110,000 states of "
+                            "each guest, where all orders of both have 12,000,000,000"): guests(32768, 4096),
+    ("apart 300000 2100 1", "the same, of which it shows 4,096: as many lines of each guest, with ways of up to "
+                            "221,000 turns"): guests(32768, 8),
+}
 
 
-def used(program: Counted, text: bytes, words: tuple[str, ...]) -> float:
+def used(program: Counted, text: bytes, words: str) -> float:
     """The seconds of a processor that a run takes, the system's included."""
     with tempfile.TemporaryFile() as file:
         file.write(text)
         file.seek(0)
-        process = subprocess.Popen([program.path, *words], stdin=file, stdout=subprocess.DEVNULL)
+        process = subprocess.Popen([program.path, *words.split()], stdin=file, stdout=subprocess.DEVNULL)
         _, status, usage = os.wait4(process.pid, 0)
         process.returncode = os.waitstatus_to_exitcode(status)
     if process.returncode not in (0, 9):
-        raise Failed(f"{' '.join(words)} ends with status {process.returncode}")
+        raise Failed(f"{words} ends with status {process.returncode}")
     return float(usage.ru_utime + usage.ru_stime)
 
 
-def row_of_times(row: Timed, ours: Counted, plain: Counted) -> str:
+def row_of_times(what: str, ours: Counted, plain: Counted) -> str:
     """The least time of each program by the size that is named, and the median of the ratios of neighbouring runs."""
-    text = row.text(ours)
-    pairs = [(used(ours, text, row.words), used(plain, text, row.words)) for _ in range(ROUNDS)]
+    words, text = TIMES[what][0], TIMES[what][1](ours)
+    pairs = [(used(ours, text, words), used(plain, text, words)) for _ in range(ROUNDS)]
     least = [PART * min(times) for times in zip(*pairs)]
     ratio = statistics.median(first / second for first, second in pairs)
-    return f"| {row.what} | {least[0]:.3f} | {least[1]:.3f} | {ratio:.2f} |"
+    return f"| {what} | {least[0]:.3f} | {least[1]:.3f} | {ratio:.2f} |"
 
 
-def row_of_worst(case: Timed, ours: Counted, plain: Counted) -> str:
-    text = case.text(ours)
-    first, second = used(ours, text, case.words), used(plain, text, case.words)
-    return f"| `{' '.join(case.words)}` | {case.what} | {first:.2f} | {second:.2f} |"
+def row_of_worst(words: str, what: str, ours: Counted, plain: Counted) -> str:
+    text = WORST[words, what](ours)
+    return f"| `{words}` | {what} | {used(ours, text, words):.2f} | {used(plain, text, words):.2f} |"

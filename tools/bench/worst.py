@@ -11,15 +11,16 @@
 KIND of names: `numbers` are ordinary names and `drawn` are 32 random letters; `prefixes` begin with the same 26
 letters; `chosen` would fall into one part in 64 of the assembler's table, were its hash to begin with 0. KIND of a
 chain: `create` makes and ends a child again and again, `prepare` gives a child tables and takes them back. BYTES is the
-size of the script, at most. WANTS, at most 990, are each in a directory of its own.
-"""
+size of the script, at most. WANTS, at most 990, are each in a directory of its own."""
 
 import functools
 import itertools
+import os
 import random
 import sys
 from collections.abc import Callable, Iterator
 
+from ..common import calling
 from . import deletions
 
 LETTERS = "abcdefghijklmnopqrstuvwxyzABCDEFGHIJKLMNOPQRSTUVWXYZ_"
@@ -112,44 +113,8 @@ def built(wants: str, count: str) -> Iterator[str]:
 
 # ---- programs
 
-CALLS = """.frames 32
-.cpus 1
-.page 0x400000
-li r6 0x1000
-lih r6 0x40
-li r2 0x2000
-lih r2 0x40
-li r3 0x3000
-lih r3 0x40
-li r4 0x4000
-lih r4 0x40
-li r5 0x5000
-lih r5 0x40
-again:
-mov r1 r6
-sys 0
-mov r1 r6
-sys 1
-beq r0 r0 again"""
-
 # The word of an access to an address where there is nothing: it is made again and again
 FAULTS = ".frames 117\n.cpus 1\n" + "\n".join(f".page {0x400000 + 4096 * child:#x}\nldw r1 r0 0" for child in range(8))
-
-# At first it computes, so that the words with which those of the states are compared are those of the beginning.
-FILL = """.frames 4096
-.cpus 1
-.page 0x400000
-li r1 0x1000
-lih r1 0x40
-li r3 300
-wait:
-addi r3 r3 -1
-bne r3 r0 wait
-li r5 4
-fill:
-stw r1 r1 0
-add r1 r1 r5
-beq r0 r0 fill"""
 
 
 # ---- memories
@@ -197,8 +162,11 @@ def frames_text(memory: Memory) -> Iterator[str]:
 
 KINDS: dict[str, Callable[..., Iterator[str]]] = {
     "names": labels, "chain": chain, "build": built, "audit": lambda: frames_text(slow_memory()),
-    "calls": lambda: iter(CALLS.split("\n")), "faults": lambda: iter(FAULTS.split("\n")),
-    "fill": lambda: iter(FILL.split("\n"))}
+    "calls": lambda: text_of("calls.s"), "faults": lambda: iter(FAULTS.split("\n")), "fill": lambda: text_of("fill.s")}
+
+
+def text_of(name: str) -> Iterator[str]:
+    return iter(calling.contents(os.path.join(calling.REPOSITORY, "bench", name)).decode().splitlines())
 
 
 def lines(kind: str, *words: str) -> Iterator[str]:

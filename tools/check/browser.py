@@ -103,6 +103,11 @@ class Browser:
             raise Failed(f"{expression}: {answer['exceptionDetails']}")
         return answer["result"].get("value")
 
+    def due(self, what: str, expression: str, wanted: Any) -> None:
+        """Refuses a value of an expression that isn't the one wanted."""
+        if (got := self.value(expression)) != wanted:
+            raise Failed(f"{what}: {got!r}, where {wanted!r} is due")
+
     def size(self, width: int, height: int) -> None:
         self.send("Emulation.setDeviceMetricsOverride", width=width, height=height, deviceScaleFactor=1, mobile=False)
 

@@ -4,8 +4,7 @@ A file there is a whole text, or NAME.edit, an edit of the exercise's solution: 
 that is in it once, and the lines `new: ` after it take its place; without any it goes. `file: ` names another file than
 the solution, whose edited text is judged. Its first lines are `# misses: ` and a goal; a line `# says: ` has words of
 the verdict. A file good_NAME is another way that reaches all goals, so that no goal asks for more than the exercise:
-`# misses: nothing`.
-"""
+`# misses: nothing`."""
 
 from __future__ import annotations
 

@@ -49,8 +49,7 @@ SOURCES = ("crates/pip/src/main.rt", "crates/pip_base/specs/Words.antt", "crates
 CRATES = ("# a remark\npip_base: bitflags\npip_aside: pip_base\npip may_wait=1: pip_base pip_late\npip_late: pip_base\n"
           "pip_test: pip\n")
 FOLDERS = ("bin", "crates/pip/src", "crates/pip_base/specs", "crates/pip_base/proofs", "crates/pip_commands/src",
-           "tools/exporter",
-           "tools/reference")
+           "tools/exporter", "tools/reference")
 USAGE = "crates/pip_commands/src/top.rt"    # the source with the usage line, which ./pip takes from there
 
 

@@ -4,8 +4,7 @@
                        [--write-meanings]
 
 The status is 0 if none fails, and 1 if one does; each that fails says why. One for which a tool is missing is skipped:
-the last line names it, and with --all it fails.
-"""
+the last line names it, and with --all it fails."""
 
 from __future__ import annotations
 
@@ -19,41 +18,39 @@ from collections.abc import Iterator
 from types import FrameType
 
 from ..common import calling
-from . import (answering, audits, authors, cheats, counters, counts, debugging, devices, documents, edits, endings,
-               examples, exercises, exporting, grading, guests, hints, house, links, meanings, memory, pages, plain,
-               playground, playground_judge, playground_runs, playing, public_calls, releasing, separate, shells,
-               sources, tools, tutorial, unbuilt, wrapper)
+from . import (authors, certificates, cheats, corners, counters, counts, documents, ended, endings, examples, exercises,
+               exporting, grading, guests, house, links, meanings, pages, plain, playground, playground_judge,
+               playground_runs, playing, public_calls, releasing, shells, sources, tools, tutorial, wrapper)
 from .running import Check, Differs, Skipped
 
 # A name, and its parts: functions that are given the program's path and raise Differs if something is wrong, or Skipped
 # if a tool is missing.
 CHECKS: dict[str, Check | tuple[Check, ...]] = {
-    "endings": (endings.wrong_words, endings.word_not_utf8, endings.empty_script, endings.bad_line,
-                endings.closed_input,
-                endings.full_device, endings.too_much_input),
-    "refused-memory": memory.refused_memory,
-    "answering": (answering.typed_script, answering.gathered_answers),
+    "endings": endings.endings,
+    "refused-memory": endings.refused_memory,
+    "answering": (endings.typed_script, endings.gathered_answers),
     "documents": (documents.readme_sessions, documents.examples_with_arrows, tutorial.blocks, links.links,
                   meanings.same),
     "step-counters": counters.step_counters,
     "house": (house.house, sources.ghost_imports),
     "public-calls": public_calls.public_calls,
-    "edits": edits.edits,
-    "types": hints.types,
+    "edits": sources.edits,
+    "types": tools.types,
     "examples": (examples.examples, examples.programs, examples.retries, examples.monitor, tutorial.sessions),
     "searches": examples.searches,
-    "hostile-guests": (guests.hostile_guests, separate.children_are_separate),
-    "wrapper": (wrapper.wrapper, wrapper.in_turn, unbuilt.nothing_is_proved),
+    "certificates": certificates.certificates,
+    "hostile-guests": (guests.hostile_guests, guests.children_are_separate),
+    "wrapper": (wrapper.wrapper, wrapper.in_turn, ended.nothing_is_proved),
     "unit-tests": tools.unit_tests,
     "pictures": tools.pictures,
     "authors": (authors.preprocessor, authors.reasons, authors.traces, authors.groups, authors.interleavings),
-    "debugger": (debugging.debugger, debugging.language_server),
+    "debugger": (tools.debugger, tools.language_server),
     "shell": (shells.through_a_pipe, shells.on_a_terminal),
     "exercises": exercises.solutions,
     "exercise-seeds": exercises.by_seeds,
     "cheats": cheats.cheats,
     "grade": grading.grades,
-    "tools-ended": (devices.full_devices, devices.interrupted),
+    "tools-ended": (ended.full_devices, ended.interrupted),
     "step-pages": (pages.pages, pages.teachers_loop),
     "step-browser": pages.in_browser,
     "export": exporting.text,
@@ -65,10 +62,10 @@ CHECKS: dict[str, Check | tuple[Check, ...]] = {
                    playground_judge.judge),
     "playground-browser": playing.in_browser,
     "release": releasing.works,
-    "commands": tuple(tools.compared(command, cases) for command, cases in tools.CASES.items()),
-    "audits": (audits.round_trips, audits.each_word),
+    "commands": (corners.corners, *(tools.compared(command, cases) for command, cases in tools.CASES.items())),
+    "audits": (corners.round_trips, corners.each_word),
     "plain-program": plain.plain,
-    "counts": counts.agree(scripts=100, runs=60, loads=40),
+    "counts": counts.agree,
 }
 
 

@@ -5,8 +5,7 @@ a `Blank` of std's ledger, at the ledger `Brand` or at one that the caller has c
 and the module `ledger` that has them, whatever else they are called in a `use`, a type's alias or a macro's argument.
 The commands may name them, and programs, which are known by their `fn main`; and so may crates of tests, on which no
 other crate may stand. The search of pip_every has a counter of its own, too: its choices are calls of a trait of
-pip_search, which knows no counter, so it counts for nobody.
-"""
+pip_search, which knows no counter, so it counts for nobody."""
 
 from __future__ import annotations
 
@@ -18,7 +17,7 @@ from collections.abc import Iterator
 from .running import REPOSITORY, Differs, write
 from .sources import sources
 
-COMMANDS = "pip_commands"
+COMMANDS, TESTS = ("pip_searches", "pip_commands"), "pip_test_"
 NAMES = re.compile(r"\b(?:ledger|Blank|Brand|pip_test_\w+)\b")
 
 # What is no code, in the order in which a reader of Rust meets it: texts and remarks hide each other.
@@ -42,7 +41,7 @@ DEFINITION = {
         ("use std::sync::ledger::{Blank, Ledger};", "blank: Blank,", "requires ledger {"),
     os.path.join("crates", "pip_every", "src", "searching.rt"):
         ("use std::marker::Brand;", "use std::sync::ledger::{Blank, Ledger};", "blank: Blank,", "requires ledger {",
-         "words_later::<Brand>(alloc, &mem, cpus, Blank::new(1))", "search_from::<Brand, Brand>(",
+         "booted_later::<Brand>(alloc, &mem, cpus, Blank::new(1))", "search_from::<Brand, Brand>(",
          "limit,\n        Blank::new(1),"),
     os.path.join("crates", "pip_every", "src", "parts.rt"):
         ("use std::marker::Brand;", "use std::sync::ledger::{Blank, Ledger};", "blank: Blank,", "requires ledger {",
@@ -69,7 +68,7 @@ def counters_named(top: str) -> Iterator[str]:
     """Where a crate that may not make a counter names what one is made of, or stands on a crate of tests."""
     found = programs(top)
     for crate, path, text in sources(top):
-        if crate != COMMANDS and crate not in found and not is_of_tests(crate):
+        if crate not in COMMANDS and crate not in found and not crate.startswith(TESTS):
             for name in NAMES.findall(code_of(path, text)):
                 yield f"{path} names {name}"
     yield from ends_used(top, found)
@@ -77,17 +76,9 @@ def counters_named(top: str) -> Iterator[str]:
 
 def programs(top: str) -> set[str]:
     """The crates that are programs and nothing else."""
-    mains = {crate for crate, path, text in sources(top) if is_main(path, text)}
+    mains = {crate for crate, path, text in sources(top) if path.endswith(os.path.join("src", "main.rt"))
+             and re.search(r"\bfn\s+main\s*\(", without_texts(text))}
     return mains - {crate for crate, path, _ in sources(top) if path.endswith(os.path.join("src", "lib.rt"))}
-
-
-def is_main(path: str, text: str) -> bool:
-    is_one = path.endswith(os.path.join("src", "main.rt"))
-    return is_one and re.search(r"\bfn\s+main\s*\(", without_texts(text)) is not None
-
-
-def is_of_tests(crate: str) -> bool:
-    return crate.startswith("pip_test_")
 
 
 def code_of(path: str, text: str) -> str:
@@ -113,7 +104,7 @@ def ends_used(top: str, found: set[str]) -> Iterator[str]:
     for line in lines:
         crate, *used = line.replace(":", " ").split() or [""]
         for other in used:
-            if other in found or is_of_tests(other) and not is_of_tests(crate):
+            if other in found or other.startswith(TESTS) and not crate.startswith(TESTS):
                 yield f"{crate} stands on {other}"
 
 
@@ -126,68 +117,59 @@ def found_in(files: dict[str, str]) -> list[str]:
 
 
 def in_kernel(text: str) -> dict[str, str]:
-    return {"crates/pip_mmu/src/lib.rt": f"fn leaf() {{\n{text}}}\n"}
+    return {"crates/pip_mmu/src/lib.rt": f"fn leaf() {{ {text} }}\n"}
 
 
-OWN = "pub fn own() { Steps::new(Blank::new(1)) }\n"
+OWN, MAIN = "pub fn own() { Steps::new(Blank::new(1)) }\n", "fn main(rt: HostRuntime) {}\n"
 
 # Ways to come by a counter, each of which a search for `Steps::new(Blank::new(1))` or a similar text might miss.
 FOUND = {
-    "plain": in_kernel("    let mut own = Steps::new(Blank::new(1));\n"),
-    "under other names": in_kernel("    use pip_base::Steps as Counter;\n"
-                                   "    use std::sync::ledger::Blank as Unopened;\n"
-                                   "    let mut own = Counter::new(Unopened::new(1));\n"),
-    "by an alias of a type": in_kernel("    type Counter = Steps<Brand>;\n    type Page = Blank;\n"
-                                       "    let mut own = Counter::new(Page::new(1));\n"),
-    "by qualified types": in_kernel("    let mut own = <Steps<Brand>>::new(<Blank>::new(1));\n"),
-    "with the ledger written": in_kernel("    let mut own = Steps::<Brand>::new(Blank::new(1));\n"),
-    "and a qualified type": in_kernel("    let mut own = Steps::<Brand>::new(<Blank>::new(1));\n"),
-    "by a macro": in_kernel("    macro_rules! made { ($t:ident, $a:expr) => { $t::new($a) } }\n"
-                            "    let mut own = made!(Steps, made!(Blank, 1));\n"),
-    "after a text with //": in_kernel("    note(\"//\", &mut Steps::new(Blank::new(1)));\n"),
-    "after a text with a quote": in_kernel("    note(\"\\\" //\", b'\"', &mut Steps::new(Blank::new(1)));\n"),
-    "after a raw text": in_kernel("    note(r#\"\" /*\"#, &mut Steps::new(Blank::new(1)));\n"),
-    "with remarks between": in_kernel("    let mut own = Steps::/* */new(Blank::/* */new(1));\n"),
-    "over several lines": in_kernel("    let mut own = Steps\n        ::new(Blank\n        ::new(1));\n"),
-    "by a function passed": in_kernel("    let make: fn(Blank) -> Steps<Brand> = Steps::new;\n"
-                                      "    let mut own = make((Blank::new as fn(u64) -> Blank)(1));\n"),
-    "by Self": in_kernel("impl<L: Ledger> Steps<L> { pub fn other(b: Blank) -> Self { Self::new(b) } }\n"),
-    "by the whole module": in_kernel("    use std::sync::ledger as Statement;\n"
-                                     "    let mut own = Counter::new(Statement::Blank::new(1));\n"),
-    "by all names of a module": in_kernel("    use std::sync::*;\n    let mut own = ledger::open();\n"),
-    "beside the import for clauses": in_kernel("    ghost use Rattle.std.specs.Prelude.{length}; use "
-                                               "std::marker::Brand;\n"),
+    "plain": in_kernel("let mut own = Steps::new(Blank::new(1));"),
+    "under other names": in_kernel("use pip_base::Steps as Counter; use std::sync::ledger::Blank as Unopened; "
+                                   "let mut own = Counter::new(Unopened::new(1));"),
+    "by an alias of a type": in_kernel("type Counter = Steps<Brand>; type Page = Blank; Counter::new(Page::new(1));"),
+    "by qualified types": in_kernel("let mut own = <Steps<Brand>>::new(<Blank>::new(1));"),
+    "with the ledger written": in_kernel("let mut own = Steps::<Brand>::new(Blank::new(1));"),
+    "and a qualified type": in_kernel("let mut own = Steps::<Brand>::new(<Blank>::new(1));"),
+    "by a macro": in_kernel("macro_rules! made { ($t:ident, $a:expr) => { $t::new($a) } } "
+                            "let mut own = made!(Steps, made!(Blank, 1));"),
+    "after a text with //": in_kernel("note(\"//\", &mut Steps::new(Blank::new(1)));"),
+    "after a text with a quote": in_kernel("note(\"\\\" //\", b'\"', &mut Steps::new(Blank::new(1)));"),
+    "after a raw text": in_kernel("note(r#\"\" /*\"#, &mut Steps::new(Blank::new(1)));"),
+    "with remarks between": in_kernel("let mut own = Steps::/* */new(Blank::/* */new(1));"),
+    "over several lines": in_kernel("let mut own = Steps\n        ::new(Blank\n        ::new(1));\n"),
+    "by a function passed": in_kernel("let make: fn(Blank) -> Steps<Brand> = Steps::new; "
+                                      "let mut own = make((Blank::new as fn(u64) -> Blank)(1));"),
+    "by Self": in_kernel("impl<L: Ledger> Steps<L> { pub fn other(b: Blank) -> Self { Self::new(b) } }"),
+    "by the whole module": in_kernel("use std::sync::ledger as Statement; "
+                                     "let mut own = Counter::new(Statement::Blank::new(1));"),
+    "by all names of a module": in_kernel("use std::sync::*; let mut own = ledger::open();"),
+    "beside the import for clauses": in_kernel("ghost use Rattle.std.specs.Prelude.{length}; use std::marker::Brand;"),
     "in pip_base, beside the counter": {
-        "crates/pip_base/src/steps.rt": "use std::sync::ledger::{Blank, Book, Ledger, Share};\n"
-                                        "impl<L: Ledger> Steps<L> { pub fn new(blank: Blank) -> Self { opened(blank) } "
-                                        "}\n"
+        "crates/pip_base/src/steps.rt": "use std::sync::ledger::{Blank, Book, Ledger, Share};\nimpl<L: Ledger> "
+                                        "Steps<L> { pub fn new(blank: Blank) -> Self { opened(blank) } }\n"
                                         "pub fn other(blank: Blank) -> Steps<Brand> { Steps::new(blank) }\n"},
     "in a crate of tests that another names": {"crates/pip_test_counter/src/lib.rt": OWN,
                                                "crates/pip_mmu/src/lib.rt": "use pip_test_counter::own;\n"},
-    "in a crate of tests that another stands on": {"crates/pip_test_counter/src/lib.rt": OWN,
-                                                   "crates/pip_mmu/src/lib.rt": "",
-                                                   "crates.txt": "pip_test_counter: pip_base\n"
-                                                                 "pip_mmu: pip_base pip_test_counter\n"},
+    "in a crate of tests that another stands on": {
+        "crates/pip_test_counter/src/lib.rt": OWN, "crates/pip_mmu/src/lib.rt": "",
+        "crates.txt": "pip_test_counter: pip_base\npip_mmu: pip_base pip_test_counter\n"},
     "offered by pip_audit": {"crates/pip_audit/src/lib.rt": OWN},
-    "in the library part of a program": {"crates/pip_own/src/main.rt": "fn main(rt: HostRuntime) {}\n",
-                                         "crates/pip_own/src/lib.rt": OWN,
-                                         "crates.txt": "pip_own: pip_base\npip_mmu: pip_base pip_own\n"},
-    "in a program that another stands on": {"crates/pip_own/src/main.rt": OWN + "fn main(rt: HostRuntime) {}\n",
-                                            "crates/pip_mmu/src/lib.rt": "",
+    "in the library part of a program": {
+        "crates/pip_own/src/main.rt": MAIN, "crates/pip_own/src/lib.rt": OWN,
+        "crates.txt": "pip_own: pip_base\npip_mmu: pip_base pip_own\n"},
+    "in a program that another stands on": {"crates/pip_own/src/main.rt": OWN + MAIN, "crates/pip_mmu/src/lib.rt": "",
                                             "crates.txt": "pip_own: pip_base\npip_mmu: pip_own\n"},
     "in a file main.rt without main": {"crates/pip_mmu/src/main.rt": OWN + "// fn main()\n"},
 }
 
 # What makes none, and is passed.
 PASSED = {
-    "a copied example": {"crates/pip_mine/src/main.rt": "use std::marker::Brand;\n"
-                                                        "use std::sync::ledger::{Blank, Ledger};\n"
-                                                        "fn main(rt: HostRuntime) { let own = "
-                                                        "Steps::new(Blank::new(1)); }\n"},
+    "a copied example": {"crates/pip_mine/src/main.rt": "use std::marker::Brand; use std::sync::ledger::Blank; "
+                                                        "fn main(rt: HostRuntime) { Steps::new(Blank::new(1)); }\n"},
     "the commands": {"crates/pip_commands/src/commands/script.rt": OWN},
     "a crate of tests": {"crates/pip_test_kernel/src/lib.rt": OWN, "crates.txt": "pip_test_kernel: pip_base\n"},
-    "a counter that is passed on": in_kernel("    use std::sync::ledger::Ledger;\n    steps.tick();\n"),
-    "texts and remarks": in_kernel("    note(\"Steps::new(Blank::new(1))\"); // a Blank\n    /* Brand */\n"),
-    "a blank line": in_kernel("    let kind = ScriptLine::Blank;\n    enum Statement<'a> {\n        Blank,\n"
-                              "        Names(&'a [u8]),\n    }\n"),
+    "a counter that is passed on": in_kernel("use std::sync::ledger::Ledger; steps.tick();"),
+    "texts and remarks": in_kernel("note(\"Steps::new(Blank::new(1))\"); // a Blank\n    /* Brand */\n"),
+    "a blank line": in_kernel("let kind = ScriptLine::Blank; enum Statement<'a> { Blank, Names(&'a [u8]), }"),
 }

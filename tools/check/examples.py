@@ -29,8 +29,7 @@ def examples(program: str) -> None:
 
 def sessions_are_lemmas() -> None:
     """The lemma NAME is about the script NAME.pip of examples/sessions/, without its remarks, and about NAME.out."""
-    lemmas = {name: (written(text), written(answers))
-              for name, text, answers in LEMMA.findall(text_of(PROVED))}
+    lemmas = {name: (written(text), written(answers)) for name, text, answers in LEMMA.findall(text_of(PROVED))}
     for path in sorted(glob.glob(os.path.join(REPOSITORY, SESSIONS, "*.pip"))):
         name, lines = os.path.basename(path)[:-len(".pip")], contents(path).decode().splitlines(keepends=True)
         text = "".join(line for line in lines if not line.startswith("#"))
@@ -56,43 +55,41 @@ def script_gives(program: str, path: str) -> None:
 
 
 def programs(program: str) -> None:
-    """Each assembly program gives the trace beside it, NAME.run, whose first line has the words of the run."""
+    """Each assembly program begins with a remark, and has the reference's image, and the trace beside it, NAME.run."""
     paths = sorted(glob.glob(os.path.join(REPOSITORY, "examples", "*.s")))
-    if not paths:
-        raise Differs("examples/ has no assembly program")
     for path in paths:
-        name = os.path.relpath(path, REPOSITORY)
-        text = contents(path)
+        name, text = os.path.relpath(path, REPOSITORY), contents(path)
         if not text.startswith(b"# "):
             raise Differs(f"{name}: its first line isn't a remark that says what it shows")
-        told, trace = contents(path[:-len("s")] + "run").split(b"\n", 1)
-        words = told.decode().split()
-        image, status = run([program, "asm"], text)
-        expect(f"the image of {name}", (image, status), reference.pip(["asm"], text))
-        expect(f"{name}, '{told.decode()}' by the reference", reference.pip(words, image), (trace, 0))
-        expect(f"{name}, '{told.decode()}'", run([program, *words], image), (trace, 0))
+        expect(f"the image of {name}", run([program, "asm"], text), reference.pip(["asm"], text))
+    traced = {os.path.join(REPOSITORY, name) for name in answers(program, "run")}
+    if not set(paths) <= traced:
+        raise Differs(f"{sorted(set(paths) - traced)} have no trace beside them")
 
 
 def searches(program: str) -> None:
-    """Each NAME.every and NAME.apart is what can happen to the program beside it, by the words in its first line."""
-    for path, name, image, _ in (*searched(program, "every"), *searched(program, "apart")):
-        told, text = contents(path).split(b"\n", 1)
-        words = told.decode().split()
-        expect(f"{name}, '{told.decode()}' by the reference", reference.pip(words, image), (text, 0))
-        expect(f"{name}, '{told.decode()}'", run([program, *words], image), (text, 0))
-    verdicts(program)
+    """Each NAME.every and NAME.apart is what can happen to the program beside it, and NAME.against and NAME.again with
+    children that do anything."""
+    for kind in ("every", "apart", "against", "again"):
+        answers(program, kind)
 
 
-def verdicts(program: str) -> None:
-    """Each NAME.against is the same where partitions do anything of the source's menu, or of a file that the first line
-    names. The reference is compared by generated images: these searches take it minutes.
-    """
-    for path, name, image, menu in searched(program, "against"):
-        told, text = contents(path).split(b"\n", 1)
-        words, _, file = told.decode().partition(" < ")
-        if file:
+def answers(program: str, kind: str) -> list[str]:
+    """Each file of this kind is what the program says of the image beside it by the words in the first line; by the
+    reference, too, but for `against` and `again`, which take it minutes: these are compared by generated images. Their
+    menu is the source's, or a file that the first line names. Answers the sources."""
+    names = []
+    for path, name, image, menu in searched(program, kind):
+        told, text = contents(path).decode().split("\n", 1)
+        words, _, file = told.partition(" < ")
+        if kind not in ("against", "again"):
+            expect(f"{name}, '{told}' by the reference", reference.pip(words.split(), image), (text.encode(), 0))
+            menu = b""
+        elif file:
             menu = contents(os.path.join(os.path.dirname(path), file))
-        expect(f"{name}, '{told.decode()}'", run([program, *words.split()], image + menu), (text, 0))
+        expect(f"{name}, '{told}'", run([program, *words.split()], image + menu), (text.encode(), 0))
+        names.append(name)
+    return names
 
 
 def searched(program: str, kind: str) -> Iterator[tuple[str, str, bytes, bytes]]:

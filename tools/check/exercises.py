@@ -12,8 +12,7 @@ from types import SimpleNamespace
 
 from ..exercises import exercise, judging
 from . import cheats, seeded
-from .authors import ends
-from .running import REPOSITORY, SECONDS, Differs, contents, run, text_of, told_by as tool, write
+from .running import REPOSITORY, SECONDS, Differs, contents, run, says, text_of, told_by as tool, write
 
 TIMES = 3                # that each solution is judged, each time with another secret
 SEEDS = ("ada", "grace hopper", "\u00e9")
@@ -96,8 +95,7 @@ def without_cargo(path: str) -> None:
     """Where no judge is built and there is no cargo, that is one sentence."""
     with tempfile.TemporaryDirectory() as place:
         script = ("from dataclasses import replace; from tools.exercises import exercise; from tools.judge import "
-                  "building; "
-                  "building.JUDGE = replace(building.JUDGE, name='none'); exercise.main()")
+                  "building; " "building.JUDGE = replace(building.JUDGE, name='none'); exercise.main()")
         words = [sys.executable, "-B", "-c", script, "map", path]
         done = subprocess.run(words, cwd=REPOSITORY, env={"PATH": place}, timeout=SECONDS, stdout=subprocess.PIPE,
                               stderr=subprocess.PIPE)
@@ -146,11 +144,11 @@ def lesser(files: dict[str, str]) -> None:
                            ((), "which exercise"), (("sum", place), "can't be read"),
                            (("map", path, "--script"), "--script is for break-in"),
                            (("map", path, "--again", "xyz"), "--again is at most 16 digits")):
-            ends(f"tools/exercise {' '.join(words)}", tool("exercise", *words), 2, due)
+            says(None, ("exercise", *words), 2, due)
         write(b"boot 16 1\n" + b"raise 1\n" * 5001, path)
-        ends("tools/exercise of a long script", tool("exercise", "store", path), 2, "more than 5000 lines")
+        says(None, ("exercise", "store", path), 2, "more than 5000 lines")
         write(b"peek 1 1\n", path)
-        ends("tools/exercise break-in", tool("exercise", "break-in", path), 2, "line 1: the child can't say")
+        says(None, ("exercise", "break-in", path), 2, "line 1: the child can't say")
 
 
 def misses(name: str, path: str, *due: str) -> None:

@@ -13,9 +13,8 @@ import time
 from ..exercises import alone
 from ..judge import building
 from . import cheats
-from .authors import ends
 from .checkout import heed_interrupts
-from .running import REPOSITORY, Differs, contents, text_of, told_by as tool, write, write_program
+from .running import REPOSITORY, Differs, contents, says, text_of, told_by as tool, write, write_program
 
 HOSTILE = os.path.join(REPOSITORY, "tools", "exercises", "hostile")
 CLASS = """         map  break-in   sum  goals  solved
@@ -67,7 +66,7 @@ def grades(program: str) -> None:
             raise Differs(f"tools/grade --seeds: {seeds}")
         for words, told in ((("/nonexistent",), "can't be read"), ((place, "--jobs", "0"), "--jobs is"),
                             ((os.path.join(place, "ada"),), "no folder of a student")):
-            ends(f"tools/grade {' '.join(words)}", tool("grade", *words), 2, told)
+            says(None, ("grade", *words), 2, told)
     hostile_works()
     stopped()
 
@@ -97,7 +96,7 @@ def hostile_works() -> None:
                           f"{output}{messages}")
         if " 6/6=" not in rows["own"] or "monitor: the same text: ada, own, the solution" not in output:
             raise Differs(f"tools/grade: a work with a file of its own isn't taken, or isn't like ada's: {output}")
-        ends("tools/grade --allow", tool("grade", classroom, "--allow", "monitor.s"), 0, "ada, own")
+        says(None, ("grade", classroom, "--allow", "monitor.s"), 0, "ada, own")
 
 
 def adapt(classroom: str) -> None:

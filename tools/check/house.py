@@ -1,7 +1,6 @@
 """What is still to be put in order in the sources, by allowances that only fall: allowances.txt.
 
-A count above its allowance is refused, and so is one below it, until the allowance is lowered to it.
-"""
+A count above its allowance is refused, and so is one below it, until the allowance is lowered to it."""
 
 from __future__ import annotations
 
@@ -30,8 +29,7 @@ DEFINITION = re.compile(r"(?:abbrev pub|unfoldable pub|pub record|pub data|pub(?
 @dataclass
 class Allowances:
     """How many lines may be too wide, by crate and of the documents; how many definitions may have no remark, by crate;
-    which names may be several definitions'; and which may be several types' or constants' of the sources.
-    """
+    which names may be several definitions'; and which may be several types' or constants' of the sources."""
 
     wide: dict[str, int] = field(default_factory=dict)
     bare: dict[str, int] = field(default_factory=dict)
@@ -55,7 +53,7 @@ def found_in(top: str) -> Allowances:
     wide: collections.Counter[str] = collections.Counter()
     bare: collections.Counter[str] = collections.Counter()
     files: collections.defaultdict[str, set[str]] = collections.defaultdict(set)
-    for crate, path, text in logic(top):
+    for crate, path, text in texts(top, ("specs", "proofs"), ".antt"):
         wide[crate] += sum(len(line) > MOST for line in text.split("\n"))
         for name, is_bare in definitions(text) if os.sep + "specs" + os.sep in path else ():
             bare[crate] += is_bare
@@ -77,11 +75,6 @@ def found_in(top: str) -> Allowances:
 def several(files: dict[str, set[str]]) -> set[str]:
     """The names that are in two files or more."""
     return {name for name, paths in files.items() if len(paths) > 1}
-
-
-def logic(top: str) -> Iterator[tuple[str, str, str]]:
-    """Each crate's files of definitions and proofs: the crate, the path, and the text."""
-    return texts(top, ("specs", "proofs"), ".antt")
 
 
 def definitions(text: str) -> Iterator[tuple[str, bool]]:

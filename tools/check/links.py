@@ -1,6 +1,5 @@
 """What a document links to in the repository, or names by its path from the top, is there; and so is each contract that
-PROVED.md names.
-"""
+PROVED.md names."""
 
 from __future__ import annotations
 

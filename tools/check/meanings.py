@@ -60,8 +60,7 @@ def of_page(text: str) -> dict[str, Any]:
     return {"statuses": {k: told for k, told in statuses.items() if k.isdigit()},
             "calls": {k: told for k, told in calls.items() if told[0] != "none"},
             "vectors": {row[0]: row[1] for row in rows(text, "## Vectors, and what a handler gets")
-                        if row[0].isdigit()},
-            "ends": ends, "causes": causes(text)}
+                        if row[0].isdigit()}, "ends": ends, "causes": causes(text)}
 
 
 def causes(text: str) -> dict[str, list[str]]:

@@ -172,7 +172,7 @@ def teachers_loop(program: str) -> None:
 
 # In a browser, where one is installed
 
-CHOSEN = "JSON.stringify(document.body.dataset)"
+CHOSEN = "[document.body.dataset].map(x => [x.step, x.partition, x.page])[0]"
 WIDE = ("document.documentElement.scrollWidth <= innerWidth"
         " && document.getElementById('count').getBoundingClientRect().right <= innerWidth")
 LEAST_CONTRAST = 4.5
@@ -230,29 +230,22 @@ def keys(shown: browser.Browser, address: str) -> None:
             ("ArrowLeft", 1, 1, "0x00401000"), ("n", 1, 13, ""), ("End", 27, 13, "0xffc0a000"),
             ("j", 27, 13, "0xffc0b000"), ("n", 27, 22, ""), ("n", 27, 1, "0x00400000"), ("p", 27, 22, ""),
             ("p", 27, 13, "0xffc0a000"), ("b", 17, 13, "0xffc0a000"), ("l", 17, 13, "0xffc0a000"),
-            ("c", 18, 13, "0xffc0a000"),
-            ("Home", 0, 1, "0x00400000")):
+            ("c", 18, 13, "0xffc0a000"), ("Home", 0, 1, "0x00400000")):
         if key:
             shown.key(key)
-        state = json.loads(shown.value(CHOSEN))
-        if (state["step"], state["partition"], state["page"]) != (str(step), str(partition), page):
-            raise Differs(f"tools/step in a browser, after the key '{key}': {state}, where step {step}, partition "
-                          f"{partition} and page {page} are due")
+        shown.due(f"after the key '{key}'", CHOSEN, [str(step), str(partition), page])
     for selector, due in (("#told", "boot 64 1"), ("#answer", "boot 64 1"), ("#count", "1 of 28"),
                           ("#tree button.chosen", "root, 1"),
                           ("#translation-of", "Address translation of 0x00400000 in root, partition 1")):
-        if (text := shown.value(f"document.querySelector('{selector}').textContent")) != due:
-            raise Differs(f"tools/step in a browser: {selector} is {text!r}, where {due!r} is due")
+        shown.due(selector, text_at(selector), due)
     shown.value("document.getElementById('on').focus()")
     shown.key("Enter")
-    if shown.value("document.body.dataset.step") != "1":
-        raise Differs("tools/step in a browser: Enter on the button doesn't step")
-    if shown.value("document.querySelectorAll('#grid .cell').length") != 64:
-        raise Differs("tools/step in a browser: the grid doesn't have 64 frames")
+    shown.due("the step after Enter on the button", "document.body.dataset.step", "1")
+    shown.due("the frames of the grid", "document.querySelectorAll('#grid .cell').length", 64)
 
 
-def text_at(shown: browser.Browser, selector: str) -> str:
-    return str(shown.value(f"document.querySelector('{selector}').textContent"))
+def text_at(selector: str) -> str:
+    return f"document.querySelector('{selector}').textContent"
 
 
 def frames(shown: browser.Browser) -> None:
@@ -260,18 +253,15 @@ def frames(shown: browser.Browser) -> None:
     for key in ["Home"] + ["ArrowRight"] * 2:
         shown.key(key)
     shown.value("document.querySelector('#grid [data-focus=\"frame 18\"]').click()")
-    told = text_at(shown, "#frame-of"), text_at(shown, "#words .now"), text_at(shown, "#changed")
-    if told != ("Words of frame 18: a page that is nobody's configuration of partition 1", "00407000",
-                "frame 18, word 0 (0x00406000 of partition 1): 0x00000000 \u2192 0x00407000"):
-        raise Differs(f"tools/step in a browser: frame 18 after a store is {told}")
+    for selector, due in (("#frame-of", "Words of frame 18: a page that is nobody's configuration of partition 1"),
+                          ("#words .now", "00407000"),
+                          ("#changed", "frame 18, word 0 (0x00406000 of partition 1): 0x00000000 \u2192 0x00407000")):
+        shown.due(f"frame 18 after a store, {selector}", text_at(selector), due)
     for key, due in ((".", "19"), (",", "18"), ("j", "19"), ("k", "18")):
         shown.key(key)
-        if (got := shown.value("document.body.dataset.frame")) != due:
-            raise Differs(f"tools/step in a browser: after '{key}' frame {got} is shown, where {due} is due")
-    if shown.value("document.querySelectorAll('#pages th:not([scope=col])').length") \
-            or shown.value("typeof scrollTo") != "function" \
-            or "[native code]" not in shown.value("String(scrollTo)"):
-        raise Differs("tools/step in a browser: a head of the table has no scope, or the browser's scrollTo is hidden")
+        shown.due(f"the frame after '{key}'", "document.body.dataset.frame", due)
+    shown.due("heads of the table without a scope", "document.querySelectorAll('#pages th:not([scope=col])').length", 0)
+    shown.due("that the browser's scrollTo isn't hidden", "String(scrollTo).includes('[native code]')", True)
 
 
 def focus(shown: browser.Browser) -> None:
@@ -281,8 +271,7 @@ def focus(shown: browser.Browser) -> None:
         shown.value("document.querySelector('[data-focus=\"%s\"]').focus()" % name)
         for act in ("ArrowRight", "Enter", "c"):
             shown.key(act)
-            if (got := shown.value("document.activeElement.dataset.focus")) != name:
-                raise Differs(f"tools/step in a browser: '{name}' had the focus, and after {act} {got!r} has it")
+            shown.due(f"what has the focus after {act}", "document.activeElement.dataset.focus", name)
 
 
 def page_of_a_run(program: str, place: str) -> str:
@@ -294,18 +283,18 @@ def of_a_run(shown: browser.Browser, address: str) -> None:
     """The page of a run says what ran, where, with the registers that changed; `l` goes to the next line."""
     shown.open("about:blank")
     shown.open(address + "#117")
-    told = [text_at(shown, selector) for selector in ("#place", "#told", "#answer", "#changed")]
-    told += [shown.value("[...document.querySelectorAll('.registers .now')].map(x => x.textContent).join()"),
-             text_at(shown, ".note")[:31]]
-    due = ["step 115", "processor 0, partition 1, 0x00400044 next_turn+2: stw r8 r15 0", "no line",
-           "processor 0: pc = 0x00400048frame 13, word 0 (0x00401000 of partition 1): 0x00401004 \u2192 0x0040100c",
-           "pc\u00a0\u00a00x00400048",
-           "Instructions and registers are "]
-    if told != due:
-        raise Differs(f"tools/step in a browser, of a run: {told}, where {due} is due")
+    for selector, due in (
+            ("#place", "step 115"), ("#answer", "no line"),
+            ("#told", "processor 0, partition 1, 0x00400044 next_turn+2: stw r8 r15 0"),
+            ("#changed", "processor 0: pc = 0x00400048frame 13, word 0 (0x00401000 of partition 1): 0x00401004 \u2192 "
+                         "0x0040100c")):
+        shown.due(f"{selector} of a run", text_at(selector), due)
+    shown.due("the registers that changed", "[...document.querySelectorAll('.registers .now')].map(x => x.textContent)",
+              ["pc\u00a0\u00a00x00400048"])
+    shown.due("the note", text_at(".note") + ".startsWith('Instructions and registers are ')", True)
     shown.key("l")
-    if "call 8 is yield(target the child at 0x00410000, vector 63, save nowhere)" not in text_at(shown, "#meaning"):
-        raise Differs(f"tools/step in a browser, of a run: the meaning is {text_at(shown, '#meaning')!r}")
+    shown.due("the meaning of a call", text_at("#meaning") + ".includes('call 8 is yield(target the child at "
+              "0x00410000, vector 63, save nowhere)')", True)
 
 
 def sizes(shown: browser.Browser) -> None:
@@ -316,13 +305,10 @@ def sizes(shown: browser.Browser) -> None:
             shown.media(dark=dark)
             for key in ("Home", "End"):
                 shown.key(key)
-                if not shown.value(WIDE):
-                    raise Differs(f"tools/step in a browser: the page is wider than {width} pixels")
-                if pale := shown.value(f"{PALE_TEXTS}({LEAST_CONTRAST})"):
-                    raise Differs(f"tools/step in a browser: too little contrast in {'dark' if dark else 'light'}: "
-                                  f"{pale}")
+                shown.due(f"whether the page fits {width} pixels", WIDE, True)
+                shown.due(f"texts with too little contrast, {'dark' if dark else 'light'}",
+                          f"{PALE_TEXTS}({LEAST_CONTRAST})", "")
     shown.media("print")
-    if shown.value("getComputedStyle(document.querySelector('.controls button')).display") != "none":
-        raise Differs("tools/step in a browser: on paper the buttons are shown")
+    shown.due("a button on paper", "getComputedStyle(document.querySelector('.controls button')).display", "none")
     if shown.errors:
         raise Differs(f"tools/step in a browser: {shown.errors[0]}")

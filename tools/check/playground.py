@@ -1,6 +1,5 @@
 """The program as a module of WebAssembly answers as the program does, and the page over it shows what the other tools
-show.
-"""
+show."""
 
 from __future__ import annotations
 
@@ -14,11 +13,12 @@ import shutil
 import subprocess
 import sys
 import tempfile
+from collections.abc import Iterator
 from typing import Any
 
 from ..authors import why
 from ..reference import generate
-from . import pages
+from . import corners, pages
 from .exporting import SECONDS, need_cargo
 from .running import REPOSITORY, Differs, Skipped, contents, expect, part, text_of, write
 
@@ -159,11 +159,10 @@ def state_of(data: dict[str, Any], k: int, chosen: int) -> dict[str, Any]:
 
 def reasons(program: str) -> None:
     """Of each generated text that is refused, and of lines that are bad in one way each, the page says what tools/why
-    says.
-    """
+    says."""
     need_node()
-    refused_as(program, "script", bad_texts(), len(BAD_LINES))
-    refused_as(program, "asm", bad_assembly(), len(BAD_ASSEMBLY))
+    refused_as(program, "script", bad_texts(), len(corners.BAD_LINES))
+    refused_as(program, "asm", bad_assembly(), len(corners.BAD_ASSEMBLY))
 
 
 def refused_as(program: str, kind: str, texts: list[bytes], least: int) -> None:
@@ -184,46 +183,16 @@ def facts() -> str:
     return write(known, os.path.dirname(made()), "facts")
 
 
-BAD_LINES = (b"ld 0 0\r", b" ld 0 0", b"ld 0  0", b"ld 0 0 ", b"ld\t0 0", b"ld 0 0 # here", b"LD 0 0", b"ld 0 0X1F",
-             b"ld 0 0x1F", b"ld 0 00",
-             b"ld 0 +1", b"ld 0 0x", b"ld 0 0x100000000", b"ld 0 4294967296", b"ld 0 99999999999", b"ld 1 0",
-             b"boot 64 1", b"sb 0 0 256",
-             b"trap 0 256 0 0", b"raise 16", b"reg 0 17", b"load 0 0", b"ld 0", b"ld 0 0 0", b"call 0",
-             b"call 0 5 1 2 3 4 5 6", b"# " + b"x" * 119,
-             b"call 1 5", b"poll 0 0")
-FIRST_LINES = (b"ld 0 0", b"boot 15 1", b"boot 32 5", b"boot 32", b"\xef\xbb\xbfboot 32 1")
-
-
 def bad_texts() -> list[bytes]:
-    found = [b"boot 64 1\n# here\n\n" + line + b"\n" for line in BAD_LINES] + [line + b"\n" for line in FIRST_LINES]
-    return found + [text for text in (generate.case("script", FIRST_SEED + k)[1] for k in range(CASES_OF_REASONS))
-                    if is_utf8(text)]
-
-
-# Each in the place of the last line of a text that is good
-BEGUN = b".frames 16\n.cpus 1\n.line 3 5 6\n.page 0x400000\nhere:\nli r1 <here\n"
-BAD_ASSEMBLY = (b"ldx r1 r2", b"ld r1 r2 0", b"LI r1 2", b"load r1 r2 0", b"la r1 here", b"zzz", b".equ A 1",
-                b".cpus 1", b".line 4 5 6", b"9a:", b"a b:",
-                b"li r16 1", b"li r1", b"li r1 2 3", b"li r1 <9", b"li r1 >nowhere", b"add r1 r2 3",
-                b"beq r1 r2 nowhere", b".word nowhere", b".word 1 2",
-                b".zero here", b".zero 1025", b".zero 1024", b"li r1 65536", b"addi r1 r2 32768", b"addi r1 r2 -32769",
-                b"shli r1 r2 32", b"int 63",
-                b"sys 65536", b"here:", b"here: li", b".page 0x400000", b".page 0x400004", b".page 0x300000", b".page",
-                b"jal r1 99999", b" li r1 2",
-                b"li  r1 2", b"li r1 2 # two", b"li r1 2\t", b"li r1 0X2", b"li r1 02", b"li r1 4294967296",
-                b"ldw r1 r2 --3", b"jr r1\r",
-                b"addi r1 r2 -0", b"# " + b"x" * 119, b".zero 900\n.zero 200",
-                b"beq r1 r1 far\n.page 0xfffff000\n.zero 1000\nfar:")
-BAD_HEADS = (b"", b".frames 16\n", b".frames 15\n", b".frames 4097\n", b".frames\n", b".cpus 1\n",
-             b".frames 16\n.cpus 5\n", b".frames 16\n.cpus 1\nli r1 1\n",
-             b".frames 16\n.cpus 1\n.line 16 1 1\n", b".frames 16\n.cpus 1\n.line 3 1 1\n.line 3 1 1\n",
-             b"\xef\xbb\xbf.frames 16\n")
+    return [*corners.texts(), *generated("script")]
 
 
 def bad_assembly() -> list[bytes]:
-    found = [BEGUN + line + b"\n" for line in BAD_ASSEMBLY] + list(BAD_HEADS)
-    return found + [text for text in (generate.case("asm", FIRST_SEED + k)[1] for k in range(CASES_OF_REASONS))
-                    if is_utf8(text)]
+    return [*corners.assembly(), *generated("asm")]
+
+
+def generated(command: str) -> Iterator[bytes]:
+    return filter(is_utf8, (generate.case(command, FIRST_SEED + k)[1] for k in range(CASES_OF_REASONS)))
 
 
 def is_utf8(text: bytes) -> bool:

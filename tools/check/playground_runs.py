@@ -1,6 +1,5 @@
 """What the page shows of the run of an assembly text is what a page of tools/step shows, whose registers are the
-reference's.
-"""
+reference's."""
 
 from __future__ import annotations
 

@@ -1,6 +1,5 @@
 """The page that runs, in a headless Chromium: its own check, typing, bad lines, keys and focus, links, assembly, a long
-file, sizes and colours.
-"""
+file, sizes and colours."""
 
 from __future__ import annotations
 
@@ -69,8 +68,7 @@ PLANTED_IN_WORKER = ("importScripts('a.js');", "fetch('a');", "new XMLHttpReques
 
 def loads_nothing(path: str) -> None:
     """But for the texts that it shows, the page names no other place. That the check sees what does is tried on planted
-    faults.
-    """
+    faults."""
     page = contents(path).decode()
     for fault in PLANTED:
         must_load(fault, page.replace("</body>", fault + "</body>"))
@@ -117,8 +115,7 @@ def until(shown: browser.Browser, expression: str) -> None:
 
 
 def due(shown: browser.Browser, what: str, expression: str, wanted: Any) -> None:
-    if (got := shown.value(expression)) != wanted:
-        raise Differs(f"the page in a browser, {what}: {got!r}, where {wanted!r} is due")
+    shown.due(what, expression, wanted)
 
 
 def text_of(selector: str) -> str:

@@ -25,7 +25,7 @@ def public_calls(program: str) -> None:
     if due != LISTED:
         raise Differs(f"a planted library is listed as {due}")
     for what, (call, old, new) in CHANGED.items():
-        if calls_of(changes(old, new)) != [call]:
+        if [difference.split(" ")[1] for difference in changes(old, new)] != [call]:
             raise Differs(f"a planted change isn't found: {what}")
     for what, (old, new) in SAME.items():
         if changes(old, new):
@@ -89,10 +89,6 @@ def changes(old: str, new: str) -> list[str]:
     with tempfile.TemporaryDirectory() as planted:
         write(PLANTED.replace(old, new), planted, PLACE)
         return list(differences(planted, LISTED))
-
-
-def calls_of(found: list[str]) -> list[str]:
-    return [difference.split(" ")[1] for difference in found]
 
 
 PLACE = "crates/pip_planted/src/lib.rt"

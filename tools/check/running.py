@@ -72,6 +72,16 @@ def told_by(name: str, *words: str, text: bytes = b"") -> tuple[str, str, int]:
     return done.stdout.decode("utf-8", "replace"), messages, done.returncode
 
 
+def says(program: str | None, words: Sequence[str], status: int = 0, *parts: str, text: bytes = b"") -> str:
+    """What a tool writes, with a program if it needs one. It has to end with the status, and to say these parts."""
+    output, messages, got = told_by(*words, *(["--program", program] if program else []), text=text)
+    missing = [part for part in parts if part not in output + messages]
+    if got != status or missing:
+        raise Differs(f"tools/{' '.join(words)}: status {got}, where {status} is due; {missing} is missing in "
+                      f"{(output + messages)[-300:]!r}")
+    return output
+
+
 def expect(what: str, got: tuple[bytes | None, int], wanted: tuple[bytes | None, int]) -> None:
     """Refuses a pair of output and status that isn't the one wanted."""
     if got == wanted:

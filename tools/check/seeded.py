@@ -50,8 +50,7 @@ def child(text: str, v: SimpleNamespace) -> str:
 def sums(text: str, v: SimpleNamespace) -> str:
     page = v.place - v.place % PAGE
     return put(text, ("li r1 0x1000", f"li r6 {v.first}\nli r1 {v.place % 65536:#x}"),
-               ("beq r1 r10 done", "bltu r1 r6 done"),
-               ("bne r1 r10 next", "bltu r1 r6 done\nbeq r10 r10 next"),
+               ("beq r1 r10 done", "bltu r1 r6 done"), ("bne r1 r10 next", "bltu r1 r6 done\nbeq r10 r10 next"),
                (".page 0x00401000", f".page {page:#x}\n.zero {v.place % PAGE // 4}"))
 
 

@@ -83,8 +83,7 @@ def keeps_files(program: str) -> None:
         for line, due in ((f"save {place}/no/file", "No such file"), ("save", "has a file after it"),
                           ("load /nonexistent", "can't be read"),
                           ("undo x", "the number of lines"), ("tree 1", "has nothing after it"),
-                          ("tree", "there is no machine yet"),
-                          ("load /dev/null", "no line with an answer")):
+                          ("tree", "there is no machine yet"), ("load /dev/null", "no line with an answer")):
             if due not in says(program, line + "\n"):
                 raise Differs(f"tools/shell of {line!r}: {says(program, line)!r}")
 

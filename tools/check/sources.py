@@ -1,12 +1,15 @@
-"""What holds of the sources beside what is proved: no clause imports in vain. And how checks read sources."""
+"""What holds of the sources beside what is proved: no clause imports in vain, and the wrong bodies that are kept beside
+the crates fit. And how checks read sources."""
 
 from __future__ import annotations
 
+import collections
 import os
 import re
 import tempfile
 from collections.abc import Iterator
 
+from ..edits.reading import NotApplied, all_edits, edited
 from .running import REPOSITORY, Differs, text_of, write
 
 IMPORT = re.compile(r"^\s*ghost use [^{\n]*\{([^}\n]*)\};$")
@@ -29,7 +32,7 @@ def imports_in_vain(top: str) -> Iterator[tuple[str, str]]:
     """The imported names that stand nowhere else in their file, with its path."""
     for _, path, text in sources(top):
         lines = text.split("\n")
-        body = without_remarks("\n".join(line for line in lines if not IMPORT.match(line)))
+        body = re.sub(r"//[^\n]*", "", "\n".join(line for line in lines if not IMPORT.match(line)))
         for names in filter(None, map(IMPORT.match, lines)):
             for name in (name.strip() for name in names.group(1).split(",")):
                 if name and not is_used(name.split(" as ")[-1].strip(), body):
@@ -41,10 +44,6 @@ def is_used(name: str, body: str) -> bool:
     if "◌" in name:
         return all(part in body for part in name.split("◌") if part)
     return re.search(rf"(?<![\w'-]){re.escape(name)}(?![\w'])", body) is not None
-
-
-def without_remarks(text: str) -> str:
-    return re.sub(r"//[^\n]*", "", text)
 
 
 def sources(top: str) -> Iterator[tuple[str, str, str]]:
@@ -62,3 +61,44 @@ def texts(top: str, parts: tuple[str, ...], ending: str) -> Iterator[tuple[str, 
                     if name.endswith(ending):
                         path = os.path.join(folder, name)
                         yield crate, os.path.relpath(path, top), text_of(path)
+
+
+# Edits
+
+SOURCE = "fn one() -> u32 {\n    1\n}\n"
+PLANTED = {                     # three edits that apply, and five of which something is said
+    "must-fail/it_is_two.edit": "file: src/lib.rt\nold:     1\nnew:     2\n",
+    "tried/it_is_four.edit": "file: src/lib.rt\nold:     1\nnew:     3\nold:     3\nnew:     4\n",
+    "tried/admitted/it_is_a_sum.edit": "file: src/lib.rt\nold:     1\nnew:     0 + 1\n",
+    "tried/it_is_two.edit": "file: src/lib.rt\nold:     1\nnew:     5\n",
+    "tried/it_has_no_file.edit": "file: src/one.rt\nold:     1\nnew:     2\n",
+    "tried/it_is_there_twice.edit": "file: src/lib.rt\nold: n\nnew: m\n",
+    "tried/it_is_there_no_more.edit": "file: src/lib.rt\nold:     1\nnew:     2\nold:     1\nnew:     3\n",
+    "tried/admitted/it_changes_nothing.edit": "file: src/lib.rt\nold:     1\nnew:     1\n",
+}
+
+
+def troubles(top: str) -> list[str]:
+    """Each edit that doesn't apply, and each name that two edits of a crate have."""
+    found = []
+    names: collections.Counter[tuple[str, str]] = collections.Counter()
+    for edit in all_edits(top):
+        names[edit.crate, edit.name] += 1
+        try:
+            edited(top, edit)
+        except NotApplied as why:
+            found.append(f"crates/{edit.crate}/{edit.folder}/{edit.name}.edit: {why}")
+    return found + [f"two edits of {crate} are called {name}" for (crate, name), count in names.items() if count > 1]
+
+
+def edits(program: str) -> None:
+    """Each edit of must-fail/ and tried/ applies, and no two of a crate have one name. Planted ones are tried first."""
+    with tempfile.TemporaryDirectory() as planted:
+        write(SOURCE, planted, "crates/pip_one/src/lib.rt")
+        for path, text in PLANTED.items():
+            write(text, planted, "crates/pip_one", path)
+        if len(troubles(planted)) != 5:
+            raise Differs(f"planted edits: {troubles(planted)}")
+    found = troubles(REPOSITORY)
+    if found:
+        raise Differs("; ".join(found))

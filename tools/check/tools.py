@@ -1,17 +1,19 @@
-"""The tools themselves: their unit tests, and the comparison of the program with the reference."""
+"""The tools themselves: their unit tests, those of the debugger beside the program, the comparison of the program with
+the reference, the pictures, and the hints of types, in which mypy, as strict as it is, finds nothing."""
 
 from __future__ import annotations
 
 import filecmp
+import glob
 import os
 import re
+import shutil
 import subprocess
 import sys
 import tempfile
 
 from ..reference import comparison
-from .running import REPOSITORY, Check, Differs, Skipped
-
+from .running import REPOSITORY, Check, Differs, Skipped, text_of, write
 
 CASES = {"script": 400, "asm": 200, "dis": 200, "run": 200, "tree": 100, "core": 100, "soak": 200, "native": 200,
          "slots": 200, "audit": 200, "every": 500, "against": 500, "apart": 300}
@@ -48,3 +50,70 @@ def pictures(program: str) -> None:
             kept = os.path.join(REPOSITORY, "docs", name)
             if not filecmp.cmp(os.path.join(place, name), kept, shallow=False):
                 raise Differs(f"docs/{name} isn't what tools/draw/make_pictures.sh makes")
+
+
+def tested(program: str, *modules: str) -> None:
+    """These unit tests, with this program."""
+    done = subprocess.run([sys.executable, "-B", "-m", "unittest", "-q",
+                           *(f"tools.debugger.{name}" for name in modules)], cwd=REPOSITORY,
+                          env=dict(os.environ, PIP=os.path.abspath(program)), stdout=subprocess.PIPE,
+                          stderr=subprocess.STDOUT)
+    if done.returncode:
+        raise Differs(f"tools/debugger: {done.stdout.decode()[-4000:]}")
+
+
+def debugger(program: str) -> None:
+    """Its states are the program's, it goes back as it went forward, and a terminal and an editor's adapter show what
+    is there."""
+    if not shutil.which("cargo"):
+        raise Skipped("no cargo")
+    tested(program, "debugger_tests", "adapter_tests")
+
+
+def language_server(program: str) -> None:
+    """What is wrong, as tools/why and tools/asmx say it, and what words mean, at the places that an editor asks for."""
+    tested(program, "language_tests")
+
+
+OF = ("tools", os.path.join("editors", "test_grammar.py"))
+PLANTED = {
+    "tools/planted.py": "def number(text: str) -> int:\n    return text\n\n\ndef bare(text):\n    return text\n",
+    "editors/test_grammar.py": "import tools.planted\n\nSIZE: str = tools.planted.number('1')\n",
+}
+DUE = ("tools/planted.py:2: error: Incompatible return value type",
+       "tools/planted.py:5: error: Function is missing a type annotation",
+       "editors/test_grammar.py:3: error: Incompatible types in assignment")
+SECONDS = 600            # of mypy
+OLD = re.compile(r"^from typing import "
+                 r".*\b(Callable|Dict|FrozenSet|Iterable|Iterator|List|Mapping|Sequence|Set|Tuple|Type)\b", re.M)
+
+
+def types(program: str) -> None:
+    """The tools are typed throughout, by `dict[..]` and its like. Planted modules are tried first."""
+    if not OLD.search("from typing import Any, Dict\n"):
+        raise Differs("a planted import of Dict isn't found")
+    for path in glob.glob(os.path.join(REPOSITORY, "tools", "**", "*.py"), recursive=True):
+        if OLD.search(text_of(path)):
+            raise Differs(f"{os.path.relpath(path, REPOSITORY)} imports of typing what Python has itself")
+    mypy = shutil.which("mypy")
+    if mypy is None:
+        raise Skipped("no mypy")
+    with tempfile.TemporaryDirectory() as planted:
+        write("", planted, "tools/__init__.py")
+        for path, text in PLANTED.items():
+            write(text, planted, path)
+        told, status = judged(mypy, planted)
+        missing = [due for due in DUE if due not in told]
+        if status != 1 or missing:
+            raise Differs(f"planted modules: mypy ends with {status}, and doesn't say {missing}: {told}")
+    told, status = judged(mypy, REPOSITORY)
+    if status:
+        raise Differs(told)
+
+
+def judged(mypy: str, top: str) -> tuple[str, int]:
+    """What mypy says of the tools below a folder, and its status. It keeps nothing."""
+    command = [mypy, "--strict", "--python-version", "3.9", "--cache-dir", os.devnull, *OF]
+    done = subprocess.run(command, cwd=top, stdin=subprocess.DEVNULL, stdout=subprocess.PIPE, stderr=subprocess.STDOUT,
+                          timeout=SECONDS)
+    return done.stdout.decode("utf-8", "replace"), done.returncode

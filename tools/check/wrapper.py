@@ -1,6 +1,5 @@
 """./pip builds where it has to, says so in one sentence, and runs the program. Stand-ins for `rt` and `cargo` build
-here.
-"""
+here."""
 
 from __future__ import annotations
 
@@ -16,7 +15,7 @@ from collections.abc import Sequence
 from typing import IO
 
 from ..common import forms
-from .checkout import SOURCES, Checkout, Ended
+from .checkout import SOURCES, Checkout, Ended, Process
 from .running import SECONDS, Differs, Skipped, contents, expect as expect_output, part, run, text_of
 
 BUILDS = "proving and building pip; this takes a quarter of an hour or more, and what the prover says goes into "
@@ -30,14 +29,14 @@ EXPLAINED = ((("script", "crates.txt"), "pip reads standard input: ./pip script 
              (("script", "none.pip"), "./pip script < FILE "),
              (("run", "06", "1"), "STEPS is a number, decimal without a 0 before it"),
              (("run", "100000000", "1"), "STEPS is at most 10000000\n./pip run STEPS SEED < IMAGE "),
-             (("run", "1", "0"), "SEED is at least 1\n"),
-             (("run", "1"), "./pip run STEPS SEED < IMAGE "),
+             (("run", "1", "0"), "SEED is at least 1\n"), (("run", "1"), "./pip run STEPS SEED < IMAGE "),
              (("slots", "8", "8", "125001"), "N * (TURNS + 2) * ROUNDS is at most 10000000\n"),
              (("slots", "1", "2", "0:4999999"),
               "a round has at most 10000000 / ROUNDS steps, TURNS + 2 for each slot\n"),
              (("slots", "2", "2", "0:1", "2:1"), "K is at most 1\n"),
-             (("apart", "1", "5", "0"), "SEED is at least 1\n"),
-             (("evry",), "evry: did you mean every?\n"),
+             (("apart", "1", "5", "0"), "SEED is at least 1\n"), (("evry",), "evry: did you mean every?\n"),
+             (("every", "1", "after", "5", "0"), "SEED is at least 1\n./pip every STATES < IMAGE "),
+             (("against", "1", "10000001", "after", "5", "1"), "FROM is at most 10000000\n"),
              (("--unprovd", "script"), "--unprovd: did you mean --unproved?\n"),
              (("[a-z]*",), "[a-z]*: there is no such command\n./pip script < FILE "), ((), "./pip script < FILE "))
 # What is said of a status.
@@ -50,31 +49,26 @@ def expect(what: str, got: object, wanted: object) -> None:
         raise Differs(f"./pip, {what}: {got}, where {wanted} is due")
 
 
+def expect_told(what: str, got: Ended, output: str, status: int, *told: str, builds: int | None = None) -> None:
+    """Refuses another output, status or number of builds, and messages without one of these texts."""
+    expect(what, got[:1] + got[2:3], (output, status))
+    expect(f"{what}, builds", got[3], got[3] if builds is None else builds)
+    if not all(text in got[1] for text in told):
+        raise Differs(f"./pip, {what}, says {got[1]!r}")
+
+
 def expect_built(what: str, got: Ended, builds: int = 1) -> None:
-    output, messages, status, built = got
-    expect(what, (output, status, built), ("ran script\n", 7, builds))
-    if messages.startswith(BUILDS) != bool(builds):
-        raise Differs(f"./pip, {what}, says {messages!r}")
+    expect_told(what, got, "ran script\n", 7, builds=builds)
+    expect(f"{what}, that it says so", got[1].startswith(BUILDS), bool(builds))
 
 
 def wrapper(program: str) -> None:
     with tempfile.TemporaryDirectory() as place:
-        checkouts = (Checkout(os.path.join(place, str(number))) for number in range(15))
-        builds_when_needed(next(checkouts))
-        tells_its_progress(next(checkouts))
-        sees_an_edit_during_the_build(next(checkouts))
-        says_where_it_fails(next(checkouts))
-        cant_write(next(checkouts))
-        is_stopped(next(checkouts))
-        is_ended(next(checkouts))
-        runs_unproved(next(checkouts))
-        says_what_a_status_means(next(checkouts))
-        hands_on(next(checkouts))
-        says_what_is_built(next(checkouts))
-        of_an_unproved_release(next(checkouts))
-        explains_wrong_words(next(checkouts))
-        answers_wrong_words(next(checkouts), program)
-        follows_a_link(next(checkouts), os.path.join(place, "link"))
+        for act in (builds_when_needed, tells_its_progress, sees_an_edit_during_the_build, says_where_it_fails,
+                    is_stopped, is_ended, runs_unproved, says_what_a_status_means, hands_on, says_what_is_built,
+                    of_an_unproved_release, explains_wrong_words, follows_a_link):
+            act(Checkout(os.path.join(place, act.__name__)))
+        answers_wrong_words(Checkout(os.path.join(place, "wrong")), program)
 
 
 def builds_when_needed(checkout: Checkout) -> None:
@@ -113,27 +107,21 @@ def sees_an_edit_during_the_build(checkout: Checkout) -> None:
 
 
 def says_where_it_fails(checkout: Checkout) -> None:
-    output, messages, status, _ = checkout.run("script", REFUSED="1")
-    expect("where it isn't built", (output, status), ("", 11))
-    if not messages.startswith(BUILDS) or "wasn't built. The end of" not in messages or "prover's log" not in messages:
-        raise Differs(f"./pip, where it isn't built, says {messages!r}")
-    left = [name for name in os.listdir(checkout.place) if name.startswith("build-begun")]
-    expect("what a build that failed leaves", left, [])
+    """It isn't built, there is no `rt`, and where the folder of the build should be there is a file."""
+    expect_told("where it isn't built", checkout.run("script", REFUSED="1"), "", 11, BUILDS, "wasn't built. The end of",
+                "prover's log")
+    expect("what a build that failed leaves", left_of_builds(checkout), [])
     path = "/usr/bin:/bin"
     if not shutil.which("rt", path=path):
-        output, messages, status, _ = checkout.run("script", path=path)
-        expect("without rt", (output, status), ("", 11))
-        if "isn't in the PATH\n" not in messages or "or say ./pip --unproved script: at once" not in messages:
-            raise Differs(f"./pip, without rt, says {messages!r}")
-
-
-def cant_write(checkout: Checkout) -> None:
-    """The place of the build can't be written: there is a file where the folder should be."""
+        expect_told("without rt", checkout.run("script", path=path), "", 11, "isn't in the PATH\n",
+                    "or say ./pip --unproved script: at once")
+    shutil.rmtree(checkout.path("crates/pip/out"), ignore_errors=True)
     checkout.touch("crates/pip/out")
-    output, messages, status, builds = checkout.run("script")
-    expect("where it can't write", (output, status, builds), ("", 11, 0))
-    if not messages.endswith("can't be written\n"):
-        raise Differs(f"./pip, where it can't write, says {messages!r}")
+    expect_told("where it can't write", checkout.run("script"), "", 11, "can't be written\n", builds=0)
+
+
+def left_of_builds(checkout: Checkout) -> list[str]:
+    return [name for name in os.listdir(checkout.place) if "begun" in name]
 
 
 def in_turn(program: str) -> None:
@@ -141,50 +129,47 @@ def in_turn(program: str) -> None:
     if not shutil.which("flock"):
         raise Skipped("no flock")
     with tempfile.TemporaryDirectory() as place:
-        two_at_once(Checkout(os.path.join(place, "0")))
+        checkout = Checkout(os.path.join(place, "0"))
+        first = begun(checkout, "8")
+        second = checkout.begin("script")
+        expect_built("the first of two", checkout.ended(first))
+        expect_told("the second of two", checkout.ended(second), "ran script\n", 7, "another ./pip builds here",
+                    builds=0)
 
 
-def two_at_once(checkout: Checkout) -> None:
-    first = checkout.begin("script", SECONDS_LONG="8")
-    wait_for(checkout)
-    second = checkout.begin("script")
-    expect_built("the first of two", checkout.ended(first))
-    output, messages, status, builds = checkout.ended(second)
-    expect("the second of two", (output, status, builds), ("ran script\n", 7, 0))
-    if not messages.startswith("another ./pip builds here"):
-        raise Differs(f"./pip, the second of two, says {messages!r}")
+def begun(checkout: Checkout, seconds: str) -> Process:
+    """A ./pip whose stand-in is at work for that long."""
+    begun, limit = checkout.begin("script", SECONDS_LONG=seconds), time.monotonic() + 20
+    while not checkout.counted():
+        if time.monotonic() > limit:
+            raise Differs("./pip didn't begin to build")
+        time.sleep(0.05)
+    return begun
 
 
 def is_stopped(checkout: Checkout) -> None:
     """Ctrl-C goes to all processes of the terminal."""
-    begun = checkout.begin("script", SECONDS_LONG="100")
-    wait_for(checkout)
-    os.killpg(begun.pid, signal.SIGINT)
-    output, messages, status, _ = checkout.ended(begun)
-    expect("stopped", (output, status), ("", 130))
-    if "stopped; what was done is kept" not in messages:
-        raise Differs(f"./pip, stopped, says {messages!r}")
+    stopped = begun(checkout, "100")
+    os.killpg(stopped.pid, signal.SIGINT)
+    expect_told("stopped", checkout.ended(stopped), "", 130, "stopped; what was done is kept")
     expect_built("after it was stopped", checkout.run("script"))
 
 
 def is_ended(checkout: Checkout) -> None:
     """A signal to ./pip alone ends what builds, too."""
-    begun = checkout.begin("script", SECONDS_LONG="100")
-    wait_for(checkout)
+    ended = begun(checkout, "100")
     builder = part(r"log of build (\d+)", text_of(checkout.path("build.log")))
-    begun.terminate()
-    expect("ended", checkout.ended(begun)[2], 143)
+    ended.terminate()
+    expect("ended", checkout.ended(ended)[2], 143)
     if os.path.exists("/proc/" + builder):
         raise Differs("./pip, ended, leaves what builds running")
-    expect("what a build that was ended leaves", [name for name in os.listdir(checkout.place) if "begun" in name], [])
+    expect("what a build that was ended leaves", left_of_builds(checkout), [])
 
 
 def runs_unproved(checkout: Checkout) -> None:
     """By cargo, by the reference where cargo can't, and never without a word."""
-    output, messages, status, builds = checkout.run("--unproved", "run", "1", "1")
-    expect("unproved", (output, status, builds), ("cargo ran run 1 1\n", 8, 1))
-    if not messages.startswith(BY_CARGO) or not messages.endswith(OF_CARGO):
-        raise Differs(f"./pip --unproved, which builds, says {messages!r}")
+    expect_told("unproved", checkout.run("--unproved", "run", "1", "1"), "cargo ran run 1 1\n", 8, BY_CARGO, OF_CARGO,
+                builds=1)
     expect("unproved, built", checkout.run("--unproved", "script"), ("cargo ran script\n", OF_CARGO, 8, 0))
     for name in (SOURCES[0], "tools/exporter/new.py"):
         checkout.age(2000, ("out/rust/target/release/pip", "out/sources-seen"))
@@ -192,23 +177,16 @@ def runs_unproved(checkout: Checkout) -> None:
         expect(f"unproved, after a change of {name}", checkout.run("--unproved", "script")[2:], (8, 1))
         checkout.touch(name, 1000)
     checkout.touch(SOURCES[0])
-    output, messages, status, _ = checkout.run("--unproved", "script", REFUSED="1")
-    expect("unproved, where cargo can't", (output, status), ("the reference ran script\n", 9))
-    has_log = "wasn't built. The end of" in messages and "cargo's log" in messages
-    if not has_log or not messages.endswith(OF_REFERENCE):
-        raise Differs(f"./pip --unproved, where cargo can't build, says {messages!r}")
-    expect("what is left of it", [name for name in os.listdir(checkout.place) if "begun" in name], [])
-    without_cargo(checkout)
-
-
-def without_cargo(checkout: Checkout) -> None:
+    expect_told("unproved, where cargo can't", checkout.run("--unproved", "script", REFUSED="1"),
+                "the reference ran script\n", 9, "wasn't built. The end of", "cargo's log", OF_REFERENCE)
+    expect("what is left of it", left_of_builds(checkout), [])
     os.makedirs(checkout.path("few"))
     for name in ("sh", "readlink", "dirname", "find", "head"):
         os.symlink(shutil.which(name) or name, checkout.path("few/" + name))
-    output, messages, status, _ = checkout.run("--unproved", "script", path=checkout.path("few"))
-    expect("unproved, without cargo and Python", (output, status), ("", 11))
+    few = checkout.path("few")
+    expect_told("unproved, without cargo and Python", checkout.run("--unproved", "script", path=few), "", 11)
     os.symlink(sys.executable, checkout.path("few/python3"))
-    expect("unproved, without cargo", checkout.run("--unproved", "script", path=checkout.path("few"))[:3],
+    expect("unproved, without cargo", checkout.run("--unproved", "script", path=few)[:3],
            ("the reference ran script\n", "cargo isn't in the PATH\n" + OF_REFERENCE, 9))
 
 
@@ -217,14 +195,10 @@ def says_what_a_status_means(checkout: Checkout) -> None:
     checkout.run("script")
     checkout.write_program("crates/pip/out/pip", "#!/bin/sh\necho 'bad line 5 operand'\nexit \"$STATUS\"\n")
     for number, due in STATUSES:
-        expect(f"status {number}", beside_terminal(checkout, subprocess.PIPE, number)[0], number)
-        told = beside_terminal(checkout, subprocess.PIPE, number)[1]
-        if not told.startswith(due):
-            raise Differs(f"./pip, status {number}, says {told!r}")
-        output, messages, status, _ = checkout.run("script", STATUS=str(number))
-        expect(f"status {number}, without a terminal", (output, status), ("bad line 5 operand\n", number))
-        if not messages.startswith(due):
-            raise Differs(f"./pip, status {number}, without a terminal, says {messages!r}")
+        status, told = beside_terminal(checkout, subprocess.PIPE, number)
+        expect(f"status {number}", (status, told.startswith(due)), (number, True))
+        expect_told(f"status {number}, without a terminal", checkout.run("script", STATUS=str(number)),
+                    "bad line 5 operand\n", number, due)
     expect("status 2, without a terminal", checkout.run("script", STATUS="2")[:3], ("bad line 5 operand\n", "", 2))
     with open(checkout.path("image"), "wb") as image:
         expect("status 2, into a file", beside_terminal(checkout, image, 2), (2, "status 2: bad line 5 operand\n"))
@@ -301,22 +275,13 @@ def of_an_unproved_release(checkout: Checkout) -> None:
 def explains_wrong_words(checkout: Checkout) -> None:
     """What may be meant, on standard error; the rest is as ever, built or not."""
     for words, due in EXPLAINED:
-        output, messages, status, builds = checkout.run(*words, cwd=checkout.place)
-        expect(f"with {words}", (output.startswith("usage: pip script"), status, builds), (True, 1, 0))
-        if not messages.startswith(due):
-            raise Differs(f"./pip with {words} says {messages!r}")
+        got = checkout.run(*words, cwd=checkout.place)
+        expect_told(f"with {words}", got, got[0] if got[0].startswith("usage: pip script") else "the usage line", 1,
+                    builds=0)
+        expect(f"with {words}, that it says {due!r}", got[1].startswith(due), True)
     checkout.run("script")
     output, messages, status, _ = checkout.run("script", "crates.txt", cwd=checkout.place)
     expect("built, with a file as a word", (output, messages, status), ("ran script crates.txt\n", EXPLAINED[0][1], 7))
-
-
-def wait_for(checkout: Checkout) -> None:
-    """Until the stand-in is at work."""
-    limit = time.monotonic() + 20
-    while not checkout.counted():
-        if time.monotonic() > limit:
-            raise Differs("./pip didn't begin to build")
-        time.sleep(0.05)
 
 
 def answers_wrong_words(checkout: Checkout, program: str) -> None:
@@ -334,7 +299,6 @@ def answers_wrong_words(checkout: Checkout, program: str) -> None:
         expect(f"not built, with {words}", checkout.run(*words)[2:], (7, 1))
 
 
-def follows_a_link(checkout: Checkout, link: str) -> None:
-    os.symlink(checkout.path("pip"), link)
-    output, _, status, _ = checkout.run("script", command=link)
-    expect("by a symbolic link", (output, status), ("ran script\n", 7))
+def follows_a_link(checkout: Checkout) -> None:
+    os.symlink(checkout.path("pip"), checkout.path("link"))
+    expect_told("by a symbolic link", checkout.run("script", command=checkout.path("link")), "ran script\n", 7)

@@ -1,6 +1,5 @@
 """What answers and faults mean, in the words of docs/FORMATS.md: meanings.json, which the check `documents` compares
-with that page.
-"""
+with that page."""
 
 from __future__ import annotations
 

@@ -4,28 +4,14 @@ from __future__ import annotations
 
 import itertools
 import re
-import struct
 from collections.abc import Sequence
-from dataclasses import dataclass
 
+from ..reference import image as images
+from ..reference.image import Plan
 from .calling import Failed, number
 
+__all__ = ["Plan"]
 MOST = 100_000                   # plans at once
-HEAD = 24                        # bytes of an image before its plans
-PLANS_AT = 16                    # where their number is
-PLAN = struct.Struct("<3I")
-
-
-@dataclass(frozen=True, order=True)
-class Plan:
-    """Line, first step and period of a plan."""
-
-    line: int
-    first: int
-    period: int
-
-    def __str__(self) -> str:
-        return f".line {self.line} {self.first} {self.period}"
 
 
 def read(text: str) -> Plan:
@@ -55,20 +41,9 @@ def span(text: str, what: str) -> range:
     return range(least, most + 1, number(found[3] or "1", 1, 0xFFFFFFFF, f"the step of {what}"))
 
 
-def count(image: bytes) -> int:
-    """How many plans an image has, whose header is whole."""
-    return int.from_bytes(image[PLANS_AT:PLANS_AT + 4], "little")
-
-
-def with_plan(image: bytes, plan: Plan) -> bytes:
-    """The image with this plan in the place of all others. One that is too short for its header stays as it is."""
-    return with_plans(image, [plan])
-
-
 def with_plans(image: bytes, plans: Sequence[Plan]) -> bytes:
-    """The same with several plans, whose lines rise."""
-    if len(image) < HEAD:
+    """The image with these plans, whose lines rise, in the place of its own. A bad image stays as it is."""
+    try:
+        return images.written(images.read(image)._replace(plans=list(plans)))
+    except images.BadImage:
         return image
-    told = b"".join(PLAN.pack(plan.line, plan.first, plan.period) for plan in plans)
-    head = image[:PLANS_AT] + struct.pack("<I", len(plans)) + image[PLANS_AT + 4:HEAD]
-    return head + told + image[HEAD + PLAN.size * count(image):]

@@ -4,8 +4,7 @@
 
 Arguments of `launch`: `program`, an image, a source or a script; `source`, that of an image; `seed`, or `native`, a
 number of children, or `slots`, that and the turns of a slot, or `way`, choices of `every`; `stopOnEntry`; `check`,
-whether each stop is compared with the program, as is done without it where the program is proved.
-"""
+whether each stop is compared with the program, as is done without it where the program is proved."""
 
 from __future__ import annotations
 

@@ -9,12 +9,13 @@ from collections.abc import Callable
 from dataclasses import dataclass
 from typing import NamedTuple
 
-from ..authors import asmx, every, why
+from ..authors import asmx, every, ways, why
 from ..common import calling
 from ..common.calling import Failed
 from ..draw import texts
 from ..draw.texts import Partition
-from ..reference import instructions, script
+from ..reference import image as images, instructions, script
+from ..reference.every import After
 from . import sources
 from .client import EVERY, At, Coming, Refused, States, Stopped, Stops, Turn
 from .sources import Named, Word
@@ -67,8 +68,7 @@ class Event(NamedTuple):
 
 class Debugger:
     """One image with its source, and a run of it: by `seed SEED`, `native CHILDREN` or `slots CHILDREN TURNS`. Or a
-    script, whose lines are the steps.
-    """
+    script, whose lines are the steps."""
 
     def __init__(self, program: str, process: States, path: str, schedule: str = "seed 1",
                  every_step: int = EVERY) -> None:
@@ -371,10 +371,14 @@ class Debugger:
         if self.is_script:
             raise Failed("the lines of a script come in their order alone")
 
-    def search(self, words: list[str]) -> every.Search:
-        """What the program's `every` finds for this image."""
+    def search(self, words: list[str]) -> tuple[every.Search, str]:
+        """What the program's `every` finds for this image, and the way to where it begins."""
         self.need_image()
-        return every.read(every.searched(self.program, ["every", *words], self.data))
+        found = every.read(every.searched(self.program, ["every", *words], self.data))
+        if words[-3:-2] != ["after"]:
+            return found, ""
+        after = After(int(words[-2], 0), int(words[-1], 0))
+        return found, ways.text_of(ways.before(images.read(self.data), after))
 
     def take_way(self, text: str) -> Stopped:
         """The choices of a way in the place of the schedule, from the beginning."""

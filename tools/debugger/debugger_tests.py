@@ -412,14 +412,16 @@ class Changes(WithStates):
         """The line that `every` has for a way is shown by the last step of that way."""
         for name in ("race.asmx", "asked_again.asmx", "turns.asmx"):
             debugger = Debugger(PROGRAM, self.states, os.path.join(calling.REPOSITORY, "examples", "every", name))
-            search = debugger.search(["100000"])
-            for line in search.lines:
-                end = debugger.take_way(line.way).end
-                self.states.go(end)
-                turn = self.states.turn()
-                assert turn
-                self.assertEqual(turn.line, f"{line.step} {line.cpu} {line.text}")
-            self.assertTrue(search.lines)
+            for words in (["100000"], ["100000", "after", "60", "3"]):
+                search, before = debugger.search(words)
+                first = debugger.take_way(before).end if before else 0
+                for line in search.lines:
+                    end = debugger.take_way(f"{before} {line.way}".lstrip()).end
+                    self.states.go(end)
+                    turn = self.states.turn()
+                    assert turn
+                    self.assertEqual(turn.line, f"{first + line.step} {line.cpu} {line.text}")
+                self.assertTrue(search.lines)
 
 
 class Typed(unittest.TestCase):

@@ -3,8 +3,7 @@
     tools/debug FILE [SEED] [--native N | --slots N TURNS]
 
 The states are those of a process over the exported library, of the same text as the program and not of the same proof;
-where the program is proved, each stop compares the state with the program's own.
-"""
+where the program is proved, each stop compares the state with the program's own."""
 
 from __future__ import annotations
 
@@ -320,10 +319,10 @@ class Terminal(cmd.Cmd):
         self.where()
 
     def do_every(self, text: str) -> None:
-        """every STATES [FROM [DEPTH]]: the lines that can come over all interleavings; way N goes to one. ! is a
-        refused call, fault or park."""
-        search = self.debugger.search(text.split())
-        self.way_texts = [line.way for line in search.lines]
+        """every STATES [FROM [DEPTH]] [after STEPS SEED]: the lines that can come over all interleavings; way N goes to
+        one. ! is a refused call, fault or park."""
+        search, before = self.debugger.search(text.split())
+        self.way_texts = [f"{before} {line.way}".lstrip() for line in search.lines]
         many = len(search.lines) > MOST_TOLD
         for number, line in enumerate(search.lines, 1):
             if line.is_trouble or not many:

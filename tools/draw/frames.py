@@ -1,7 +1,6 @@
 """What each frame of a memory is: the descriptors, directories, tables and list pages, found from the root on.
 
-The words are those of docs/FORMATS.md.
-"""
+The words are those of docs/FORMATS.md."""
 
 from __future__ import annotations
 

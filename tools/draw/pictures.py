@@ -3,8 +3,7 @@
     pip tree STEPS SEED < IMAGE | tools/draw/draw.py tree > tree.svg
     pip core STEPS SEED < IMAGE | tools/draw/draw.py frame 18 > frame.svg
     pip core STEPS SEED < IMAGE | tools/draw/draw.py handler 1 65 > handler.svg
-    pip core STEPS SEED < IMAGE | tools/draw/draw.py address 13 0xffc13008 > translation.svg
-"""
+    pip core STEPS SEED < IMAGE | tools/draw/draw.py address 13 0xffc13008 > translation.svg"""
 
 from __future__ import annotations
 

@@ -4,8 +4,7 @@
 
 Without an edit it prints crate, folder and name of each. An edit is put into a copy of the crate and of those below it,
 where `rt check` keeps what was proved; a line says what came of it. The status is 1 if one of them isn't refused by a
-goal, or is of `tried/admitted/` and a goal refuses it.
-"""
+goal, or is of `tried/admitted/` and a goal refuses it."""
 
 from __future__ import annotations
 
@@ -98,8 +97,7 @@ def copy_crates(place: str, chain: list[str]) -> None:
 
 def place_of(edit: Edit) -> str | None:
     """What of the crate has to be checked: the function that an edit changes, the module of several or of a trait's
-    function, or None for the whole crate.
-    """
+    function, or None for the whole crate."""
     sources = [change for change in edit.changes if change.path.startswith("src/")]
     paths = {change.path for change in sources}
     if len(paths) != 1 or "src/lib.rt" in paths:

@@ -1,6 +1,5 @@
 """One work of a class, judged in a process of its own, which reads the student's folder alone and has limits of time
-and memory. It is asked and answers by JSON on its streams.
-"""
+and memory. It is asked and answers by JSON on its streams."""
 
 from __future__ import annotations
 

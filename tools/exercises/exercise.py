@@ -1,7 +1,6 @@
 """Judges a student's script or program by what it reaches.
 
-    tools/exercise NAME FILE [--seed STUDENT] [--again SECRET]
-"""
+    tools/exercise NAME FILE [--seed STUDENT] [--again SECRET]"""
 
 from __future__ import annotations
 

@@ -1,7 +1,6 @@
 """A class at a glance: a row a student, a column an exercise, and in each cell how many goals are reached.
 
-    tools/grade FOLDER [--csv] [--seeds] [--allow EXAMPLE ..]
-"""
+    tools/grade FOLDER [--csv] [--seeds] [--allow EXAMPLE ..]"""
 
 from __future__ import annotations
 

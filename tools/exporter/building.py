@@ -61,8 +61,7 @@ class Program:
         manifest += (self.source / "manifest.toml").read_text(encoding="utf-8")
         files = {f"{place}/Cargo.toml": manifest,
                  f"{place}/LICENSE": (REPOSITORY / "LICENSE").read_text(encoding="utf-8")}
-        return {**files,
-                **{f"{place}/src/{path.name}": path.read_text(encoding="utf-8")
+        return {**files, **{f"{place}/src/{path.name}": path.read_text(encoding="utf-8")
                    for path in sorted((self.source / "src").iterdir())}}
 
     def build(self) -> None:

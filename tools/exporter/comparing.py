@@ -1,6 +1,5 @@
 """Says how an export differs from its sources: each word that came or went otherwise than by the known rules is a
-difference.
-"""
+difference."""
 
 from __future__ import annotations
 
@@ -135,7 +134,7 @@ def conditions_of(clause: str) -> list[str]:
     text = re.sub(r" \. (?:now|old)\b(?: \. items\b)?| \. items\b", "", text)
     text = re.sub(r"(\d+) \^ (\d+)", lambda match: str(int(match.group(1)) ** int(match.group(2))), text)
     text = text.replace("vec_len", "length").replace("array_string_len", "length")
-    return [without_brackets(part) for part in parts_of(text)]
+    return [part[2:-2] if re.fullmatch(r"\( [^(]* \)", part) else part for part in parts_of(text)]
 
 
 def parts_of(text: str) -> list[str]:
@@ -148,11 +147,6 @@ def parts_of(text: str) -> list[str]:
         else:
             parts[-1] += " " + word
     return [part.strip() for part in parts]
-
-
-def without_brackets(part: str) -> str:
-    inner = part[2:-2]
-    return inner if part.startswith("( ") and part.endswith(" )") and "(" not in inner else part
 
 
 def missing_clause(clauses: list[str], found: list[Word]) -> str | None:

@@ -24,22 +24,14 @@ PUBLIC = {
 
 # Where Debian's packages librust-*-dev put crates, for cargo to take in the place of the registry.
 DEBIAN = Path("/usr/share/cargo/registry")
+FROM_DEBIAN = f'[source.crates-io]\nreplace-with = "folder"\n\n[source.folder]\ndirectory = "{DEBIAN}"\n'
 SECONDS = 60
-
-
-def shim_names() -> list[str]:
-    return sorted(folder.name for folder in SHIMS.iterdir() if (folder / "src" / "lib.rs").exists())
-
-
-def config_of(folder: Path) -> str:
-    """What cargo reads to take crates from a folder alone."""
-    return f'[source.crates-io]\nreplace-with = "folder"\n\n[source.folder]\ndirectory = "{folder}"\n'
 
 
 def registry() -> str | None:
     """The text of a configuration by which cargo gets all public crates without a network, "" where it needs none, or
     None where it can't get them."""
-    configs = [""] + ([config_of(DEBIAN)] if DEBIAN.is_dir() else [])
+    configs = [""] + ([FROM_DEBIAN] if DEBIAN.is_dir() else [])
     return next((config for config in configs if can_get(config)), None)
 
 
@@ -51,7 +43,9 @@ def can_get(config: str) -> bool:
         (crate / "src" / "lib.rs").write_text("")
         needs = "\n".join(f"{name} = {version}" for name, version in PUBLIC.items())
         (crate / "Cargo.toml").write_text(f'[package]\nname = "probe"\nedition = "2021"\n\n[dependencies]\n{needs}\n')
-        write_config(crate, config)
+        if config:
+            (crate / ".cargo").mkdir()
+            (crate / ".cargo" / "config.toml").write_text(config)
         words = ["cargo", "fetch", "--offline", "--quiet"]
         try:
             done = subprocess.run(words, cwd=crate, env=dict(os.environ, CARGO_TARGET_DIR=place),
@@ -60,9 +54,3 @@ def can_get(config: str) -> bool:
         except (OSError, subprocess.TimeoutExpired):
             return False
         return done.returncode == 0
-
-
-def write_config(folder: Path, config: str) -> None:
-    if config:
-        (folder / ".cargo").mkdir(exist_ok=True)
-        (folder / ".cargo" / "config.toml").write_text(config)

@@ -42,15 +42,10 @@ def without_gone(text: str) -> str:
             beside = True
             continue
         line = line.replace(GONE, "")
-        if beside and not line.strip() and begins_block(lines):
-            continue
+        if beside and not line.strip() and (not lines or not lines[-1].strip() or lines[-1].endswith("{")):
+            continue                                                       # it would part nothing
         if beside and line.strip() in ("}", "},") and lines and not lines[-1].strip():
             lines.pop()
         beside = beside and not line.strip()
         lines.append(line)
     return "\n".join(lines)
-
-
-def begins_block(lines: list[str]) -> bool:
-    """Whether an empty line after these would part nothing."""
-    return not lines or not lines[-1].strip() or lines[-1].endswith("{")

@@ -117,7 +117,10 @@ def leave_out_proofs(found: Due) -> None:
             found.went["clause"] += 1
         elif word.kind == "ghost":
             found.went["ghost use" if word.text.split()[1] == "use" else "ghost item"] += 1
-            leave_out_visibility(rest)
+            if rest and rest[-1].text == "pub":
+                rest.pop()
+            elif texts(rest, len(rest) - 4, 4) == ["pub", "(", "crate", ")"]:
+                del rest[-4:]
         elif word.text == "impl" and is_of_model(found.words, place):
             found.went["impl Model"] += 1
             place = closing_of(found.words, brace_after(found.words, place))
@@ -125,13 +128,6 @@ def leave_out_proofs(found: Due) -> None:
             rest.append(word)
         place += 1
     found.words = rest
-
-
-def leave_out_visibility(rest: list[Word]) -> None:
-    if rest and rest[-1].text == "pub":
-        rest.pop()
-    elif [word.text for word in rest[-4:]] == ["pub", "(", "crate", ")"]:
-        del rest[-4:]
 
 
 def brace_after(words: list[Word], place: int) -> int:

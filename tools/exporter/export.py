@@ -24,8 +24,7 @@ def main() -> None:
     parser.add_argument("--only", nargs="+", default=[], metavar="CRATE", help="these crates and those that they use")
     parser.add_argument("--deps", choices=("registry", "shims"),
                         help="public crates from cargo's registry, or the small ones that come with this tool; without "
-                             "it the "
-                             "registry's where cargo can get them without a network")
+                             "it the " "registry's where cargo can get them without a network")
     parser.add_argument("--from", dest="repository", type=Path, default=REPOSITORY, metavar="FOLDER",
                         help="the checkout with the sources; without it this one")
     parser.add_argument("--compare", action="store_true", help="write nothing: compare the export that is in FOLDER")

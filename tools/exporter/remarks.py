@@ -52,10 +52,5 @@ def keep_item(source: Source, first: int, last: int, edits: Edits) -> None:
     start = source.line_start(source.at(first).start)
     end = source.text.index("\n", source.at(last).end) + 1
     inset = len(source.inset(source.at(first).start))
-    lines = source.text[start:end - 1].split("\n")
-    edits.put(start, end, "".join(as_comment(line, inset) for line in lines))
-
-
-def as_comment(line: str, inset: int) -> str:
-    """A line as a comment that is as far in as its item. A comment becomes a plain one."""
-    return (" " * inset + "// " + re.sub(r"^( *)///? ?", r"\1", line[inset:])).rstrip() + "\n"
+    lines = (re.sub(r"^( *)///? ?", r"\1", line[inset:]) for line in source.text[start:end - 1].split("\n"))
+    edits.put(start, end, "".join((" " * inset + "// " + line).rstrip() + "\n" for line in lines))

@@ -1,6 +1,5 @@
 """Tests of what a function requires, as far as Rust can make them: comparisons of numbers, of frames, of lengths and of
-counts.
-"""
+counts."""
 
 from __future__ import annotations
 
@@ -14,6 +13,17 @@ from .tokens import Token, Trouble
 INTEGERS = {"u8": 1 << 8, "u16": 1 << 16, "u32": 1 << 32, "u64": 1 << 64, "usize": 1 << 32}
 SIGNS = {"≤": "<=", "<": "<", "≡": "==", "≢": "!="}
 SLICE = re.compile(r"(& (mut )?)?(\[|str|Vec|ArrayVec|ArrayString|Processors)")
+# What a name stands in, of which type it then is, and what Rust calls that, of which type. Where there is no name the
+# type is empty.
+NAMED: list[tuple[re.Pattern[str], re.Pattern[str], str, str]] = [
+    (re.compile(text), re.compile(of_type), told, kind) for text, of_type, told, kind in (
+        (r"(\w+)", r"Frame|VPage", "{}.number()", "u32"),
+        (r"(\w+)(?:\.now|\.old)?\.line", r"(& )?Plan", "{}.line", "u32"),
+        (r"(?:length|vec_len|array_string_len) (\w+)(?:\.now|\.old)?(?:\.items)?", SLICE.pattern + ".*", "{}.len()",
+         "usize"),
+        (r"length self\.(?:old|now)\.cpus()", "", "self.cpus.len()", "usize"),
+        (r"P\.count (\w+)\.(?:now|old)", r"& (mut )?[PM]", "{}.cpus()", "u32"),
+        (r"length \(M\.memory (\w+)\.(?:now|old)\)", r"& (mut )?[PM]", "{}.count()", "u32"))]
 EACH = re.compile(r"All \(λ (\w+)\. \1 < (\d+)\) (\w+)\.(?:now|old)(?:\.items)?")
 FITS = re.compile(r"(\w+) < below_of (\w+)")
 
@@ -83,13 +93,9 @@ def comparison(part: str, types: dict[str, str], fields: bool) -> str | None:
     if not kinds:
         return None
     least = min(INTEGERS.get(kind, 1 << 128) for kind in kinds)
-    wide = len(kinds) > 1 or len(left + right) > 2 or not fit(left + right, least) or "wide" in kinds
+    fits_all = all(int(term.text) < least for term in left + right if not term.type)     # each literal
+    wide = len(kinds) > 1 or len(left + right) > 2 or not fits_all or "wide" in kinds
     return f"{joined(left, wide)} {SIGNS[pieces[1]]} {joined(right, wide)}"
-
-
-def fit(found: list[Term], limit: int) -> bool:
-    """Whether each literal among these is below a limit."""
-    return all(int(term.text) < limit for term in found if not term.type)
 
 
 def joined(side: list[Term], wide: bool) -> str:
@@ -119,38 +125,17 @@ def product(text: str, types: dict[str, str], fields: bool) -> Term | None:
 
 
 def term(text: str, types: dict[str, str], fields: bool) -> Term | None:
-    power = re.fullmatch(r"(\d+) \^ (\d+)", text)
-    if power:
-        return Term(str(int(power.group(1)) ** int(power.group(2))), None)
-    if re.fullmatch(r"\d+", text):
-        return Term(text, None)
+    """A literal, an integer, a field of an unsafe body, or what a name stands in."""
+    if number := re.fullmatch(r"(\d+)(?: \^ (\d+))?", text):
+        return Term(str(int(number[1]) ** int(number[2] or 1)), None)
     if types.get(text) in INTEGERS:
         return Term(text, types[text])
-    if types.get(text) in ("Frame", "VPage"):
-        return Term(f"{text}.number()", "u32")
-    field = re.fullmatch(r"self\.(?:now|old)\.(\w+)", text)
-    if field and fields:
-        return Term(f"self.{field.group(1)}", "usize")
-    return line_of(text, types) or size(text, types)
-
-
-def line_of(text: str, types: dict[str, str]) -> Term | None:
-    """The interrupt line of a plan."""
-    found = re.fullmatch(r"(\w+)(?:\.now|\.old)?\.line", text)
-    is_plan = found and re.fullmatch(r"(& )?Plan", types.get(found[1], ""))
-    return Term(f"{found[1]}.line", "u32") if found and is_plan else None
-
-
-def size(text: str, types: dict[str, str]) -> Term | None:
-    """A length, a number of frames, or a number of processors."""
-    sized = re.fullmatch(r"(?:length|vec_len|array_string_len) (\w+)(?:\.now|\.old)?(?:\.items)?", text)
-    if sized and SLICE.match(types.get(sized.group(1), "")):
-        return Term(f"{sized.group(1)}.len()", "usize")
-    if text in ("length self.old.cpus", "length self.now.cpus"):
-        return Term("self.cpus.len()", "usize")
-    counted = re.fullmatch(r"P\.count (\w+)\.(?:now|old)|length \(M\.memory (\w+)\.(?:now|old)\)", text)
-    if counted and re.fullmatch(r"& (mut )?[PM]", types.get(counted.group(1) or counted.group(2), "")):
-        return Term(f"{counted.group(1)}.cpus()" if counted.group(1) else f"{counted.group(2)}.count()", "u32")
+    if fields and (field := re.fullmatch(r"self\.(?:now|old)\.(\w+)", text)):
+        return Term(f"self.{field[1]}", "usize")
+    for pattern, of_type, told, kind in NAMED:
+        found = pattern.fullmatch(text)
+        if found and of_type.fullmatch(types.get(found[1], "")):
+            return Term(told.replace("{}", found[1]), kind)
     return None
 
 

@@ -1,6 +1,5 @@
 """A whole source as Rust: without what is there for proofs, with the head of a crate and the runtime of a `main` or a
-test.
-"""
+test."""
 
 from __future__ import annotations
 

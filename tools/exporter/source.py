@@ -1,6 +1,5 @@
 """A source with its tokens, and ways to find one's way in it. Places are those of tokens in the list, not of
-characters.
-"""
+characters."""
 
 from __future__ import annotations
 

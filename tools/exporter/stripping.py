@@ -147,5 +147,4 @@ def expect_with_runtime(source: Source, place: int, edits: Edits) -> int | None:
 
 # By the kind or, of other tokens, the text of the token at which they may have something to say.
 RULES: dict[str, list[Rule]] = {"ghost": [ghost_item], "clause": [clauses], "#": [proof_attribute, derive],
-                                "impl": [implementation],
-                                "Drop": [bound], "expect": [expect_with_runtime]}
+                                "impl": [implementation], "Drop": [bound], "expect": [expect_with_runtime]}

@@ -35,10 +35,13 @@ panic = "abort"
 def files_of(crates: list[Crate], repository: Path, config: str | None) -> dict[str, str]:
     """All files by their paths. By a configuration of cargo public crates are the registry's, else those of shims/."""
     license_text = (repository / "LICENSE").read_text(encoding="utf-8")
-    shims = [name for name in dependencies.shim_names() if config is None or name not in dependencies.PUBLIC]
+    shims = sorted(path.parent.parent.name for path in dependencies.SHIMS.glob("*/src/lib.rs"))
+    shims = [name for name in shims if config is None or name not in dependencies.PUBLIC]
     members = [f"crates/{crate.name}" for crate in crates] + [f"shims/{name}" for name in shims]
-    files = {"Cargo.toml": workspace_manifest(members), "LICENSE": license_text,
-             "README.md": (HERE / "export_readme.md").read_text(encoding="utf-8")}
+    names = "".join(f'    "{member}",\n' for member in members)
+    lints = (HERE / "lints.toml").read_text(encoding="utf-8")
+    files = {"Cargo.toml": f'{MARK}\n[workspace]\nresolver = "3"\nmembers = [\n{names}]\n{PROFILE}\n{lints}',
+             "LICENSE": license_text, "README.md": (HERE / "export_readme.md").read_text(encoding="utf-8")}
     if config:
         files[".cargo/config.toml"] = config
     for name in shims:
@@ -70,12 +73,6 @@ def source_files(crate: Crate) -> dict[str, str]:
             raise Trouble(f"{path}: {trouble}") from None
         files[f"crates/{crate.name}/{path.relative_to(crate.folder).with_suffix('.rs')}"] = text
     return files
-
-
-def workspace_manifest(members: list[str]) -> str:
-    names = "".join(f'    "{member}",\n' for member in members)
-    lints = (HERE / "lints.toml").read_text(encoding="utf-8")
-    return f'{MARK}\n[workspace]\nresolver = "3"\nmembers = [\n{names}]\n{PROFILE}\n{lints}'
 
 
 def manifest(crate: Crate, exported_names: Iterable[str], shims: Iterable[str]) -> str:

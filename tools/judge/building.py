@@ -16,8 +16,7 @@ SHIPPED = HERE / NAME            # where a release has it
 JUDGE = Program(NAME, "the judge", HERE, ("pip_asm", "pip_cpu", "pip_image", "pip_kern", "pip_script", "pip_switch"),
                 ("host",),
                 ", or copy the file that tools/judge/make_judge --to FILE writes on a machine like this, and name it "
-                "by "
-                "the environment's PIP_JUDGE")
+                "by " "the environment's PIP_JUDGE")
 USES, own_files = JUDGE.uses, JUDGE.files
 
 

@@ -1,6 +1,5 @@
 """The compilers that can make a module: one that has the target wasm32, or Debian's with the library built of its
-sources.
-"""
+sources."""
 
 from __future__ import annotations
 

@@ -123,8 +123,7 @@ def example(path: Path) -> dict[str, str]:
 
 def exercises() -> Iterator[dict[str, str | bool]]:
     """Each exercise with what it asks, and the text with which one begins: of a program the lines that each has. Some
-    scripts are a part of what the judge runs.
-    """
+    scripts are a part of what the judge runs."""
     for name, told in exercise.sections().items():
         solution = next(EXAMPLES.joinpath("solutions").glob(f"{name}.*"), None)
         if solution is None:

@@ -1,7 +1,7 @@
 """What can happen to an image where partitions do anything of a menu, and the text of the command against.
 
 A partition is hostile where a deed of the menu is its own. Where it runs, its program has no turns: it waits for a
-line, or does one of its deeds.
+line, or does one of its deeds. Of a label that the menu names it is asked whether it can come again.
 """
 
 from __future__ import annotations
@@ -10,14 +10,14 @@ from collections.abc import Callable, Sequence
 from typing import NamedTuple
 
 from . import script
-from .every import Label, Moment, Moments, label_of, text
+from .every import AT_FIRST, After, Label, Moment, Moments, Search, begun, label_of, text, way_text
 from .image import Image
 from .model import ROOT, Done, Running, World
 from .runs import Turn
 
-EACH = b"each"
+EACH, AGAIN = b"each", b"again"
 WORDS = (b"ld", b"lb", b"st", b"sb", b"trap", b"call")       # the lines of scripts that are deeds
-MOST_DEEDS, MOST_LINES = 1024, 65536     # of a menu
+MOST_DEEDS, MOST_LABELS, MOST_LINES = 1024, 16, 65536    # of a menu
 
 
 class Deed(NamedTuple):
@@ -34,6 +34,13 @@ class Deed(NamedTuple):
         return partition != ROOT if self.name is None else partition == self.name
 
 
+class Menu(NamedTuple):
+    """What partitions may do, and the labels of which it is asked whether they can come again."""
+
+    deeds: list[Deed]
+    again: list[str]
+
+
 # The text of a menu
 
 
@@ -45,17 +52,28 @@ class BadLine(Exception):
         self.line, self.kind = line, kind
 
 
-def menu_of(data: bytes) -> list[Deed]:
-    """The deeds of a menu's text."""
-    deeds: list[Deed] = []
+def menu_of(data: bytes) -> Menu:
+    """The menu that a text is."""
+    menu = Menu([], [])
     for place, line in enumerate(script.lines(data), 1):
         if len(line) > script.LONGEST:
             raise BadLine(place, "long")
-        found = [] if not line or line.startswith(b"#") else [deed_of(place, line)]
-        deeds += found
-        if place > MOST_LINES or len(deeds) > MOST_DEEDS:
+        if line and not line.startswith(b"#"):
+            add(menu, place, line)
+        if place > MOST_LINES or len(menu.deeds) > MOST_DEEDS or len(menu.again) > MOST_LABELS:
             raise BadLine(place, "many")
-    return deeds
+    return menu
+
+
+def add(menu: Menu, place: int, line: bytes) -> None:
+    """Adds what a line says that is neither blank nor a remark."""
+    who, _, what = line.partition(b" ")
+    if who != AGAIN:
+        menu.deeds.append(deed_of(place, line))
+    elif what:
+        menu.again.append(what.decode("utf-8", "surrogateescape"))
+    else:
+        raise BadLine(place, "what")
 
 
 def deed_of(place: int, line: bytes) -> Deed:
@@ -121,8 +139,8 @@ def is_hostile(at: Running | None, deeds: Sequence[Deed]) -> bool:
 class MenuMoments(Moments):
     """The same moments with more choices: after the lines each deed on all processors, before the next."""
 
-    def __init__(self, image: Image, first: int, deeds: list[Deed]) -> None:
-        super().__init__(image, first)
+    def __init__(self, image: Image, first: int, start: World, deeds: list[Deed]) -> None:
+        super().__init__(image, first, start)
         self.deeds = deeds
         self.usual = self.cpus + len(self.lines)
 
@@ -152,5 +170,41 @@ class MenuMoments(Moments):
         return self.moment(world, before, min(before.turns + 1, self.first)), label_of(told)
 
 
-def against(image: Image, states: int, first: int, deepest: int | None, deeds: list[Deed]) -> list[str]:
-    return text(image, MenuMoments(image, first, deeds), states, deepest)
+# Whether a label can come again
+
+
+def lost(search: Search, usual: int, label: str) -> int | None:
+    """The first visit after which turns and lines never show a label again; None where there is none. It is marked from
+    the visits that show it back to those from which choices lead there.
+    """
+    before: list[list[int]] = [[] for _ in search.visits]
+    marked: set[int] = set()
+    for at, visit in enumerate(search.visits):
+        for choice in range(usual):
+            moment, shown = search.moments.after(visit.moment, choice)
+            before[search.places[moment]].append(at)
+            if shown and f"{shown[0]} {shown[1]}" == label:
+                marked.add(at)
+    ahead = list(marked)
+    while ahead:
+        more = {at for at in before[ahead.pop()] if at not in marked}
+        marked |= more
+        ahead += more
+    return next((at for at in range(len(search.visits)) if at not in marked), None)
+
+
+def again_line(search: Search, usual: int, label: str) -> str:
+    """What is said of a label."""
+    if search.end != "closed":
+        return f"again {label}: unknown"
+    at = lost(search, usual, label)
+    if at is None:
+        return f"again {label}: yes"
+    return " ".join([f"again {label}: no", *way_text(search.moments, search.way_to(at)).split()])
+
+
+def against(image: Image, states: int, first: int, deepest: int | None, menu: Menu,
+            after: After = AT_FIRST) -> list[str]:
+    moments = MenuMoments(image, first, begun(image, after), menu.deeds)
+    search = Search(moments, states, deepest)
+    return text(image, search) + [again_line(search, moments.usual, label) for label in menu.again]

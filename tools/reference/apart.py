@@ -1,8 +1,7 @@
 """What each guest does alone, from a moment of a run on, and the text of the command apart.
 
 A guest is a child of the root below which something runs. A choice is the turn of a processor on which it runs. A turn
-in which it leaves is shown, and leads nowhere.
-"""
+in which it leaves is shown, and leads nowhere."""
 
 from __future__ import annotations
 
@@ -53,9 +52,8 @@ class Alone(Moments):
     """The moments of a guest and of its machine, and the turns of its processors."""
 
     def __init__(self, image: Image, world: World, top: int, cpus: Sequence[int]) -> None:
-        super().__init__(image, 0)
+        super().__init__(image, 0, world)
         self.top, self.own = top, cpus
-        self.start = self.moment_of(world)
 
     @property
     def choices(self) -> Sequence[int]:

@@ -53,34 +53,15 @@ def operand_number(text: bytes) -> int:
         raise Wrong("operand") from None
 
 
-def signed_number(text: bytes) -> int:
-    """A number, or `-` before a decimal number other than 0."""
-    if NEGATIVE.fullmatch(text):
-        return -operand_number(text[1:])
-    return operand_number(text)
-
-
-def register(text: bytes) -> int:
-    if not REGISTER.fullmatch(text):
-        raise Wrong("operand")
-    return int(text[1:])
-
-
-def name(text: bytes) -> bytes:
-    if not NAME.fullmatch(text):
-        raise Wrong("operand")
-    return text
-
-
 def numbers(operands: list[bytes], count: int) -> list[int]:
-    if len(operands) != count:
-        raise Wrong("operand")
+    need("operand", len(operands) == count)
     return [operand_number(operand) for operand in operands]
 
 
-def in_range(good: bool) -> None:
+def need(kind: str, good: object) -> None:
+    """A fault of this kind, if something isn't good."""
     if not good:
-        raise Wrong("range")
+        raise Wrong(kind)
 
 
 class Assembler:
@@ -98,8 +79,7 @@ class Assembler:
         self.uses: list[Use] = []
 
     def line(self, place: int, line: bytes) -> None:
-        if len(line) > LONGEST:
-            raise Wrong("unknown")
+        need("unknown", len(line) <= LONGEST)
         if not line or line.startswith(b"#"):
             return
         form, *operands = line.split(b" ")
@@ -118,35 +98,29 @@ class Assembler:
             return self.begin_page
         if self.page is None:
             return self.take_plan if form == b".line" else None
-        if form == b".word":
-            return self.word
-        if form == b".zero":
-            return self.zeros
         if form.endswith(b":") and NAME.fullmatch(form[:-1]):
             return self.label
-        return self.instruction if form.decode("latin1") in OPCODES else None
+        is_one = form.decode("latin1") in OPCODES
+        return {b".word": self.word, b".zero": self.zeros}.get(form, self.instruction if is_one else None)
 
     def take_frames(self, place: int, form: bytes, operands: list[bytes]) -> None:
-        frames, = numbers(operands, 1)
-        in_range(16 <= frames <= 4096)
-        self.frames = frames
-        self.rows = boot_tree(frames).nodes[1].rows
+        self.frames, = numbers(operands, 1)
+        need("range", 16 <= self.frames <= 4096)
+        self.rows = boot_tree(self.frames).nodes[1].rows
 
     def take_cpus(self, place: int, form: bytes, operands: list[bytes]) -> None:
-        cpus, = numbers(operands, 1)
-        in_range(1 <= cpus <= 4)
-        self.cpus = cpus
+        self.cpus, = numbers(operands, 1)
+        need("range", 1 <= self.cpus <= 4)
 
     def take_plan(self, place: int, form: bytes, operands: list[bytes]) -> None:
         plan = Plan(*numbers(operands, 3))
-        in_range(plan.line < 16 and (not self.plans or plan.line > self.plans[-1].line))
+        need("range", plan.line < 16 and (not self.plans or plan.line > self.plans[-1].line))
         self.plans.append(plan)
 
     def begin_page(self, place: int, form: bytes, operands: list[bytes]) -> None:
         address, = numbers(operands, 1)
-        in_range(address % PAGE == 0 and address // PAGE in self.rows)
-        if address // PAGE in self.pages:
-            raise Wrong("twice")
+        need("range", address % PAGE == 0 and address // PAGE in self.rows)
+        need("twice", address // PAGE not in self.pages)
         self.page = address // PAGE
         self.pages[self.page] = self.words = []
 
@@ -155,8 +129,7 @@ class Assembler:
         return (PAGE * (self.page or 0) + 4 * len(self.words)) % (1 << 32)
 
     def add(self, *words: int | Use) -> None:
-        if len(self.words) + len(words) > WORDS:
-            raise Wrong("size")
+        need("size", len(self.words) + len(words) <= WORDS)
         self.words += words
 
     def use(self, place: int, name: bytes, finish: Finish) -> None:
@@ -165,8 +138,7 @@ class Assembler:
         self.uses.append(use)
 
     def word(self, place: int, form: bytes, operands: list[bytes]) -> None:
-        if len(operands) != 1:
-            raise Wrong("operand")
+        need("operand", len(operands) == 1)
         if NAME.fullmatch(operands[0]):
             self.use(place, operands[0], lambda address, at: address)
         else:
@@ -174,22 +146,18 @@ class Assembler:
 
     def zeros(self, place: int, form: bytes, operands: list[bytes]) -> None:
         count, = numbers(operands, 1)
-        if count > WORDS:
-            raise Wrong("size")
+        need("size", count <= WORDS)
         self.add(*[0] * count)
 
     def label(self, place: int, form: bytes, operands: list[bytes]) -> None:
-        if operands:
-            raise Wrong("operand")
-        if form[:-1] in self.names:
-            raise Wrong("twice")
+        need("operand", not operands)
+        need("twice", form[:-1] not in self.names)
         self.names[form[:-1]] = self.here()
 
     def instruction(self, place: int, form: bytes, operands: list[bytes]) -> None:
         kind = KINDS[OPCODES[form.decode()]]
         wanted = FORMS[kind.form]
-        if len(operands) != len(wanted):
-            raise Wrong("operand")
+        need("operand", len(operands) == len(wanted))
         values: list[int] = []
         for what, text in zip(wanted, operands):
             value = self.operand(kind, what, text)
@@ -199,22 +167,26 @@ class Assembler:
                 return
             values.append(value)
         if wanted[-1] not in SHIFTS:
-            in_range(kind.least <= values[-1] <= kind.most)
+            need("range", kind.least <= values[-1] <= kind.most)
         self.add(instructions.encode(Instruction(kind.name, tuple(values))))
 
     def operand(self, kind: instructions.Kind, what: str, text: bytes) -> int | Waiting:
         """A register's number, an immediate, or a name that is waited for and what becomes of its address."""
         if what in SHIFTS:
-            return register(text)
+            need("operand", REGISTER.fullmatch(text))
+            return int(text[1:])
         if kind.name in HALVES and text[:1] in (b"<", b">"):
+            need("operand", NAME.fullmatch(text[1:]))
             high = text.startswith(b">")
-            return name(text[1:]), lambda address, at: address >> 16 if high else address & 0xFFFF
+            return text[1:], lambda address, at: address >> 16 if high else address & 0xFFFF
         if kind.name in DISTANCES and NAME.fullmatch(text):
             return text, lambda address, at: (address - (at + 4) % (1 << 32)) // 4
-        return signed_number(text) if what == SIGNED else operand_number(text)
+        if what == SIGNED and NEGATIVE.fullmatch(text):
+            return -operand_number(text[1:])
+        return operand_number(text)
 
     def finished(self, kind: instructions.Kind, values: list[int], immediate: int) -> int:
-        in_range(kind.least <= immediate <= kind.most)
+        need("range", kind.least <= immediate <= kind.most)
         return instructions.encode(Instruction(kind.name, tuple(values) + (immediate,)))
 
     # The second pass
@@ -254,15 +226,16 @@ def assemble(text: bytes) -> bytes:
 def disassembled(data: bytes) -> Iterator[str]:
     """The lines of the accepted parts of an image, one by one; BadImage at its first fault."""
     reader = image.Reader(data)
-    head = image.head_of(reader)
-    yield f".frames {head.frames}"
-    yield f".cpus {head.cpus}"
-    for plan in image.plans_of(reader, head):
-        yield f".line {plan.line} {plan.first} {plan.period}"
-    for vpage, words in image.pages_of(reader, head):
-        yield f".page {word_text(PAGE * vpage)}"
-        used = max((index + 1 for index, word in enumerate(words) if word), default=0)
-        for word in words[:used]:
-            instruction = instructions.decode(word)
-            yield instructions.text(instruction) if instruction else f".word {word_text(word)}"
+    for part in image.parts(reader):
+        if isinstance(part, image.Head):
+            yield from (f".frames {part.frames}", f".cpus {part.cpus}")
+        elif isinstance(part, Plan):
+            yield str(part)
+        else:
+            vpage, words = part
+            yield f".page {word_text(PAGE * vpage)}"
+            used = max((index + 1 for index, word in enumerate(words) if word), default=0)
+            for word in words[:used]:
+                instruction = instructions.decode(word)
+                yield instructions.text(instruction) if instruction else f".word {word_text(word)}"
     image.ended(reader)

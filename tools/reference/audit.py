@@ -1,6 +1,5 @@
 """The audit of a raw memory, in the words of docs/MODEL.md: its text is read, a tree is read off it and judged, and its
-words are compared with the tree's layout.
-"""
+words are compared with the tree's layout."""
 
 from __future__ import annotations
 
@@ -28,11 +27,7 @@ class BadLine(Exception):
 
 
 class Unread(Exception):
-    """The word at which reading a tree off stops."""
-
-    def __init__(self, frame: int, index: int) -> None:
-        super().__init__(frame, index)
-        self.frame, self.index = frame, index
+    """The word at which reading a tree off stops, as the exception's arguments: its frame, and its index there."""
 
 
 # The text
@@ -101,24 +96,27 @@ def read_node(memory: Memory, name: int, nodes: dict[int, Node]) -> None:
         assert table is not None
         shadow = table.pairs[1].page
         if memory[shadow][vpage % WORDS] % PAGE == 1:
-            if row.page in nodes:
-                raise Unread(shadow, vpage % WORDS)
+            need(row.page not in nodes, shadow, vpage % WORDS)
             read_node(memory, row.page, nodes)
+
+
+def need(good: object, frame: int, index: int) -> None:
+    """The reading stops there, if something isn't good."""
+    if not good:
+        raise Unread(frame, index)
 
 
 def pair_at(memory: Memory, frame: int, index: int) -> Pair:
     """An address and a page that is one."""
     address, page = memory[frame][index:index + 2]
-    if page >= len(memory):
-        raise Unread(frame, index + 1)
+    need(page < len(memory), frame, index + 1)
     return Pair(address, page)
 
 
 def node_of(memory: Memory, name: int) -> Node:
     words = memory[name]
     base = [pair_at(memory, name, 2 * k) for k in range(5)]
-    if words[12] > MOST_TABLES:
-        raise Unread(name, 12)
+    need(words[12] <= MOST_TABLES, name, 12)
     more = further_pages(memory, base[4].page, list_pages(words[12]) - 1)
     pages = [pair.page for pair in [base[4]] + more]
     tables = [table_of(memory, base[1].page, pages[slot // SLOTS], 2 + 6 * (slot % SLOTS)) for slot in range(words[12])]
@@ -130,8 +128,7 @@ def further_pages(memory: Memory, page: int, count: int) -> list[Pair]:
     """The list pages after one."""
     more = []
     for _ in range(count):
-        if memory[page][0] >= len(memory):
-            raise Unread(page, 0)
+        need(memory[page][0] < len(memory), page, 0)
         more.append(Pair(memory[page][1], memory[page][0]))
         page = more[-1].page
     return more
@@ -141,8 +138,7 @@ def table_of(memory: Memory, directory: int, page: int, start: int) -> Table:
     """The table that a slot notes: its index is where the directory has its MMU table first."""
     mmu = pair_at(memory, page, start)
     entry = PAGE * mmu.page + 1
-    if entry not in memory[directory]:
-        raise Unread(page, start + 1)
+    need(entry in memory[directory], page, start + 1)
     shadows = [pair_at(memory, page, start + k) for k in (2, 4)]
     return Table(memory[directory].index(entry), [mmu] + shadows)
 
@@ -154,15 +150,10 @@ def rows_of(memory: Memory, tables: list[Table]) -> dict[int, Row]:
         page = table.pairs[0].page
         for index, word in enumerate(memory[page]):
             if word:
-                rows.setdefault(WORDS * table.index + index, row_of(memory, page, index))
+                is_row = word % PAGE < 32 and word & 1 and word >> 2 & READ and word // PAGE < len(memory)
+                need(is_row, page, index)
+                rows.setdefault(WORDS * table.index + index, Row(word // PAGE, word >> 2 & 7))
     return rows
-
-
-def row_of(memory: Memory, page: int, index: int) -> Row:
-    word = memory[page][index]
-    if word % PAGE >= 32 or not word & 1 or not word >> 2 & READ or word // PAGE >= len(memory):
-        raise Unread(page, index)
-    return Row(word // PAGE, word >> 2 & 7)
 
 
 # The answer
@@ -182,12 +173,10 @@ def judged(memory: Memory) -> tuple[list[str], bool]:
     try:
         tree = tree_of(memory)
     except Unread as stop:
-        return [f"no unread {stop.frame} {stop.index}"], False
-    part = sound.first_fault(tree)
-    if part:
+        return ["no unread {} {}".format(*stop.args)], False
+    if part := sound.first_fault(tree):
         return [f"no unsound {part}"], False
-    other = difference(memory, tree)
-    if other:
+    if other := difference(memory, tree):
         frame, index, found, want = other
         return [f"no differs {frame} {index} {word_text(found)} {word_text(want)}"], False
     return runs.tree_lines(tree) + ["yes"], True

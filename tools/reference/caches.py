@@ -49,6 +49,5 @@ class Cache:
 def takes_pages(number: int, value: int) -> bool:
     """Whether an accepted call takes pages from a partition, so that the caches are emptied.
 
-    It is createPartition, deletePartition, collect or removeVAddr, or prepare where it takes a page.
-    """
+    It is createPartition, deletePartition, collect or removeVAddr, or prepare where it takes a page."""
     return number in (0, 1, 4, 6) or number == 3 and value > 0

@@ -12,18 +12,20 @@ from __future__ import annotations
 
 import sys
 from collections.abc import Callable, Iterable, Sequence
-from typing import Optional
+from typing import NamedTuple, Optional
 
 from . import against, apart, assembly, audit, every, image, native, runs, script, slots
 from .model import World
 
 USAGE = b"usage: pip script | run STEPS SEED | asm | dis | tree STEPS SEED | core STEPS SEED | soak COUNT SEED" \
     b" | native N STEPS | slots N TURNS ROUNDS | slots N ROUNDS K:TURNS .. | audit FRAMES" \
-    b" | every STATES [FROM [DEPTH]] | against STATES [FROM [DEPTH]] | apart STATES STEPS SEED\n"
+    b" | every STATES [FROM [DEPTH]] [after STEPS SEED] | against STATES [FROM [DEPTH]] [after STEPS SEED]" \
+    b" | apart STATES STEPS SEED\n"
 Ended = tuple[bytes, int, Optional[World]]       # output and status, and the world that the command leaves
 OnImage = Callable[[image.Image], tuple[Iterable[str], Optional[World]]]
 MOST_STEPS, MOST_COUNT = 10000000, 1000000
 STEPS, SEED = (0, MOST_STEPS), (1, script.WORD - 1)        # the limits of these words
+AFTER = "after"                                  # between the words of a search and those of the steps before it
 ON_IMAGES = {"run": runs.run, "tree": runs.tree, "core": runs.core}
 
 
@@ -61,12 +63,30 @@ def given_slot(word: str) -> tuple[int, int]:
     return script.number(child.encode()), script.number(turns.encode())
 
 
-def search_of(words: Sequence[str]) -> tuple[int, int, int | None] | None:
-    """How many states, from which turn on, and how deep is searched, or None where the words don't say it."""
+class Asked(NamedTuple):
+    """What is searched: how many states, from which turn on, how deep, and after which steps."""
+
+    states: int
+    first: int
+    deepest: int | None
+    after: every.After
+
+
+def search_of(words: Sequence[str]) -> Asked | None:
+    """The search that words ask for, or None where they don't say one."""
+    after: every.After | None = every.AT_FIRST
+    if AFTER in words:
+        place = words.index(AFTER)
+        words, after = words[:place], after_of(words[place + 1:])
     given = numbers_of(words, *((1, every.MOST_STATES), (0, every.MOST), (1, every.MOST))[:max(len(words), 1)])
-    if given is None:
+    if given is None or after is None:
         return None
-    return given[0], given[1] if len(given) > 1 else 0, given[2] if len(given) > 2 else None
+    return Asked(given[0], given[1] if len(given) > 1 else 0, given[2] if len(given) > 2 else None, after)
+
+
+def after_of(words: Sequence[str]) -> every.After | None:
+    given = numbers_of(words, STEPS, SEED)
+    return every.After(*given) if given else None
 
 
 def pip(words: Sequence[str], text: bytes) -> tuple[bytes, int]:
@@ -96,10 +116,10 @@ def ended(words: Sequence[str], text: bytes) -> Ended:
         told, status = audit.audit(frames, text)
         return in_lines(told), status, None
     if command == "every" and (asked := search_of(rest)):
-        states, first, deepest = asked
-        return on_image(lambda machine: (every.every(machine, states, first, deepest), None), text)
+        search = asked
+        return on_image(lambda machine: (every.every(machine, *search), None), text)
     if command == "against" and (asked := search_of(rest)):
-        return on_menu(*asked, text)
+        return on_menu(asked, text)
     if command == "apart" and (given := numbers_of(rest, (1, every.MOST_STATES), STEPS, SEED)):
         room, steps, seed = given
         return on_image(lambda machine: (apart.apart(machine, room, steps, seed), None), text)
@@ -113,7 +133,7 @@ def with_counts(words: Sequence[str], text: bytes) -> tuple[bytes, int]:
 
 
 def in_lines(told: Iterable[str]) -> bytes:
-    return "".join(line + "\n" for line in told).encode()
+    return "".join(line + "\n" for line in told).encode("utf-8", "surrogateescape")
 
 
 def asm(text: bytes) -> Ended:
@@ -150,16 +170,16 @@ def on_image(command: OnImage, data: bytes, children: int = 0) -> Ended:
     return in_lines(told), 0, world
 
 
-def on_menu(states: int, first: int, deepest: int | None, data: bytes) -> Ended:
+def on_menu(asked: Asked, data: bytes) -> Ended:
     """What `against` says of an image with a menu after it."""
     try:
-        machine, menu = image.parted(data)
-        deeds = against.menu_of(menu)
+        machine, text = image.parted(data)
+        menu = against.menu_of(text)
     except image.BadImage as bad:
         return in_lines([f"bad image {bad.kind} {bad.at}"]), 2, None
     except against.BadLine as bad:
         return in_lines([f"bad line {bad.line} {bad.kind}"]), 2, None
-    return in_lines(against.against(machine, states, first, deepest, deeds)), 0, None
+    return in_lines(against.against(machine, asked.states, asked.first, asked.deepest, menu, asked.after)), 0, None
 
 
 def typed(read: Callable[[], bytes], write: Callable[[bytes], object]) -> int:

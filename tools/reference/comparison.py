@@ -2,8 +2,7 @@
 
     python3 tools/reference/compare.py script --cases 20000 --seed 1
 
-Only the commands that are named are compared.
-"""
+Only the commands that are named are compared."""
 
 from __future__ import annotations
 

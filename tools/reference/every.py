@@ -2,7 +2,8 @@
 
 A choice is the turn of a processor or the raise of a line of the image's plans, which can come once so many turns were
 made. A moment is a world without its caches, and the turns made so far, counted up to that many. A turn that changes
-nothing, for its processor runs nothing, stands for all that are left.
+nothing, for its processor runs nothing, stands for all that are left. The first moment is that of the image, or the one
+after some steps of a run.
 """
 
 from __future__ import annotations
@@ -15,12 +16,22 @@ from typing import NamedTuple
 from .caches import Cache
 from .image import Image, world as image_world
 from .model import ROOT, Node, Row, Running, Table, Tree, World
-from .runs import Turn, first_line
+from .runs import Turn, first_line, steps
 
 MOST_STATES, MOST = 100000000, 10000000          # at most so many states; turns before a line, and choices in a row
 SHAPING = (0, 1, 3, 4, 5, 6)                     # the calls that change more of partitions than whether they are masked
 Words = dict[int, int]                           # of a page: the words that aren't 0, by index
 Label = tuple[int, str]                          # a processor, and a line of the trace without it and the step
+
+
+class After(NamedTuple):
+    """Where a search begins: after so many steps of a run by the schedule of a seed."""
+
+    steps: int
+    seed: int
+
+
+AT_FIRST = After(0, 1)
 
 
 # Worlds that share what they don't change
@@ -104,9 +115,9 @@ def tables_value(node: Node) -> object:
 
 
 class Moments:
-    """The moments of an image, and the choices that lead from one to another."""
+    """The moments of an image, and the choices that lead from one to another, beginning at a world."""
 
-    def __init__(self, image: Image, first: int) -> None:
+    def __init__(self, image: Image, first: int, start: World) -> None:
         self.frames, self.cpus, self.first = image.frames, image.cpus, first
         self.lines = [plan.line for plan in image.plans]
         self.shapes: list[Shape] = []
@@ -116,7 +127,7 @@ class Moments:
         world = image_world(image)
         self.words = world.tree.words
         self.numbers = {page: self.page_number(words) for page, words in self.words.items()}
-        self.start = self.moment_of(world)
+        self.start = self.moment_of(start)
 
     @property
     def choices(self) -> Sequence[int]:
@@ -254,7 +265,11 @@ class Search:
 
     def way(self, found: Found) -> list[int]:
         """The choices up to the one that shows a label."""
-        choices, at = [found.choice], found.at
+        return self.way_to(found.at) + [found.choice]
+
+    def way_to(self, at: int) -> list[int]:
+        """The choices that lead to a visit."""
+        choices: list[int] = []
         while at:
             choices.append(self.visits[at].choice)
             at = self.visits[at].parent
@@ -282,15 +297,19 @@ def last_line(search: Search) -> str:
     return f"states {count} depth {search.depth} {search.end}"
 
 
-def every(image: Image, states: int, first: int, deepest: int | None) -> list[str]:
-    return text(image, Moments(image, first), states, deepest)
+def begun(image: Image, after: After) -> World:
+    """The world at which a search begins."""
+    return steps(image, *after, lambda line: None)
 
 
-def text(image: Image, moments: Moments, states: int, deepest: int | None) -> list[str]:
+def every(image: Image, states: int, first: int, deepest: int | None, after: After = AT_FIRST) -> list[str]:
+    return text(image, Search(Moments(image, first, begun(image, after)), states, deepest))
+
+
+def text(image: Image, search: Search) -> list[str]:
     """The text of a search of an image's moments."""
-    search = Search(moments, states, deepest)
     told = [first_line(image)]
     for found in search.told():
         cpu, text = found.label
-        told.append(f"{search.visits[found.at].depth} {cpu} {text}: {way_text(moments, search.way(found))}")
+        told.append(f"{search.visits[found.at].depth} {cpu} {text}: {way_text(search.moments, search.way(found))}")
     return told + [last_line(search)]

@@ -1,8 +1,7 @@
 """Scripts made from a seed: nested partitions, interrupts, faults, hostile children, several processors, bad lines.
 
 A story keeps the world of the lines it has told so far, so most of its calls have a chance to be accepted, and each
-condition of each call has a chance to be met.
-"""
+condition of each call has a chance to be met."""
 
 from __future__ import annotations
 
@@ -275,10 +274,11 @@ class Story:
         cpu, node = self.parent()
         self.say("call", cpu, 1, self.child(node))
 
-    def count(self) -> None:
+    def of_place(self, number: int, mapped: bool = False) -> None:
+        """A call on an address in a child."""
         cpu, node = self.parent()
         d = self.child(node)
-        self.say("call", cpu, 2, d, self.child_place(node, d))
+        self.say("call", cpu, number, d, self.child_place(node, d, mapped))
 
     def link(self, cpu: int, node: Node, chain: list[int]) -> None:
         """Stores a chain of pages: each names the next."""
@@ -296,21 +296,11 @@ class Story:
         self.link(cpu, node, chain)
         self.say("call", cpu, 3, d, self.child_place(node, d), self.odd(chain[0]))
 
-    def collect(self) -> None:
-        cpu, node = self.parent()
-        d = self.child(node)
-        self.say("call", cpu, 4, d, self.child_place(node, d))
-
     def add(self) -> None:
         cpu, node = self.parent()
         d = self.child(node)
         rights = self.pick(1, 3, 3, 3, 7, 5, 0, 2, 8, 15)
         self.say("call", cpu, 5, self.free_page(node), d, self.child_place(node, d), rights)
-
-    def remove(self) -> None:
-        cpu, node = self.parent()
-        d = self.child(node)
-        self.say("call", cpu, 6, d, self.child_place(node, d, mapped=True))
 
     def mapped(self) -> None:
         cpu, node = self.caller()
@@ -460,12 +450,12 @@ class Story:
         self.lines.append(self.pick(b"", b"#", b"# a remark", b"#" * LONGEST, "# \u00fc".encode()))
 
 
-ACTS = [
+ACTS: list[tuple[Callable[[Story], None], int]] = [
     (Story.access, 10), (Story.hidden_access, 2), (Story.fault, 3), (Story.own_handler, 3), (Story.create, 3),
-    (Story.delete, 2), (Story.count, 2), (Story.prepare, 4), (Story.collect, 3), (Story.add, 6), (Story.remove, 4),
-    (Story.mapped, 2), (Story.yield_to, 6), (Story.go_on, 3), (Story.mask, 2), (Story.other_call, 1),
-    (Story.interrupt, 5), (Story.look, 8), (Story.raise_child, 4), (Story.forge, 2), (Story.beside, 4),
-    (Story.remark, 1),
+    (Story.delete, 2), (lambda story: story.of_place(2), 2), (Story.prepare, 4), (lambda story: story.of_place(4), 3),
+    (Story.add, 6), (lambda story: story.of_place(6, True), 4), (Story.mapped, 2), (Story.yield_to, 6),
+    (Story.go_on, 3), (Story.mask, 2), (Story.other_call, 1), (Story.interrupt, 5), (Story.look, 8),
+    (Story.raise_child, 4), (Story.forge, 2), (Story.beside, 4), (Story.remark, 1),
 ]
 
 

@@ -1,14 +1,15 @@
 """Images with menus made from a seed for the command against, and the words of the search.
 
 The images are those that are made for `every`. Each menu has deeds of the root's child, of each partition, and now and
-then of the root or of none; one in eight has a line that is bad or nearly so.
+then of the root or of none; one in eight has a line that is bad or nearly so. Half ask whether labels can come again,
+most of which are shown by few choices.
 """
 
 from __future__ import annotations
 
 import random
 
-from . import against, generate_every
+from . import against, every, generate_every, image
 from .generate_programs import CHILDREN, CODE, DATA
 from .model import HANDLERS, NOWHERE, SAVED
 
@@ -25,7 +26,9 @@ ODD = ("each", "each ", "each  ld 0", " each ld 0", "each ld 0 ", "Each ld 0", "
        "each call 0 1 2 3 4 5", "each call 0 1 2 3 4 5 6", "each fetch", "each poll", "each raise 0", "each pc 0",
        "each reg 0", "each peek 0 0", "each boot 16 1", "each\tld 0", "each ld 0\r", "ld 0", "ld each 0", "0",
        "-1 ld 0", "each ld -1", "# " + "x" * 118, "# " + "x" * 119, "each ld 0" + " " * 111,
-       "each ld 0" + " " * 112, "x" * 121, "", "", " ", "#", " # each ld 0")
+       "each ld 0" + " " * 112, "x" * 121, "", "", " ", "#", " # each ld 0", "again", "again ", "again  ", "again #",
+       " again x", "Again x", "again\tx", "againx", "again x ", "again " + "x" * 114, "again " + "x" * 115, "0 again x")
+SHORT = 60                               # labels are looked for among so many states
 
 
 def deed(rng: random.Random) -> str:
@@ -64,6 +67,19 @@ def menu(rng: random.Random) -> list[str]:
     return lines
 
 
+def labels(rng: random.Random, data: bytes, lines: list[str]) -> list[str]:
+    """Lines that ask of labels: of some that come soon, and now and then of another or of too many."""
+    try:
+        machine = image.read(data)
+        deeds = against.menu_of("\n".join(lines).encode()).deeds
+    except (image.BadImage, against.BadLine):
+        return []
+    search = every.Search(against.MenuMoments(machine, 0, every.begun(machine, every.AT_FIRST), deeds), SHORT, None)
+    known = [f"{cpu} {text}" for cpu, text in search.found] + ["0 out 0x00000001", "out"]
+    count = rng.choice((1, 1, 2, 3, 5, against.MOST_LABELS, against.MOST_LABELS + 1) if rng.random() < 0.1 else (1, 2))
+    return ["again " + rng.choice(known) for _ in range(count)]
+
+
 def case(seed: int) -> tuple[list[str], bytes]:
     """The words after the command, and an image with a menu after it; now and then a faulty one."""
     words, data = generate_every.case(seed)
@@ -73,4 +89,10 @@ def case(seed: int) -> tuple[list[str], bytes]:
         words[0] = str(min(int(words[0]), 3))
     elif rng.random() < 0.6:
         words[0] = "1500"                # room for what comes once the child was made
+    if len(lines) <= 100 and rng.random() < 0.5:
+        for line in labels(rng, data, lines):
+            lines.insert(rng.randrange(len(lines) + 1), line)
+        if rng.random() < 0.7:
+            after = words.index("after") if "after" in words else len(words)
+            words = ["1500", *words[1:min(after, 2)], *words[after:]]    # most of these searches close
     return words, data + "\n".join(lines).encode() + (b"\n" if lines and rng.random() < 0.8 else b"")

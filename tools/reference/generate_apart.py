@@ -4,8 +4,7 @@ processors of their own.
 The root makes the guests and enters one after the other, each on the processor that takes a line next. Guests loop over
 few states, fault, trap, ask the root, or count without bound; a top may have a worker below it, whose faults and traps
 it takes, and may be entered once more on another processor. The root may keep a processor, a handler of a line, or lend
-its handler table.
-"""
+its handler table."""
 
 from __future__ import annotations
 
@@ -86,8 +85,7 @@ class Company(Text):
 
     def stage(self, k: int) -> str:
         """The next guest begins, on the processor on which none is let go on; the first at once. A top that is to begin
-        once more is asked again as long as it runs elsewhere.
-        """
+        once more is asked again as long as it runs elsewhere."""
         at, asked, (guest, vector), is_last = self.label(), self.label(), self.begun[k], k + 1 == len(self.begun)
         if k:
             self.say(f"{at}:")

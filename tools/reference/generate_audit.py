@@ -1,6 +1,5 @@
 """Texts of raw memories made from a seed: what `core` writes of trees that scripts and images lead to, as it is, with
-words changed, or with a line that is broken.
-"""
+words changed, or with a line that is broken."""
 
 from __future__ import annotations
 

@@ -1,7 +1,8 @@
 """Small images made from a seed for the command every, and the words of the search.
 
 Some end, some loop, some lend memory to a child, and in some a child and the root add to one word on two processors.
-Lines come at any time, or from a turn on that is near the one in which the root first yields.
+Lines come at any time, or from a turn on that is near the one in which the root first yields. One search in three
+begins after some steps of a run, often near that turn, too.
 """
 
 from __future__ import annotations
@@ -110,14 +111,21 @@ def turns_to_yield(machine: Image) -> int:
 
 
 def words_of(rng: random.Random, machine: Image) -> list[str]:
-    """The words of a search: how many states, from which turn on lines come, and how deep."""
+    """The words of a search: how many states, from which turn on lines come, how deep, and after which steps."""
     words = [str(rng.choice(STATES))]
+    until = turns_to_yield(machine)
     if rng.random() < 0.8:
-        near = turns_to_yield(machine) + rng.randrange(-3, 6)
+        near = until + rng.randrange(-3, 6)
         words.append(str(rng.choice((0, 0, rng.randrange(20), max(near, 0), max(near, 0), max(near, 0)))))
         if rng.random() < 0.4:
             words.append(str(rng.choice((1, 2, rng.randrange(3, 60), max(near, 1) + rng.randrange(30), 100000))))
-    return words
+    return words + after_of(rng, until * machine.cpus) if rng.random() < 0.35 else words
+
+
+def after_of(rng: random.Random, near: int) -> list[str]:
+    """The words of the steps before a search."""
+    count = rng.choice((0, 1, rng.randrange(40), rng.randrange(400), max(near + rng.randrange(-9, 30), 0)))
+    return ["after", str(count), str(rng.choice((1, 4294967295, rng.randrange(1, 1 << 32))))]
 
 
 def case(seed: int) -> tuple[list[str], bytes]:

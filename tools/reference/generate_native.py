@@ -1,8 +1,7 @@
 """Images made from a seed for native runs: programs of children, and words where a child will have its handlers.
 
 The children loop, fault, trap, divide by zero, yield to the root and to themselves, ask for what they may not, and
-break their own handler tables, so that the monitor drops them. Some come without a program.
-"""
+break their own handler tables, so that the monitor drops them. Some come without a program."""
 
 from __future__ import annotations
 

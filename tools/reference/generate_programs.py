@@ -1,8 +1,7 @@
 """Assembly texts and images made from a seed, good ones and faulty ones.
 
 Some are monitors, whose root makes children and takes faults and lines; the children compute, call, fault and trap, and
-make children of their own. Others only compute, and show each result.
-"""
+make children of their own. Others only compute, and show each result."""
 
 from __future__ import annotations
 

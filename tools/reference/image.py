@@ -17,6 +17,9 @@ class Plan(NamedTuple):
     first: int
     period: int
 
+    def __str__(self) -> str:
+        return f".line {self.line} {self.first} {self.period}"
+
 
 Page = tuple[int, Sequence[int]]     # a vpage and 1024 words
 
@@ -76,16 +79,15 @@ class Reader:
         return value
 
 
-def head_of(reader: Reader) -> Head:
-    """The numbers of the header."""
+def parts(reader: Reader, least: int = 0) -> Iterator[Head | Plan | Page]:
+    """The header, the plans and the pages, one by one. With fewer frames than `least` it is TooFew, whatever is after
+    the plans."""
     magic, at = reader.take(8)
     if magic != MAGIC:
         raise BadImage("oldversion" if magic == OLD_MAGIC else "magic", at)
-    return Head(reader.number("frames", 16, 4096), reader.number("cpus", 1, 4),
+    head = Head(reader.number("frames", 16, 4096), reader.number("cpus", 1, 4),
                 reader.number("plan", 0, MOST_PLANS), reader.number("page", 0, MOST_PAGES))
-
-
-def plans_of(reader: Reader, head: Head) -> Iterator[Plan]:
+    yield head
     line = -1
     for _ in range(head.plans):
         field, at = reader.take(12)
@@ -94,22 +96,16 @@ def plans_of(reader: Reader, head: Head) -> Iterator[Plan]:
             raise BadImage("plan", at)
         line = plan.line
         yield plan
-
-
-def pages_of(reader: Reader, head: Head) -> Iterator[Page]:
-    """The pages, with which an image ends."""
-    rows = boot_tree(head.frames).nodes[1].rows
-    seen = set()
+    if head.frames < least:
+        raise TooFew(head.frames)
+    rows, seen = boot_tree(head.frames).nodes[1].rows, set[int]()
     for _ in range(head.pages):
         field, at = reader.take(4)
-        vpage, = struct.unpack("<I", field)
-        if vpage not in rows:
-            raise BadImage("page", at)
-        if vpage in seen:
-            raise BadImage("twice", at)
+        vpage = int.from_bytes(field, "little")
+        if vpage not in rows or vpage in seen:
+            raise BadImage("twice" if vpage in seen else "page", at)
         seen.add(vpage)
-        words, _ = reader.take(PAGE)
-        yield vpage, struct.unpack("<1024I", words)
+        yield vpage, struct.unpack("<1024I", reader.take(PAGE)[0])
 
 
 def ended(reader: Reader) -> None:
@@ -118,9 +114,16 @@ def ended(reader: Reader) -> None:
         raise BadImage("long", reader.at)
 
 
+def front_of(reader: Reader, least: int) -> Image:
+    """The image with which the bytes begin."""
+    head, *rest = parts(reader, least)
+    assert isinstance(head, Head)
+    plans = [part for part in rest if isinstance(part, Plan)]
+    return Image(head.frames, head.cpus, plans, [part for part in rest if not isinstance(part, (Head, Plan))])
+
+
 def read(data: bytes, least: int = 0) -> Image:
-    """The image that the bytes are; BadImage where they are none. With fewer frames than `least` it is TooFew, whatever
-    stands after the plans."""
+    """The image that the bytes are; BadImage where they are none."""
     reader = Reader(data)
     image = front_of(reader, least)
     ended(reader)
@@ -131,15 +134,6 @@ def parted(data: bytes, least: int = 0) -> tuple[Image, bytes]:
     """The same of bytes that begin with an image, and what is after it."""
     reader = Reader(data)
     return front_of(reader, least), data[reader.at:]
-
-
-def front_of(reader: Reader, least: int) -> Image:
-    """The image with which the bytes begin."""
-    head = head_of(reader)
-    plans = list(plans_of(reader, head))
-    if head.frames < least:
-        raise TooFew(head.frames)
-    return Image(head.frames, head.cpus, plans, list(pages_of(reader, head)))
 
 
 def written(image: Image) -> bytes:

@@ -2,6 +2,7 @@
 
 from __future__ import annotations
 
+import functools
 from collections.abc import Callable
 
 from .model import PAGE, ROOT, SLOTS, WORDS, Node, Row, Tree
@@ -11,60 +12,46 @@ PRESENT, USER = 1, 2
 
 def word(tree: Tree, frame: int, index: int) -> int:
     """The word of a frame below the tree's number of frames, at an index below 1024."""
-    if frame in tree.words:
-        return tree.word(frame, index)
-    words = configuration(tree, frame)
-    return words(index) if words else 0
+    return words_of(tree, frame)(index)
 
 
 def frame_words(tree: Tree, frame: int) -> list[int]:
     """All words of a frame."""
+    return list(map(words_of(tree, frame), range(WORDS)))
+
+
+def words_of(tree: Tree, frame: int) -> Callable[[int], int]:
+    """The words of a frame, as a function of the index."""
     if frame in tree.words:
-        return [tree.word(frame, index) for index in range(WORDS)]
-    words = configuration(tree, frame)
-    return [words(index) for index in range(WORDS)] if words else [0] * WORDS
-
-
-def configuration(tree: Tree, frame: int) -> Callable[[int], int] | None:
-    """The words of a page of configuration, as a function of the index, or None where it is nobody's."""
+        return lambda i: tree.word(frame, i)
     for node in tree.nodes.values():
         if node.name == frame:
-            return lambda i: descriptor_word(node, i)
+            return functools.partial(descriptor_word, node)
         for which, pair in enumerate(node.base[1:4]):
             if pair.page == frame:
-                return lambda i: directory_word(node, which, i)
+                return functools.partial(directory_word, node, which)
         for place, pair in enumerate([node.base[4]] + node.more):
             if pair.page == frame:
-                return lambda i: list_word(node, place, i)
+                return functools.partial(list_word, node, place)
         for table in node.tables:
             for place, pair in enumerate(table.pairs):
                 if pair.page == frame:
                     entry = (mmu_word, first_shadow_word, second_shadow_word)[place]
-                    return lambda i: table_word(tree, node, 1024 * table.index + i, entry)
-    return None
+                    return functools.partial(table_word, tree, node, 1024 * table.index, entry)
+    return lambda i: 0
 
 
 def descriptor_word(node: Node, index: int) -> int:
     if index < 10:
         pair = node.base[index // 2]
         return pair.address if index % 2 == 0 else pair.page
-    if index == 11:
-        return node.up
-    if index == 12:
-        return len(node.tables)
-    if index == 14:
-        return 1 if node.masked else 0
-    if index == 15:
-        return sum(1 << line for line in node.pending)
-    return 0
+    return {11: node.up, 12: len(node.tables), 14: int(node.masked),
+            15: sum(1 << line for line in node.pending)}.get(index, 0)
 
 
 def directory_word(node: Node, which: int, index: int) -> int:
     """`which` is 0 for the MMU's directory, 1 and 2 for the shadows'."""
-    for table in node.tables:
-        if table.index == index:
-            return PAGE * table.pairs[which].page + 1
-    return 0
+    return next((PAGE * table.pairs[which].page + 1 for table in node.tables if table.index == index), 0)
 
 
 def list_word(node: Node, place: int, index: int) -> int:
@@ -81,8 +68,9 @@ def list_word(node: Node, place: int, index: int) -> int:
     return pair.address if part % 2 == 0 else pair.page
 
 
-def table_word(tree: Tree, node: Node, vpage: int, entry: Callable[[Tree, Node, Row], int]) -> int:
-    row = node.rows.get(vpage)
+def table_word(tree: Tree, node: Node, first: int, entry: Callable[[Tree, Node, Row], int], index: int) -> int:
+    """A word of a table whose first vpage is given."""
+    row = node.rows.get(first + index)
     return entry(tree, node, row) if row else 0
 
 

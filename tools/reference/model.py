@@ -1,11 +1,11 @@
 """The tree of partitions, and every call and event on it, in the words of docs/MODEL.md.
 
 Everything is searched for in the tree: there are no tables, no shadows and no user bits. How a tree stands in frames
-is in layout.py.
-"""
+is in layout.py."""
 
 from __future__ import annotations
 
+from collections.abc import Callable
 from dataclasses import dataclass, field
 from enum import IntEnum
 from typing import NamedTuple, Union
@@ -21,67 +21,26 @@ LINES = 16               # interrupt lines
 ROOT = 1                 # the root's name
 
 
-class Status(IntEnum):
-    OK = 0
-    UNKNOWN_CALL = 1
-    NOT_ALIGNED = 2
-    NULL_PAGE = 3
-    REPEATED = 4
-    NOT_CHILD = 5
-    NOT_MAPPED = 6
-    NOT_FREE = 7
-    NO_RIGHT = 8
-    NO_TABLE = 9
-    TAKEN = 10
-    ABSENT = 11
-    LENT_ON = 12
-    NOT_EMPTY = 13
-    RUNNING = 14
-    BAD_VECTOR = 15
-    NO_HANDLER = 16
-    NO_CONTEXT = 17
-    BAD_SAVE = 18
+Status = IntEnum("Status", "OK UNKNOWN_CALL NOT_ALIGNED NULL_PAGE REPEATED NOT_CHILD NOT_MAPPED NOT_FREE NO_RIGHT "
+                           "NO_TABLE TAKEN ABSENT LENT_ON NOT_EMPTY RUNNING BAD_VECTOR NO_HANDLER NO_CONTEXT BAD_SAVE",
+                 start=0)
 
 
+@dataclass(eq=False)
 class Refused(Exception):
     """A call is refused with a status; nothing has changed."""
 
-    def __init__(self, status: Status) -> None:
-        super().__init__(status)
-        self.status = status
+    status: Status
 
 
 # The answers of events
 
-
-class Word(NamedTuple):
-    word: int
-
-
-class Done(NamedTuple):
-    pass
-
-
-class Reply(NamedTuple):
-    status: Status
-    value: int
-
-
-class Switched(NamedTuple):
-    source: int
-    target: int
-    vector: int
-
-
-class Parked(NamedTuple):
-    source: int
-    vector: int
-
-
-class Idle(NamedTuple):
-    pass
-
-
+Word = NamedTuple("Word", [("word", int)])
+Done = NamedTuple("Done", [])
+Idle = NamedTuple("Idle", [])
+Reply = NamedTuple("Reply", [("status", Status), ("value", int)])
+Switched = NamedTuple("Switched", [("source", int), ("target", int), ("vector", int)])
+Parked = NamedTuple("Parked", [("source", int), ("vector", int)])
 Outcome = Union[Word, Done, Reply, Switched, Parked, Idle]
 
 # Accesses, and the faults of what they reach: each by the number that a handler is told
@@ -174,8 +133,7 @@ class Node:
 class Tree:
     """All partitions, and the words of all pages that aren't configuration.
 
-    A word that isn't named in `words` is 0.
-    """
+    A word that isn't named in `words` is 0."""
 
     frames: int
     # by name, in the order in which they were made, so a parent is never after its child
@@ -325,14 +283,14 @@ def boot_tree(frames: int) -> Tree:
 # The tests of calls. Each refuses with its status
 
 
-def check_aligned(*addresses: int) -> None:
-    if any(address % PAGE for address in addresses):
-        raise Refused(Status.NOT_ALIGNED)
+def need(good: object, status: Status) -> None:
+    if not good:
+        raise Refused(status)
 
 
-def check_not_null(*addresses: int) -> None:
-    if 0 in addresses:
-        raise Refused(Status.NULL_PAGE)
+def check_places(*addresses: int) -> None:
+    need(all(address % PAGE == 0 for address in addresses), Status.NOT_ALIGNED)
+    need(0 not in addresses, Status.NULL_PAGE)
 
 
 def check_child(tree: Tree, caller: Node, address: int) -> Node:
@@ -344,61 +302,49 @@ def check_child(tree: Tree, caller: Node, address: int) -> Node:
 
 def check_child_place(tree: Tree, caller: Node, d: int, cv: int) -> Node:
     """The tests that the calls on a child's address have in common; the child is the answer."""
-    check_aligned(d, cv)
-    check_not_null(d, cv)
+    check_places(d, cv)
     return check_child(tree, caller, d)
 
 
 def check_mapped(caller: Node, *addresses: int) -> None:
-    if any(caller.row_at(address) is None for address in addresses):
-        raise Refused(Status.NOT_MAPPED)
+    need(all(caller.row_at(address) for address in addresses), Status.NOT_MAPPED)
 
 
 def check_free(tree: Tree, caller: Node, *addresses: int) -> None:
-    if not all(tree.is_free(caller, address) for address in addresses):
-        raise Refused(Status.NOT_FREE)
+    need(all(tree.is_free(caller, address) for address in addresses), Status.NOT_FREE)
 
 
-def check_read_write(caller: Node, *addresses: int) -> None:
-    if any(caller.row(address).rights & (READ | WRITE) != READ | WRITE for address in addresses):
-        raise Refused(Status.NO_RIGHT)
+def check_given(tree: Tree, caller: Node, *addresses: int) -> None:
+    """These pages can become configuration."""
+    check_mapped(caller, *addresses)
+    check_free(tree, caller, *addresses)
+    both = READ | WRITE
+    need(all(caller.row(address).rights & both == both for address in addresses), Status.NO_RIGHT)
 
 
 # The calls on memory. Each gives its value, or refuses before it has changed anything
 
 
 def create_partition(tree: Tree, caller: Node, arguments: list[int]) -> int:
-    pages = list(arguments)
-    check_aligned(*pages)
-    check_not_null(*pages)
-    if len(set(pages)) < len(pages):
-        raise Refused(Status.REPEATED)
-    check_mapped(caller, *pages)
-    check_free(tree, caller, *pages)
-    check_read_write(caller, *pages)
-    base = [pair_at(caller, address) for address in pages]
+    check_places(*arguments)
+    need(len(set(arguments)) == len(arguments), Status.REPEATED)
+    check_given(tree, caller, *arguments)
+    base = [pair_at(caller, address) for address in arguments]
     tree.nodes[base[0].page] = Node(base[0].page, caller.name, base[0].address, base)
     hide(tree, base)
     return 0
 
 
 def delete_partition(tree: Tree, caller: Node, d: int, running: set[int]) -> int:
-    check_aligned(d)
-    check_not_null(d)
-    child = check_child(tree, caller, d)
-    ended = tree.below(child)
-    if any(x.name in running for x in ended):
-        raise Refused(Status.RUNNING)
+    check_places(d)
+    ended = tree.below(check_child(tree, caller, d))
+    need(not any(x.name in running for x in ended), Status.RUNNING)
     for x in ended:
         del tree.nodes[x.name]
     for x in ended:
         for page in x.configuration():
             tree.clear(page)
     return 0
-
-
-def count_to_map(tree: Tree, caller: Node, d: int, cv: int) -> int:
-    return pages_needed(check_child_place(tree, caller, d, cv), cv)
 
 
 def prepare(tree: Tree, caller: Node, d: int, cv: int, first: int) -> int:
@@ -420,13 +366,9 @@ def check_chain(tree: Tree, caller: Node, first: int, count: int) -> list[int]:
     for _ in range(count):
         if chain:
             address = tree.word(caller.row(chain[-1]).page, 0)
-        check_aligned(address)
-        check_not_null(address)
-        if address in chain:
-            raise Refused(Status.REPEATED)
-        check_mapped(caller, address)
-        check_free(tree, caller, address)
-        check_read_write(caller, address)
+        check_places(address)
+        need(address not in chain, Status.REPEATED)
+        check_given(tree, caller, address)
         chain.append(address)
     return chain
 
@@ -436,8 +378,7 @@ def collect(tree: Tree, caller: Node, d: int, cv: int) -> int:
     table = child.table_at(cv)
     if table is None:
         raise Refused(Status.NO_TABLE)
-    if any(directory_index(vpage) == table.index for vpage in child.rows):
-        raise Refused(Status.NOT_EMPTY)
+    need(not any(directory_index(vpage) == table.index for vpage in child.rows), Status.NOT_EMPTY)
     back = list(table.pairs)
     place = child.tables.index(table)
     last = child.tables.pop()
@@ -452,35 +393,28 @@ def collect(tree: Tree, caller: Node, d: int, cv: int) -> int:
 
 
 def add_vaddr(tree: Tree, caller: Node, v: int, d: int, cv: int, rights: int) -> int:
-    check_aligned(v, d, cv)
-    check_not_null(v, d, cv)
+    check_places(v, d, cv)
     child = check_child(tree, caller, d)
     check_mapped(caller, v)
     check_free(tree, caller, v)
     row = caller.row(v)
-    if not rights & READ or rights & ~row.rights:
-        raise Refused(Status.NO_RIGHT)
-    if child.table_at(cv) is None:
-        raise Refused(Status.NO_TABLE)
-    if child.row_at(cv) is not None:
-        raise Refused(Status.TAKEN)
+    need(rights & READ and not rights & ~row.rights, Status.NO_RIGHT)
+    need(child.table_at(cv), Status.NO_TABLE)
+    need(child.row_at(cv) is None, Status.TAKEN)
     child.rows[cv // PAGE] = Row(row.page, rights)
     return 0
 
 
 def remove_vaddr(tree: Tree, caller: Node, d: int, cv: int) -> int:
     child = check_child_place(tree, caller, d, cv)
-    if child.row_at(cv) is None:
-        raise Refused(Status.ABSENT)
-    if not tree.is_free(child, cv):
-        raise Refused(Status.LENT_ON)
+    need(child.row_at(cv), Status.ABSENT)
+    need(tree.is_free(child, cv), Status.LENT_ON)
     del child.rows[cv // PAGE]
     return 0
 
 
 def mapped_in_child(tree: Tree, caller: Node, v: int) -> int:
-    check_aligned(v)
-    check_not_null(v)
+    check_places(v)
     check_mapped(caller, v)
     child = tree.holder(caller, caller.row(v).page)
     return child.born if child else 0
@@ -502,8 +436,7 @@ def hide(tree: Tree, pairs: list[Pair]) -> None:
 class World:
     """A tree and the processors, each idle or running a partition, with a translation cache for each.
 
-    An event gives its answer and changes the world.
-    """
+    An event gives its answer and changes the world."""
 
     def __init__(self, tree: Tree, processors: list[Running | None]) -> None:
         self.tree = tree
@@ -629,8 +562,7 @@ class World:
         return Done()
 
     def set_pc(self, cpu: int, pc: int) -> Outcome:
-        at = self.processors[cpu]
-        return Idle() if at is None else self.set_context(cpu, at.context._replace(pc=pc))
+        return self.set_context(cpu, self.running_on(cpu).context._replace(pc=pc)) if self.processors[cpu] else Idle()
 
     # Calls
 
@@ -642,7 +574,8 @@ class World:
                 return self.yield_to(cpu, *arguments[:3])
             answer = Reply(Status.OK, self.reply(self.node_on(cpu), number, arguments))
             if takes_pages(number, answer.value):
-                self.empty_caches()
+                for cache in self.caches:
+                    cache.empty()
         except Refused as refusal:
             answer = Reply(refusal.status, 0)
         at = self.running_on(cpu)
@@ -650,50 +583,34 @@ class World:
         self.processors[cpu] = Running(at.name, Context(at.context.pc, registers))
         return answer
 
-    def empty_caches(self) -> None:
-        for cache in self.caches:
-            cache.empty()
-
     def reply(self, caller: Node, number: int, x: list[int]) -> int:
         """The value of a call that doesn't switch."""
         tree = self.tree
-        if number == 0:
-            return create_partition(tree, caller, x)
-        if number == 1:
-            return delete_partition(tree, caller, x[0], self.running())
-        if number == 2:
-            return count_to_map(tree, caller, x[0], x[1])
-        if number == 3:
-            return prepare(tree, caller, x[0], x[1], x[2])
-        if number == 4:
-            return collect(tree, caller, x[0], x[1])
-        if number == 5:
-            return add_vaddr(tree, caller, x[0], x[1], x[2], x[3])
-        if number == 6:
-            return remove_vaddr(tree, caller, x[0], x[1])
-        if number == 7:
-            return mapped_in_child(tree, caller, x[0])
         if number in (10, 11):
             caller.masked = number == 10
             return 0
+        calls: dict[int, Callable[[], int]] = {
+            0: lambda: create_partition(tree, caller, x),
+            1: lambda: delete_partition(tree, caller, x[0], self.running()),
+            2: lambda: pages_needed(check_child_place(tree, caller, *x[:2]), x[1]),
+            3: lambda: prepare(tree, caller, *x[:3]),
+            4: lambda: collect(tree, caller, *x[:2]), 5: lambda: add_vaddr(tree, caller, *x[:4]),
+            6: lambda: remove_vaddr(tree, caller, *x[:2]), 7: lambda: mapped_in_child(tree, caller, x[0])}
+        if number in calls:
+            return calls[number]()
         raise Refused(Status.UNKNOWN_CALL)
 
     def yield_to(self, cpu: int, target: int, vector: int, save: int) -> Outcome:
         caller = self.node_on(cpu)
-        if target != 1:
-            check_aligned(target)
-        if target == 0 and caller.name == ROOT:
-            raise Refused(Status.NOT_CHILD)
+        need(target == 1 or target % PAGE == 0, Status.NOT_ALIGNED)
+        need(target or caller.name != ROOT, Status.NOT_CHILD)
         aimed = {0: self.tree.nodes[caller.up], 1: caller}.get(target) or check_child(self.tree, caller, target)
-        if vector >= 256 or save > NOWHERE:
-            raise Refused(Status.BAD_VECTOR)
-        if aimed is not caller and aimed.name in self.running():
-            raise Refused(Status.RUNNING)
+        need(vector < 256 and save <= NOWHERE, Status.BAD_VECTOR)
+        need(aimed is caller or aimed.name not in self.running(), Status.RUNNING)
         handler = self.tree.handler(aimed, vector)
         if handler is None:
             raise Refused(Status.NO_HANDLER)
-        if save < NOWHERE and self.tree.save_place(caller, save) is None:
-            raise Refused(Status.BAD_SAVE)
+        need(save == NOWHERE or self.tree.save_place(caller, save), Status.BAD_SAVE)
         if save < NOWHERE:
             context = self.running_on(cpu).context
             self.tree.save(caller, save, Context(context.pc, (0, 0) + context.registers[2:]))

@@ -17,15 +17,6 @@ BLOCK = HANDLERS + 0x400                     # after the 256 entries of a handle
 WANTS = ((PROGRAM, READ | WRITE | EXECUTE), (HANDLERS, READ | WRITE))
 
 
-class Ran(NamedTuple):
-    child: int
-
-
-class Dropped(NamedTuple):
-    child: int
-    status: Status
-
-
 def frames_needed(n: int) -> int:
     """The least frames for n children: 13 pages for each, and what the kernel has of the root."""
     return 13 * n + 13
@@ -106,24 +97,18 @@ class Monitor:
         turns = [(self.last + k) % n for k in range(1, n + 1)]
         return next((i for i in turns if i in self.alive), None)
 
-    def decide(self, world: World) -> Ran | Dropped | None:
-        """The root runs on processor 0: it yields to the next child. None where there is nobody."""
+    def decide(self, world: World) -> str | None:
+        """The root runs on processor 0: it yields to the next child, or drops it. None where there is nobody."""
         i = self.next()
         if i is None:
             return None
         answer = world.call(0, 8, [self.built[i], SAVED, NOWHERE, 0, 0])
         self.last = i
         if isinstance(answer, Switched):
-            return Ran(i)
+            return f"run {i}"
         assert isinstance(answer, Reply)
         self.alive.remove(i)
-        return Dropped(i, answer.status)
-
-
-def decision_text(decision: Ran | Dropped) -> str:
-    if isinstance(decision, Ran):
-        return f"run {decision.child}"
-    return f"drop {decision.child} {int(decision.status)}"
+        return f"drop {i} {int(answer.status)}"
 
 
 # The command
@@ -148,5 +133,5 @@ def native(image: Image, n: int, count: int) -> tuple[list[str], World]:
             continue
         decision = monitor.decide(world)
         if decision:
-            told.append(f"{step} 0 {decision_text(decision)}")
+            told.append(f"{step} 0 {decision}")
     return told + [f"end {count}"], world

@@ -232,10 +232,8 @@ class Soak:
     def step(self) -> None:
         cpu, kind = self.draw(2), self.draw(16)
         world, page, place = self.world, self.page, self.place
-        if kind <= 1:
-            self.count(world.load(cpu, page(), True))
-        elif kind == 2:
-            self.count(world.load(cpu, place(), True))
+        if kind <= 2:
+            self.count(world.load(cpu, page() if kind <= 1 else place(), True))
         elif kind == 3:
             self.count(world.store(cpu, page(), True, page()))
         elif kind == 4:
@@ -250,18 +248,12 @@ class Soak:
             self.call(cpu, 5, 0x400000 + PAGE * self.draw(17), page(), place(), 1 + self.draw(7))
         elif kind == 7:
             self.call(cpu, 6, page(), place())
-        elif kind == 8:
-            self.call(cpu, 7, page())
-        elif kind == 9:
-            self.call(cpu, 2, page(), place())
-        elif kind == 10:
-            self.call(cpu, 4, page(), place())
-        elif kind == 11:
-            self.call(cpu, 1, page())
-        elif kind == 12:
-            self.call(cpu, 8, self.goal(), 64, 63)
-        elif kind == 13:
-            self.call(cpu, 8, self.goal(), 63, 256)
+        elif kind in (8, 11):
+            self.call(cpu, 7 if kind == 8 else 1, page())
+        elif kind in (9, 10):
+            self.call(cpu, 2 if kind == 9 else 4, page(), place())
+        elif kind in (12, 13):
+            self.call(cpu, 8, self.goal(), *((64, 63) if kind == 12 else (63, 256)))
         elif kind == 14:
             self.count(world.raise_line(self.draw(2)))
         else:

@@ -19,18 +19,9 @@ BYTE = 256
 CPU = None
 
 FORMS: dict[bytes, tuple[int | None, ...]] = {
-    b"ld": (CPU, WORD),
-    b"lb": (CPU, WORD),
-    b"st": (CPU, WORD, WORD),
-    b"sb": (CPU, WORD, BYTE),
-    b"fetch": (CPU,),
-    b"trap": (CPU, BYTE, WORD, WORD),
-    b"raise": (16,),
-    b"poll": (CPU,),
-    b"peek": (WORD, WORD),
-    b"reg": (CPU, 17),
-    b"pc": (CPU, WORD),
-}
+    b"ld": (CPU, WORD), b"lb": (CPU, WORD), b"st": (CPU, WORD, WORD), b"sb": (CPU, WORD, BYTE), b"fetch": (CPU,),
+    b"trap": (CPU, BYTE, WORD, WORD), b"raise": (16,), b"poll": (CPU,), b"peek": (WORD, WORD), b"reg": (CPU, 17),
+    b"pc": (CPU, WORD)}
 
 
 class Bad(Exception):
@@ -39,10 +30,7 @@ class Bad(Exception):
 
 def number(text: bytes) -> int:
     """The number that a word is."""
-    if not NUMBER.fullmatch(text):
-        raise Bad
-    value = int(text, 16) if text.startswith(b"0x") else int(text)
-    if value >= WORD:
+    if not NUMBER.fullmatch(text) or (value := int(text, 16 if text.startswith(b"0x") else 10)) >= WORD:
         raise Bad
     return value
 
@@ -54,16 +42,10 @@ def word_text(word: int) -> str:
 def outcome_text(outcome: Outcome) -> str:
     if isinstance(outcome, Word):
         return word_text(outcome.word)
-    if isinstance(outcome, Done):
-        return "done"
     if isinstance(outcome, Reply):
         return f"reply {int(outcome.status)} {word_text(outcome.value)}"
-    if isinstance(outcome, Switched):
-        return f"switch {outcome.source} {outcome.target} {outcome.vector}"
-    if isinstance(outcome, Parked):
-        return f"park {outcome.source} {outcome.vector}"
-    assert isinstance(outcome, Idle)
-    return "idle"
+    return " ".join([{Done: "done", Switched: "switch", Parked: "park", Idle: "idle"}[type(outcome)],
+                     *map(str, outcome)])
 
 
 class Script:
@@ -128,16 +110,13 @@ def event(world: World, name: bytes, x: list[int]) -> str:
 
 
 def peek(world: World, frame: int, index: int) -> str:
-    if frame >= world.tree.frames or index >= WORDS:
-        return "none"
-    return word_text(layout.word(world.tree, frame, index))
+    is_there = frame < world.tree.frames and index < WORDS
+    return word_text(layout.word(world.tree, frame, index)) if is_there else "none"
 
 
 def register(world: World, cpu: int, number: int) -> str:
     at = world.processors[cpu]
-    if at is None:
-        return "idle"
-    return word_text(at.context.pc if number == 16 else at.context.registers[number])
+    return word_text((*at.context.registers, at.context.pc)[number]) if at else "idle"
 
 
 def lines(text: bytes) -> Iterator[bytes]:

@@ -5,7 +5,7 @@ from __future__ import annotations
 import itertools
 from typing import NamedTuple
 
-from . import image, runs, script
+from . import every, runs, script
 from .image import Image
 from .model import ROOT, Node, Running, Table, Tree, World
 
@@ -40,7 +40,9 @@ class Second:
 
     def __init__(self, machine: Image, first: int, menu: list[str]) -> None:
         self.machine, self.first = machine, first
-        self.menu = [line.split(" ", 1) for line in menu if line and not line.startswith("#")]
+        lines = [line.split(" ", 1) for line in menu if line and not line.startswith("#")]
+        self.menu = [line for line in lines if line[0] != "again"]
+        self.labels = [line[1] for line in lines if line[0] == "again"]
         self.usual = machine.cpus + len(machine.plans)
         self.choices = self.usual + machine.cpus * len(self.menu)
 
@@ -84,9 +86,10 @@ class Second:
             return [f"call {int(numbers[0], 0)} {answer}"]
         return [answer] if answer.startswith(("switch", "park")) else []
 
-    def text(self, states: int, deepest: int | None) -> list[str]:
-        start = State(image.world(self.machine), 0, ())
+    def text(self, states: int, deepest: int | None, begins: every.After) -> list[str]:
+        start = State(every.begun(self.machine, begins), 0, ())
         seen, layer, depth, end, shown_by = {start.value()}, [start], 0, "", MOST
+        reached = [start]
         ways: dict[str, tuple[int, ...]] = {}
         while not end:
             if depth == deepest:
@@ -101,8 +104,34 @@ class Second:
             if not end and not after:
                 end = f"states {len(seen)} depth {depth} closed"
             layer, depth = after, depth + 1
+            reached += after
         lines = [f"{len(way) - 1} {shown}: {self.way(way)}" for shown, way in ways.items() if len(way) <= shown_by]
-        return [runs.first_line(self.machine), *lines, end]
+        again = (self.again(reached, label) if end.endswith("closed") else "unknown" for label in self.labels)
+        return [runs.first_line(self.machine), *lines, end, *map("again {}: {}".format, self.labels, again)]
+
+    def again(self, reached: list[State], label: str) -> str:
+        """Whether a label can come from each of these states, or the way to the first from which it can't."""
+        can: set[object] = set()
+        for state in reached:
+            if not self.comes(state, label, can):
+                return " ".join(["no", *self.way(state.way).split()])
+        return "yes"
+
+    def comes(self, state: State, label: str, can: set[object]) -> bool:
+        """Whether turns and lines lead from a state to one that is known to, or show a label. Then it is known to."""
+        seen, ahead = {state.value()}, [state]
+        while ahead:
+            before = ahead.pop()
+            for choice in range(self.usual):
+                after, shown = self.made(before, choice)
+                value = after.value()
+                if shown == label or value in can:
+                    can.add(state.value())
+                    return True
+                if value not in seen:
+                    seen.add(value)
+                    ahead.append(after)
+        return False
 
     def make_all(self, before: State, seen: set[object], after: list[State], ways: dict[str, tuple[int, ...]]) -> None:
         for choice in range(self.choices):

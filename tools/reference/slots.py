@@ -1,6 +1,5 @@
 """Time slots of an image: children of the root are built as for `native`, and have the slots of a round, again and
-again: each one slot of so many turns in turn, or those that are given.
-"""
+again: each one slot of so many turns in turn, or those that are given."""
 
 from __future__ import annotations
 

@@ -5,99 +5,59 @@ from __future__ import annotations
 from collections.abc import Iterator
 
 from .caches import PLACES, Entry
-from .model import PAGE, READ, ROOT, WORDS, Node, Pair, Tree, World, boot_tree, list_pages
-
-
-def faults(tree: Tree) -> Iterator[int]:
-    """The numbers of the facts that don't hold of the tree."""
-    facts = (is_tree, is_boot_root, has_one_use, comes_from_parent, siblings_apart, rights_shrink, rows_have_tables,
-             lines_are_the_roots, hidden_has_no_words)
-    return (number for number, fact in enumerate(facts, 1) if not fact(tree))
+from .model import PAGE, READ, ROOT, WORDS, Node, Tree, World, boot_tree, list_pages
 
 
 def first_fault(tree: Tree) -> int | None:
-    """The least of them, or None. A fact is asked only where those before it hold."""
-    return next(faults(tree), None)
-
-
-def others(tree: Tree) -> list[Node]:
-    return [x for x in tree.nodes.values() if x.name != ROOT]
-
-
-def pairs(node: Node) -> list[Pair]:
-    return node.base + [pair for table in node.tables for pair in table.pairs] + node.more
+    """The number of the first fact that doesn't hold, or None. A fact is asked only where those before it hold."""
+    return next((number for number, holds in enumerate(facts(tree), 1) if not holds), None)
 
 
 def held(node: Node) -> list[int]:
     return node.configuration() + [row.page for row in node.rows.values()]
 
 
-def is_tree(tree: Tree) -> bool:
-    earlier: list[int] = []
-    for name, node in tree.nodes.items():
-        if node.name != name or node.up not in (earlier or [ROOT]):
-            return False
-        earlier.append(name)
-    return earlier[0] == ROOT
+def facts(tree: Tree) -> Iterator[bool]:
+    """Whether each fact holds of the tree."""
+    nodes, names, root = list(tree.nodes.values()), list(tree.nodes), tree.nodes.get(ROOT)
+    others = [x for x in nodes if x.name != ROOT]
+    # It is a tree
+    yield names[0] == ROOT and all(x.name == name and x.up in (names[:at] or [ROOT])
+                                   for at, (name, x) in enumerate(tree.nodes.items()))
+    # The root is that of the boot
+    first = boot_tree(tree.frames).nodes[ROOT]
+    yield 16 <= tree.frames <= 4096 and all(getattr(root, part) == getattr(first, part)
+                                            for part in ("name", "born", "base", "tables", "more", "rows"))
+    # One use in one partition
+    yield all(len(set(held(x))) == len(held(x)) for x in nodes)
+    yield all(comes_from_parent(x, tree.nodes[x.up]) for x in others)
+    # Siblings are apart
+    below = [[page for child in tree.children(x) for page in held(child)] for x in nodes]
+    yield all(len(set(pages)) == len(pages) for pages in below)
+    # Rights only shrink
+    rights = {x.name: {row.page: row.rights for row in x.rows.values()} for x in nodes}
+    yield all(row.rights & READ and not row.rights & ~rights[x.up][row.page] for x in nodes for row in x.rows.values())
+    yield all(has_tables(x) for x in nodes)
+    # Lines belong to the root
+    yield not any(x.pending for x in others)
+    # What is hidden has no words
+    hidden = {page for x in nodes for page in x.configuration()}
+    yield set(tree.words) == {row.page for row in tree.nodes[ROOT].rows.values()} - hidden
 
 
-def is_boot_root(tree: Tree) -> bool:
-    root, first = tree.nodes[ROOT], boot_tree(tree.frames).nodes[ROOT]
-    same = ("name", "born", "base", "tables", "more", "rows")
-    return all(getattr(root, part) == getattr(first, part) for part in same) and 16 <= tree.frames <= 4096
+def comes_from_parent(x: Node, parent: Node) -> bool:
+    """Everything comes from the parent."""
+    pairs = x.base + [pair for table in x.tables for pair in table.pairs] + x.more
+    rows = [(address % PAGE, parent.row_at(address), page) for address, page in pairs]
+    return (set(held(x)) <= {row.page for row in parent.rows.values()} and x.base[0] == (x.born, x.name)
+            and all(not offset and row is not None and row.page == page for offset, row, page in rows))
 
 
-def has_one_use(tree: Tree) -> bool:
-    return all(len(set(held(x))) == len(held(x)) for x in tree.nodes.values())
-
-
-def comes_from_parent(tree: Tree) -> bool:
-    for x in others(tree):
-        parent = tree.nodes[x.up]
-        if not set(held(x)) <= {row.page for row in parent.rows.values()}:
-            return False
-        for address, page in pairs(x):
-            row = parent.row_at(address)
-            if address % PAGE or row is None or row.page != page:
-                return False
-        if x.base[0] != (x.born, x.name):
-            return False
-    return True
-
-
-def siblings_apart(tree: Tree) -> bool:
-    for x in tree.nodes.values():
-        pages = [page for child in tree.children(x) for page in held(child)]
-        if len(set(pages)) < len(pages):
-            return False
-    return True
-
-
-def rights_shrink(tree: Tree) -> bool:
-    for x in tree.nodes.values():
-        above = {row.page: row.rights for row in tree.nodes[x.up].rows.values()}
-        if any(not row.rights & READ or row.rights & ~above[row.page] for row in x.rows.values()):
-            return False
-    return True
-
-
-def rows_have_tables(tree: Tree) -> bool:
-    for x in tree.nodes.values():
-        indexes = [table.index for table in x.tables]
-        if len(set(indexes)) < len(indexes) or 0 in x.rows or not {v // WORDS for v in x.rows} <= set(indexes):
-            return False
-        if len(x.more) != list_pages(len(x.tables)) - 1:
-            return False
-    return True
-
-
-def lines_are_the_roots(tree: Tree) -> bool:
-    return not any(x.pending for x in others(tree))
-
-
-def hidden_has_no_words(tree: Tree) -> bool:
-    hidden = {page for x in tree.nodes.values() for page in x.configuration()}
-    return set(tree.words) == {row.page for row in tree.nodes[ROOT].rows.values()} - hidden
+def has_tables(x: Node) -> bool:
+    """Every row has its table."""
+    indexes = [table.index for table in x.tables]
+    return (len(set(indexes)) == len(indexes) and 0 not in x.rows and {v // WORDS for v in x.rows} <= set(indexes)
+            and len(x.more) == list_pages(len(x.tables)) - 1)
 
 
 def is_usable(tree: Tree, entry: Entry) -> bool:

@@ -21,9 +21,8 @@ class Together(every.Moments):
     """All turns, and one line, from a world on."""
 
     def __init__(self, machine: Image, world: World, line: int) -> None:
-        super().__init__(machine, 0)
+        super().__init__(machine, 0, world)
         self.lines = [line]
-        self.start = self.moment_of(world)
 
 
 class Said(NamedTuple):

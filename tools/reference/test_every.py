@@ -2,10 +2,11 @@
 
 from __future__ import annotations
 
+import random
 import unittest
 from collections.abc import Sequence
 
-from . import assembly, every, generate_every, image, runs
+from . import assembly, commands, every, generate_every, image, runs
 from .image import Image
 from .second import Second, State
 
@@ -19,8 +20,7 @@ COUNTS = b".frames 16\n.cpus 3\n.page 0x00400000\nat:\naddi r1 r1 1\nout r1\nbeq
 
 def told_of_all(machine: Image, first: int, deepest: int) -> list[str]:
     """The lines in the middle and the number of states, by going through all rows of choices: what they lead to is
-    copied as a whole, whether or not others lead to the same.
-    """
+    copied as a whole, whether or not others lead to the same."""
     second = Second(machine, first, [])
     ways: dict[str, tuple[int, ...]] = {}
     values: set[object] = set()
@@ -101,25 +101,69 @@ class Every(unittest.TestCase):
                     shown = runs.run(machine, 300, order)[0][1:-1]
                     self.assertLessEqual({line.split(" ", 1)[1] for line in shown}, named, (seed, order))
 
+    def test_a_search_after_steps_begins_where_a_run_is_by_then(self) -> None:
+        machine = read(PARKS)
+        self.assertEqual(every.every(machine, 1000, 0, None, every.After(0, 7)), every.every(machine, 1000, 0, None))
+        self.assertEqual(runs.run(machine, 8, 1)[0][1:], [
+            "5 0 switch 1 1 35", "6 0 out 0x00000000", "7 0 park 1 65", "end 8"])
+        self.assertEqual(every.every(machine, 1000, 0, None, every.After(7, 1)), [
+            "image 16 2 1 2",
+            "0 0 park 1 65: 0",
+            "2 0 switch 0 1 35: 0 raise3 0",
+            "2 1 switch 0 1 35: 0 raise3 1",
+            "3 0 park 1 6: 0 raise3 0x2",
+            "3 1 park 1 6: 0 raise3 1x2",
+            "states 8 depth 4 closed"])
+        # Turns and choices are counted from there
+        told = every.every(machine, 1000, 2, 4, every.After(7, 1))
+        self.assertEqual(told[1:3], ["0 0 park 1 65: 0", "3 0 switch 0 1 35: 0x2 raise3 0"])
+        self.assertEqual(told[-1].split()[2:], ["within", "4"])
+
+    def test_a_closed_search_after_steps_names_what_comes_after_such_steps(self) -> None:
+        closed = 0
+        for seed in range(1, 40):
+            machine = read("\n".join(generate_every.Small(seed).image()).encode() + b"\n")
+            after = every.After(seed * 7 % 60, seed)
+            told = every.every(machine, 600, 0, None, after)
+            if told[-1].endswith("closed"):
+                closed += 1
+                named = {line.split(":")[0].split(" ", 1)[1] for line in told[1:-1]}
+                self.assertLessEqual(shown_after(machine, after, seed), named, seed)
+        self.assertGreater(closed, 20)
+
     def test_each_way_of_a_generated_image_shows_its_line(self) -> None:
         for seed in range(1, 20):
-            (count, *more), data = generate_every.case(seed)
+            words, data = generate_every.case(seed)
+            asked = commands.search_of(words)
+            assert asked
             try:
                 machine = image.read(data)
             except image.BadImage:
                 continue
-            first, deepest = (int(more[0]) if more else 0), (int(more[1]) if more[1:] else None)
-            moments = every.Moments(machine, first)
-            search = every.Search(moments, min(int(count), 30), deepest)
+            moments = every.Moments(machine, asked.first, every.begun(machine, asked.after))
+            search = every.Search(moments, min(asked.states, 30), asked.deepest)
             for found in search.told():
-                self.assertEqual(shown_by(machine, first, search.way(found)), f"{found.label[0]} {found.label[1]}")
+                self.assertEqual(shown_by(machine, asked, search.way(found)), f"{found.label[0]} {found.label[1]}")
             values = {State(moments.world(moment), moment.turns, ()).value() for moment in search.places}
             self.assertEqual(len(values), len(search.visits), seed)
 
 
-def shown_by(machine: Image, first: int, way: Sequence[int]) -> str | None:
+def shown_by(machine: Image, asked: commands.Asked, way: Sequence[int]) -> str | None:
     """What the last of these choices shows, by worlds that are copied as a whole."""
-    second, state, shown = Second(machine, first, []), State(image.world(machine), 0, ()), None
+    second, state, shown = Second(machine, asked.first, []), State(every.begun(machine, asked.after), 0, ()), None
     for choice in way:
         state, shown = second.made(state, choice)
     return shown
+
+
+def shown_after(machine: Image, after: every.After, seed: int) -> set[str]:
+    """What some runs show after these steps, each by another schedule and with lines that come at any step."""
+    shown: list[str] = []
+    for order in range(1, 6):
+        drawn, world = random.Random(seed * 10 + order), every.begun(machine, after)
+        for step in range(300):
+            for plan in machine.plans:
+                if drawn.random() < 0.1:
+                    world.raise_line(plan.line)
+            runs.Turn(world, drawn.randrange(machine.cpus), step, shown.append).take()
+    return {line.split(" ", 1)[1] for line in shown}

@@ -13,8 +13,7 @@ HERE = Path(__file__).resolve().parent
 HEADING = re.compile(r"<h(\d)>(.*?)</h\1>", re.DOTALL)
 TO_DOCUMENT = re.compile(r'(<a href="(?![a-z]+:)[^"#]*)\.md(?=["#])')
 MARKS = (("<pre>", '<pre tabindex="0">'), ("<table>", '<div class="wide" tabindex="0"><table>'),
-         ("</table>", "</table></div>"),
-         ("<th></th>", "<td></td>"), ("<th>", '<th scope="col">'))
+         ("</table>", "</table></div>"), ("<th></th>", "<td></td>"), ("<th>", '<th scope="col">'))
 PAGE = """<!doctype html>
 <html lang="en">
 <head>

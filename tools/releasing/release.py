@@ -1,6 +1,5 @@
 """Makes a release: what is committed, with the program that the gate built, the page, the documents as HTML, the
-export, and PROOF.
-"""
+export, and PROOF."""
 
 from __future__ import annotations
 

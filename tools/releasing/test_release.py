@@ -5,12 +5,12 @@ from __future__ import annotations
 import argparse
 import contextlib
 import io
-import json
 import os
 import shutil
 import subprocess
 import tempfile
 import unittest
+from collections.abc import Callable
 from pathlib import Path
 from typing import Any
 
@@ -45,33 +45,42 @@ FILES = {
 @unittest.skipUnless(shutil.which("cmark-gfm"), "no cmark-gfm")
 class Releases(unittest.TestCase):
     def setUp(self) -> None:
-        self.place = tempfile.TemporaryDirectory()
-        self.addCleanup(self.place.cleanup)
+        place = tempfile.TemporaryDirectory()
+        self.addCleanup(place.cleanup)
+        self.addCleanup(setattr, repository, "kit", repository.kit)
+        self.use_kit(KIT)
+        self.place = Path(place.name)
         self.found = self.checkout("here")
-        was = repository.kit
-        repository.kit = lambda: KIT
-        self.addCleanup(setattr, repository, "kit", was)
+
+    def use_kit(self, kit: str | None) -> None:
+        repository.kit = lambda: kit
 
     def checkout(self, name: str) -> Checkout:
-        found = Checkout(Path(self.place.name) / name)
-        found.place.mkdir()
+        found = Checkout(self.place / name)
         for path, text in FILES.items():
-            self.write(found, path, text)
-        (found.place / ".ci" / "run").chmod(0o755)
-        (found.place / "pip").chmod(0o755)
+            self.write(path, text, found)
+        for path in (".ci/run", "pip"):
+            (found.place / path).chmod(0o755)
         found.git("init", "-q")
         self.commit(found)
         return found
 
-    def write(self, found: Checkout, path: str, text: str) -> None:
-        (found.place / path).parent.mkdir(parents=True, exist_ok=True)
-        (found.place / path).write_text(text)
+    def write(self, path: str, text: str, found: Checkout | None = None) -> None:
+        whole = (found or self.found).place / path
+        whole.parent.mkdir(parents=True, exist_ok=True)
+        whole.write_text(text)
 
     def commit(self, found: Checkout) -> None:
         found.git("add", "-A")
         when = {"GIT_AUTHOR_DATE": "2026-01-01T00:00:00Z", "GIT_COMMITTER_DATE": "2026-01-01T00:00:00Z"}
         subprocess.run(["git", "-C", str(found.place), "-c", "user.name=a", "-c", "user.email=a@b", "commit", "-qm",
                         "all"], check=True, env={**os.environ, **when})
+
+    def gate_of(self, path: str, text: str) -> None:
+        """The gate of a commit in which a file is another."""
+        self.write(path, text)
+        self.commit(self.found)
+        self.pass_gate()
 
     def pass_gate(self, found: Checkout | None = None) -> int:
         with contextlib.redirect_stdout(io.TextIOWrapper(io.BytesIO())):
@@ -80,38 +89,38 @@ class Releases(unittest.TestCase):
     def made(self, version: str = "1.2", again: Path | None = None, to: str | None = "to",
              unproved: bool = False) -> Path:
         """Makes a release, and answers its folder; where `to` is None it goes beside the checkout."""
-        place = Path(self.place.name)
         given = argparse.Namespace(version=version, gate=False, unproved=unproved, again=again, module=None,
-                                   debian=None, to=None if to is None else place / to)
+                                   debian=None, to=None if to is None else self.place / to)
         with contextlib.redirect_stdout(io.StringIO()):
             release.work(given, self.found)
-        return place / (release.BESIDE if to is None else to) / f"pip-{version}{'-unproved' if unproved else ''}"
+        return self.place / (release.BESIDE if to is None else to) / f"pip-{version}{'-unproved' if unproved else ''}"
 
     def refused(self, why: str, **given: Any) -> None:
         with self.assertRaisesRegex(Failed, why):
             self.made(**given)
-        left = Path(self.place.name) / "to"
+        left = self.place / "to"
         self.assertEqual(list(left.iterdir()) if left.exists() else [], [], "a refused release leaves something")
 
-    def tarball(self, made: Path) -> bytes:
-        return made.with_name(made.name + ".tar.gz").read_bytes()
+    def parts(self, made: Path) -> set[str]:
+        """The files of a release, whose checksums have to be right."""
+        sums = subprocess.run("grep -E '^[0-9a-f]{64}  ' PROOF | sha256sum --check --quiet", shell=True, cwd=made,
+                              stdout=subprocess.PIPE)
+        self.assertEqual((sums.returncode, sums.stdout), (0, b""))
+        return {str(path.relative_to(made)) for path in made.rglob("*") if path.is_file()}
 
-    # What is in a release
-
-    def test_has_each_part_and_its_checksums(self) -> None:
+    def test_has_each_part_and_is_the_same_each_time(self) -> None:
         self.assertEqual(self.pass_gate(), 0)
-        made = self.made()
-        parts = {str(path.relative_to(made)) for path in made.rglob("*") if path.is_file()}
-        self.assertEqual(parts, {*FILES, "README.html", "docs/PROVED.html", "pip.html", "PROOF", "rust/Cargo.toml",
-                                 release.MARK, "crates/pip/out/pip", "tools/judge/pip_judge"})
+        made, beside = self.made(), self.made(to=None)
+        self.assertEqual(self.parts(made), {
+            *FILES, "README.html", "docs/PROVED.html", "pip.html", "PROOF", "rust/Cargo.toml", release.MARK,
+            "crates/pip/out/pip", "tools/judge/pip_judge"})
         told = (made / "PROOF").read_text()
         for part in ("pip 1.2\n", self.found.commit(), KIT, "3 passed, 0 failed", "check: 2 of 2 checks pass",
                      "- The kit.", "built once"):
             self.assertIn(part, told)
-        sums = subprocess.run("grep -E '^[0-9a-f]{64}  ' PROOF | sha256sum --check --quiet", shell=True, cwd=made,
-                              stdout=subprocess.PIPE)
-        self.assertEqual((sums.returncode, sums.stdout), (0, b""))
         self.assertIn('<a href="docs/PROVED.html#trusted">', (made / "README.html").read_text())
+        one, two = (path.with_name(path.name + ".tar.gz").read_bytes() for path in (made, beside))
+        self.assertEqual(one, two)
 
     def test_an_unproved_one_needs_no_gate_and_says_so(self) -> None:
         self.refused("say ./pip --unproved script", unproved=True)
@@ -119,124 +128,77 @@ class Releases(unittest.TestCase):
         self.found.unproved.parent.mkdir(parents=True)
         self.found.unproved.write_text("by cargo\n")
         made = self.made(unproved=True)
-        parts = {str(path.relative_to(made)) for path in made.rglob("*") if path.is_file()}
+        parts, told = self.parts(made), (made / "PROOF").read_text()
         self.assertLess({"UNPROVED", "PROOF", "out/rust/target/release/pip", "out/sources-seen"}, parts)
         self.assertNotIn("crates/pip/out/pip", parts)
-        told = (made / "PROOF").read_text()
         self.assertTrue(told.startswith("pip 1.2, unproved\n\nNothing is proved of the program "
                                         "out/rust/target/release/pip"), told)
         self.assertNotIn("passed", told)
-        sums = subprocess.run("grep -E '^[0-9a-f]{64}  ' PROOF | sha256sum --check --quiet", shell=True, cwd=made,
-                              stdout=subprocess.PIPE)
-        self.assertEqual((sums.returncode, sums.stdout), (0, b""))
 
-    def test_is_the_same_each_time(self) -> None:
-        self.pass_gate()
-        one, two = self.made(to="one"), self.made(to="two")
-        self.assertEqual(self.tarball(one), self.tarball(two))
-
-    def test_goes_beside_the_checkout(self) -> None:
-        self.pass_gate()
-        self.assertTrue((self.made(to=None) / "PROOF").is_file())
-
-    def test_says_that_two_builds_are_the_same(self) -> None:
+    def test_two_builds_have_to_be_the_same(self) -> None:
         self.pass_gate()
         other = self.checkout("other")
         self.pass_gate(other)
-        self.assertIn("It was built twice, in two folders", (self.made(again=other.place) / "PROOF").read_text())
-
-    # What is refused
-
-    def test_refuses_a_dirty_checkout(self) -> None:
-        self.pass_gate()
-        self.write(self.found, "README.md", "# Another\n")
-        self.refused("isn't clean: README.md")
-        self.found.git("checkout", "-q", "README.md")
-        self.write(self.found, "new.txt", "new\n")
-        self.refused("isn't clean: new.txt")
-
-    def test_refuses_without_a_gate(self) -> None:
-        self.refused("no run of the gate is recorded")
-
-    def test_refuses_a_gate_that_failed(self) -> None:
-        self.write(self.found, ".ci/run", GATE.format(more="", status=1))
-        self.commit(self.found)
-        self.assertEqual(self.pass_gate(), 1)
-        self.refused("ended with status 1: check: 2 of 2")
-
-    def test_refuses_a_gate_that_began_and_never_ended(self) -> None:
-        self.pass_gate()
-        self.write(self.found, ".ci/run", GATE.format(more="echo dirty > README.md", status=0))
-        self.commit(self.found)
-        with self.assertRaisesRegex(Failed, "isn't clean: README.md"):
-            self.pass_gate()
-        self.found.git("checkout", "-q", "README.md")
-        self.refused("no run of the gate is recorded")
-
-    def test_refuses_a_gate_of_another_commit(self) -> None:
-        self.pass_gate()
-        self.write(self.found, "README.md", "# Another\n")
-        self.commit(self.found)
-        self.refused("has other files")
-
-    def test_refuses_another_kit_or_none(self) -> None:
-        self.pass_gate()
-        repository.kit = lambda: "kit-2"
-        self.refused("with the kit kit-1, and kit-2 is here")
-        repository.kit = lambda: None
-        self.pass_gate()
-        self.refused("with the kit None")
-
-    def test_refuses_a_record_that_is_none(self) -> None:
-        self.pass_gate()
-        self.found.record.write_text(json.dumps({"status": 0}))
-        self.refused("is no record of a gate")
-
-    def test_refuses_another_program_or_none(self) -> None:
-        self.pass_gate()
-        self.found.program.write_text("another\n")
-        self.refused("isn't the program that the gate built")
-        self.found.program.unlink()
-        self.refused("there is no program")
-
-    def test_refuses_a_missing_page(self) -> None:
-        for tool, why in (("import sys\nsys.exit('no compiler')\n", "the page can't be made: no compiler"),
-                          ("pass\n", "the page isn't there")):
-            self.write(self.found, "tools/playground/make_page", tool)
-            self.commit(self.found)
-            self.pass_gate()
-            self.refused(why)
-
-    def test_refuses_an_export_that_fails(self) -> None:
-        self.write(self.found, "tools/export", "import sys\nsys.exit('it differs')\n")
-        self.commit(self.found)
-        self.pass_gate()
-        self.refused("the export can't be made: it differs")
-
-    def test_refuses_a_second_build_with_other_bytes(self) -> None:
-        self.pass_gate()
-        other = self.checkout("other")
-        self.pass_gate(other)
+        self.assertIn("It was built twice, in two folders",
+                      (self.made(again=other.place, to="twice") / "PROOF").read_text())
         other.program.write_text("another\n")
         self.refused("has other bytes", again=other.place)
         self.refused("is another checkout than this one", again=self.found.place)
-        self.write(other, "README.md", "# Another\n")
+        self.write("README.md", "# Another\n", other)
         self.refused("isn't clean", again=other.place)
         self.commit(other)
         self.refused("has another commit", again=other.place)
 
-    def test_refuses_a_folder_inside_the_checkout(self) -> None:
+    def test_a_gate_that_never_ends_leaves_no_record(self) -> None:
         self.pass_gate()
-        self.refused("is inside the checkout", to="here/out/release")
-        self.refused("is inside the checkout", to="here")
+        with self.assertRaisesRegex(Failed, "isn't clean: README.md"):
+            self.gate_of(".ci/run", GATE.format(more="echo dirty > README.md", status=0))
+        self.found.git("checkout", "-q", "README.md")
+        self.refused("no run of the gate is recorded")
 
-    def test_refuses_a_version_twice_and_a_wrong_one(self) -> None:
+    def test_each_fault_is_refused(self) -> None:
+        for why, spoil in FAULTS.items():
+            with self.subTest(why=why):
+                self.setUp()
+                self.pass_gate()
+                spoil(self)
+                self.refused(why)
+
+    def test_a_version_that_is_none_or_is_there_and_a_folder_in_the_checkout(self) -> None:
         self.refused("a version is numbers", version="../x")
         self.pass_gate()
+        for to in ("here", "here/out/release"):
+            self.refused("is inside the checkout", to=to)
         self.made()
         with self.assertRaisesRegex(Failed, "is there already"):
             self.made()
 
 
-if __name__ == "__main__":
-    unittest.main()
+def other_files(test: Releases) -> None:
+    test.write("README.md", "# Another\n")
+    test.commit(test.found)
+
+
+def no_kit(test: Releases) -> None:
+    test.use_kit(None)
+    test.pass_gate()
+
+
+# Why a release is refused after this has come to a checkout whose gate has passed
+FAULTS: dict[str, Callable[[Releases], object]] = {
+    "isn't clean: README.md": lambda test: test.write("README.md", "# Another\n"),
+    "isn't clean: new.txt": lambda test: test.write("new.txt", "new\n"),
+    "no run of the gate is recorded": lambda test: test.found.record.unlink(),
+    "is no record of a gate": lambda test: test.found.record.write_text('{"status": 0}'),
+    "isn't the program that the gate built": lambda test: test.found.program.write_text("another\n"),
+    "there is no program": lambda test: test.found.program.unlink(),
+    "with the kit kit-1, and kit-2 is here": lambda test: test.use_kit("kit-2"),
+    "with the kit None": no_kit,
+    "has other files": other_files,
+    "ended with status 1: check: 2 of 2": lambda test: test.gate_of(".ci/run", GATE.format(more="", status=1)),
+    "the page can't be made: no compiler":
+        lambda test: test.gate_of("tools/playground/make_page", "import sys\nsys.exit('no compiler')\n"),
+    "the page isn't there": lambda test: test.gate_of("tools/playground/make_page", "pass\n"),
+    "the export can't be made: it differs":
+        lambda test: test.gate_of("tools/export", "import sys\nsys.exit('it differs')\n"),
+}

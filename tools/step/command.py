@@ -1,8 +1,7 @@
 """A script or a run of an image as one page to step through. The page draws what the program printed, and nothing else.
 
     tools/step/step SCRIPT > page.html
-    tools/step/step PROGRAM STEPS SEED > page.html
-"""
+    tools/step/step PROGRAM STEPS SEED > page.html"""
 
 from __future__ import annotations
 

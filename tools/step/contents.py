@@ -32,18 +32,13 @@ def frame_at(tree: Iterable[walk.Partition], name: int, address: int) -> int | N
     return next((row.word // walk.PAGE for row in rows if row.vpage == address // walk.PAGE), None)
 
 
-def saved_in(numbers: Sequence[int], is_call: bool) -> int:
-    """The vector of the block in which a line that switches saves what ran."""
-    return (numbers[4] if len(numbers) > 4 else 0) if is_call else SAVED_IN
-
-
 def touched(line: bytes, answer: str, ran: int, tree: Sequence[walk.Partition], words: dict[int, Words]) -> set[int]:
     """The frames to which a line can have written without a call: by a store, and by saving what ran."""
     name, *rest = line.decode().split(" ")
     numbers = [int(word, 0) for word in rest]
     if name in ("st", "sb") and answer == "done":
         return only(frame_at(tree, ran, numbers[1]))
-    vector = saved_in(numbers, name == "call")
+    vector = (numbers[4] if len(numbers) > 4 else 0) if name == "call" else SAVED_IN
     if not ran or not answer.startswith(("switch", "park")) or vector >= NOWHERE:
         return set()
     entries = frame_at(tree, ran, HANDLERS)

@@ -39,7 +39,7 @@ MANY = f"a page has at most {MOST_STATES} states"
 # A script
 
 MOST_WORDS = 8_000_000
-CHANGING = (b"0", b"1", b"3", b"4", b"5", b"6")     # the calls that change more of a tree than a mask
+CHANGING = (0, 1, 3, 4, 5, 6)    # the calls that change more of a tree than a mask
 
 
 def of_script(program: str, text: bytes, last: int | None = None) -> list[State]:
@@ -94,12 +94,8 @@ def script_states(asked: Asked, text: bytes, last: int | None) -> list[State]:
 def may_change(line: bytes, answer: str) -> bool:
     """Whether a line can have changed a page table: no access and no refused call ever does, nor a yield."""
     words = line.split(b" ")
-    is_call = words[0] == b"call" and number_of(words[2]) in CHANGING
+    is_call = words[0] == b"call" and int(words[2], 0) in CHANGING
     return words[0] == b"boot" or is_call and answer.startswith("reply 0")
-
-
-def number_of(word: bytes) -> bytes:
-    return b"%d" % int(word, 0)
 
 
 def last_state(states: list[State], place: int, told: str, remarks: list[str], answer: str) -> State:

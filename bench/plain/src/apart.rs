@@ -4,6 +4,7 @@ use crate::every::{guest_on, Bounds, Guest, Search};
 use crate::frames::{FIRST, HANDLER_PAGE, MMU, PAGE, ROOT};
 use crate::image::{load, put_head};
 use crate::machine::Machine;
+use crate::menu::Menu;
 use crate::output::{Input, Output};
 use crate::runs::steps;
 use crate::Stop;
@@ -13,7 +14,7 @@ pub fn apart(input: &mut Input, output: &mut Output, states: u32, count: u32, se
     steps(&mut loaded, count, seed, |_, _, _| Ok(()))?;
     let mut searches = Vec::new();
     for guest in guests(&loaded.world) {
-        let mut search = Search::new(loaded.clone(), vec![], Bounds { states, from: 0, depth: None })?;
+        let mut search = Search::new(loaded.clone(), Menu::default(), Bounds { states, from: 0, depth: None, begin: (0, 1) })?;
         search.guest = Some(guest);
         search.search()?;
         searches.push(search);

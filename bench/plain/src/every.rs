@@ -9,8 +9,9 @@ use crate::frames::{PARENT, ROOT};
 use crate::hash::Keys;
 use crate::image::{load, load_first, put_head, Loaded, Plan, Reader};
 use crate::machine::{Access, Context, Machine, Processor, PROCESSORS};
-use crate::menu::{menu, Deed};
+use crate::menu::{menu, Menu};
 use crate::output::{Input, Output};
+use crate::runs::steps;
 use crate::Stop;
 
 /// Turns after which the words are as in most states, so that these differ from them in few.
@@ -23,6 +24,8 @@ pub struct Bounds {
     pub states: u32,
     pub from: u32,
     pub depth: Option<u32>,
+    /// The steps of a run, and their seed, after which the search begins.
+    pub begin: (u32, u32),
 }
 
 /// A guest that is searched alone: the name of its top, and the processors on which it runs, whose turns are the choices.
@@ -80,19 +83,28 @@ impl States {
         &self.bytes[self.starts[state as usize] as usize..self.starts[state as usize + 1] as usize]
     }
 
-    /// Notes the state of a key, unless it was noted before or there are as many as there may be.
+    /// The state of a key, or a free place of the table.
     #[inline]
-    fn reach(&mut self, key: &[u8], parent: u32, choice: u16, most: u32) -> Result<Reached, Stop> {
-        let hash = self.keys.hash(key) >> 32;
+    fn find(&self, key: &[u8], hash: u64) -> Result<u32, usize> {
         let mask = self.places.len() - 1;
         let mut place = hash as usize & mask;
         while self.places[place] != 0 {
             let at = self.places[place];
             if at >> 32 == hash && self.key(at as u32 - 1) == key {
-                return Ok(Reached::Old);
+                return Ok(at as u32 - 1);
             }
             place = (place + 1) & mask;
         }
+        Err(place)
+    }
+
+    /// Notes the state of a key, unless it was noted before or there are as many as there may be.
+    #[inline]
+    fn reach(&mut self, key: &[u8], parent: u32, choice: u16, most: u32) -> Result<Reached, Stop> {
+        let hash = self.keys.hash(key) >> 32;
+        let Err(place) = self.find(key, hash) else {
+            return Ok(Reached::Old);
+        };
         if self.count() == most {
             return Ok(Reached::Full);
         }
@@ -147,7 +159,7 @@ impl States {
 pub struct Search {
     world: Machine<true>,
     plans: Vec<Plan>,
-    menu: Vec<Deed>,
+    menu: Menu,
     bounds: Bounds,
     pub guest: Option<Guest>,
     /// The words with which those of a state are compared.
@@ -167,7 +179,7 @@ pub struct Search {
 
 pub fn every(input: &mut Input, output: &mut Output, bounds: Bounds) -> Result<(), Stop> {
     let loaded = load(input, output, 0)?;
-    searched(loaded, vec![], output, bounds)
+    searched(loaded, Menu::default(), output, bounds)
 }
 
 pub fn against(input: &mut Input, output: &mut Output, bounds: Bounds) -> Result<(), Stop> {
@@ -176,12 +188,15 @@ pub fn against(input: &mut Input, output: &mut Output, bounds: Bounds) -> Result
     searched(loaded, menu, output, bounds)
 }
 
-fn searched(loaded: Loaded<true>, menu: Vec<Deed>, output: &mut Output, bounds: Bounds) -> Result<(), Stop> {
+fn searched(mut loaded: Loaded<true>, menu: Menu, output: &mut Output, bounds: Bounds) -> Result<(), Stop> {
     let head = loaded.head;
+    steps(&mut loaded, bounds.begin.0, bounds.begin.1, |_, _, _| Ok(()))?;
     let mut search = Search::new(loaded, menu, bounds)?;
     search.search()?;
+    let lost = search.lost(output)?;
     put_head(output, &head)?;
-    search.put(output)
+    search.put(output)?;
+    search.put_lost(output, &lost)
 }
 
 /// The guest on a processor: the child of the root that runs there, or is above what does.
@@ -203,7 +218,7 @@ fn asks(world: &mut Machine<true>, top: u32, cpu: usize) -> bool {
 
 impl Search {
     /// A search from the world that is loaded on, with a menu.
-    pub fn new(loaded: Loaded<true>, menu: Vec<Deed>, bounds: Bounds) -> Result<Self, Stop> {
+    pub fn new(loaded: Loaded<true>, menu: Menu, bounds: Bounds) -> Result<Self, Stop> {
         let Loaded { mut world, plans, .. } = loaded;
         let processors = world.processors;
         for turn in 0..LATER {
@@ -257,7 +272,7 @@ impl Search {
 
     fn is_hostile(&self, cpu: usize) -> bool {
         let part = self.processors[cpu].part;
-        part != 0 && self.menu.iter().any(|deed| deed.is_of(part))
+        part != 0 && self.menu.deeds.iter().any(|deed| deed.is_of(part))
     }
 
     pub fn search(&mut self) -> Result<(), Stop> {
@@ -272,7 +287,7 @@ impl Search {
 
     /// How many choices there are.
     fn choices(&self) -> usize {
-        let all = self.usual() + self.world.count * self.menu.len();
+        let all = self.usual() + self.world.count * self.menu.deeds.len();
         self.guest.as_ref().map_or(all, |guest| guest.cpus.len())
     }
 
@@ -330,27 +345,34 @@ impl Search {
         if self.guest.is_some() {
             return self.choose_alone(state, choice, depth);
         }
-        let (cpu, deed) = self.deed(choice).map_or((choice, None), |(cpu, deed)| (cpu, Some(&self.menu[deed])));
+        let Some(shown) = self.made(choice) else { return Ok(true) };
+        if let Some((cpu, line)) = shown {
+            self.note(Found { cpu, line, leaves: false, state, choice: choice as u16, depth });
+        }
+        self.reach(state, choice)
+    }
+
+    /// Makes a choice, and the key after it: what it shows. None if it changes nothing.
+    #[inline]
+    fn made(&mut self, choice: usize) -> Option<Option<(u32, Line)>> {
+        let (cpu, deed) = self.deed(choice).map_or((choice, None), |(cpu, deed)| (cpu, Some(&self.menu.deeds[deed])));
         if cpu >= self.world.count {
             if self.turns < self.bounds.from {
-                return Ok(true);
+                return None;
             }
             self.world.raise(self.plans[choice - self.world.count].line);
             self.put_key(self.turns);
-        } else {
-            let part = self.processors[cpu].part;
-            if deed.is_some_and(|deed| part == 0 || !deed.is_of(part)) {
-                return Ok(true);
-            }
-            let is_hostile = deed.is_some() || self.is_hostile(cpu);
-            let line = if is_hostile { self.world.hostile_turn(cpu, deed) } else { self.world.turn(cpu) };
-            let is_idle = part == 0 && self.world.processors[cpu].part == 0;
-            self.put_key(if is_idle { self.bounds.from } else { self.bounds.from.min(self.turns + 1) });
-            if let Some(line) = line {
-                self.note(Found { cpu: cpu as u32, line, leaves: false, state, choice: choice as u16, depth });
-            }
+            return Some(None);
         }
-        self.reach(state, choice)
+        let part = self.processors[cpu].part;
+        if deed.is_some_and(|deed| part == 0 || !deed.is_of(part)) {
+            return None;
+        }
+        let is_hostile = deed.is_some() || self.is_hostile(cpu);
+        let line = if is_hostile { self.world.hostile_turn(cpu, deed) } else { self.world.turn(cpu) };
+        let is_idle = part == 0 && self.world.processors[cpu].part == 0;
+        self.put_key(if is_idle { self.bounds.from } else { self.bounds.from.min(self.turns + 1) });
+        Some(line.map(|line| (cpu as u32, line)))
     }
 
     /// Makes a turn of a guest. One in which it leaves leads nowhere.
@@ -447,6 +469,11 @@ impl Search {
         output.text(":");
         let mut way = self.states.way(found.state);
         way.push(found.choice);
+        self.put_way(output, &way);
+        output.end_line()
+    }
+
+    fn put_way(&self, output: &mut Output, way: &[u16]) {
         for same in way.chunk_by(|one, next| one == next) {
             let choice = usize::from(same[0]);
             let choice = self.guest.as_ref().map_or(choice, |guest| guest.cpus[choice]);
@@ -459,7 +486,97 @@ impl Search {
                 output.text("x").number(same.len() as u32);
             }
         }
-        output.end_line()
+    }
+
+    /// Of each label of the menu, the first state from which it can't come by choices without deeds, if there is one. A
+    /// line that was never found can't from the first on.
+    fn lost(&mut self, output: &mut Output) -> Result<Vec<Option<u32>>, Stop> {
+        if self.menu.labels.is_empty() || !matches!(self.end.0, End::Closed) {
+            return Ok(vec![]);
+        }
+        let texts: Vec<Vec<u8>> = (self.found.iter())
+            .map(|found| {
+                output.written(|output| {
+                    put_line(output.number(found.cpu).text(" "), found.line);
+                })
+            })
+            .collect();
+        let lines: Vec<Option<(u32, Line)>> = (self.menu.labels.iter())
+            .map(|label| texts.iter().position(|text| text == label))
+            .map(|at| at.map(|at| (self.found[at].cpu, self.found[at].line)))
+            .collect();
+        let (count, width) = (self.states.count() as usize, self.usual());
+        let (mut edges, mut can) = (Vec::new(), vec![vec![false; count]; lines.len()]);
+        edges.try_reserve_exact(count * width)?;
+        for state in 0..count {
+            self.visit(state as u32);
+            for choice in 0..width {
+                self.world.processors = self.processors;
+                self.world.empty_caches();
+                let Some(shown) = self.made(choice) else {
+                    edges.push(state as u32);
+                    continue;
+                };
+                self.world.frames.undo();
+                edges.push(self.states.find(&self.key, self.states.keys.hash(&self.key) >> 32).unwrap_or(0));
+                for (line, can) in lines.iter().zip(&mut can) {
+                    can[state] |= shown.is_some() && *line == shown;
+                }
+            }
+        }
+        let back = Edges::of(count, width, &edges)?;
+        Ok(can.iter_mut().map(|can| back.first_lost(can)).collect())
+    }
+
+    /// What is said of each label.
+    fn put_lost(&self, output: &mut Output, lost: &[Option<u32>]) -> Result<(), Stop> {
+        for (at, label) in self.menu.labels.iter().enumerate() {
+            output.text("again ").bytes(label).text(match lost.get(at) {
+                None => ": unknown",
+                Some(None) => ": yes",
+                Some(Some(_)) => ": no",
+            });
+            if let Some(&Some(state)) = lost.get(at) {
+                self.put_way(output, &self.states.way(state));
+            }
+            output.end_line()?;
+        }
+        Ok(())
+    }
+}
+
+/// From which states choices lead to each.
+struct Edges {
+    starts: Vec<usize>,
+    sources: Vec<u32>,
+}
+
+impl Edges {
+    fn of(count: usize, width: usize, edges: &[u32]) -> Result<Self, Stop> {
+        let (mut starts, mut sources) = (vec![0; count + 2], Vec::new());
+        edges.iter().for_each(|&to| starts[to as usize + 2] += 1);
+        (2..count + 2).for_each(|at| starts[at] += starts[at - 1]);
+        sources.try_reserve_exact(edges.len())?;
+        sources.resize(edges.len(), 0);
+        for (edge, &to) in edges.iter().enumerate() {
+            sources[starts[to as usize + 1]] = (edge / width) as u32;
+            starts[to as usize + 1] += 1;
+        }
+        Ok(Edges { starts, sources })
+    }
+
+    /// The first state from which none of those that can is reached.
+    fn first_lost(&self, can: &mut [bool]) -> Option<u32> {
+        let mut left: Vec<usize> = (0..can.len()).filter(|&state| can[state]).collect();
+        while let Some(state) = left.pop() {
+            for &source in &self.sources[self.starts[state]..self.starts[state + 1]] {
+                if !can[source as usize] {
+                    can[source as usize] = true;
+                    left.push(source as usize);
+                }
+            }
+        }
+        can.iter().position(|&can| !can).map(|state| state as u32)
     }
 }
 

@@ -31,7 +31,8 @@ use output::{Input, Output};
 
 const USAGE: &str = "usage: pip script | run STEPS SEED | asm | dis | tree STEPS SEED | core STEPS SEED | \
     soak COUNT SEED | native N STEPS | slots N TURNS ROUNDS | slots N ROUNDS K:TURNS .. | \
-    audit FRAMES | every STATES [FROM [DEPTH]] | against STATES [FROM [DEPTH]] | apart STATES STEPS SEED";
+    audit FRAMES | every STATES [FROM [DEPTH]] [after STEPS SEED] | \
+    against STATES [FROM [DEPTH]] [after STEPS SEED] | apart STATES STEPS SEED";
 pub const MOST_STEPS: u32 = 10_000_000;
 const MOST_COUNT: u32 = 1_000_000;
 const MOST_STATES: u32 = 100_000_000;
@@ -139,7 +140,7 @@ fn done(command: Command, output: &mut Output) -> Result<(), Stop> {
 }
 
 fn command_of(words: &[String]) -> Option<Command> {
-    numbered(words).or_else(|| given_slots(words))
+    numbered(words).or_else(|| later(words)).or_else(|| given_slots(words))
 }
 
 /// The command of a name and numbers.
@@ -168,6 +169,22 @@ fn numbered(words: &[String]) -> Option<Command> {
         }
         _ => return None,
     })
+}
+
+/// A search that begins after steps of a run.
+fn later(words: &[String]) -> Option<Command> {
+    let [search @ .., after, steps, seed] = words else {
+        return None;
+    };
+    let begin = (texts::number(steps.as_bytes())?, texts::number(seed.as_bytes())?);
+    if after != "after" || begin.0 > MOST_STEPS || begin.1 == 0 {
+        return None;
+    }
+    match numbered(search)? {
+        Command::Every(bounds) => Some(Command::Every(every::Bounds { begin, ..bounds })),
+        Command::Against(bounds) => Some(Command::Against(every::Bounds { begin, ..bounds })),
+        _ => None,
+    }
 }
 
 /// The command `slots` with the slots of a round.
@@ -201,5 +218,5 @@ fn bounds_of(numbers: &[u32]) -> Option<every::Bounds> {
         _ => return None,
     };
     let is_good = (1..=MOST_STATES).contains(&states) && from <= MOST_STEPS;
-    is_good.then_some(every::Bounds { states, from, depth })
+    is_good.then_some(every::Bounds { states, from, depth, begin: (0, 1) })
 }

@@ -8,6 +8,7 @@ use crate::texts::{newline, number, Words, LONGEST};
 use crate::Stop;
 
 const MOST_DEEDS: usize = 1024;
+const MOST_LABELS: usize = 16;
 const MOST_LINES: u32 = 65536;
 
 /// What a partition of this name may do, or without one each but the root.
@@ -33,9 +34,9 @@ impl Deed {
     }
 }
 
-/// The deeds that the rest of the input has.
-pub fn menu(input: &mut Input, output: &mut Output) -> Result<Vec<Deed>, Stop> {
-    let mut menu = Menu { deeds: vec![], lines: 0 };
+/// The menu that the rest of the input is.
+pub fn menu(input: &mut Input, output: &mut Output) -> Result<Menu, Stop> {
+    let mut menu = Menu::default();
     loop {
         while let Some(end) = newline(input.held()) {
             menu.judge(&input.held()[..end])?;
@@ -49,14 +50,16 @@ pub fn menu(input: &mut Input, output: &mut Output) -> Result<Vec<Deed>, Stop> {
             if !input.held().is_empty() {
                 menu.judge(input.held())?;
             }
-            return Ok(menu.deeds);
+            return Ok(menu);
         }
     }
 }
 
-/// A menu on its way.
-struct Menu {
-    deeds: Vec<Deed>,
+/// What partitions may do, and the labels of which it is asked whether they can come again.
+#[derive(Default)]
+pub struct Menu {
+    pub deeds: Vec<Deed>,
+    pub labels: Vec<Vec<u8>>,
     lines: u32,
 }
 
@@ -71,6 +74,14 @@ impl Menu {
             return if self.lines > MOST_LINES { Err(bad("many")) } else { Ok(()) };
         }
         let (who, mut words) = Words::of(line);
+        if who == b"again" {
+            let label = line.get(6..).filter(|label| !label.is_empty()).ok_or_else(|| bad("what"))?;
+            if self.labels.len() == MOST_LABELS || self.lines > MOST_LINES {
+                return Err(bad("many"));
+            }
+            self.labels.push(label.to_vec());
+            return Ok(());
+        }
         let name = match who {
             b"each" => None,
             who => Some(number(who).ok_or_else(|| bad("who"))?),

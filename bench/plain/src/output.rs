@@ -66,6 +66,18 @@ impl Output {
         self
     }
 
+    pub fn bytes(&mut self, bytes: &[u8]) -> &mut Self {
+        self.held.extend_from_slice(bytes);
+        self
+    }
+
+    /// What is written so, taken back.
+    pub fn written(&mut self, write: impl FnOnce(&mut Self)) -> Vec<u8> {
+        let start = self.held.len();
+        write(self);
+        self.held.split_off(start)
+    }
+
     /// Eight hexadecimal digits.
     #[inline]
     pub fn digits(&mut self, word: u32) -> &mut Self {

@@ -8,8 +8,8 @@ use Rattle.pip_io.specs.Causes.{RoseByOne}
 use Rattle.pip_switch.specs.Standing.{State}
 use Rattle.pip_commands.specs.Answered.{InputsAreAnswered}
 use Rattle.pip_commands.specs.Dues.{due_of}
-use Rattle.pip_commands.specs.EndsBy.{Due, EndsBy, IsOfAnswer, IsWithin}
-use Rattle.pip_commands.specs.Streams.{Streams}
+use Rattle.pip_due.specs.EndsBy.{Due, EndsBy, IsOfAnswer, IsWithin}
+use Rattle.pip_due.specs.Streams.{Streams}
 
 -- a status is that of an answer, or one of four
 which : (code : ℕ) → IsOfAnswer code ⊎ (code ≡ 3) ⊎ (code ≡ 4) ⊎ (code ≡ 5) ⊎ (code ≡ 6)

@@ -3,8 +3,8 @@ use Rattle.std.specs.Prelude.{◌≡◌, ℕ, List, Option, Some}
 use Rattle.std.proofs.Common.{ap, subst, sym, ◌∙◌}
 use Rattle.pip_io.specs.Taken.{Taken}
 use Rattle.pip_commands.specs.Dues.{due_of}
-use Rattle.pip_commands.specs.Pacing.{IsPaced}
-use Rattle.pip_commands.specs.Streams.{Streams}
+use Rattle.pip_due.specs.Pacing.{IsPaced}
+use Rattle.pip_due.specs.Streams.{Streams}
 use Rattle.pip_commands.specs.Words.{command_of}
 use Rattle.pip_commands.specs.declared.words.Command.{Command}
 use Rattle.pip_commands.proofs.Bounds.{AreWithin, IsWithin, command_within}

@@ -7,10 +7,10 @@ use Rattle.pip_io.specs.Taken.{Keeps}
 use Rattle.pip_model.specs.Assembly.{LineFault, assembly}
 use Rattle.pip_switch.specs.Standing.{State}
 use Rattle.pip_commands.specs.Dues.{asm_answer, asm_due}
-use Rattle.pip_commands.specs.EndsBy.{EndsBy, IsAnswered, EndsWithResponse}
+use Rattle.pip_due.specs.EndsBy.{EndsBy, IsAnswered, EndsWithResponse}
 use Rattle.pip_commands.specs.Faults.{asm_line}
-use Rattle.pip_commands.specs.Streams.{IsCalm, Streams}
-use Rattle.pip_commands.proofs.Endings.{apart, by_limit, by_memory, by_plain, by_read_fault}
+use Rattle.pip_due.specs.Streams.{IsCalm, Streams}
+use Rattle.pip_due.proofs.Endings.{apart, by_limit, by_memory, by_plain, by_read_fault}
 
 module _ (code : ℕ) (p : Option State) (a b : Streams) (none : p ≡ None) (calm : IsCalm code a b)
     (settled : code ≢ 4 → b.written.held ≡ []) where

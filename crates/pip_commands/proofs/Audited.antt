@@ -22,9 +22,9 @@ use Rattle.pip_model.proofs.Frames.ControlLays.{root_stands}
 use Rattle.pip_switch.specs.Standing.{State}
 use Rattle.pip_commands.specs.Dues.{audit_answer, audit_due, found_answer, yes_text}
 use Rattle.pip_commands.specs.AuditTexts.{bad_line, no_line, yes_line}
-use Rattle.pip_commands.specs.EndsBy.{Due, EndsBy, IsAnswered, IsOfAnswer, EndsWithResponse, plainly}
-use Rattle.pip_commands.specs.Streams.{EndsLine, IsCalm, Streams}
-use Rattle.pip_commands.proofs.Endings.{by_memory, by_plain, by_read_fault}
+use Rattle.pip_due.specs.EndsBy.{Due, EndsBy, IsAnswered, IsOfAnswer, EndsWithResponse, plainly}
+use Rattle.pip_due.specs.Streams.{EndsLine, IsCalm, Streams}
+use Rattle.pip_due.proofs.Endings.{by_memory, by_plain, by_read_fault}
 
 -- ---- what is found
 

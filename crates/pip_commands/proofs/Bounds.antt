@@ -9,10 +9,13 @@ use Rattle.pip_model.specs.Grammar.{number_of}
 use Rattle.pip_slots.specs.Images.{in_turn, round_steps}
 use Rattle.pip_slots.specs.declared.time_slot.RoundSlot.{RoundSlot}
 use Rattle.pip_slots.proofs.Rounds.{turn_children}
-use Rattle.pip_commands.specs.Words.{apart_words, as_round, audit_words, command_of, cons_slot, counted_command}
+use Rattle.pip_commands.specs.Words.{after_command, apart_words, as_round, from_first, audit_words, command_of}
+use Rattle.pip_commands.specs.Words.{cons_slot, counted_command}
 use Rattle.pip_commands.specs.Words.{first_command, fixed_command, four_words, given_command, given_slots, is_depth}
+use Rattle.pip_commands.specs.Words.{later_command, start_words, starts_at}
 use Rattle.pip_commands.specs.Words.{native_words, numbered_slot, search_words, single_word, slots_in, slots_words}
 use Rattle.pip_commands.specs.Words.{three_words, turn_words, two_words}
+use Rattle.pip_searches.specs.declared.commands.every.searching.Start.{Start}
 use Rattle.pip_commands.specs.declared.words.Command.{Command}
 use Rattle.pip_commands.specs.declared.words.Command.TheVariants as C
 
@@ -25,8 +28,8 @@ IsWithin (C.Native n count) = (1 ≤ n) × (n ≤ 8)
 IsWithin (C.Slots n rounds round) =
     (1 ≤ n) × (n ≤ 8) × (rounds * round_steps round.items < 2 ^ 32) × AllByRecursion (λ x. x.child < n) round.items
 IsWithin (C.Audit frames) = (16 ≤ frames) × (frames ≤ 4096)
-IsWithin (C.Every states from depth) = 1 ≤ states
-IsWithin (C.Against states from depth) = 1 ≤ states
+IsWithin (C.Every states from depth start) = (1 ≤ states) × (1 ≤ start.seed)
+IsWithin (C.Against states from depth start) = (1 ≤ states) × (1 ≤ start.seed)
 IsWithin (C.Apart states count seed) = (1 ≤ states) × (1 ≤ seed)
 IsWithin _ = Unit {0}
 
@@ -75,8 +78,8 @@ native_within (Some n) (Some count) = go ((nat_le 1 n && nat_le n 8) && nat_le c
         (leb-true 1 n least, leb-true n 8 most)
     go false e = tt
 
-module _ (command : ℕ → ℕ → Option ℕ → Command) (some : (n from : ℕ) (depth : Option ℕ) → 1 ≤ n
-    → IsWithin (command n from depth)) where
+module _ (command : ℕ → ℕ → Option ℕ → Start → Command) (some : (n from : ℕ) (depth : Option ℕ) → 1 ≤ n
+    → IsWithin (command n from depth from_first)) where
   search_within : (a b depth : Option ℕ) → AreWithin (search_words command a b depth)
   search_within None b depth = tt
   search_within (Some n) None depth = tt
@@ -84,17 +87,17 @@ module _ (command : ℕ → ℕ → Option ℕ → Command) (some : (n from : �
       go ((nat_le 1 n && nat_le n 100000000) && nat_le from 10000000) refl
     where
       go : (b : Bool) → ((nat_le 1 n && nat_le n 100000000) && nat_le from 10000000) ≡ b
-          → AreWithin (cond b (Some (command n from depth)) None)
+          → AreWithin (cond b (Some (command n from depth from_first)) None)
       go true e =
           let (x, y) = both (nat_le 1 n && nat_le n 100000000) (nat_le from 10000000) e in
           some n from depth (leb-true 1 n (both (nat_le 1 n) (nat_le n 100000000) x).0)
       go false e = tt
 
 every_within : (a b depth : Option ℕ) → AreWithin (search_words C.Every a b depth)
-every_within = search_within C.Every (λ n from depth h. h)
+every_within = search_within C.Every (λ n from depth h. (h, omega arith))
 
 against_within : (a b depth : Option ℕ) → AreWithin (search_words C.Against a b depth)
-against_within = search_within C.Against (λ n from depth h. h)
+against_within = search_within C.Against (λ n from depth h. (h, omega arith))
 
 three_within : (word : List ℕ) (a b : Option ℕ) → AreWithin (three_words word a b)
 three_within word a b =
@@ -197,6 +200,49 @@ fixed_within (word ∷ first ∷ second ∷ third ∷ []) =
     four_within word (number_of first) (number_of second) (number_of third)
 fixed_within (word ∷ first ∷ second ∷ third ∷ more ∷ words) = tt
 
+-- ---- a search after steps
+
+started_within : (c : Command) (start : Start) → IsWithin c → 1 ≤ start.seed → AreWithin (starts_at c start)
+started_within (C.Every states from depth other) start h some = (h.0, some)
+started_within (C.Against states from depth other) start h some = (h.0, some)
+started_within _ start h some = tt
+
+start_within : (search : Option Command) (a b : Option ℕ) → AreWithin search → AreWithin (start_words search a b)
+start_within search None b h = tt
+start_within search (Some count) None h = tt
+start_within None (Some count) (Some seed) h = first_or (nat_le count 10000000 && nat_le 1 seed) None None tt tt
+start_within (Some c) (Some count) (Some seed) h = go (nat_le count 10000000 && nat_le 1 seed) refl
+  where
+    start : Start
+    start = record { count = count; seed = seed }
+
+    go : (b : Bool) → (nat_le count 10000000 && nat_le 1 seed) ≡ b → AreWithin (cond b (starts_at c start) None)
+    go true e =
+        started_within c start h (leb-true 1 seed (both (nat_le count 10000000) (nat_le 1 seed) e).1)
+    go false e = tt
+
+after_within : (search : Option Command) (word : List ℕ) (a b : Option ℕ) → AreWithin search
+    → AreWithin (after_command search word a b)
+after_within search word a b h =
+    first_or (bytes_eq word (codes "after")) (start_words search a b) None (start_within search a b h) tt
+
+later_within : (words : List (List ℕ)) → AreWithin (later_command words)
+later_within [] = tt
+later_within (a ∷ []) = tt
+later_within (a ∷ b ∷ []) = tt
+later_within (a ∷ b ∷ c ∷ []) = tt
+later_within (a ∷ b ∷ c ∷ d ∷ []) = tt
+later_within (word ∷ states ∷ after ∷ count ∷ seed ∷ []) =
+    after_within (two_words word (number_of states)) after (number_of count) (number_of seed)
+    (two_within word (number_of states))
+later_within (word ∷ states ∷ from ∷ after ∷ count ∷ seed ∷ []) =
+    after_within (three_words word (number_of states) (number_of from)) after (number_of count) (number_of seed)
+    (three_within word (number_of states) (number_of from))
+later_within (word ∷ states ∷ from ∷ depth ∷ after ∷ count ∷ seed ∷ []) =
+    after_within (four_words word (number_of states) (number_of from) (number_of depth)) after (number_of count)
+    (number_of seed) (four_within word (number_of states) (number_of from) (number_of depth))
+later_within (a ∷ b ∷ c ∷ d ∷ e ∷ f ∷ g ∷ h ∷ words) = tt
+
 -- ---- the slots of a round
 
 abbrev IsOf : ℕ → Option RoundSlot → Type 0
@@ -251,4 +297,5 @@ some_within (Some a) b h i = h
 
 pub command_within : (words : List (List ℕ)) → AreWithin (command_of words)
 command_within words =
-    some_within (fixed_command words) (given_command words) (fixed_within words) (given_within words)
+    some_within (fixed_command words) _ (fixed_within words)
+    (some_within (later_command words) (given_command words) (later_within words) (given_within words))

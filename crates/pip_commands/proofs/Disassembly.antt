@@ -18,12 +18,12 @@ use Rattle.pip_model.specs.DisText.{dis_text}
 use Rattle.pip_model.specs.Images.{Image as Parsed, Part, image, image_parts}
 use Rattle.pip_model.specs.declared.image.ImageError.{ImageError}
 use Rattle.pip_switch.specs.Standing.{State}
-use Rattle.pip_commands.specs.EndsBy.{Response, EndsBy, IsAnswered}
-use Rattle.pip_commands.specs.Faults.{image_line}
+use Rattle.pip_due.specs.EndsBy.{Response, EndsBy, IsAnswered}
+use Rattle.pip_due.specs.Faults.{image_line}
 use Rattle.pip_commands.specs.Dues.{dis_answer, dis_due}
-use Rattle.pip_commands.specs.Streams.{EndsLine, IsCalm, Streams}
-use Rattle.pip_commands.proofs.Endings.{apart, by_answer, by_read_fault, by_write_fault, no_world}
-use Rattle.pip_commands.proofs.ImageFaults.{by_line, faulty, is_faulty, no_image}
+use Rattle.pip_due.specs.Streams.{EndsLine, IsCalm, Streams}
+use Rattle.pip_due.proofs.Endings.{apart, by_answer, by_read_fault, by_write_fault, no_world}
+use Rattle.pip_due.proofs.ImageFaults.{by_line, faulty, is_faulty, no_image}
 
 -- the text of the parts is that of the bytes
 fault_text : (parts : List Part) (bytes : List ℕ) (left : Option (List ℕ)) (e : ImageError)

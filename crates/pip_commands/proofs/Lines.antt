@@ -20,7 +20,7 @@ use Rattle.pip_model.specs.declared.script.ScriptLine.TheVariants as L
 use Rattle.pip_model.proofs.Trees.Boot.{zeros_small}
 use Rattle.pip_script.specs.Replies.{RepliesBy, RepliesIn, RepliesTo}
 use Rattle.pip_switch.specs.Standing.{StandsAs, State}
-use Rattle.pip_commands.specs.Machines.{StandsIfAny}
+use Rattle.pip_due.specs.Machines.{StandsIfAny}
 use Rattle.pip_commands.specs.Runs.{IsCutShort, LeadsBy, OfSome, Runs, RunsIn, Stopped}
 use Rattle.pip_commands.specs.declared.commands.script.line.ScriptLineError.{ScriptLineError}
 use Rattle.pip_commands.specs.declared.commands.script.line.ScriptLineError.TheVariants.{Bad, Write, Memory as NoMemory}
@@ -62,10 +62,6 @@ first_memory line before n c is = (refl, record { frames = n; cpus = c; meaning 
 -- zeros in the root's pages are words
 pub is_booted : (m : Memory) (n : ℕ) → 16 ≤ n → n ≤ 4096 → LaysOut (boot_tree n) m → IsBooted n (λ g. zero_words) m
 is_booted m n low high laid = record { least = low; most = high; small = zeros_small; laid = laid }
-
--- all frames hold zeros, however many there are
-pub are_zeros : (m : Memory) (n : ℕ) → m ≡ replicate n (zeros 1024) → m ≡ replicate (length m) (zeros 1024)
-are_zeros m n is = is ∙ ap (λ k. replicate k (zeros 1024)) (sym (ap length is ∙ length-replicate n (zeros 1024)))
 
 -- frames that held zeros were made those of the boot tree
 pub boots_zeros : (old m : Memory) (n : ℕ) → old ≡ replicate n (zeros 1024) → LaysOut (boot_tree (length old)) m

@@ -11,18 +11,18 @@ use Rattle.pip_model.specs.declared.image.ImageError.{ImageError}
 use Rattle.pip_switch.specs.Standing.{StandsAs, State}
 use Rattle.pip_watch.specs.Watching.{short_line}
 use Rattle.pip_commands.specs.Children.{children_text, children_world}
-use Rattle.pip_commands.specs.EndsBy.{Response, Due, EndsBy, IsAnswered, plainly}
-use Rattle.pip_commands.specs.Faults.{image_line}
+use Rattle.pip_due.specs.EndsBy.{Response, Due, EndsBy, IsAnswered, plainly}
+use Rattle.pip_due.specs.Faults.{image_line}
 use Rattle.pip_commands.specs.Dues.{IsChildrenAnswer, IsRoomy, IsShort, IsUnshort, children_due}
-use Rattle.pip_commands.specs.Machines.{StandsIfAny}
+use Rattle.pip_due.specs.Machines.{StandsIfAny}
 use Rattle.pip_commands.specs.NativeLoading.{LoadsNative, RefusesUnshort, StoppedNative}
-use Rattle.pip_commands.specs.Streams.{EndsLine, IsCalm, Streams}
+use Rattle.pip_due.specs.Streams.{EndsLine, IsCalm, Streams}
 use Rattle.pip_commands.specs.declared.commands.children.loading.ChildrenLoadError.{ChildrenLoadError}
 use Rattle.pip_commands.specs.declared.commands.children.loading.ChildrenLoadError.TheVariants as T
 use Rattle.pip_commands.specs.declared.commands.children.scheduling.Scheduling.{Scheduling}
-use Rattle.pip_commands.proofs.Endings.{apart, by_answer, by_memory, by_plain, by_write_fault, part_plain}
-use Rattle.pip_commands.proofs.ImageFaults.{is_faulty, no_image}
-use Rattle.pip_commands.proofs.Refused.{by_refusal}
+use Rattle.pip_due.proofs.Endings.{apart, by_answer, by_memory, by_plain, by_write_fault, part_plain}
+use Rattle.pip_due.proofs.ImageFaults.{is_faulty, no_image}
+use Rattle.pip_due.proofs.Refused.{by_refusal}
 
 module _ (s : Scheduling) (n code : ℕ) (p : Option State) (a c : Streams)
     (settled : code ≢ 4 → c.written.held ≡ []) where

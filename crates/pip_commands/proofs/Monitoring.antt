@@ -17,7 +17,7 @@ use Rattle.pip_watch.specs.Rooms.{HasRoomForChildren}
 use Rattle.pip_watch.specs.Watching.{addresses, built_from, is_root, ready_world, with_handlers}
 use Rattle.pip_watch.proofs.Beginning.{room_first}
 use Rattle.pip_watch.proofs.Entries.{handlers_as, room_kept}
-use Rattle.pip_commands.specs.Loading.{Begins}
+use Rattle.pip_due.specs.Loading.{Begins}
 use Rattle.pip_commands.specs.Children.{children_steps, children_text, children_world, image_acts}
 use Rattle.pip_commands.specs.Dues.{IsRoomy}
 use Rattle.pip_commands.specs.NativeLoading.{ShowsChildren, ShowsChildrenOut}

@@ -18,7 +18,8 @@ use Rattle.pip_model.specs.Worlds.{World}
 use Rattle.pip_model.proofs.OnLists.Acts.{text-append}
 use Rattle.pip_switch.specs.Standing.{StandsAs, State}
 use Rattle.pip_switch.proofs.Running.{root_held}
-use Rattle.pip_commands.specs.Loading.{Begins, ShowsOut, ShowsReport}
+use Rattle.pip_commands.specs.Shown.{ShowsOut, ShowsReport}
+use Rattle.pip_due.specs.Loading.{Begins}
 use Rattle.pip_commands.specs.declared.commands.run.report.Report.{Report}
 use Rattle.pip_commands.specs.declared.commands.run.report.Report.TheVariants as R
 

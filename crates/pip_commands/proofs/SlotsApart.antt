@@ -19,14 +19,14 @@ use Rattle.pip_slots.proofs.Texts.{texts_count, texts_joined}
 use Rattle.pip_watch.specs.Watching.{addresses, built_from, ready_world, root_runs}
 use Rattle.pip_commands.specs.Children.{children_text}
 use Rattle.pip_commands.specs.Dues.{IsChildrenAnswer, IsRoomy, children_due}
-use Rattle.pip_commands.specs.EndsBy.{Response}
-use Rattle.pip_commands.specs.EveryLaw.{IsLineAt}
-use Rattle.pip_commands.specs.RunLaw.{AreLinesOf}
+use Rattle.pip_due.specs.EndsBy.{Response}
+use Rattle.pip_searches.specs.EveryLaw.{IsLineAt}
+use Rattle.pip_searches.specs.RunLaw.{AreLinesOf}
 use Rattle.pip_commands.specs.SlotsLaw.{AreSlotTexts, ChildrenAreSeparate}
 use Rattle.pip_commands.specs.declared.commands.children.scheduling.Scheduling.{Scheduling}
 use Rattle.pip_commands.specs.declared.commands.children.scheduling.Scheduling.TheVariants as S
-use Rattle.pip_commands.proofs.Accepted.{IsAccepted, accepted}
-use Rattle.pip_commands.proofs.EveryLines.{call_at, lines_are_of_runs, moved_at}
+use Rattle.pip_due.proofs.Accepted.{IsAccepted, accepted}
+use Rattle.pip_searches.proofs.EveryLines.{call_at, lines_are_of_runs, moved_at}
 
 some_same : {A : Type 0} {x y : A} → Some x ≡ Some y → x ≡ y
 some_same e = cc

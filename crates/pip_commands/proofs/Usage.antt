@@ -5,10 +5,10 @@ use Rattle.pip_io.specs.Taken.{Taken}
 use Rattle.pip_model.specs.Text.{line_text}
 use Rattle.pip_switch.specs.Standing.{State}
 use Rattle.pip_commands.specs.Dues.{usage_due}
-use Rattle.pip_commands.specs.EndsBy.{EndsBy}
-use Rattle.pip_commands.specs.Streams.{EndsLine, beside}
+use Rattle.pip_due.specs.EndsBy.{EndsBy}
+use Rattle.pip_due.specs.Streams.{EndsLine, beside}
 use Rattle.pip_commands.specs.Words.{usage}
-use Rattle.pip_commands.proofs.Endings.{by_plain}
+use Rattle.pip_due.proofs.Endings.{by_plain}
 
 -- the line was written, or a part of it
 pub usage_ends : (code : ℕ) (p : Option State) (left : Option (List ℕ)) (reads : ℕ) (before after : Taken)

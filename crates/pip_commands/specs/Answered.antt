@@ -4,8 +4,8 @@ use Rattle.std.specs.Option.{IsSomeAnd}
 use Rattle.pip_io.specs.Causes.{RoseByOne}
 use Rattle.pip_switch.specs.Standing.{State}
 use Rattle.pip_commands.specs.Dues.{due_of}
-use Rattle.pip_commands.specs.EndsBy.{EndsBy, IsOfAnswer, IsWithin}
-use Rattle.pip_commands.specs.Streams.{Streams}
+use Rattle.pip_due.specs.EndsBy.{EndsBy, IsOfAnswer, IsWithin}
+use Rattle.pip_due.specs.Streams.{Streams}
 use Rattle.pip_commands.specs.declared.words.Command.{Command}
 
 -- an input that is told and within the limit is answered, or there was no memory, where no read and no write failed

@@ -1,28 +1,19 @@
 -- What is due of each command, and of words of no form.
-use Rattle.std.specs.Prelude.{◌≡◌, ℕ, ◌^◌, ◌+◌, ◌≤◌, ◌<◌, ◌==◌, ◌⊎◌, true, false, List, [], ◌∷◌, ◌++◌, length, map}
-use Rattle.std.specs.Prelude.{◌-◌, Option, Some, None, Result, Ok, Err, option_map, unwrap_or}
+use Rattle.std.specs.Prelude.{◌≡◌, ℕ, ◌^◌, ◌+◌, ◌≤◌, ◌<◌, ◌==◌, ◌⊎◌, false, List, [], ◌∷◌, ◌++◌, length}
+use Rattle.std.specs.Prelude.{Option, Some, None, Result, Ok, Err, option_map}
 use Rattle.std.specs.Io.KnownBytes.{IsAtEnd}
 use Rattle.arrayvec.specs.ArrayVec.{ArrayVec}
-use Rattle.pip_apart.specs.Found.{IsKnownAt, Known}
-use Rattle.pip_base.specs.Memory.{Memory}
-use Rattle.pip_base.specs.declared.types.Plan.{Plan}
 use Rattle.pip_core_text.specs.Core.{BadAt, CoreText, Whole, core_text}
 use Rattle.pip_core_text.specs.CoreRead.{AreWholeLines, BeginsLines}
 use Rattle.pip_dis.specs.Writing.{parts_text}
-use Rattle.pip_image.specs.Reading.{EndsAtMost, IsFaultWithin, parts_then}
+use Rattle.pip_image.specs.Reading.{EndsAtMost, parts_then}
 use Rattle.pip_input.specs.Lines.{HasNoNewline}
-use Rattle.pip_every.specs.Keys.{model_of}
-use Rattle.pip_every.specs.Menus.{Menu, menu_model}
-use Rattle.pip_every.specs.Moments.{Scope, first_moment}
-use Rattle.pip_every.specs.declared.menus.May.{May}
 use Rattle.pip_model.specs.Assembly.{LineFault, assembly}
 use Rattle.pip_model.specs.Audit.{Finding, Lays, Unread, Unsound, Differs, finding}
-use Rattle.pip_model.specs.Booted.{IsBooted}
 use Rattle.pip_model.specs.DisText.{dis_text}
 use Rattle.pip_model.specs.Dump.{tree_text}
 use Rattle.pip_model.specs.Grammar.{line_meaning}
-use Rattle.pip_model.specs.Images.{Fields, Head, Image, Line, Part, PartsRead, image, image_parts, image_word}
-use Rattle.pip_model.specs.Images.{page_parts}
+use Rattle.pip_model.specs.Images.{Image, Part, PartsRead, image, image_parts}
 use Rattle.pip_model.specs.Run.{run_text, run_world}
 use Rattle.pip_model.specs.RunTexts.{core_run_text, stepped_world, tree_run_text}
 use Rattle.pip_model.specs.Soak.{soak_text, soak_world}
@@ -31,38 +22,22 @@ use Rattle.pip_model.specs.Tree.{Tree}
 use Rattle.pip_model.specs.Worlds.{World}
 use Rattle.pip_model.specs.declared.image.ImageError.{ImageError}
 use Rattle.pip_model.specs.declared.script.ScriptLine.TheVariants.{Boot}
-use Rattle.pip_search.specs.Summary.{IsTold, Witness}
-use Rattle.pip_search.specs.declared.searching.Extent.{Extent}
 use Rattle.pip_slots.specs.declared.time_slot.RoundSlot.{RoundSlot}
 use Rattle.pip_watch.specs.Watching.{pages_taken, short_line}
-use Rattle.pip_commands.specs.ApartText.{apart_text}
 use Rattle.pip_commands.specs.AuditTexts.{bad_line, differs_line, unread_line, unsound_line, yes_line}
 use Rattle.pip_commands.specs.Children.{children_text, children_world}
-use Rattle.pip_commands.specs.EndsBy.{Due, Response, plainly}
-use Rattle.pip_commands.specs.EveryText.{every_text, lines_planned}
-use Rattle.pip_commands.specs.Faults.{asm_line, image_line}
-use Rattle.pip_commands.specs.MenuReading.{BeginsMenu}
-use Rattle.pip_commands.specs.MenuText.{bad_menu_line, menu_of}
+use Rattle.pip_due.specs.EndsBy.{Due, Response, plainly}
+use Rattle.pip_commands.specs.Faults.{asm_line}
+use Rattle.pip_due.specs.Faults.{image_line}
 use Rattle.pip_commands.specs.Words.{usage}
-use Rattle.pip_commands.specs.declared.commands.against.menu.MenuFault.{MenuFault}
 use Rattle.pip_commands.specs.declared.commands.children.scheduling.Scheduling.{Scheduling}
 use Rattle.pip_commands.specs.declared.commands.children.scheduling.Scheduling.TheVariants as V
 use Rattle.pip_commands.specs.declared.commands.run.report.Report.{Report}
 use Rattle.pip_commands.specs.declared.commands.run.report.Report.TheVariants as R
 use Rattle.pip_commands.specs.declared.words.Command.{Command}
 use Rattle.pip_commands.specs.declared.words.Command.TheVariants as C
-
--- one answer to any input, of which nothing is read; memory is asked for at the start, if it is at all
-abbrev pub without_reading : Response → Type 0 → Due
-without_reading v memory = record {
-  answer = λ input w. w ≡ v;
-  enough = λ bytes. Unit {0};
-  so_far = λ bytes text. ⊥;
-  midway = λ bytes front last. ⊥;
-  asks = λ bytes left. memory;
-  limit = None;
-  unread = λ status. true;
-}
+use Rattle.pip_due.specs.ImageDues.{IsFaulty, IsHeaderText, image_due, without_reading}
+use Rattle.pip_searches.specs.SearchDues.{against_due, apart_due, every_due}
 
 -- words of no form: the usage line
 abbrev pub usage_due : Due
@@ -170,33 +145,6 @@ asm_due = record {
   unread = λ status. false;
 }
 
--- these bytes are the fields and all plans of an image: whatever follows them is told as its pages
-pub record IsHeaderText (bytes : List ℕ) : Type 0 where
-  pub fields : Fields
-  pub plans : List Plan
-  pub all : fields.plans ≡ length plans
-  pub at : ℕ
-  pub told : (rest : List ℕ) → image_parts (bytes ++ rest)
-      ≡ parts_then (Head fields ∷ map Line plans) (page_parts fields.frames [] at fields.pages rest)
-
--- these bytes have a fault, whatever follows them
-pub record IsFaulty (bytes : List ℕ) : Type 0 where
-  pub fault : ImageError
-  pub first : (image_parts bytes).fault ≡ Some fault
-  pub fixed : (rest : List ℕ) → image_parts (bytes ++ rest) ≡ image_parts bytes
-
--- a command on an image stops at the first fault, and writes nothing before
-abbrev pub image_due : (List ℕ → Response → Type 0) → (List ℕ → Option (List ℕ) → Type 0) → Due
-image_due answer asks = record {
-  answer = answer;
-  enough = IsFaulty;
-  so_far = λ bytes text. EndsAtMost (image_parts bytes).fault × (text ≡ []);
-  midway = λ bytes front last. ⊥;
-  asks = asks;
-  limit = None;
-  unread = λ status. false;
-}
-
 -- what a command writes of an image after that many steps by the schedule of a seed
 abbrev pub shown : Report → Image → ℕ → ℕ → List ℕ
 shown R.Trace = run_text
@@ -285,130 +233,6 @@ native_due n count = children_due (V.Monitor count) n
 abbrev pub slots_due : ℕ → ℕ → ArrayVec RoundSlot → Due
 slots_due n rounds round = children_due (V.Slots round rounds) n
 
--- what is searched of an image: no line comes before that many turns
-abbrev pub image_scope : Image → ℕ → Scope
-image_scope i from = record { cpus = i.cpus; lines = lines_planned i.plans; from = from }
-
--- how many choices are made at most. Without a bound it is a number that no search comes to
-abbrev pub most_choices : Option ℕ → ℕ
-most_choices depth = unwrap_or depth (2 ^ 32 - 1)
-
--- the text of all that can happen from the first moment of an image on, over whatever frames lay out its boot tree
-pub record IsSearched (states from : ℕ) (depth : Option ℕ) (i : Image) (v : Response) : Type 0 where
-  pub first : Memory
-  pub booted : IsBooted i.frames (image_word i.frames i.pages) first
-  pub found : List Witness
-  pub count : ℕ
-  pub verdict : Extent
-  pub told : IsTold (model_of first (image_scope i from)) (first_moment (image_word i.frames i.pages) i.frames i.cpus)
-      (most_choices depth) states found count verdict
-  pub text : v ≡ plainly 0 (every_text i found count verdict) None
-
--- that text, or the line that names the first fault
-abbrev pub IsEveryAnswer : ℕ → ℕ → Option ℕ → Result Image ImageError → Response → Type 0
-IsEveryAnswer states from depth (Ok i) v = IsSearched states from depth i v
-IsEveryAnswer states from depth (Err e) v = option_map (λ line. plainly 2 line None) (image_line e) ≡ Some v
-
--- these bytes are an image, and the input ends with them
-abbrev pub IsWholeImage : List ℕ → Option (List ℕ) → Type 0
-IsWholeImage bytes left = IsAtEnd left × ((i : Image) × (image bytes ≡ Ok i))
-
--- `every` writes nothing before the search has ended. It asks for memory after the header, and again when the whole
--- image was read
-abbrev pub every_due : ℕ → ℕ → Option ℕ → Due
-every_due states from depth = image_due (λ input v. IsEveryAnswer states from depth (image input) v)
-    (λ bytes left. IsHeaderText bytes ⊎ IsWholeImage bytes left)
-
--- what is known of an image's guests after this many steps by the schedule of a seed, and its text. Each guest was
--- searched alone, with room for so many states
-pub record IsFoundApart (states count seed : ℕ) (i : Image) (v : Response) : Type 0 where
-  pub known : Known
-  pub found : IsKnownAt (stepped_world i count seed) (most_choices None) states known
-  pub text : v ≡ plainly 0 (apart_text i known) None
-
--- this answer to an image, or the line that names the first fault
-abbrev pub IsImageAnswer : (Image → Response → Type 0) → Result Image ImageError → Response → Type 0
-IsImageAnswer P (Ok i) v = P i v
-IsImageAnswer P (Err e) v = option_map (λ line. plainly 2 line None) (image_line e) ≡ Some v
-
--- what searches an image writes nothing before all was found. It asks for memory after the header, and again when the
--- whole image was read
-abbrev pub searching_due : (Image → Response → Type 0) → Due
-searching_due P = image_due (λ input v. IsImageAnswer P (image input) v)
-    (λ bytes left. IsHeaderText bytes ⊎ IsWholeImage bytes left)
-
--- `apart`: each guest is searched alone after these steps
-abbrev pub apart_due : ℕ → ℕ → ℕ → Due
-apart_due states count seed = searching_due (IsFoundApart states count seed)
-
--- ---- `against`: an image, and after it a menu
-
--- an image is searched with the menu that these deeds are
-abbrev pub image_menu : Image → ℕ → List May → Menu
-image_menu i from may = record { scope = image_scope i from; may = may }
-
--- the text of all that can happen from the first moment of an image on, whatever partitions do of a menu
-pub record IsSearchedAgainst (may : List May) (states from : ℕ) (depth : Option ℕ) (i : Image) (v : Response) : Type 0
-  where
-    pub first : Memory
-    pub booted : IsBooted i.frames (image_word i.frames i.pages) first
-    pub found : List Witness
-    pub count : ℕ
-    pub verdict : Extent
-    pub told : IsTold (menu_model first (image_menu i from may))
-        (first_moment (image_word i.frames i.pages) i.frames i.cpus) (most_choices depth) states found count verdict
-    pub text : v ≡ plainly 0 (every_text i found count verdict) None
-
--- these bytes are an image and what comes after it
-pub record BeginsImage (bytes : List ℕ) : Type 0 where
-  pub front : List ℕ
-  pub after : List ℕ
-  pub all : bytes ≡ front ++ after
-  pub parsed : Image
-  pub good : image front ≡ Ok parsed
-
--- that text, or the line that names the first bad line of the menu
-abbrev pub IsMenuAnswer : ℕ → ℕ → Option ℕ → Image → Result (List May) MenuFault → Response → Type 0
-IsMenuAnswer states from depth i (Ok may) v = IsSearchedAgainst may states from depth i v
-IsMenuAnswer states from depth i (Err fault) v = v ≡ plainly 2 (bad_menu_line fault) None
-
--- the image itself has a fault, which the line names
-pub record IsFaultAnswer (bytes : List ℕ) (v : Response) : Type 0 where
-  pub fault : ImageError
-  pub first : image bytes ≡ Err fault
-  pub inside : IsFaultWithin fault
-  pub named : option_map (λ line. plainly 2 line None) (image_line fault) ≡ Some v
-
--- an image is followed by a menu, or has a fault
-abbrev pub IsAgainstAnswer : ℕ → ℕ → Option ℕ → List ℕ → Response → Type 0
-IsAgainstAnswer states from depth input v = IsFaultAnswer input v
-    ⊎ ((b : BeginsImage input) × IsMenuAnswer states from depth b.parsed (menu_of b.after) v)
-
--- after an image comes a bad line, whatever follows these bytes
-pub record HasBadMenu (bytes : List ℕ) : Type 0 where
-  pub begins : BeginsImage bytes
-  pub fault : MenuFault
-  pub fixed : (rest : List ℕ) → menu_of (begins.after ++ rest) ≡ Err fault
-
--- these bytes are an image and the whole menu, and the input ends with them
-abbrev pub IsWholeMenu : List ℕ → Option (List ℕ) → Type 0
-IsWholeMenu bytes left =
-    IsAtEnd left × ((b : BeginsImage bytes) × ((may : List May) × (menu_of b.after ≡ Ok may)))
-
--- `against` stops at the first fault of the image or bad line of the menu, and writes nothing before the search has
--- ended. It asks for memory after the header, and again when all was read
-abbrev pub against_due : ℕ → ℕ → Option ℕ → Due
-against_due states from depth = record {
-  answer = IsAgainstAnswer states from depth;
-  enough = λ bytes. ((f : IsFaulty bytes) × IsFaultWithin f.fault) ⊎ HasBadMenu bytes;
-  so_far = λ bytes text.
-      (EndsAtMost (image_parts bytes).fault ⊎ ((b : BeginsImage bytes) × BeginsMenu b.after)) × (text ≡ []);
-  midway = λ bytes front last. ⊥;
-  asks = λ bytes left. IsHeaderText bytes ⊎ IsWholeMenu bytes left;
-  limit = None;
-  unread = λ status. false;
-}
-
 -- the text of a tree, and `yes`
 abbrev pub yes_text : Tree → List ℕ
 yes_text t = tree_text t ++ yes_line
@@ -450,6 +274,6 @@ due_of (Some (C.Soak count seed)) = soak_due count seed
 due_of (Some (C.Native n count)) = native_due n count
 due_of (Some (C.Slots n rounds round)) = slots_due n rounds round
 due_of (Some (C.Audit frames)) = audit_due frames
-due_of (Some (C.Every states from depth)) = every_due states from depth
-due_of (Some (C.Against states from depth)) = against_due states from depth
+due_of (Some (C.Every states from depth start)) = every_due states from depth start
+due_of (Some (C.Against states from depth start)) = against_due states from depth start
 due_of (Some (C.Apart states count seed)) = apart_due states count seed

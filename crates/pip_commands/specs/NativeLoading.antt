@@ -9,8 +9,9 @@ use Rattle.pip_model.specs.declared.image.ImageError.{ImageError}
 use Rattle.pip_switch.specs.Standing.{StandsAs, State}
 use Rattle.pip_watch.specs.Watching.{pages_taken}
 use Rattle.pip_commands.specs.Children.{children_text, children_world}
-use Rattle.pip_commands.specs.Loading.{LoadsImage}
-use Rattle.pip_commands.specs.Dues.{IsHeaderText, IsRoomy, IsUnshort}
+use Rattle.pip_due.specs.Loading.{LoadsImage}
+use Rattle.pip_commands.specs.Dues.{IsRoomy, IsUnshort}
+use Rattle.pip_due.specs.ImageDues.{IsHeaderText}
 use Rattle.pip_commands.specs.declared.commands.children.loading.ChildrenLoadError.{ChildrenLoadError}
 use Rattle.pip_commands.specs.declared.commands.children.loading.ChildrenLoadError.TheVariants as T
 use Rattle.pip_commands.specs.declared.commands.children.scheduling.Scheduling.{Scheduling}

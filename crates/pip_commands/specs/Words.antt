@@ -7,6 +7,7 @@ use Rattle.pip_model.specs.Grammar.{number_of}
 use Rattle.arrayvec.specs.ArrayVec.{ArrayVec}
 use Rattle.pip_slots.specs.Images.{in_turn, round_steps}
 use Rattle.pip_slots.specs.declared.time_slot.RoundSlot.{RoundSlot}
+use Rattle.pip_searches.specs.declared.commands.every.searching.Start.{Start}
 use Rattle.pip_commands.specs.declared.words.Command.{Command}
 use Rattle.pip_commands.specs.declared.words.Command.TheVariants as C
 
@@ -30,12 +31,16 @@ abbrev pub audit_words : Option ℕ → Option Command
 audit_words (Some frames) = if nat_le 16 frames && nat_le frames 4096 then Some (C.Audit frames) else None
 audit_words None = None
 
+-- where a search begins that has no `after`: no steps are made, so that the seed is none's
+abbrev pub from_first : Start
+from_first = record { count = 0; seed = 1 }
+
 -- `every` and `against` take how many states there is room for, 1 to 100,000,000, the turns before which no line comes,
 -- at most 10,000,000, and how many choices are made at most, 1 to 10,000,000, if there is a bound
-abbrev pub search_words : (ℕ → ℕ → Option ℕ → Command) → Option ℕ → Option ℕ → Option ℕ → Option Command
+abbrev pub search_words : (ℕ → ℕ → Option ℕ → Start → Command) → Option ℕ → Option ℕ → Option ℕ → Option Command
 search_words command (Some states) (Some from) depth =
-    if (nat_le 1 states && nat_le states 100000000) && nat_le from 10000000 then Some (command states from depth)
-    else None
+    if (nat_le 1 states && nat_le states 100000000) && nat_le from 10000000 then Some
+    (command states from depth from_first) else None
 search_words command _ _ depth = None
 
 -- `apart` takes how many states there is room for, as `every` does, the steps, at most 10,000,000, and a seed, which is
@@ -148,6 +153,34 @@ abbrev pub given_command : List (List ℕ) → Option Command
 given_command (word ∷ n ∷ c ∷ slots) = rounds_command word (number_of n) (number_of c) slots
 given_command _ = None
 
+-- the same search from there on, if it is one
+abbrev pub starts_at : Command → Start → Option Command
+starts_at (C.Every states from depth other) start = Some (C.Every states from depth start)
+starts_at (C.Against states from depth other) start = Some (C.Against states from depth start)
+starts_at _ start = None
+
+-- a search may begin after at most 10,000,000 steps, by a seed that is not 0
+abbrev pub start_words : Option Command → Option ℕ → Option ℕ → Option Command
+start_words search (Some count) (Some seed) = if nat_le count 10000000 && nat_le 1 seed then option_and_then
+    (λ command. starts_at command (record { count = count; seed = seed })) search else None
+start_words search _ _ = None
+
+-- a search, the word `after`, the steps and their seed
+abbrev pub after_command : Option Command → List ℕ → Option ℕ → Option ℕ → Option Command
+after_command search word count seed =
+    if bytes_eq word (codes "after") then start_words search count seed else None
+
+-- a search after steps has five words to seven
+abbrev pub later_command : List (List ℕ) → Option Command
+later_command (word ∷ states ∷ after ∷ count ∷ seed ∷ []) =
+    after_command (two_words word (number_of states)) after (number_of count) (number_of seed)
+later_command (word ∷ states ∷ from ∷ after ∷ count ∷ seed ∷ []) =
+    after_command (three_words word (number_of states) (number_of from)) after (number_of count) (number_of seed)
+later_command (word ∷ states ∷ from ∷ depth ∷ after ∷ count ∷ seed ∷ []) =
+    after_command (four_words word (number_of states) (number_of from) (number_of depth)) after (number_of count)
+    (number_of seed)
+later_command _ = None
+
 -- the first that is there
 abbrev pub first_command : Option Command → Option Command → Option Command
 first_command (Some command) other = Some command
@@ -155,8 +188,8 @@ first_command None other = other
 
 -- the command that the words ask for, if they are of one of the forms
 abbrev pub command_of : List (List ℕ) → Option Command
-command_of words = first_command (fixed_command words) (given_command words)
+command_of words = first_command (fixed_command words) (first_command (later_command words) (given_command words))
 
 -- the usage line
 abbrev pub usage : List ℕ
-usage = codes "usage: pip script | run STEPS SEED | asm | dis | tree STEPS SEED | core STEPS SEED | soak COUNT SEED | native N STEPS | slots N TURNS ROUNDS | slots N ROUNDS K:TURNS .. | audit FRAMES | every STATES [FROM [DEPTH]] | against STATES [FROM [DEPTH]] | apart STATES STEPS SEED"
+usage = codes "usage: pip script | run STEPS SEED | asm | dis | tree STEPS SEED | core STEPS SEED | soak COUNT SEED | native N STEPS | slots N TURNS ROUNDS | slots N ROUNDS K:TURNS .. | audit FRAMES | every STATES [FROM [DEPTH]] [after STEPS SEED] | against STATES [FROM [DEPTH]] [after STEPS SEED] | apart STATES STEPS SEED"

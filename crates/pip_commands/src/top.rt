@@ -1,29 +1,27 @@
 //! The program as one call.
 ghost use Rattle.std.specs.Prelude.{◌≡◌, ◌≢◌, [], map, string_bytes};
 ghost use Rattle.pip_commands.specs.Dues.{due_of, usage_due};
-ghost use Rattle.pip_commands.specs.EndsBy.{EndsBy};
-ghost use Rattle.pip_commands.specs.Pacing.{IsPaced};
-ghost use Rattle.pip_commands.specs.Streams.{streams};
+ghost use Rattle.pip_due.specs.EndsBy.{EndsBy};
+ghost use Rattle.pip_due.specs.Pacing.{IsPaced};
+ghost use Rattle.pip_due.specs.Streams.{streams};
 ghost use Rattle.pip_commands.specs.Words.{command_of};
 
-use crate::commands::against::against;
-use crate::commands::apart::apart;
 use crate::commands::asm::asm;
 use crate::commands::audit::audit;
 use crate::commands::dis::dis;
-use crate::commands::every::every;
 use crate::commands::native::native;
 use crate::commands::run::{core_dump, run, tree};
 use crate::commands::script::script;
 use crate::commands::slots::slots;
 use crate::commands::soak::soak;
-use crate::ended::{Ended, end_with};
 use crate::words::{Command, read_words};
+use pip_due::{Ended, end_with};
 use pip_io::{Sink, Source};
+use pip_searches::{against, apart, every};
 use std::alloc::Global;
 
 const USAGE: &[u8] =
-    b"usage: pip script | run STEPS SEED | asm | dis | tree STEPS SEED | core STEPS SEED | soak COUNT SEED | native N STEPS | slots N TURNS ROUNDS | slots N ROUNDS K:TURNS .. | audit FRAMES | every STATES [FROM [DEPTH]] | against STATES [FROM [DEPTH]] | apart STATES STEPS SEED\n";
+    b"usage: pip script | run STEPS SEED | asm | dis | tree STEPS SEED | core STEPS SEED | soak COUNT SEED | native N STEPS | slots N TURNS ROUNDS | slots N ROUNDS K:TURNS .. | audit FRAMES | every STATES [FROM [DEPTH]] [after STEPS SEED] | against STATES [FROM [DEPTH]] [after STEPS SEED] | apart STATES STEPS SEED\n";
 
 /// Does what the words of the command line ask for. The words leave out the program's name (docs/FORMATS.md,
 /// "Statuses"). The sink holds nothing at first, and at each status but 4 it holds nothing at the end. Whatever the
@@ -65,15 +63,17 @@ pub fn pip<S: Source, K: Sink>(
                 states,
                 from,
                 depth,
+                start,
             },
-        ) => every(alloc, states, from, depth, source, sink),
+        ) => every(alloc, states, from, depth, start, source, sink),
         Some(
             Command::Against {
                 states,
                 from,
                 depth,
+                start,
             },
-        ) => against(alloc, states, from, depth, source, sink),
+        ) => against(alloc, states, from, depth, start, source, sink),
         Some(
             Command::Apart {
                 states,

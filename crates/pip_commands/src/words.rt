@@ -1,7 +1,8 @@
 //! The words of the command line.
 ghost use Rattle.std.specs.Prelude.{◌≡◌, ◌≤◌, ◌+◌, ◌*◌, ◌^◌, ◌&&◌, length, map, nat_le, option_map, string_bytes};
 ghost use Rattle.std.specs.Prelude.{Some};
-ghost use Rattle.pip_commands.specs.Words.{apart_words, as_round, audit_words, command_of, fixed_command, four_words};
+ghost use Rattle.pip_commands.specs.Words.{after_command, apart_words, as_round, from_first, audit_words, command_of};
+ghost use Rattle.pip_commands.specs.Words.{first_command, fixed_command, four_words, later_command, starts_at};
 ghost use Rattle.pip_commands.specs.Words.{given_command, native_words, rounds_command, search_words, single_word};
 ghost use Rattle.pip_commands.specs.Words.{slot_in, slots_in, slots_words, three_words, turn_words, two_words};
 ghost use Rattle.pip_slots.specs.Images.{round_steps};
@@ -9,6 +10,7 @@ ghost use Rattle.pip_slots.specs.Images.{round_steps};
 use arrayvec::ArrayVec;
 use pip_base::{MAX_FRAMES, MAX_STEPS, MIN_FRAMES};
 use pip_script::read_number;
+use pip_searches::Start;
 use pip_slots::{RoundSlot, in_turn};
 
 /// What the words ask for (README, "Commands").
@@ -49,11 +51,13 @@ pub enum Command {
         states: u32,
         from: u32,
         depth: Option<u32>,
+        start: Start,
     },
     Against {
         states: u32,
         from: u32,
         depth: Option<u32>,
+        start: Start,
     },
     Apart {
         states: u32,
@@ -82,6 +86,17 @@ pub fn read_words(words: &[String]) -> Option<Command>
     ensures { result ≡ command_of (map string_bytes words.now) }
 {
     match read_fixed(words) {
+        Some(command) => Some(command),
+        None => read_longer(words),
+    }
+}
+
+// The command of a form of more words: a search after steps, or slots.
+fn read_longer(words: &[String]) -> Option<Command>
+    ensures { result ≡ first_command (later_command (map string_bytes words.now))
+        (given_command (map string_bytes words.now)) }
+{
+    match read_later(words) {
         Some(command) => Some(command),
         None => read_given(words),
     }
@@ -234,6 +249,111 @@ fn read_in_turn(children: u32, turns: u32, rounds: u32) -> Option<Command>
     read_slots(children, rounds, in_turn(children, turns))
 }
 
+// Where a search begins that has no `after`.
+fn first_start() -> Start
+    ensures { result ≡ from_first }
+{
+    Start { count: 0, seed: 1 }
+}
+
+// A search that begins after steps.
+fn read_later(words: &[String]) -> Option<Command>
+    ensures { result ≡ later_command (map string_bytes words.now) }
+{
+    if let [word, states, after, count, seed] = words {
+        return read_after(
+            read_two(
+                word.as_str().as_bytes(),
+                read_number(states.as_str().as_bytes()),
+            ),
+            after.as_str().as_bytes(),
+            read_number(count.as_str().as_bytes()),
+            read_number(seed.as_str().as_bytes()),
+        );
+    }
+    if let [word, states, from, after, count, seed] = words {
+        return read_after(
+            read_three(
+                word.as_str().as_bytes(),
+                read_number(states.as_str().as_bytes()),
+                read_number(from.as_str().as_bytes()),
+            ),
+            after.as_str().as_bytes(),
+            read_number(count.as_str().as_bytes()),
+            read_number(seed.as_str().as_bytes()),
+        );
+    }
+    if let [word, states, from, depth, after, count, seed] = words {
+        return read_after(
+            read_four(
+                word.as_str().as_bytes(),
+                read_number(states.as_str().as_bytes()),
+                read_number(from.as_str().as_bytes()),
+                read_number(depth.as_str().as_bytes()),
+            ),
+            after.as_str().as_bytes(),
+            read_number(count.as_str().as_bytes()),
+            read_number(seed.as_str().as_bytes()),
+        );
+    }
+    None
+}
+
+// A search, and after it the word `after`, a number of steps and a seed.
+fn read_after(
+    search: Option<Command>,
+    word: &[u8],
+    count: Option<u32>,
+    seed: Option<u32>,
+) -> Option<Command>
+    ensures { result ≡ after_command search word.now count seed }
+{
+    if word != b"after".as_slice() {
+        return None;
+    }
+    let (Some(count), Some(seed)) = (count, seed) else {
+        return None;
+    };
+    if count > MAX_STEPS || seed < 1 {
+        return None;
+    }
+    match search {
+        Some(command) => start_at(command, Start { count, seed }),
+        None => None,
+    }
+}
+
+// The same search from there on, if it is one.
+fn start_at(command: Command, start: Start) -> Option<Command>
+    ensures { result ≡ starts_at command start }
+{
+    match command {
+        Command::Every {
+            states,
+            from,
+            depth,
+            ..
+        } => Some(Command::Every {
+            states,
+            from,
+            depth,
+            start,
+        }),
+        Command::Against {
+            states,
+            from,
+            depth,
+            ..
+        } => Some(Command::Against {
+            states,
+            from,
+            depth,
+            start,
+        }),
+        _ => None,
+    }
+}
+
 // Children with the slots of a round.
 fn read_given(words: &[String]) -> Option<Command>
     ensures { result ≡ given_command (map string_bytes words.now) }
@@ -329,6 +449,7 @@ fn read_every(states: u32, from: u32, depth: Option<u32>) -> Option<Command>
         states,
         from,
         depth,
+        start: first_start(),
     })
 }
 
@@ -339,6 +460,7 @@ fn read_against(states: u32, from: u32, depth: Option<u32>) -> Option<Command>
         states,
         from,
         depth,
+        start: first_start(),
     })
 }
 

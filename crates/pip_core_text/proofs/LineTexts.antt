@@ -26,7 +26,7 @@ decimal_again n h =
 
 -- ---- words
 
-word_again : (w : ℕ) (rest : List ℕ) → w < 2 ^ 32 → word_ahead ((codes " " ++ word_digits w) ++ rest) ≡ Some w
+pub word_again : (w : ℕ) (rest : List ℕ) → w < 2 ^ 32 → word_ahead ((codes " " ++ word_digits w) ++ rest) ≡ Some w
 word_again w rest h =
     ap (λ b. cond (b && true) (hex_from 0 (word_digits w)) None)
     (le-leb 9 (length ((codes " " ++ word_digits w) ++ rest)) (omega arith)) ∙ hex_word w h

@@ -13,4 +13,5 @@ mod place;
 mod text;
 
 pub use laws::{law_first_bad, law_lines, law_round_trip};
+pub use line::take_word;
 pub use text::{CoreError, read_core, read_core_from_joint};

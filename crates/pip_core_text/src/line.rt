@@ -101,8 +101,8 @@ fn read_word(digits: &[u8]) -> Option<u32>
     if word < BAD { Some(word as u32) } else { None }
 }
 
-// A space and a word, and the text after them.
-fn take_word(text: &[u8]) -> Option<(u32, &[u8])>
+/// A space and the eight hexadecimal digits of a word at the head of a text, and the text after them.
+pub fn take_word(text: &[u8]) -> Option<(u32, &[u8])>
     ensures { MatchOption result (word_ahead text.now ≡ None)
         (λ x. (word_ahead text.now ≡ Some x.0) × (x.1.now ≡ drop 9 text.now)) }
 {

@@ -10,14 +10,14 @@ use Rattle.pip_base.specs.Memory.{IsMemory, Memory}
 use Rattle.pip_journal.specs.Changes.{changes}
 use Rattle.pip_journal.proofs.Mixed.{changes_written}
 use Rattle.pip_model.specs.Cache.{all_emptied}
-use Rattle.pip_model.specs.Worlds.{World, boot_world_with}
+use Rattle.pip_model.specs.Worlds.{World}
 use Rattle.pip_model.specs.declared.processors.Occupant.{Occupant}
 use Rattle.pip_switch.specs.Rewinding.{ArePlaces, rewritten}
 use Rattle.pip_switch.specs.Standing.{HasCachedWorld, HasWorld, StandsAs, StandsFor, State}
 use Rattle.pip_switch.proofs.Elsewhere.{rewound}
 use Rattle.pip_every.specs.Choosing.{IsAtWorld, IsMade}
 use Rattle.pip_every.specs.Keys.{IsKeyOf, key_words, processor_words}
-use Rattle.pip_every.specs.Moments.{Moment, Scope, first_moment}
+use Rattle.pip_every.specs.Moments.{Moment, Scope, moment_at}
 use Rattle.pip_every.specs.Menus.{Menu}
 use Rattle.pip_every.specs.Reading.{StartsWithAll}
 use Rattle.pip_every.specs.declared.menus.May.{May}
@@ -138,12 +138,11 @@ pub same_key : (first : Memory) (g : Scope) (key : List ℕ) (m n : Moment) → 
     → IsKeyOf first g key n
 same_key first g key m n e k = subst (λ v. IsKeyOf first g key v) (sym e) k
 
--- the first moment has the key that was added of a machine that begins
-pub begun : {first : Memory} {g : Scope} {p q : State} {start key : List ℕ} (n cpus : ℕ) (words : ℕ → ℕ → ℕ)
-    → StandsAs p (boot_world_with words n cpus) → q ≡ p → length q.memory ≡ length first → length q.cpus ≡ g.cpus
-    → start ≡ [] → key ≡ start ++ key_words first 0 q.cpus q.memory → IsKeyOf first g key (first_moment words n cpus)
-begun {first} {g} {p} {q} n cpus words stands same frames count none is =
-    let w : World = boot_world_with words n cpus in
+-- the moment at a world has the key that was added of a machine that stands for it
+pub begun : {first : Memory} {g : Scope} {p q : State} {start key : List ℕ} (w : World) → StandsAs p w → q ≡ p
+    → length q.memory ≡ length first → length q.cpus ≡ g.cpus → start ≡ []
+    → key ≡ start ++ key_words first 0 q.cpus q.memory → IsKeyOf first g key (moment_at w)
+begun {first} {g} {p} {q} w stands same frames count none is =
     let s : StandsAs q w = subst (λ v. StandsAs v w) (sym same) stands in
     let cpus_are : w.cpus ≡ q.cpus = s.bare.shows.cpus in
     record {

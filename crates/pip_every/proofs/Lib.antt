@@ -9,3 +9,4 @@ pub mod OneKey
 pub mod Usual
 pub mod Rekeyed
 pub mod Rebasing
+pub mod Saying

@@ -5,3 +5,4 @@ pub mod Reading
 pub mod Choosing
 pub mod Laws
 pub mod Explored
+pub mod Again

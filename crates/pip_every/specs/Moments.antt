@@ -45,6 +45,10 @@ moment_after g m k = record { world = after_acts m.world (choice_acts g m k); tu
 abbrev pub choice_label : Scope → Moment → ℕ → List ℕ
 choice_label g m k = text_of (choice_acts g m k)
 
+-- the moment from which a search begins at a world: no turn was made after it
+abbrev pub moment_at : World → Moment
+moment_at w = record { world = w; turns = 0 }
+
 -- the first moment over n frames, with these words in the root's pages
 abbrev pub first_moment : (ℕ → ℕ → ℕ) → ℕ → ℕ → Moment
-first_moment words n c = record { world = boot_world_with words n c; turns = 0 }
+first_moment words n c = moment_at (boot_world_with words n c)

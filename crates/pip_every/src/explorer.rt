@@ -117,8 +117,8 @@ impl<F: First, L: Ledger> Explorer<F, L> {
         key[0]
     }
 
-    // How many choices there are without the deeds.
-    fn usual_choices(&self) -> u32
+    /// How many choices there are without the deeds.
+    pub(crate) fn usual_choices(&self) -> u32
         ensures { result ≡ usual_choices (explored self.now) }
     {
         self.machine.cpus() + self.lines.len() as u32

@@ -75,10 +75,33 @@ pub fn note_words<L: Ledger>(from: &RawFrames, to: &mut RawFrames, steps: &mut S
     }
 }
 
-/// As many frames with words that this machine, which has booted, will hold later: of each word the last that isn't 0
-/// of those noted. Keys that compare with these are short: a root's tables stay once built, even those that it takes
-/// down again. The only error is that memory is out.
-pub(crate) fn words_later<L: Ledger>(
+/// That many frames, 16 to 4096, with words that a machine over as many will hold later: of each word the last that
+/// isn't 0 of those noted. Keys that compare with these are short: a root's tables stay once built, even those that it
+/// takes down again. The only error is that memory is out.
+pub fn words_later<L: Ledger>(
+    alloc: Global,
+    count: u32,
+    machine: Machine<RawFrames>,
+    steps: Steps<L>,
+) -> Result<RawFrames, AllocError>
+    requires least { 16 ≤ count }
+    requires most { count ≤ 4096 }
+    ensures count { IfOk result (λ r. length (⟦<RawFrames as Frames>⟧.memory r) ≡ count) }
+    ensures shape { IfOk result (λ r. IsMemory (⟦<RawFrames as Frames>⟧.memory r)) }
+{
+    let (mut machine, mut steps) = (machine, steps);
+    let mut later = RawFrames::new(alloc, count)?;
+    note_words(machine.mem(), &mut later, &mut steps);
+    let mut label = Label::new(alloc);
+    for _ in 0..TIMES {
+        advance_far(&mut machine, &mut label, &mut steps)?;
+        note_words(machine.mem(), &mut later, &mut steps);
+    }
+    Ok(later)
+}
+
+// Those of a machine over these frames, which have booted. The only error is that memory is out.
+pub(crate) fn booted_later<L: Ledger>(
     alloc: Global,
     mem: &RawFrames,
     cpus: u32,
@@ -93,12 +116,6 @@ pub(crate) fn words_later<L: Ledger>(
     ensures shape { IfOk result (λ r. IsMemory (⟦<RawFrames as Frames>⟧.memory r)) }
 {
     let mut steps: Steps<L> = Steps::new(blank);
-    let mut later = copied(alloc, mem, &mut steps)?;
-    let mut machine = Machine::new(copied(alloc, mem, &mut steps)?, cpus);
-    let mut label = Label::new(alloc);
-    for _ in 0..TIMES {
-        advance_far(&mut machine, &mut label, &mut steps)?;
-        note_words(machine.mem(), &mut later, &mut steps);
-    }
-    Ok(later)
+    let machine = Machine::new(copied(alloc, mem, &mut steps)?, cpus);
+    words_later(alloc, mem.count(), machine, steps)
 }

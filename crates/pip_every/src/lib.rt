@@ -6,10 +6,12 @@
 //! turn, and writes its next key; what it shows goes to a sink that grows. A machine represents every world that its
 //! frames lay out, so one run of the kernel is a step of each moment that has the key (`HasChosen` of specs/Choosing).
 //! [`search_against`] searches with a menu (specs/Menus): what partitions that have deeds may do is all that is on it,
-//! whatever their programs are; with an empty one it is the same search.
+//! whatever their programs are; with an empty one it is the same search. [`search_on`] is both from any world on, and
+//! also says of labels whether they can come again, wherever choices lead, by turns and lines alone (specs/Again).
 //! [`part`] checks a part of a search in the same way, for a certificate.
 #![tactic(auto)]
 
+mod again;
 mod deeds;
 mod explorer;
 mod label;
@@ -20,10 +22,11 @@ mod parts;
 mod processors;
 mod searching;
 
+pub use again::{Again, MAX_LABEL, MAX_LABELS};
 pub use label::Label;
-pub use later::note_words;
+pub use later::{note_words, words_later};
 pub use laws::law_keys;
 pub use menus::{Deed, MAX_DEEDS, May};
 pub use parts::part;
 pub use processors::{add_processors, read_processors};
-pub use searching::{search, search_against};
+pub use searching::{search, search_against, search_on};

@@ -1,17 +1,23 @@
 //! The search.
-ghost use Rattle.std.specs.Prelude.{◌≡◌, ℕ, ◌<◌, ◌≤◌, All, IfOk, length};
-ghost use Rattle.pip_base.specs.Memory.{IsMemory};
+ghost use Rattle.std.specs.Prelude.{◌≡◌, ℕ, ◌<◌, ◌≤◌, All, IfOk, length, map};
+ghost use Rattle.pip_base.specs.Memory.{IsMemory, Memory};
 ghost use Rattle.pip_base.specs.Opening.{CanOpen};
 ghost use Rattle.pip_model.specs.Booted.{HasBooted, IsBooted};
+ghost use Rattle.pip_model.specs.Worlds.{World};
 ghost use Rattle.pip_search.specs.Summary.{IsTold};
 ghost use Rattle.pip_search.specs.Ways.{AreTraced, witnesses_of};
+ghost use Rattle.pip_switch.specs.Standing.{StandsAs};
+ghost use Rattle.pip_every.specs.Again.{AreSaid};
+ghost use Rattle.pip_every.specs.Choosing.{machine_menu};
 ghost use Rattle.pip_every.specs.Keys.{model_of};
-ghost use Rattle.pip_every.specs.Menus.{menu_model};
-ghost use Rattle.pip_every.specs.Moments.{first_moment};
+ghost use Rattle.pip_every.specs.Menus.{menu_model, usual_choices};
+ghost use Rattle.pip_every.specs.Moments.{first_moment, moment_at};
 
+use crate::again::{Again, MAX_LABEL, say_all};
 use crate::explorer::Explorer;
-use crate::later::words_later;
+use crate::later::booted_later;
 use crate::menus::May;
+use arrayvec::ArrayVec;
 use pip_base::Steps;
 use pip_frames::{Frames, RawFrames};
 use pip_journal::{First, Journal};
@@ -20,6 +26,49 @@ use pip_switch::Machine;
 use std::alloc::{AllocError, Global};
 use std::marker::Brand;
 use std::sync::ledger::{Blank, Ledger};
+
+/// Searches what can happen to a machine from the worlds on for which it stands, of which there is one, as
+/// `search_against` does from the first, and says of the labels of lines, which have no step, whether they can come
+/// again, wherever any choices lead, by turns and lines without deeds. `lines` come once `from` turns were made after
+/// that. It doesn't matter with which frames keys compare. The only error is that memory is out.
+pub fn search_on<F: First, L: Ledger>(
+    alloc: Global,
+    machine: Machine<Journal<F>>,
+    lines: &[u32],
+    from: u32,
+    may: Vec<May>,
+    labels: &[ArrayVec<u8, MAX_LABEL>],
+    most: u32,
+    limit: u32,
+    steps: Steps<L>,
+) -> Result<(Search, Extent, Vec<Again>), AllocError>
+    requires shape { IsMemory F.words }
+    requires stands { (w : World) × StandsAs machine w }
+    requires below { All (λ line. line < 16) lines.now }
+    requires few { length lines.now ≤ 16 }
+    requires short { length may.items ≤ 1024 }
+    requires limit { 0 < limit }
+    ensures told { IfOk result (λ r. (w : World) (first : Memory) → StandsAs machine w → IsMemory first
+        → length first ≡ length F.words → IsTold (menu_model first
+        (machine_menu machine lines.now from may.items)) (moment_at w) most limit
+        (witnesses_of r.1 r.0.visits.items r.0.found.items) (length r.0.visits.items) r.1) }
+    ensures said { IfOk result (λ r. (w : World) (first : Memory) → StandsAs machine w → AreSaid (menu_model first
+        (machine_menu machine lines.now from may.items)) (usual_choices (machine_menu machine lines.now from may.items))
+        (moment_at w) (map (λ l. l.items) labels.now) r.1 r.2.items) }
+    ensures traced { IfOk result (λ r. AreTraced r.0.visits.items r.0.found.items) }
+    ensures room { IfOk result (λ r. length r.0.visits.items ≤ limit) }
+{
+    let mut raised = Vec::new(alloc);
+    raised.extend_from_slice(lines)?;
+    let mut explorer = Explorer::new(alloc, machine, raised, from, may, steps);
+    let mut key = Vec::new(alloc);
+    explorer.add_key(0, &mut key)?;
+    let start = key.as_slice();
+    let (search, extent) = explore(&mut explorer, alloc, start, most, limit)?;
+    let width = explorer.usual_choices();
+    let said = say_all(&search, extent, &mut explorer, alloc, start, labels, width)?;
+    Ok((search, extent, said))
+}
 
 // `search_against` over a journal whose first words are those of the frames `later`, as many as the machine's. The
 // type `F` stands for these words, and `L` for the ledger that counts the steps.
@@ -57,12 +106,18 @@ fn search_from<F: First, L: Ledger>(
     let steps: Steps<L> = Steps::new(blank);
     let journal: Journal<F> = Journal::new(alloc, mem, later)?;
     let machine = Machine::new(journal, cpus);
-    let mut raised = Vec::new(alloc);
-    raised.extend_from_slice(lines)?;
-    let mut explorer = Explorer::new(alloc, machine, raised, from, may, steps);
-    let mut start = Vec::new(alloc);
-    explorer.add_key(0, &mut start)?;
-    explore(&mut explorer, alloc, start.as_slice(), most, limit)
+    let (search, extent, _said) = search_on(
+        alloc,
+        machine,
+        lines,
+        from,
+        may,
+        &[],
+        most,
+        limit,
+        steps,
+    )?;
+    Ok((search, extent))
 }
 
 /// Searches what can happen to a machine over these frames as `search` does, whatever the partitions that have deeds on
@@ -94,7 +149,7 @@ pub fn search_against(
     ensures traced { IfOk result (λ r. AreTraced r.0.visits.items r.0.found.items) }
     ensures room { IfOk result (λ r. length r.0.visits.items ≤ limit) }
 {
-    let later = words_later::<Brand>(alloc, &mem, cpus, Blank::new(1))?;
+    let later = booted_later::<Brand>(alloc, &mem, cpus, Blank::new(1))?;
     search_from::<Brand, Brand>(
         alloc,
         mem,

@@ -24,4 +24,5 @@ pub mod Limits
 mod Premises
 pub mod AncestorPremises
 mod TurnPremises
+mod LinesRaised
 pub mod Machines

@@ -1,6 +1,7 @@
 -- One turn of a processor: in two worlds in which a guest is the same, and the poll is in vain, the guest's turn is the
 -- same.
-use Rattle.std.proofs.Common.{◌≡◌, ◌≢◌, ℕ, inl, Bool, true, false, cond, List, [], ◌∷◌, refl, sym, ap, ◌∙◌, subst, Some}
+use Rattle.std.proofs.Common.{◌≡◌, ◌≢◌, ℕ, inl, Bool, true, false, cond, List, [], ◌∷◌, refl, sym, ap, ◌∙◌, subst}
+use Rattle.std.proofs.Common.{None, Some}
 use Rattle.std.specs.List.{AllByRecursion}
 use Rattle.pip_base.specs.declared.outcome.Outcome.{Outcome}
 use Rattle.pip_base.specs.declared.outcome.Outcome.TheVariants as O
@@ -73,14 +74,19 @@ list_same p (e ∷ es) w v s s' m g all i =
 
 -- ---- one turn
 
--- where no line is pending a poll changes nothing
-pub poll_vain : QuietPolls
-poll_vain w cpu r k e = ap (with_caches w.caches) (go (may_take w cpu (runs_on w cpu)) ∙ ap (none_taken w) k)
+-- where the root has a handler for no pending line a poll changes nothing
+pub poll_leaves : (w : World) (cpu : ℕ) (r : Occupant) → runs_on w cpu ≡ Some r
+    → lowest_line w w.tree.root.pending ≡ None → PollsInVain w cpu
+poll_leaves w cpu r k e = ap (with_caches w.caches) (go (may_take w cpu (runs_on w cpu)) ∙ ap (none_taken w) k)
   where
     go : (b : Bool) → cond b (poll_line w cpu (runs_on w cpu) (lowest_line w w.tree.root.pending))
         (none_taken w (runs_on w cpu)) ≡ none_taken w (runs_on w cpu)
-    go true = ap (λ js. poll_line w cpu (runs_on w cpu) (lowest_line w js)) e
+    go true = ap (poll_line w cpu (runs_on w cpu)) e
     go false = refl
+
+-- so where none is pending
+pub poll_vain : QuietPolls
+poll_vain w cpu r k e = poll_leaves w cpu r k (ap (lowest_line w) e)
 
 -- after such a poll a turn goes on to its fetch
 pub turn_fetches : (w : World) (cpu t : ℕ) → PollsInVain w cpu → turn w cpu t ≡ Makes (E.Poll cpu) ∷ fetch_acts w t cpu

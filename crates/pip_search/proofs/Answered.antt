@@ -5,7 +5,7 @@ use Rattle.std.proofs.lemmas.Bool.{cases_lt}
 use Rattle.pip_search.specs.Certificates.{HasStop, IsInSome, Stop}
 use Rattle.pip_search.specs.Merging.{AreAnswered, ListsMerge}
 use Rattle.pip_search.specs.Parts.{stop_of, stops}
-use Rattle.pip_search.specs.declared.parts.Reached.{Reached}
+use Rattle.pip_search.specs.declared.stops.Reached.{Reached}
 use Rattle.pip_search.proofs.Certified.{has_later}
 use Rattle.pip_search.proofs.Making.{at-same}
 use Rattle.pip_search.proofs.Picking.{at_map}

@@ -84,7 +84,7 @@ not_before [] h = h
 not_before (c ∷ cs) (inl h) = not_before cs h
 not_before (c ∷ cs) (inr (e, low)) = absurd (omega arith)
 
-no_later_both : (cs ds : List ℕ) → IsNoLater cs ds → IsNoLater ds cs → cs ≡ ds
+pub no_later_both : (cs ds : List ℕ) → IsNoLater cs ds → IsNoLater ds cs → cs ≡ ds
 no_later_both cs ds (inl e) k = e
 no_later_both cs ds (inr h) (inl e) = sym e
 no_later_both cs ds (inr h) (inr k) = absurd (not_before cs (before_trans cs ds cs h k))

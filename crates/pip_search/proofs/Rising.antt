@@ -10,7 +10,7 @@ use Rattle.pip_search.specs.Naming.{AreDistinct}
 use Rattle.pip_search.specs.Packing.{packed_key, unpacked_key}
 use Rattle.pip_search.specs.Certificates.{Stop}
 use Rattle.pip_search.specs.Parts.{stop_of, stops}
-use Rattle.pip_search.specs.declared.parts.Reached.{Reached}
+use Rattle.pip_search.specs.declared.stops.Reached.{Reached}
 use Rattle.pip_search.proofs.Making.{at-same}
 use Rattle.pip_search.proofs.Picking.{at_map}
 use Rattle.pip_search.proofs.Places.{get-below, get-some}

@@ -6,7 +6,7 @@ use Rattle.pip_search.specs.Naming.{AreNamed}
 use Rattle.pip_search.specs.Packing.{unpacked_key}
 use Rattle.pip_search.specs.Systems.{Model}
 use Rattle.pip_search.specs.declared.parts.Part.{Part}
-use Rattle.pip_search.specs.declared.parts.Reached.{Reached}
+use Rattle.pip_search.specs.declared.stops.Reached.{Reached}
 
 -- a key and its depth, where the key is kept as bytes
 abbrev pub stop_of : Reached → Stop

@@ -11,7 +11,7 @@ ghost use Rattle.pip_search.specs.Parts.{stop_of, stops};
 
 use crate::names::is_same;
 use crate::packing::{pack, unpack};
-use crate::parts::Reached;
+use crate::stops::Reached;
 use std::alloc::{AllocError, Global};
 use std::cmp::Ordering;
 

@@ -3,9 +3,9 @@ ghost use Rattle.std.specs.Prelude.{◌≡◌, ℕ, List, ◌<◌, ◌≤◌, �
 ghost use Rattle.std.specs.Prelude.{IfOk, IsTrue, Some, length, slice_get, vec_len};
 ghost use Rattle.pip_search.specs.Certificates.{HasStop, IsClosedPart, IsReachedPart, Stop};
 ghost use Rattle.pip_search.specs.Naming.{AreNamed};
-ghost use Rattle.pip_search.specs.Packing.{unpacked_key};
+ghost use Rattle.pip_search.specs.Packing.{packed_key, unpacked_key};
 ghost use Rattle.pip_search.specs.Parts.{AddsAtMostOne, AreWordsAt, IsGrowing, IsReachedFrom, portion_of, stop_at};
-ghost use Rattle.pip_search.specs.Parts.{stops};
+ghost use Rattle.pip_search.specs.Parts.{stop_of, stops};
 ghost use Rattle.pip_search.specs.Systems.{IsKey};
 ghost use Rattle.pip_search.specs.declared.parts.Part.{Part};
 
@@ -14,16 +14,10 @@ use crate::index::Index;
 use crate::names::is_same;
 use crate::packing::{pack, unpack};
 use crate::searching::Buffers;
+use crate::stops::Reached;
 use crate::system::System;
 use crate::visits::{MadeChoice, kept};
 use std::alloc::{AllocError, Global};
-
-/// A key as bytes, and how many choices lead to a state of it.
-#[derive(Drop)]
-pub struct Reached {
-    pub key: Vec<u8>,
-    pub depth: u32,
-}
 
 /// A part whose choices were made: its keys, the keys that it asks of other parts, and the labels that it shows, each
 /// with the key of the part at which it was shown first.
@@ -35,8 +29,18 @@ pub struct Part {
     pub(crate) labels: Index,
 }
 
+/// The words of a key as bytes, and how many choices lead to a state of it. The only error is that memory is out.
+pub fn reached(alloc: Global, key: &[u32], depth: u32) -> Result<Reached, AllocError>
+    ensures { IfOk result (λ x. stop_of x ≡ stop_at key.now depth) }
+{
+    let mut bytes = Vec::new(alloc);
+    pack(key, &mut bytes)?;
+    Ok(Reached { key: bytes, depth })
+}
+
 // Adds a key, by its bytes.
 fn add(list: &mut Vec<Reached>, alloc: Global, bytes: &[u8], depth: u32) -> Result<(), AllocError>
+    requires packed { packed_key (unpacked_key bytes.now) ≡ bytes.now }
     ensures added { IfOk result (λ _. stops list.new.items
         ≡ stops list.old.items ++ stop_at (unpacked_key bytes.now) depth ∷ []) }
     ensures count { IfOk result (λ _. vec_len list.new ≡ vec_len list.old + 1) }
@@ -56,6 +60,7 @@ fn settle(
     depth: u32,
     own: bool,
 ) -> Result<(), AllocError>
+    requires packed { packed_key (unpacked_key bytes.now) ≡ bytes.now }
     requires place { i < vec_len part.old.keys }
     requires depth { (x : Stop) → slice_get (stops part.old.keys.items) i ≡ Some x → x.depth + 1 ≡ depth }
     ensures met { IfOk result (λ _. HasStop (stops part.new.keys.items) (unpacked_key bytes.now) depth

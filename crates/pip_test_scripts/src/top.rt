@@ -3,10 +3,10 @@ use pip_io::{MemSink, MemSource};
 use std::test::Fail;
 
 const USAGE: &str =
-    "usage: pip script | run STEPS SEED | asm | dis | tree STEPS SEED | core STEPS SEED | soak COUNT SEED | native N STEPS | slots N TURNS ROUNDS | slots N ROUNDS K:TURNS .. | audit FRAMES | every STATES [FROM [DEPTH]] | against STATES [FROM [DEPTH]] | apart STATES STEPS SEED\n";
+    "usage: pip script | run STEPS SEED | asm | dis | tree STEPS SEED | core STEPS SEED | soak COUNT SEED | native N STEPS | slots N TURNS ROUNDS | slots N ROUNDS K:TURNS .. | audit FRAMES | every STATES [FROM [DEPTH]] [after STEPS SEED] | against STATES [FROM [DEPTH]] [after STEPS SEED] | apart STATES STEPS SEED\n";
 
 // The words of a command line, the status where the first read fails, and what is written.
-static ROWS: [(&str, u8, &str); 63] = [
+static ROWS: [(&str, u8, &str); 81] = [
     ("run 6 1", 3, ""),
     ("run 0x6 1", 3, ""),
     ("script", 3, ""),
@@ -27,6 +27,12 @@ static ROWS: [(&str, u8, &str); 63] = [
     ("against 1", 3, ""),
     ("against 100000000 0", 3, ""),
     ("against 1 10000000 10000000", 3, ""),
+    ("every 1 after 0 1", 3, ""),
+    ("every 100000000 0 after 10000000 4294967295", 3, ""),
+    ("every 1 0 10000000 after 0x5 7", 3, ""),
+    ("against 1 after 5 1", 3, ""),
+    ("against 1 0 after 5 1", 3, ""),
+    ("against 1 0 1 after 5 1", 3, ""),
     ("apart 1 0 1", 3, ""),
     ("apart 100000000 10000000 4294967295", 3, ""),
     ("apart 0 0 1", 1, USAGE),
@@ -42,6 +48,18 @@ static ROWS: [(&str, u8, &str); 63] = [
     ("against 1 10000001", 1, USAGE),
     ("against 1 0 10000001", 1, USAGE),
     ("against", 1, USAGE),
+    ("every 1 after", 1, USAGE),
+    ("every 1 after 5", 1, USAGE),
+    ("every 1 after 5 0", 1, USAGE),
+    ("every 1 after 10000001 1", 1, USAGE),
+    ("every 0 after 5 1", 1, USAGE),
+    ("every 1 0 0 after 5 1", 1, USAGE),
+    ("every 1 0 1 1 after 5 1", 1, USAGE),
+    ("every 1 after 5 1 1", 1, USAGE),
+    ("every 1 behind 5 1", 1, USAGE),
+    ("against 1 10000001 after 5 1", 1, USAGE),
+    ("run 5 1 after 5 1", 1, USAGE),
+    ("apart 1 5 1 after 5 1", 1, USAGE),
     ("audit 15", 1, USAGE),
     ("audit 4097", 1, USAGE),
     ("audit 016", 1, USAGE),

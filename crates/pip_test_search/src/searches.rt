@@ -2,8 +2,8 @@ ghost use Rattle.std.specs.Prelude.{◌<◌, ◌≤◌, length};
 
 use crate::Counters;
 use pip_search::{
-    Extent, Part, Reached, Run, Search, are_rising, check_part, come_again, explore, merged, runs,
-    runs_to,
+    Extent, Part, Reached, Run, Search, are_rising, check_part, come_again, explore, merged,
+    reached, runs, runs_to,
 };
 use std::alloc::{AllocError, Global};
 use std::test::Fail;
@@ -92,11 +92,8 @@ fn check_counters(alloc: Global, way: &[u32], marks: &[u8]) -> Result<Option<Par
 }
 
 // A key of two small words.
-fn key_of(alloc: Global, first: u8, second: u8, depth: u32) -> Result<Reached, AllocError> {
-    let mut key = Vec::new(alloc);
-    key.push(first)?;
-    key.push(second)?;
-    Ok(Reached { key, depth })
+fn key_of(alloc: Global, first: u32, second: u32, depth: u32) -> Result<Reached, AllocError> {
+    reached(alloc, &[first, second], depth)
 }
 
 #[test]

@@ -3,13 +3,13 @@
 //! `ways_of` takes the memory for the way to each label, so that nothing is written before all memory is there;
 //! `write_search` writes a line for each label that was covered, and the last line (`search_text` of specs/Texts). Of
 //! pip it knows the number of processors and the lines, and that the choices after these are deeds. `write_shown`,
-//! `write_times` and `write_verdict` are its pieces, for texts of other ways.
+//! `write_times`, `write_way` and `write_verdict` are its pieces, for other texts.
 #![tactic(auto)]
 
 mod lines;
 mod ways;
 mod words;
 
-pub use lines::{write_search, write_shown, write_verdict};
+pub use lines::{inner, write_search, write_shown, write_verdict};
 pub use ways::ways_of;
-pub use words::write_times;
+pub use words::{write_times, write_way};

@@ -98,8 +98,8 @@ fn write_number<K: Sink>(sink: &mut K, n: u32) -> Result<(), Failed>
     write_line(sink, &number)
 }
 
-// A label without its first byte and its last.
-fn inner(label: &[u8]) -> &[u8]
+/// A label without its first byte and its last: a line of a trace without its step and its newline.
+pub fn inner(label: &[u8]) -> &[u8]
     ensures { result.now ≡ inner label.now }
 {
     match label {

@@ -15,12 +15,7 @@ const RUN_ROOM: usize = 40;
 
 /// Writes the runs of a way, each after a space. Choices below `cpus` are turns, the next raise these lines, and those
 /// after them are deeds.
-pub(crate) fn write_way<K: Sink>(
-    sink: &mut K,
-    cpus: u32,
-    lines: &[u32],
-    way: &[Run],
-) -> Result<(), Failed>
+pub fn write_way<K: Sink>(sink: &mut K, cpus: u32, lines: &[u32], way: &[Run]) -> Result<(), Failed>
     requires { 1 ≤ cpus }
     ensures { Writes K.written K.faults sink.old sink.new result (flat_map (spaced_run cpus lines.now) way.now) }
 {

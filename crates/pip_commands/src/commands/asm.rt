@@ -3,13 +3,13 @@ ghost use Rattle.std.specs.Prelude.{◌≡◌, ◌≢◌, ◌≤◌, ◌^◌, �
 ghost use Rattle.pip_io.specs.Taken.{Keeps};
 ghost use Rattle.pip_model.specs.Assembly.{assembly};
 ghost use Rattle.pip_commands.specs.Dues.{asm_answer, asm_due};
-ghost use Rattle.pip_commands.specs.EndsBy.{EndsBy, EndsWithResponse};
-ghost use Rattle.pip_commands.specs.Pacing.{IsPaced};
-ghost use Rattle.pip_commands.specs.Streams.{streams};
+ghost use Rattle.pip_due.specs.EndsBy.{EndsBy, EndsWithResponse};
+ghost use Rattle.pip_due.specs.Pacing.{IsPaced};
+ghost use Rattle.pip_due.specs.Streams.{streams};
 
-use crate::ended::{Ended, end_with};
 use crate::text::bad_asm_line;
 use pip_asm::{AsmError, assemble};
+use pip_due::{Ended, end_with};
 use pip_input::{ReadError, read_whole};
 use pip_io::{Joint, Sink, Source};
 use std::alloc::Global;

@@ -5,20 +5,20 @@ ghost use Rattle.pip_base.specs.Opening.{CanOpen};
 ghost use Rattle.pip_base.specs.declared.types.Plan.{Plan};
 ghost use Rattle.pip_lines.specs.Due.{AnswersDue};
 ghost use Rattle.pip_native.specs.Choice.{AnswersNext};
-ghost use Rattle.pip_commands.specs.EndsBy.{EndsBy};
+ghost use Rattle.pip_due.specs.EndsBy.{EndsBy};
 ghost use Rattle.pip_commands.specs.Children.{IsBounded};
 ghost use Rattle.pip_commands.specs.Dues.{children_due};
-ghost use Rattle.pip_commands.specs.Pacing.{IsPaced};
-ghost use Rattle.pip_commands.specs.Streams.{streams};
+ghost use Rattle.pip_due.specs.Pacing.{IsPaced};
+ghost use Rattle.pip_due.specs.Streams.{streams};
 
 pub mod loading;
 pub mod scheduling;
 pub mod showing;
 
-use crate::ended::{Ended, end_at_image, end_with};
 use crate::text::short_line;
 use loading::{ChildrenLoadError, load};
 use pip_base::{Plan, Steps};
+use pip_due::{Ended, end_at_image, end_with};
 use pip_io::{Joint, Sink, Source};
 use pip_lines::{Callback, due};
 use pip_native::{Chooser, next_child};

@@ -1,12 +1,12 @@
 //! The command `dis`.
 ghost use Rattle.std.specs.Prelude.{◌≡◌, ◌≢◌, []};
-ghost use Rattle.pip_commands.specs.EndsBy.{EndsBy};
+ghost use Rattle.pip_due.specs.EndsBy.{EndsBy};
 ghost use Rattle.pip_commands.specs.Dues.{dis_due};
-ghost use Rattle.pip_commands.specs.Pacing.{IsPaced};
-ghost use Rattle.pip_commands.specs.Streams.{streams};
+ghost use Rattle.pip_due.specs.Pacing.{IsPaced};
+ghost use Rattle.pip_due.specs.Streams.{streams};
 
-use crate::ended::{Ended, end_at_image};
 use pip_dis::{DisError, disassemble};
+use pip_due::{Ended, end_at_image};
 use pip_io::{Sink, Source};
 use std::alloc::Global;
 

@@ -1,13 +1,13 @@
 //! The command `native`: children of the root of an image, which a monitor runs.
 ghost use Rattle.std.specs.Prelude.{◌≡◌, ◌≢◌, ◌≤◌, []};
-ghost use Rattle.pip_commands.specs.EndsBy.{EndsBy};
+ghost use Rattle.pip_due.specs.EndsBy.{EndsBy};
 ghost use Rattle.pip_commands.specs.Dues.{native_due};
-ghost use Rattle.pip_commands.specs.Pacing.{IsPaced};
-ghost use Rattle.pip_commands.specs.Streams.{streams};
+ghost use Rattle.pip_due.specs.Pacing.{IsPaced};
+ghost use Rattle.pip_due.specs.Streams.{streams};
 
 use super::children::children;
 use super::children::scheduling::Scheduling;
-use crate::ended::Ended;
+use pip_due::Ended;
 use pip_io::{Sink, Source};
 use std::alloc::Global;
 use std::marker::Brand;

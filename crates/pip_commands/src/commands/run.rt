@@ -3,18 +3,17 @@ ghost use Rattle.std.specs.Prelude.{◌≡◌, ◌≢◌, ◌≤◌, []};
 ghost use Rattle.pip_base.specs.Opening.{CanOpen};
 ghost use Rattle.pip_base.specs.declared.types.Plan.{Plan};
 ghost use Rattle.pip_lines.specs.Due.{AnswersDue};
-ghost use Rattle.pip_commands.specs.EndsBy.{EndsBy};
+ghost use Rattle.pip_due.specs.EndsBy.{EndsBy};
 ghost use Rattle.pip_commands.specs.Dues.{run_due};
-ghost use Rattle.pip_commands.specs.Pacing.{IsPaced};
-ghost use Rattle.pip_commands.specs.Streams.{streams};
+ghost use Rattle.pip_due.specs.Pacing.{IsPaced};
+ghost use Rattle.pip_due.specs.Streams.{streams};
 ghost use Rattle.pip_commands.specs.declared.commands.run.report.Report.TheVariants as R;
 
-pub(super) mod loading;
 pub(super) mod report;
 
-use crate::ended::{Ended, end_at_image};
-use loading::{LoadError, load};
 use pip_base::{Plan, Steps};
+use pip_due::loading::{LoadError, load};
+use pip_due::{Ended, end_at_image};
 use pip_io::{Joint, Sink, Source};
 use pip_lines::{Callback, due};
 use report::Report;

@@ -1,16 +1,16 @@
 //! The command `script`.
 ghost use Rattle.std.specs.Prelude.{◌≡◌, ◌≢◌, []};
 ghost use Rattle.pip_base.specs.Opening.{CanOpen};
-ghost use Rattle.pip_commands.specs.EndsBy.{EndsBy};
+ghost use Rattle.pip_due.specs.EndsBy.{EndsBy};
 ghost use Rattle.pip_commands.specs.Dues.{script_due};
-ghost use Rattle.pip_commands.specs.Pacing.{IsPaced};
-ghost use Rattle.pip_commands.specs.Streams.{streams};
+ghost use Rattle.pip_due.specs.Pacing.{IsPaced};
+ghost use Rattle.pip_due.specs.Streams.{streams};
 
 mod line;
 mod turn;
 
-use crate::ended::Ended;
 use pip_base::{MAX_INPUT, Steps, never};
+use pip_due::Ended;
 use pip_input::Input;
 use pip_io::{Joint, Sink, Source};
 use std::alloc::Global;

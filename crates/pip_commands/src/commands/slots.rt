@@ -2,15 +2,15 @@
 ghost use Rattle.std.specs.Prelude.{◌≡◌, ◌≢◌, ◌≤◌, ◌<◌, ◌*◌, ◌^◌, []};
 ghost use Rattle.std.specs.List.{AllByRecursion};
 ghost use Rattle.pip_slots.specs.Images.{round_steps};
-ghost use Rattle.pip_commands.specs.EndsBy.{EndsBy};
+ghost use Rattle.pip_due.specs.EndsBy.{EndsBy};
 ghost use Rattle.pip_commands.specs.Dues.{slots_due};
-ghost use Rattle.pip_commands.specs.Pacing.{IsPaced};
-ghost use Rattle.pip_commands.specs.Streams.{streams};
+ghost use Rattle.pip_due.specs.Pacing.{IsPaced};
+ghost use Rattle.pip_due.specs.Streams.{streams};
 
 use super::children::children;
 use super::children::scheduling::Scheduling;
-use crate::ended::Ended;
 use arrayvec::ArrayVec;
+use pip_due::Ended;
 use pip_io::{Sink, Source};
 use pip_slots::RoundSlot;
 use std::alloc::Global;

@@ -5,12 +5,12 @@ ghost use Rattle.pip_io.specs.Causes.{HasCause};
 ghost use Rattle.pip_io.specs.Taken.{Appends, SendsPart};
 ghost use Rattle.pip_soak.specs.LoadText.{load_text};
 ghost use Rattle.pip_commands.specs.Dues.{soak_due};
-ghost use Rattle.pip_commands.specs.EndsBy.{EndsBy};
-ghost use Rattle.pip_commands.specs.Streams.{beside, streams};
+ghost use Rattle.pip_due.specs.EndsBy.{EndsBy};
+ghost use Rattle.pip_due.specs.Streams.{beside, streams};
 
-use crate::ended::Ended;
 use crate::machines::new_machine;
 use pip_base::Steps;
+use pip_due::Ended;
 use pip_dump::{Totals, totals};
 use pip_io::{Failed, Sink, Source};
 use pip_soak::{Counts, load_text, soak_load};

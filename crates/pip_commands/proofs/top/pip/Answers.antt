@@ -114,8 +114,13 @@ audit-requires-clause-paced g c =
 
 pub every-requires-clause-some : goal.every-requires-clause-some
 every-requires-clause-some g c =
-    within_as_asked (map string_bytes c.args.words.now) _ _ _ c.read_words.ensures
-    c.in-Some-Every.is c.in-Some-Every.field-0-is
+    (within_as_asked (map string_bytes c.args.words.now) _ _ _ c.read_words.ensures
+    c.in-Some-Every.is c.in-Some-Every.field-0-is).0
+
+pub every-requires-clause-seed : goal.every-requires-clause-seed
+every-requires-clause-seed g c =
+    (within_as_asked (map string_bytes c.args.words.now) _ _ _ c.read_words.ensures
+    c.in-Some-Every.is c.in-Some-Every.field-0-is).1
 
 pub every-requires-clause-paced : goal.every-requires-clause-paced
 every-requires-clause-paced g c =
@@ -124,8 +129,13 @@ every-requires-clause-paced g c =
 
 pub against-requires-clause-some : goal.against-requires-clause-some
 against-requires-clause-some g c =
-    within_as_asked (map string_bytes c.args.words.now) _ _ _ c.read_words.ensures
-    c.in-Some-Against.is c.in-Some-Against.field-0-is
+    (within_as_asked (map string_bytes c.args.words.now) _ _ _ c.read_words.ensures
+    c.in-Some-Against.is c.in-Some-Against.field-0-is).0
+
+pub against-requires-clause-seed : goal.against-requires-clause-seed
+against-requires-clause-seed g c =
+    (within_as_asked (map string_bytes c.args.words.now) _ _ _ c.read_words.ensures
+    c.in-Some-Against.is c.in-Some-Against.field-0-is).1
 
 pub against-requires-clause-paced : goal.against-requires-clause-paced
 against-requires-clause-paced g c =

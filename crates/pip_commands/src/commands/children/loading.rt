@@ -8,8 +8,8 @@ ghost use Rattle.pip_lines.specs.Due.{AnswersDue};
 ghost use Rattle.pip_commands.specs.NativeLoading.{LoadsNative, StoppedNative};
 ghost use Rattle.pip_commands.specs.Pacing.{IsFaultlessUnshort};
 
-use crate::commands::run::loading::{self, Loaded, load_after};
 use pip_base::{Plan, Steps};
+use pip_due::loading::{self, Loaded, load_after};
 use pip_image::JointReader;
 use pip_io::{Joint, Sink, Source};
 use pip_lines::Callback;

@@ -10,12 +10,12 @@ ghost use Rattle.pip_switch.specs.Standing.{StandsAs};
 ghost use Rattle.pip_watch.specs.Watching.{root_runs as runs_root, watched_steps};
 ghost use Rattle.pip_commands.specs.Children.{IsBounded};
 ghost use Rattle.pip_commands.specs.Dues.{IsRoomy};
-ghost use Rattle.pip_commands.specs.Loading.{Begins, HasImage};
+ghost use Rattle.pip_due.specs.Loading.{Begins, HasImage};
 ghost use Rattle.pip_commands.specs.NativeLoading.{ShowsChildren, ShowsChildrenOut};
 
 use super::scheduling::Scheduling;
-use crate::commands::run::loading::Loaded;
 use pip_base::Steps;
+use pip_due::loading::Loaded;
 use pip_frames::Frames;
 use pip_io::{Failed, Sink};
 use pip_lines::{Callback, Line, raise_due, write_end, write_image};

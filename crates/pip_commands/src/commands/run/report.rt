@@ -1,25 +1,23 @@
 //! What is shown of a run.
-ghost use Rattle.std.specs.Prelude.{◌≡◌, ◌≤◌, ◌<◌, ◌++◌, [], length, OnOk};
+ghost use Rattle.std.specs.Prelude.{◌≡◌, ◌≤◌, ◌<◌, ◌++◌, [], OnOk};
 ghost use Rattle.std.specs.List.{AllByRecursion};
 ghost use Rattle.pip_io.specs.Taken.{Wrote};
 ghost use Rattle.pip_io.specs.Causes.{HasCause};
-ghost use Rattle.pip_model.specs.Acts.{after_acts};
 ghost use Rattle.pip_model.specs.Dump.{frames_text, tree_text};
 ghost use Rattle.pip_model.specs.Images.{Image};
 ghost use Rattle.pip_model.specs.Partitions.{HasPartition, IsHeld};
-ghost use Rattle.pip_model.specs.Run.{end_line, steps as run_steps};
+ghost use Rattle.pip_model.specs.Run.{end_line};
 ghost use Rattle.pip_model.specs.Tree.{Tree};
-ghost use Rattle.pip_model.specs.Worlds.{World};
-ghost use Rattle.pip_switch.specs.Standing.{StandsAs};
-ghost use Rattle.pip_commands.specs.Loading.{Begins, HasImage, ShowsOut, ShowsReport};
+ghost use Rattle.pip_commands.specs.Shown.{ShowsOut, ShowsReport};
+ghost use Rattle.pip_due.specs.Loading.{Begins, HasImage};
 
-use super::loading::Loaded;
-use pip_base::{Steps, never};
+use pip_base::Steps;
+use pip_due::loading::Loaded;
+use pip_due::pass;
 use pip_dump::{frames_text, tree_text};
 use pip_frames::Frames;
-use pip_io::{Discard, Failed, Sink};
-use pip_lines::{Callback, Line, run_lines, trace, write_end};
-use pip_switch::Machine;
+use pip_io::{Failed, Sink};
+use pip_lines::{Callback, trace, write_end};
 use std::sync::ledger::Ledger;
 
 /// What one of the three commands shows.
@@ -95,26 +93,6 @@ impl Report {
                 write_frames(machine.mem(), count, sink, steps)
             }
         }
-    }
-}
-
-/// Makes the steps, and shows nothing of them.
-pub fn pass<M: Frames, F: Callback, L: Ledger>(
-    machine: &mut Machine<M>,
-    lines: &[Line<F>],
-    count: u32,
-    seed: u32,
-    steps: &mut Steps<L>,
-)
-    requires below { AllByRecursion (λ p. p.line < 16) lines.now }
-    requires seed { 1 ≤ seed }
-    ensures { (w : World) → StandsAs machine.old w → StandsAs machine.new
-        (after_acts w (run_steps w lines.now seed (length machine.old.cpus) count 0)) }
-{
-    match run_lines(machine, lines, count, seed, &mut Discard::new(), steps) {
-        Ok(()) => {}
-        // A sink that takes everything doesn't fail.
-        Err(_) => never!(),
     }
 }
 

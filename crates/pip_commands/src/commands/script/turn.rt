@@ -7,7 +7,7 @@ ghost use Rattle.pip_io.specs.Taken.{Keeps};
 ghost use Rattle.pip_input.specs.Lines.{HoldsLine, HoldsPart, still};
 ghost use Rattle.pip_commands.specs.Pacing.{MayReadLine};
 ghost use Rattle.pip_commands.specs.Progress.{HasNoLine, LineComes, Names, Settles, TurnDoes, status_of};
-ghost use Rattle.pip_commands.specs.Streams.{streams};
+ghost use Rattle.pip_due.specs.Streams.{streams};
 
 use super::line::{ScriptLineError, run_line};
 use crate::text::bad_line;

@@ -1,6 +1,7 @@
 -- The part begins at the first moment, or where a way leads from there.
 use Rattle.std.proofs.Common.{◌≡◌, ◌∙◌, ◌++◌, [], ap, length, subst, sym}
 use Rattle.pip_model.specs.Booted.{IsBooted}
+use Rattle.pip_model.specs.Worlds.{boot_world_with}
 use Rattle.pip_search.specs.Certificates.{IsClosedPart, IsReachedPart}
 use Rattle.pip_search.specs.Parts.{portion_of}
 use Rattle.pip_every.specs.Choosing.{machine_menu}
@@ -20,8 +21,8 @@ check_part-requires-clause-key g c =
     let count : length c.new-explorer.result.machine.cpus ≡ length c.add_key.new.self.machine.cpus =
     ap (λ p. length p.cpus) (sym c.in_ok-add_key.ensures.machine) in (
       first_moment words n c.args.cpus,
-      begun n c.args.cpus words stands c.new-explorer.ensures.machine c.in_ok-add_key.ensures.count count
-          c.new-start.ensures.items (c.as_slice.ensures.value ∙ c.in_ok-add_key.ensures.key),
+      begun (boot_world_with words n c.args.cpus) stands c.new-explorer.ensures.machine c.in_ok-add_key.ensures.count
+          count c.new-start.ensures.items (c.as_slice.ensures.value ∙ c.in_ok-add_key.ensures.key),
     )
 
 pub returns-clause-closed : goal.returns-clause-closed
@@ -63,7 +64,7 @@ returns-clause-reached g c = if_ok c.check_part.result _ _ (λ r e p n words is 
     let count : length c.new-explorer.result.machine.cpus ≡ length q.machine.cpus =
     ap (λ y. length y.cpus) (sym c.in_ok-add_key.ensures.machine) in
     let key : IsKeyOf first t.scope c.as_slice.result.now m =
-    begun n c.args.cpus words stands c.new-explorer.ensures.machine
+    begun (boot_world_with words n c.args.cpus) stands c.new-explorer.ensures.machine
     c.in_ok-add_key.ensures.count count c.new-start.ensures.items
     (c.as_slice.ensures.value ∙ c.in_ok-add_key.ensures.key) in
     reached_usual first s m (portion_of p)
@@ -90,7 +91,7 @@ returns-clause-begins g c = if_ok c.check_part.result _ _ (λ r e p n words is b
     let count : length c.new-explorer.result.machine.cpus ≡ length q.machine.cpus =
     ap (λ y. length y.cpus) (sym c.in_ok-add_key.ensures.machine) in
     let key : IsKeyOf first t.scope c.as_slice.result.now m =
-    begun n c.args.cpus words stands c.new-explorer.ensures.machine
+    begun (boot_world_with words n c.args.cpus) stands c.new-explorer.ensures.machine
     c.in_ok-add_key.ensures.count count c.new-start.ensures.items
     (c.as_slice.ensures.value ∙ c.in_ok-add_key.ensures.key) in
     (c.as_slice.result.now, (subst (λ v. IsKeyOf first v c.as_slice.result.now m) scope key, e p is none)))

@@ -7,5 +7,5 @@ ghosts-search_from-F-First a = record { words = a.later.block.frames }
 abbrev pub ghosts-search_from-L-Ledger : goal.ghosts-search_from-L-Ledger
 ghosts-search_from-L-Ledger a = record { name = a.blank.name; parts = a.blank.parts }
 
-abbrev pub ghosts-words_later : goal.ghosts-words_later
-ghosts-words_later a = record { name = a.blank.name; parts = a.blank.parts }
+abbrev pub ghosts-booted_later : goal.ghosts-booted_later
+ghosts-booted_later a = record { name = a.blank.name; parts = a.blank.parts }

@@ -5,7 +5,7 @@ use Rattle.std.specs.Cmp.Lexicographic.{slice_cmp}
 use Rattle.std.specs.Ordering.{nat_cmp}
 use Rattle.std.specs.declared.cmp.Ordering.TheVariants.{Less}
 use Rattle.pip_search.specs.Packing.{packed_key, unpacked_key}
-use Rattle.pip_search.specs.declared.parts.Reached.{Reached}
+use Rattle.pip_search.specs.declared.stops.Reached.{Reached}
 use Rattle.pip_search.proofs.Making.{at-same}
 use Rattle.pip_search.proofs.Rising.{one_more, rising_distinct}
 use Rattle.pip_search.proofs.merging.are_rising.Goals as goal

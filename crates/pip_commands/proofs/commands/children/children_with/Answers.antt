@@ -1,10 +1,11 @@
 use Rattle.std.proofs.Common.{◌∙◌, ap, refl}
 use Rattle.pip_io.proofs.Taken.{Keeps-refl}
 use Rattle.pip_watch.specs.Watching.{short_line}
-use Rattle.pip_commands.proofs.Endings.{ends_same}
+use Rattle.pip_due.proofs.Endings.{ends_same}
 use Rattle.pip_commands.proofs.Monitored.{children_cut, children_faulted, children_lacks, children_short}
 use Rattle.pip_commands.proofs.Monitored.{children_shown}
-use Rattle.pip_commands.proofs.Waiting.{children_waits, waits_after}
+use Rattle.pip_commands.proofs.Waiting.{children_waits}
+use Rattle.pip_due.proofs.Waiting.{waits_after}
 use Rattle.pip_commands.proofs.commands.children.children_with.Goals as goal
 
 pub returns-in-Ok-show-clause-ends : goal.returns-in-Ok-show-clause-ends

@@ -1,6 +1,6 @@
 use Rattle.std.proofs.Common.{ap, refl}
 use Rattle.pip_model.specs.DisText.{dis_text}
-use Rattle.pip_commands.specs.Streams.{streams}
+use Rattle.pip_due.specs.Streams.{streams}
 use Rattle.pip_commands.proofs.Disassembly.{dis_cut, dis_done, dis_image}
 use Rattle.pip_commands.proofs.Waiting.{dis_waits}
 use Rattle.pip_commands.proofs.commands.dis.dis.Goals as goal

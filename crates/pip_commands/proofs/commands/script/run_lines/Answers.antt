@@ -1,8 +1,8 @@
 use Rattle.std.proofs.Common.{rules, refl, ◌≢◌, Some, ap, sym, subst, ◌∙◌}
-use Rattle.pip_commands.specs.EndsBy.{EndsBy}
+use Rattle.pip_due.specs.EndsBy.{EndsBy}
 use Rattle.pip_commands.specs.Progress.{TurnDoes, status_of}
 use Rattle.pip_commands.specs.Dues.{script_due}
-use Rattle.pip_commands.specs.Streams.{Streams, streams}
+use Rattle.pip_due.specs.Streams.{Streams, streams}
 use Rattle.pip_commands.specs.declared.commands.script.turn.End.TheVariants.{Finished}
 use Rattle.pip_commands.proofs.Waiting.{script_waits}
 use Rattle.pip_commands.proofs.Whole.{begins_run, lines_wait, runs_on, script_ends, script_finished}

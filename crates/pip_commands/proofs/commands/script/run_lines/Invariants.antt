@@ -1,6 +1,6 @@
 use Rattle.std.proofs.Common.{◌≡◌}
 use Rattle.pip_commands.specs.Progress.{HasRun}
-use Rattle.pip_commands.specs.Streams.{streams}
+use Rattle.pip_due.specs.Streams.{streams}
 use Rattle.pip_commands.proofs.commands.script.run_lines.Given as goal
 
 abbrev pub invariant-loop-number : goal.invariant-loop-number

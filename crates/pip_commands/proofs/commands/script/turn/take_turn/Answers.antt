@@ -1,4 +1,4 @@
-use Rattle.pip_commands.specs.Streams.{streams}
+use Rattle.pip_due.specs.Streams.{streams}
 use Rattle.pip_commands.proofs.Settled.{none_held, turn_settled}
 use Rattle.pip_commands.proofs.commands.script.turn.take_turn.Goals as goal
 

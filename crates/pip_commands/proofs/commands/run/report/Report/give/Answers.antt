@@ -1,7 +1,8 @@
 use Rattle.std.proofs.Common.{subst, sym}
 use Rattle.pip_model.specs.Layout.{LaysOut}
 use Rattle.pip_model.specs.Partitions.{HasPartition}
-use Rattle.pip_commands.specs.Loading.{Begins, ShowsReport}
+use Rattle.pip_commands.specs.Shown.{ShowsReport}
+use Rattle.pip_due.specs.Loading.{Begins}
 use Rattle.pip_commands.proofs.Reports.{has_root, passed, frames_shows, trace_shows, tree_shows}
 use Rattle.pip_commands.proofs.commands.run.report.Report.give.Goals as goal
 
@@ -20,7 +21,8 @@ write_tree-requires g c =
     let (i, b) = c.requires.begins in
     subst (λ m. HasPartition m 1) (sym c.mem.ensures) (has_root c.pass.new.machine _
     (passed i l.frames l.pages c.as_slice-lines.result.now l.machine c.pass.new.machine c.args.count c.args.seed
-    (subst (λ ls. Begins i l.frames l.pages ls l.machine) (sym c.as_slice-lines.ensures.value) b) c.pass.ensures))
+    (subst (λ ls. Begins i l.frames l.pages ls l.machine) (sym c.as_slice-lines.ensures.value) b)
+    c.pass.ensures.stands))
 
 pub returns-in-Tree-clause-shows : goal.returns-in-Tree-clause-shows
 returns-in-Tree-clause-shows g c = λ i b.
@@ -29,7 +31,7 @@ returns-in-Tree-clause-shows g c = λ i b.
     (g.K.Sink.written c.write_tree.new.sink) c.pass.new.machine) (sym c.in-Tree.is)
     (tree_shows i c.pass.new.machine c.args.count c.args.seed
     (passed i l.frames l.pages c.as_slice-lines.result.now l.machine c.pass.new.machine c.args.count c.args.seed
-    (subst (λ ls. Begins i l.frames l.pages ls l.machine) (sym c.as_slice-lines.ensures.value) b) c.pass.ensures)
+    (subst (λ ls. Begins i l.frames l.pages ls l.machine) (sym c.as_slice-lines.ensures.value) b) c.pass.ensures.stands)
     c.write_tree.result _ _
     (λ t h. c.write_tree.ensures.wrote t (h.0, subst (LaysOut t) (sym c.mem.ensures) h.1)))
 
@@ -42,5 +44,5 @@ returns-in-Frames-clause-shows g c = λ i b.
     (passed i l.frames l.pages c.as_slice-lines.result.now l.machine c.pass-in-Frames.new.machine c.args.count
     c.args.seed
     (subst (λ ls. Begins i l.frames l.pages ls l.machine) (sym c.as_slice-lines.ensures.value) b)
-    c.pass-in-Frames.ensures) c.write_frames.result _ _
+    c.pass-in-Frames.ensures.stands) c.write_frames.result _ _
     (λ t h. c.write_frames.ensures.wrote t (h.0, subst (LaysOut t) (sym c.mem-in-Frames.ensures) h.1)))

@@ -1,0 +1,234 @@
+-- What one line that could be merged does.
+use Rattle.std.specs.Prelude.{◌≡◌, refl, ℕ, suc, ◌+◌, ◌<◌, ◌≤◌, ◌^◌, ◌==◌, ◌&&◌, ◌||◌, ◌⊎◌, Bool, true, false, List}
+use Rattle.std.specs.Prelude.{[], ◌∷◌, ◌++◌}
+use Rattle.std.specs.Prelude.{Option, Some, Result, Ok, Err, map, max, nat_lt, nat_le}
+use Rattle.std.specs.List.{Contains}
+use Rattle.std.specs.Cmp.Lexicographic.{slice_cmp}
+use Rattle.std.specs.Ordering.{nat_cmp}
+use Rattle.std.specs.Str.{bytes_eq}
+use Rattle.std.specs.declared.cmp.Ordering.{Ordering}
+use Rattle.std.specs.declared.cmp.Ordering.TheVariants.{Less, Equal, Greater}
+use Rattle.std.proofs.Common.{inl, inr, ap, sym, subst, ◌∙◌, arith, cond}
+use Rattle.std.proofs.lemmas.Bool.{eqb-true, leb-true, ltb-true}
+use Rattle.std.proofs.lemmas.List.Elements.{Contains-append_left, Contains-push}
+use Rattle.std.proofs.lemmas.Map.Lookups.{exact_bytes}
+use Rattle.std.proofs.lemmas.Slice.Eq.{bytes_eq-Decides}
+use Rattle.pip_parts.specs.Entries.{Asks, Entry, Own, Shows, Tells, entry_of}
+use Rattle.pip_parts.specs.Merges.{MergedKeys, MergedParts, Merging, counted, has_asked, is_alike, key_after}
+use Rattle.pip_parts.specs.Merges.{label_order}
+use Rattle.pip_parts.specs.Merges.{merge_entry, merge_lines, on_value, own_after, with_asked, with_label, with_label_by}
+use Rattle.pip_parts.specs.Merges.{with_own, with_told_part}
+use Rattle.pip_parts.specs.declared.faults.MergeFault.{MergeFault}
+use Rattle.pip_parts.specs.declared.faults.MergeFault.TheVariants as F
+
+-- ---- answers
+
+pub on_ok : {A B : Type 0} (r : Result A MergeFault) (f : A → Result B MergeFault) (y : B) → on_value r f ≡ Ok y
+    → (x : A) × ((r ≡ Ok x) × (f x ≡ Ok y))
+on_ok (Ok x) f y h = (x, (refl, h))
+on_ok (Err e) f y h = absurd cc
+
+if_ok : {A : Type 0} (b : Bool) (r : Result A MergeFault) (e : MergeFault) (y : A) → cond b r (Err e) ≡ Ok y
+    → (b ≡ true) × (r ≡ Ok y)
+if_ok true r e y h = (refl, h)
+if_ok false r e y h = absurd cc
+
+abbrev good : {A : Type 0} → A → Result A MergeFault
+good x = Ok x
+
+ok_same : {A : Type 0} (x y : A) → good x ≡ good y → x ≡ y
+ok_same x y h = cc
+
+counted_is : (n k c : ℕ) → counted n k ≡ Ok c → c ≡ n + k
+counted_is n k c h = let w = if_ok (nat_lt (n + k) (2 ^ 64)) (Ok (n + k)) F.Many c h in sym (ok_same (n + k) c w.1)
+
+-- ---- a key of a part
+
+pub record OwnStep (m : Merging) (k : List ℕ) (d : ℕ) (n : Merging) : Type 0 where
+  pub after : (m.keys.states ≡ 0) ⊎ (slice_cmp nat_cmp m.keys.key k ≡ Less)
+  pub key : n.keys.key ≡ k
+  pub depth : n.keys.depth ≡ d
+  pub states : n.keys.states ≡ m.keys.states + 1
+  pub deepest : n.keys.deepest ≡ max m.keys.deepest d
+  pub labels : n.labels ≡ m.labels
+  pub parts : n.parts ≡ m.parts
+
+order_less : (o : Ordering) (u : Unit {0}) → key_after o ≡ Ok u → o ≡ Less
+order_less Less u h = refl
+order_less Equal u h = absurd cc
+order_less Greater u h = absurd cc
+
+own_comes : (m : MergedKeys) (k : List ℕ) (u : Unit {0}) → own_after m k ≡ Ok u
+    → (m.states ≡ 0) ⊎ (slice_cmp nat_cmp m.key k ≡ Less)
+own_comes m k u h = go (m.states == 0) refl h
+  where
+    go : (b : Bool) → (m.states == 0) ≡ b → cond b (Ok tt) (key_after (slice_cmp nat_cmp m.key k)) ≡ Ok u
+        → (m.states ≡ 0) ⊎ (slice_cmp nat_cmp m.key k ≡ Less)
+    go true e h = inl (eqb-true m.states 0 e)
+    go false e h = inr (order_less (slice_cmp nat_cmp m.key k) u h)
+
+pub own_step : (m n : Merging) (k : List ℕ) (d : ℕ) → merge_entry m (Some (Own k d)) ≡ Ok n → OwnStep m k d n
+own_step m n k d h =
+    let w = on_ok (with_own m.keys k d) (λ ks. Ok (record m { keys = ks })) n h in
+    let ks = w.0 in
+    let a = on_ok (own_after m.keys k) (λ _. on_value (counted m.keys.states 1) (λ c. Ok (record {
+      key = k;
+      depth = d;
+      states = c;
+      deepest = max m.keys.deepest d;
+      asked = m.keys.asked;
+    }))) ks w.1.0 in
+    let b = on_ok (counted m.keys.states 1) (λ c. Ok (record {
+      key = k;
+      depth = d;
+      states = c;
+      deepest = max m.keys.deepest d;
+      asked = m.keys.asked;
+    })) ks a.1.1 in
+    let made : record { key = k; depth = d; states = b.0; deepest = max m.keys.deepest d; asked = m.keys.asked } ≡ ks =
+    ok_same _ ks b.1.1 in
+    let all : record m { keys = ks } ≡ n = ok_same _ n w.1.1 in
+    record {
+      after = own_comes m.keys k a.0 a.1.0;
+      key = ap (λ (x : Merging). x.keys.key) (sym all) ∙ ap (λ (x : MergedKeys). x.key) (sym made);
+      depth = ap (λ (x : Merging). x.keys.depth) (sym all) ∙ ap (λ (x : MergedKeys). x.depth) (sym made);
+      states = ap (λ (x : Merging). x.keys.states) (sym all) ∙ ap (λ (x : MergedKeys). x.states) (sym made)
+          ∙ counted_is m.keys.states 1 b.0 b.1.0;
+      deepest = ap (λ (x : Merging). x.keys.deepest) (sym all) ∙ ap (λ (x : MergedKeys). x.deepest) (sym made);
+      labels = ap (λ (x : Merging). x.labels) (sym all);
+      parts = ap (λ (x : Merging). x.parts) (sym all);
+    }
+
+-- ---- a key that is asked
+
+pub record AskStep (m : Merging) (k : List ℕ) (d : ℕ) (n : Merging) : Type 0 where
+  pub some : 0 < m.keys.states
+  pub same : m.keys.key ≡ k
+  pub soon : m.keys.depth ≤ d
+  pub key : n.keys.key ≡ m.keys.key
+  pub depth : n.keys.depth ≡ m.keys.depth
+  pub states : n.keys.states ≡ m.keys.states
+  pub deepest : n.keys.deepest ≡ m.keys.deepest
+  pub labels : n.labels ≡ m.labels
+  pub parts : n.parts ≡ m.parts
+
+both : (a b : Bool) → (a && b) ≡ true → (a ≡ true) × (b ≡ true)
+both true b h = (refl, h)
+both false b h = absurd cc
+
+pub ask_step : (m n : Merging) (k : List ℕ) (d : ℕ) → merge_entry m (Some (Asks k d)) ≡ Ok n → AskStep m k d n
+ask_step m n k d h =
+    let w = on_ok (with_asked m.keys k d) (λ ks. Ok (record m { keys = ks })) n h in
+    let ks = w.0 in
+    let a = if_ok (has_asked m.keys k d) (on_value (counted m.keys.asked 1) (λ c. Ok (record m.keys { asked = c })))
+    F.Open ks w.1.0 in
+    let t = both (nat_lt 0 m.keys.states && bytes_eq m.keys.key k) (nat_le m.keys.depth d) a.0 in
+    let s = both (nat_lt 0 m.keys.states) (bytes_eq m.keys.key k) t.0 in
+    let b = on_ok (counted m.keys.asked 1) (λ c. Ok (record m.keys { asked = c })) ks a.1 in
+    let made : record m.keys { asked = b.0 } ≡ ks = ok_same _ ks b.1.1 in
+    let all : record m { keys = ks } ≡ n = ok_same _ n w.1.1 in
+    record {
+      some = ltb-true 0 m.keys.states s.0;
+      same = (bytes_eq-Decides m.keys.key k).0 s.1;
+      soon = leb-true m.keys.depth d t.1;
+      key = ap (λ (x : Merging). x.keys.key) (sym all) ∙ ap (λ (x : MergedKeys). x.key) (sym made);
+      depth = ap (λ (x : Merging). x.keys.depth) (sym all) ∙ ap (λ (x : MergedKeys). x.depth) (sym made);
+      states = ap (λ (x : Merging). x.keys.states) (sym all) ∙ ap (λ (x : MergedKeys). x.states) (sym made);
+      deepest = ap (λ (x : Merging). x.keys.deepest) (sym all) ∙ ap (λ (x : MergedKeys). x.deepest) (sym made);
+      labels = ap (λ (x : Merging). x.labels) (sym all);
+      parts = ap (λ (x : Merging). x.parts) (sym all);
+    }
+
+-- ---- a label
+
+pub record LabelStep (m : Merging) (text : List ℕ) (n : Merging) : Type 0 where
+  pub has : Contains n.labels text
+  pub keeps : (x : List ℕ) → Contains m.labels x → Contains n.labels x
+  pub keys : n.keys ≡ m.keys
+  pub parts : n.parts ≡ m.parts
+
+-- the last of labels with which one ties is that one
+tied_last : (labels : List (List ℕ)) (text : List ℕ) → label_order labels text ≡ Equal → Contains labels text
+tied_last [] text h = absurd cc
+tied_last (x ∷ []) text h = (0, omega arith, exact_bytes x text h)
+tied_last (x ∷ y ∷ ls) text h =
+    let c = tied_last (y ∷ ls) text h in
+    let low = c.1 in
+    (suc c.0, omega (arith, low), c.2)
+
+pub label_step : (m n : Merging) (text : List ℕ) → merge_entry m (Some (Shows text)) ≡ Ok n → LabelStep m text n
+label_step m n text h =
+    let w = on_ok (with_label m.labels text) (λ ls. Ok (record m { labels = ls })) n h in
+    let all : record m { labels = w.0 } ≡ n = ok_same _ n w.1.1 in
+    let now : w.0 ≡ n.labels = ap (λ (x : Merging). x.labels) all in
+    let f = by_order (label_order m.labels text) refl w.0 w.1.0 in
+    record {
+      has = subst (λ ls. Contains ls text) now f.0;
+      keeps = λ x c. subst (λ ls. Contains ls x) now (f.1 x c);
+      keys = ap (λ (x : Merging). x.keys) (sym all);
+      parts = ap (λ (x : Merging). x.parts) (sym all);
+    }
+  where
+    by_order : (o : Ordering) → label_order m.labels text ≡ o → (ls : List (List ℕ))
+        → with_label_by o m.labels text ≡ Ok ls
+        → Contains ls text × ((x : List ℕ) → Contains m.labels x → Contains ls x)
+    by_order Less e ls h =
+        let same : m.labels ++ text ∷ [] ≡ ls = ok_same _ ls h in (
+          subst (λ l. Contains l text) same (Contains-push m.labels text),
+          λ x c. subst (λ l. Contains l x) same (Contains-append_left m.labels (text ∷ []) x c),
+        )
+    by_order Equal e ls h =
+        let same : m.labels ≡ ls = ok_same _ ls h in
+        (subst (λ l. Contains l text) same (tied_last m.labels text e), λ x c. subst (λ l. Contains l x) same c)
+    by_order Greater e ls h = absurd cc
+
+-- ---- a part
+
+pub record PartStep (m : Merging) (way : ℕ) (n : Merging) : Type 0 where
+  pub begins : n.parts.begins ≡ (m.parts.begins || way == 0)
+  pub keys : n.keys ≡ m.keys
+  pub labels : n.labels ≡ m.labels
+
+pub part_step : (m n : Merging) (about : List ℕ) (way keys asked : ℕ)
+    → merge_entry m (Some (Tells about way keys asked)) ≡ Ok n → PartStep m way n
+part_step m n about way keys asked h =
+    let w = on_ok (with_told_part m.parts about way keys asked) (λ ps. Ok (record m { parts = ps })) n h in
+    let ps = w.0 in
+    let made : ℕ → ℕ → ℕ → MergedParts = λ c k a. record {
+      about = about;
+      count = c;
+      begins = m.parts.begins || way == 0;
+      keys = k;
+      asked = a;
+    } in
+    let a = if_ok (is_alike m.parts about) (on_value (counted m.parts.count 1) (λ c.
+    on_value (counted m.parts.keys keys) (λ k. on_value (counted m.parts.asked asked) (λ a. Ok (made c k a))))) F.Apart
+    ps w.1.0 in
+    let b = on_ok (counted m.parts.count 1) (λ c.
+    on_value (counted m.parts.keys keys) (λ k. on_value (counted m.parts.asked asked) (λ a. Ok (made c k a)))) ps a.1 in
+    let c = on_ok (counted m.parts.keys keys) (λ k.
+    on_value (counted m.parts.asked asked) (λ a. Ok (made b.0 k a))) ps b.1.1 in
+    let d = on_ok (counted m.parts.asked asked) (λ a. Ok (made b.0 c.0 a)) ps c.1.1 in
+    let is : made b.0 c.0 d.0 ≡ ps = ok_same _ ps d.1.1 in
+    let all : record m { parts = ps } ≡ n = ok_same _ n w.1.1 in
+    record {
+      begins = ap (λ (x : Merging). x.parts.begins) (sym all) ∙ ap (λ (x : MergedParts). x.begins) (sym is);
+      keys = ap (λ (x : Merging). x.keys) (sym all);
+      labels = ap (λ (x : Merging). x.labels) (sym all);
+    }
+
+-- ---- all lines, by what they say
+
+abbrev pub merge_all : Merging → List (Option Entry) → Result Merging MergeFault
+merge_all m [] = Ok m
+merge_all m (o ∷ os) = on_value (merge_entry m o) (λ n. merge_all n os)
+
+on_same : {A B : Type 0} (r : Result A MergeFault) (f g : A → Result B MergeFault) → ((x : A) → f x ≡ g x)
+    → on_value r f ≡ on_value r g
+on_same (Ok x) f g h = h x
+on_same (Err e) f g h = refl
+
+pub lines_are : (m : Merging) (lines : List (List ℕ)) → merge_lines m lines ≡ merge_all m (map entry_of lines)
+lines_are m [] = refl
+lines_are m (l ∷ ls) = on_same (merge_entry m (entry_of l)) (λ n. merge_lines n ls)
+    (λ n. merge_all n (map entry_of ls)) (λ n. lines_are n ls)

@@ -1,0 +1,94 @@
+-- The lines of the text of a part of a certificate, their newlines left off.
+use Rattle.std.specs.Prelude.{ℕ, ◌-◌, ◌/◌, ◌%◌, Bool, ◌==◌, ◌&&◌, is_some, nat_le, if◌then◌else◌, List, [], ◌∷◌, ◌++◌}
+use Rattle.std.specs.Prelude.{length}
+use Rattle.std.specs.Prelude.{drop, take, flat_map, codes, Option, Some, None, option_map}
+use Rattle.std.specs.List.{list_all}
+use Rattle.std.specs.Str.{bytes_eq}
+use Rattle.pip_core_text.specs.CoreTexts.{core_words}
+use Rattle.pip_core_text.specs.Lines.{words_ahead}
+use Rattle.pip_model.specs.Grammar.{hex_value}
+use Rattle.pip_model.specs.Text.{hex_digit}
+use Rattle.pip_search.specs.Packing.{packed_key}
+
+-- what a line says
+pub data Entry : Type 0 where
+  -- a key of the part, by its digits, and its depth
+  Own : List ℕ → ℕ → Entry
+  -- a key that the part asks, and how deep it may be
+  Asks : List ℕ → ℕ → Entry
+  -- what a choice shows
+  Shows : List ℕ → Entry
+  -- the part: what it is of, how many choices lead to its first key, how many keys it has, and how many it asks
+  Tells : List ℕ → ℕ → ℕ → ℕ → Entry
+
+-- ---- texts
+
+-- the two hexadecimal digits of a byte
+abbrev pub byte_digits : ℕ → List ℕ
+byte_digits b = hex_digit (b / 16 % 16) ∷ hex_digit (b % 16) ∷ []
+
+-- a key: the digits of its bytes
+abbrev pub key_digits : List ℕ → List ℕ
+key_digits key = flat_map byte_digits (packed_key key)
+
+-- the line that says this
+abbrev pub entry_line : Entry → List ℕ
+entry_line (Own key depth) = key ++ codes " +" ++ core_words (depth ∷ [])
+entry_line (Asks key depth) = key ++ codes " ?" ++ core_words (depth ∷ [])
+entry_line (Shows text) = codes "line" ++ text
+entry_line (Tells about way keys asked) = codes "part " ++ about ++ core_words (way ∷ keys ∷ asked ∷ [])
+
+-- ---- what a line says
+
+-- a line's bytes but the last n
+abbrev pub but_last : ℕ → List ℕ → List ℕ
+but_last n line = take (length line - n) line
+
+-- and its last n bytes
+abbrev pub last_bytes : ℕ → List ℕ → List ℕ
+last_bytes n line = drop (length line - n) line
+
+-- a hexadecimal digit in lower case
+abbrev pub is_hex : ℕ → Bool
+is_hex d = is_some (hex_value d)
+
+-- such digits, two for each byte
+abbrev pub are_digits : List ℕ → Bool
+are_digits text = list_all is_hex text && length text % 2 == 0
+
+-- the number, if there is one alone
+abbrev pub one_of : Option (List ℕ) → Option ℕ
+one_of (Some (n ∷ [])) = Some n
+one_of _ = None
+
+-- the three numbers, if there are three
+abbrev pub three_of : Option (List ℕ) → Option (ℕ × ℕ × ℕ)
+three_of (Some (a ∷ b ∷ c ∷ [])) = Some (a, b, c)
+three_of _ = None
+
+-- a key before its kind and its depth
+abbrev pub key_said : List ℕ → List ℕ → Option Entry
+key_said key rest =
+    if bytes_eq (take 2 rest) (codes " +") then option_map (Own key) (one_of (words_ahead 1 (drop 2 rest)))
+    else if bytes_eq (take 2 rest) (codes " ?") then option_map (Asks key) (one_of (words_ahead 1 (drop 2 rest)))
+    else None
+
+-- a key of digits, and what comes after it
+abbrev pub line_of_key : List ℕ → Option Entry
+line_of_key line =
+    if nat_le 11 (length line) && are_digits (but_last 11 line)
+    then key_said (but_last 11 line) (last_bytes 11 line) else None
+
+-- what a part is of, and three numbers
+abbrev pub line_of_part : List ℕ → Option Entry
+line_of_part text =
+    if nat_le 27 (length text)
+    then option_map (λ n. Tells (but_last 27 text) n.0 n.1 n.2) (three_of (words_ahead 3 (last_bytes 27 text)))
+    else None
+
+-- what a line says, if it says anything
+abbrev pub entry_of : List ℕ → Option Entry
+entry_of line =
+    if bytes_eq (take 4 line) (codes "line") then Some (Shows (drop 4 line))
+    else if bytes_eq (take 5 line) (codes "part ") then line_of_part (drop 5 line)
+    else line_of_key line

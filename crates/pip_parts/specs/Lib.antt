@@ -1,0 +1,4 @@
+pub mod Entries
+pub mod Merges
+pub mod Seen
+pub mod MergeLaw

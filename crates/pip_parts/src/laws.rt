@@ -1,0 +1,10 @@
+//! Laws of merging. They compute nothing: what each says is its contract.
+ghost use Rattle.pip_parts.specs.MergeLaw.{LinesOfPartsMerge};
+
+use pip_search::System;
+
+/// Where the lines of the texts of all parts, in any order, could be merged, and the merge is whole, the parts say all
+/// that can happen, and what they count is what was merged.
+pub fn law_merge<S: System>(_system: &S)
+    ensures { LinesOfPartsMerge (S.model (S.base _system.now)) }
+{}

@@ -1,0 +1,132 @@
+//! What a line of the text of a part says.
+ghost use Rattle.std.specs.Prelude.{◌≡◌, option_map};
+ghost use Rattle.pip_core_text.specs.Lines.{words_ahead};
+ghost use Rattle.pip_parts.specs.Entries.{are_digits, entry_of, is_hex, key_said, line_of_key, line_of_part};
+ghost use Rattle.pip_parts.specs.Entries.{one_of, three_of};
+ghost use Rattle.pip_parts.specs.Seen.{entry_seen};
+
+use pip_core_text::take_word;
+
+/// What a line says, its newline left off.
+#[derive(Clone, Copy, Debug)]
+pub enum PartLine<'a> {
+    /// A key of a part, by its digits, and how many choices lead to it.
+    Own {
+        key: &'a [u8],
+        depth: u32,
+    },
+    /// A key that a part asks, and how deep it may be.
+    Asks {
+        key: &'a [u8],
+        depth: u32,
+    },
+    /// What a choice shows.
+    Shows {
+        text: &'a [u8],
+    },
+    /// The part: what it is of, how many choices lead to its first key, how many keys it has, and how many it asks.
+    Tells {
+        about: &'a [u8],
+        way: u32,
+        keys: u32,
+        asked: u32,
+    },
+}
+
+// Whether a byte is a hexadecimal digit in lower case.
+fn is_hex(byte: u8) -> bool
+    ensures { result ≡ is_hex byte }
+{
+    byte.is_ascii_digit() || (b'a' <= byte && byte <= b'f')
+}
+
+// Whether all bytes are such digits, two for each byte of a key.
+fn are_digits(text: &[u8]) -> bool
+    ensures { result ≡ are_digits text.now }
+{
+    let mut rest = text;
+    while let [digit, tail @ ..] = rest {
+        if !is_hex(*digit) {
+            return false;
+        }
+        rest = tail;
+    }
+    text.len() % 2 == 0
+}
+
+// One number after a space, and nothing after it.
+fn read_one(text: &[u8]) -> Option<u32>
+    ensures { result ≡ one_of (words_ahead 1 text.now) }
+{
+    let (number, rest) = take_word(text)?;
+    if rest.is_empty() { Some(number) } else { None }
+}
+
+// Three numbers, each after a space, and nothing after them.
+fn read_three(text: &[u8]) -> Option<(u32, u32, u32)>
+    ensures { result ≡ three_of (words_ahead 3 text.now) }
+{
+    let (first, rest) = take_word(text)?;
+    let (second, rest) = take_word(rest)?;
+    let third = read_one(rest)?;
+    Some((first, second, third))
+}
+
+// A key before its kind and its depth.
+fn read_after_key<'a>(key: &'a [u8], rest: &[u8]) -> Option<PartLine<'a>>
+    ensures { option_map entry_seen result ≡ key_said key.now rest.now }
+{
+    if let Some(number) = rest.strip_prefix(b" +".as_slice()) {
+        let depth = read_one(number)?;
+        return Some(PartLine::Own { key, depth });
+    }
+    if let Some(number) = rest.strip_prefix(b" ?".as_slice()) {
+        let depth = read_one(number)?;
+        return Some(PartLine::Asks { key, depth });
+    }
+    None
+}
+
+// A key of digits, and what comes after it.
+fn read_key(line: &[u8]) -> Option<PartLine<'_>>
+    ensures { option_map entry_seen result ≡ line_of_key line.now }
+{
+    if line.len() < 11 {
+        return None;
+    }
+    let (key, rest) = line.split_at(line.len() - 11);
+    if !are_digits(key) {
+        return None;
+    }
+    read_after_key(key, rest)
+}
+
+// What a part is of, and three numbers.
+fn read_part(text: &[u8]) -> Option<PartLine<'_>>
+    ensures { option_map entry_seen result ≡ line_of_part text.now }
+{
+    if text.len() < 27 {
+        return None;
+    }
+    let (about, numbers) = text.split_at(text.len() - 27);
+    let (way, keys, asked) = read_three(numbers)?;
+    Some(PartLine::Tells {
+        about,
+        way,
+        keys,
+        asked,
+    })
+}
+
+/// What a line says, its newline left off, or None where it says nothing (docs/CERTIFICATES.md).
+pub fn read_line(line: &[u8]) -> Option<PartLine<'_>>
+    ensures { option_map entry_seen result ≡ entry_of line.now }
+{
+    if let Some(text) = line.strip_prefix(b"line".as_slice()) {
+        return Some(PartLine::Shows { text });
+    }
+    if let Some(text) = line.strip_prefix(b"part ".as_slice()) {
+        return read_part(text);
+    }
+    read_key(line)
+}

@@ -1,0 +1,184 @@
+//! The menu after an image, line by line.
+ghost use Rattle.std.specs.Prelude.{◌≡◌, ℕ, ◌≤◌, [], Err, IfOk, MatchResult, Ok, OnErr, length};
+ghost use Rattle.std.specs.Io.KnownBytes.{Keeps, prepend_known};
+ghost use Rattle.pip_input.specs.Lines.{HoldsLine, HoldsPart, IsLineless, still};
+ghost use Rattle.pip_io.specs.Causes.{HasCause};
+ghost use Rattle.pip_io.specs.Moments.{joined};
+ghost use Rattle.pip_io.specs.Pacing.{MayReadOn};
+ghost use Rattle.pip_searches.specs.MenuReading.{BeginsMenu, StopsMenu, TakesMenu, menu_said};
+ghost use Rattle.pip_searches.specs.MenuText.{Asks, line_said, no_menu, one_said, said_of, with_line};
+
+use super::menu_line::{MenuKind, read_label, read_said, split_word};
+use arrayvec::ArrayVec;
+use pip_base::never;
+use pip_every::{MAX_DEEDS, MAX_LABEL, MAX_LABELS, May};
+use pip_input::{Input, LineEnd};
+use pip_io::{Failed, Joint, Sink, Source};
+
+/// What the lines of a menu say: the deeds of partitions, and the labels of which it is asked whether they can come
+/// again.
+#[derive(Drop)]
+pub struct ReadMenu {
+    pub may: ArrayVec<May, MAX_DEEDS>,
+    pub again: ArrayVec<ArrayVec<u8, MAX_LABEL>, MAX_LABELS>,
+}
+
+impl ReadMenu {
+    // An empty one.
+    fn new() -> ReadMenu
+        ensures { menu_said result ≡ no_menu }
+    {
+        ReadMenu {
+            may: ArrayVec::new(),
+            again: ArrayVec::new(),
+        }
+    }
+}
+
+/// A bad line, by its number from 1 on, and what is wrong with it.
+#[derive(Clone, Copy, Debug, PartialEq, Eq)]
+pub struct MenuFault {
+    pub line: u32,
+    pub kind: MenuKind,
+}
+
+/// Why no menu was read.
+#[derive(Clone, Copy, Debug, PartialEq, Eq)]
+pub enum MenuStop {
+    /// The first bad line.
+    Bad(MenuFault),
+    /// A read failed.
+    Unread,
+}
+
+/// How many lines a menu has at most.
+const MAX_MENU_LINES: u32 = 65_536;
+
+/// More bytes than that many lines and one line too long have together.
+const MAX_MENU_BYTES: u32 = 1 << 24;
+
+/// Reads a menu to the end of its source, or to its first bad line.
+pub fn read_menu<S: Source, K: Sink>(joint: &mut Joint<'_, S, K>) -> Result<ReadMenu, MenuStop>
+    requires is_open { S.is_open joint.old.source.now }
+    requires settled { (K.written joint.old.sink.now).held ≡ [] }
+    requires paced { MayReadOn S.allows BeginsMenu (joined S.left S.faults K.written K.faults joint.old) }
+    ensures same_source { joint.new.source.ghost_name ≡ joint.old.source.ghost_name }
+    ensures sink { joint.new.sink ≡ joint.old.sink }
+    ensures reads { MatchResult result
+        (λ menu. TakesMenu (S.left joint.old.source.now) (S.left joint.new.source.now) (menu_said menu)
+        × (S.faults joint.new.source.now ≡ S.faults joint.old.source.now))
+        (StopsMenu (S.left joint.old.source.now) (S.left joint.new.source.now) (S.faults joint.old.source.now)
+        (S.faults joint.new.source.now)) }
+{
+    let mut input = Input::with_room(MAX_MENU_BYTES);
+    let mut menu = ReadMenu::new();
+    for line in 1..MAX_MENU_LINES + 2 {
+        let Ok(end) = next_line(&mut input, joint) else {
+            return Err(MenuStop::Unread);
+        };
+        match end {
+            LineEnd::Newline(count) => {
+                if let Err(kind) = add_line(&mut menu, line, input.head(count)) {
+                    return Err(MenuStop::Bad(MenuFault { line, kind }));
+                }
+                input.take(count + 1);
+            }
+            LineEnd::Last(count) => {
+                return match add_line(&mut menu, line, input.head(count)) {
+                    Ok(()) => Ok(menu),
+                    Err(kind) => Err(MenuStop::Bad(MenuFault { line, kind })),
+                };
+            }
+            LineEnd::End => return Ok(menu),
+            LineEnd::TooLong => {
+                return Err(MenuStop::Bad(MenuFault {
+                    line,
+                    kind: MenuKind::Long,
+                }));
+            }
+            // No lines before this one have that many bytes.
+            LineEnd::Over => never!(),
+        }
+    }
+    // The line after the last that a menu may have is bad.
+    never!()
+}
+
+// Tells what stands at the head of what is left.
+fn next_line<S: Source, K: Sink>(
+    input: &mut Input,
+    joint: &mut Joint<'_, S, K>,
+) -> Result<LineEnd, Failed>
+    requires is_open { S.is_open joint.old.source.now }
+    requires settled { (K.written joint.old.sink.now).held ≡ [] }
+    requires paced { MayReadOn S.allows (IsLineless input.old) (joined S.left S.faults K.written K.faults joint.old) }
+    ensures same_source { joint.new.source.ghost_name ≡ joint.old.source.ghost_name }
+    ensures sink { joint.new.sink ≡ joint.old.sink }
+    ensures kept { Keeps (prepend_known input.old.bytes (S.left joint.old.source.now))
+        (prepend_known input.new.bytes (S.left joint.new.source.now)) }
+    ensures line { IfOk result (HoldsLine (still input.old) input.new (S.left joint.new.source.now)) }
+    ensures part { OnErr result (HoldsPart (still input.old) input.new) }
+    ensures cause { HasCause (S.faults joint.old.source.now) (S.faults joint.new.source.now) result }
+    ensures is_open { (n : ℕ) → result ≡ Ok (LineEnd.Newline n) → S.is_open joint.new.source.now }
+{
+    match input.line_ahead() {
+        Some(end) => Ok(end),
+        None => input.read_line(joint),
+    }
+}
+
+// Adds what line `number` says, of at most 120 bytes; or answers what is wrong with it.
+fn add_line(menu: &mut ReadMenu, number: u32, line: &[u8]) -> Result<(), MenuKind>
+    requires { length line.now ≤ 120 }
+    ensures { MatchResult result
+        (λ _. with_line number (menu_said menu.old) (line_said line.now) ≡ Ok (menu_said menu.new))
+        (λ kind. with_line number (menu_said menu.old) (line_said line.now) ≡ Err kind) }
+{
+    let (word, rest) = split_word(line);
+    if word != b"again".as_slice() {
+        return add_deed(menu, number, line);
+    }
+    match read_label(rest) {
+        Some(label) => add_label(menu, number, label),
+        None => Err(MenuKind::What),
+    }
+}
+
+// Adds what line `number` says, which asks of no label.
+fn add_deed(menu: &mut ReadMenu, number: u32, line: &[u8]) -> Result<(), MenuKind>
+    requires { length line.now ≤ 120 }
+    ensures { MatchResult result
+        (λ _. with_line number (menu_said menu.old) (one_said (said_of line.now)) ≡ Ok (menu_said menu.new))
+        (λ kind. with_line number (menu_said menu.old) (one_said (said_of line.now)) ≡ Err kind) }
+{
+    let said = read_said(line)?;
+    if number > MAX_MENU_LINES {
+        return Err(MenuKind::Many);
+    }
+    let Some(may) = said else {
+        return Ok(());
+    };
+    if menu.may.is_full() {
+        return Err(MenuKind::Many);
+    }
+    menu.may.push(may);
+    Ok(())
+}
+
+// Adds the label of which line `number` asks.
+fn add_label(menu: &mut ReadMenu, number: u32, label: &[u8]) -> Result<(), MenuKind>
+    requires { length label.now ≤ 114 }
+    ensures { MatchResult result
+        (λ _. with_line number (menu_said menu.old) (Ok (Asks label.now)) ≡ Ok (menu_said menu.new))
+        (λ kind. with_line number (menu_said menu.old) (Ok (Asks label.now)) ≡ Err kind) }
+{
+    if number > MAX_MENU_LINES || menu.again.is_full() {
+        return Err(MenuKind::Many);
+    }
+    let mut own = ArrayVec::new();
+    if own.try_extend_from_slice(label).is_err() {
+        never!()
+    }
+    menu.again.push(own);
+    Ok(())
+}

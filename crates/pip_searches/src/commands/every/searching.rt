@@ -1,0 +1,367 @@
+//! The search of an image, and its text.
+ghost use Rattle.std.specs.Prelude.{◌≡◌, ◌≢◌, ◌≤◌, ◌<◌, [], length, IfOk, MatchResult, OnOk};
+ghost use Rattle.std.specs.List.{AllByRecursion};
+ghost use Rattle.pip_base.specs.Memory.{IsMemory};
+ghost use Rattle.pip_base.specs.Opening.{CanOpen};
+ghost use Rattle.pip_base.specs.declared.types.Plan.{Plan};
+ghost use Rattle.pip_image.specs.Coming.{IsHeader};
+ghost use Rattle.pip_io.specs.Causes.{HasCause};
+ghost use Rattle.pip_io.specs.Taken.{Appends, SendsPart, Wrote};
+ghost use Rattle.pip_lines.specs.Due.{AnswersDue};
+ghost use Rattle.pip_model.specs.Booted.{HasBooted};
+ghost use Rattle.pip_model.specs.Images.{Image};
+ghost use Rattle.pip_searches.specs.EveryText.{label_bytes, lines_planned};
+ghost use Rattle.pip_due.specs.Loading.{BeginsFrames};
+ghost use Rattle.pip_searches.specs.SearchDues.{IsSearchedAgainst};
+ghost use Rattle.pip_searches.specs.Searches.{EndsWithFound, HasWays, IsToldFrom, given_menu, told_text};
+
+use crate::commands::against::again::write_said;
+use arrayvec::ArrayVec;
+use pip_base::{Plan, Steps};
+use pip_due::begun::Begun;
+use pip_due::loading::lines_of;
+use pip_due::{Ended, pass};
+use pip_every::{Again, MAX_LABEL, May, search_on, words_later};
+use pip_frames::{Frames, RawFrames};
+use pip_image::Header;
+use pip_io::{Failed, Sink};
+use pip_journal::{First, Journal, copied};
+use pip_lines::{Callback, Line, due, write_image};
+use pip_search::{Extent, Run, Search};
+use pip_switch::Machine;
+use pip_ways::{ways_of, write_search};
+use std::alloc::{AllocError, Global};
+use std::marker::Brand;
+use std::sync::ledger::{Blank, Ledger};
+
+/// Where a search begins: after that many steps of a run, by the schedule of a seed, which isn't 0.
+#[derive(Clone, Copy)]
+pub struct Start {
+    pub count: u32,
+    pub seed: u32,
+}
+
+/// What a search found, how far it went, the ways to the labels, and what it says of those that may come again.
+#[derive(Drop)]
+pub struct Told {
+    pub search: Search,
+    pub verdict: Extent,
+    pub ways: Vec<Vec<Run>>,
+    pub said: Vec<Again>,
+}
+
+/// Makes the steps, searches with a menu of 1024 deeds at most, and writes what was found, and of each of these labels
+/// whether it can come again.
+pub fn end_search<K: Sink>(
+    alloc: Global,
+    begun: Begun,
+    may: &[May],
+    labels: &[ArrayVec<u8, MAX_LABEL>],
+    states: u32,
+    from: u32,
+    depth: Option<u32>,
+    start: Start,
+    sink: &mut K,
+) -> Ended
+    requires booted { HasBooted (⟦<RawFrames as Frames>⟧.memory begun.mem) }
+    requires limits { IsHeader begun.head }
+    requires short { length may.now ≤ 1024 }
+    requires some { 1 ≤ states }
+    requires seed { 1 ≤ start.seed }
+    requires none { (K.written sink.old).held ≡ [] }
+    ensures ends { (i : Image) → BeginsFrames i begun.head (⟦<RawFrames as Frames>⟧.memory begun.mem)
+        → EndsWithFound (IsSearchedAgainst (given_menu may.now labels.now) states from depth start) i result.status
+        (K.written sink.old) (K.written sink.new) (K.faults sink.old) (K.faults sink.new) }
+    ensures calm { result.status ≢ 4 → K.faults sink.new ≡ K.faults sink.old }
+    ensures none { result.machine ≡ None }
+    ensures settled { result.status ≢ 4 → (K.written sink.new).held ≡ [] }
+{
+    let Begun { head, mem } = begun;
+    match find(alloc, &head, mem, may, labels, states, from, depth, start) {
+        Ok(told) => match show(&head, &told, labels, sink) {
+            Ok(()) => Ended::with_status(0),
+            Err(_) => Ended::with_status(4),
+        },
+        Err(_) => Ended::with_status(5),
+    }
+}
+
+// Makes the steps and searches. The only error is that memory is out.
+fn find(
+    alloc: Global,
+    head: &Header,
+    mem: RawFrames,
+    may: &[May],
+    labels: &[ArrayVec<u8, MAX_LABEL>],
+    states: u32,
+    from: u32,
+    depth: Option<u32>,
+    start: Start,
+) -> Result<Told, AllocError>
+    requires booted { HasBooted (⟦<RawFrames as Frames>⟧.memory mem) }
+    requires limits { IsHeader head.now }
+    requires short { length may.now ≤ 1024 }
+    requires some { 1 ≤ states }
+    requires seed { 1 ≤ start.seed }
+    ensures ways { IfOk result HasWays }
+    ensures count { IfOk result (λ t. length t.said.items ≡ length labels.now) }
+    ensures found { IfOk result
+        (IsToldFrom (given_menu may.now labels.now) states from depth start head.now
+        (⟦<RawFrames as Frames>⟧.memory mem)) }
+{
+    find_made(
+        alloc,
+        head,
+        mem,
+        may,
+        labels,
+        states,
+        from,
+        depth,
+        start,
+        |plan: Plan| move |t: u64| due(&plan, t),
+    )
+}
+
+// `make` makes the callback of a plan, which says when the plan is due.
+fn find_made<G: Fn(Plan) -> C, C: Callback + Drop>(
+    alloc: Global,
+    head: &Header,
+    mem: RawFrames,
+    may: &[May],
+    labels: &[ArrayVec<u8, MAX_LABEL>],
+    states: u32,
+    from: u32,
+    depth: Option<u32>,
+    start: Start,
+    make: G,
+) -> Result<Told, AllocError>
+    requires makes { G.IsAlwaysCallable make }
+    requires answer { (p : Plan) (f : C) → G.post make p f → AnswersDue (C.may_ask f) (C.answers f) p }
+    requires booted { HasBooted (⟦<RawFrames as Frames>⟧.memory mem) }
+    requires limits { IsHeader head.now }
+    requires short { length may.now ≤ 1024 }
+    requires some { 1 ≤ states }
+    requires seed { 1 ≤ start.seed }
+    ensures ways { IfOk result HasWays }
+    ensures count { IfOk result (λ t. length t.said.items ≡ length labels.now) }
+    ensures found { IfOk result
+        (IsToldFrom (given_menu may.now labels.now) states from depth start head.now
+        (⟦<RawFrames as Frames>⟧.memory mem)) }
+{
+    let plans = lines_of(alloc, head.plans.as_slice(), make)?;
+    find_planned(
+        alloc,
+        head,
+        mem,
+        plans.as_slice(),
+        may,
+        labels,
+        states,
+        from,
+        depth,
+        start,
+    )
+}
+
+// With the callbacks of the plans. Keys compare with words that the frames have later.
+fn find_planned<C: Callback>(
+    alloc: Global,
+    head: &Header,
+    mem: RawFrames,
+    plans: &[Line<C>],
+    may: &[May],
+    labels: &[ArrayVec<u8, MAX_LABEL>],
+    states: u32,
+    from: u32,
+    depth: Option<u32>,
+    start: Start,
+) -> Result<Told, AllocError>
+    requires same { plans.now ≡ head.now.plans.items }
+    requires booted { HasBooted (⟦<RawFrames as Frames>⟧.memory mem) }
+    requires limits { IsHeader head.now }
+    requires short { length may.now ≤ 1024 }
+    requires some { 1 ≤ states }
+    requires seed { 1 ≤ start.seed }
+    ensures ways { IfOk result HasWays }
+    ensures count { IfOk result (λ t. length t.said.items ≡ length labels.now) }
+    ensures found { IfOk result
+        (IsToldFrom (given_menu may.now labels.now) states from depth start head.now
+        (⟦<RawFrames as Frames>⟧.memory mem)) }
+{
+    let later = words_from::<C, Brand>(alloc, &mem, head.cpus, plans, start, Blank::new(1))?;
+    find_from::<C, Brand, Brand>(
+        alloc,
+        head,
+        mem,
+        later,
+        plans,
+        may,
+        labels,
+        states,
+        from,
+        depth,
+        start,
+        Blank::new(1),
+    )
+}
+
+// As many frames with words that a machine over these has after the steps, or later. The only error is that memory is
+// out.
+fn words_from<C: Callback, L: Ledger>(
+    alloc: Global,
+    mem: &RawFrames,
+    cpus: u32,
+    plans: &[Line<C>],
+    start: Start,
+    blank: Blank,
+) -> Result<RawFrames, AllocError>
+    requires ledger { CanOpen blank.name blank.parts L.name L.parts }
+    requires booted { HasBooted (⟦<RawFrames as Frames>⟧.memory mem.now) }
+    requires least { 1 ≤ cpus }
+    requires most { cpus ≤ 4 }
+    requires below { AllByRecursion (λ p. p.line < 16) plans.now }
+    requires seed { 1 ≤ start.seed }
+    ensures count { IfOk result (λ r. length (⟦<RawFrames as Frames>⟧.memory r)
+        ≡ length (⟦<RawFrames as Frames>⟧.memory mem.now)) }
+    ensures shape { IfOk result (λ r. IsMemory (⟦<RawFrames as Frames>⟧.memory r)) }
+{
+    let mut steps: Steps<L> = Steps::new(blank);
+    let mut machine = Machine::new(copied(alloc, mem, &mut steps)?, cpus);
+    pass(&mut machine, plans, start.count, start.seed, &mut steps);
+    words_later(alloc, mem.count(), machine, steps)
+}
+
+// Makes the steps on a machine over a journal whose first words are those of the frames `later`, as many as the
+// machine's, and searches from there on. The type `F` stands for these words, and `L` for the ledger that counts the
+// steps.
+fn find_from<C: Callback, F: First, L: Ledger>(
+    alloc: Global,
+    head: &Header,
+    mem: RawFrames,
+    later: RawFrames,
+    plans: &[Line<C>],
+    may: &[May],
+    labels: &[ArrayVec<u8, MAX_LABEL>],
+    states: u32,
+    from: u32,
+    depth: Option<u32>,
+    start: Start,
+    blank: Blank,
+) -> Result<Told, AllocError>
+    requires first { ⟦<RawFrames as Frames>⟧.memory later ≡ F.words }
+    requires shape { IsMemory F.words }
+    requires count { length (⟦<RawFrames as Frames>⟧.memory mem) ≡ length F.words }
+    requires ledger { CanOpen blank.name blank.parts L.name L.parts }
+    requires same { plans.now ≡ head.now.plans.items }
+    requires booted { HasBooted (⟦<RawFrames as Frames>⟧.memory mem) }
+    requires limits { IsHeader head.now }
+    requires short { length may.now ≤ 1024 }
+    requires some { 1 ≤ states }
+    requires seed { 1 ≤ start.seed }
+    ensures ways { IfOk result HasWays }
+    ensures count { IfOk result (λ t. length t.said.items ≡ length labels.now) }
+    ensures found { IfOk result
+        (IsToldFrom (given_menu may.now labels.now) states from depth start head.now
+        (⟦<RawFrames as Frames>⟧.memory mem)) }
+{
+    let mut steps: Steps<L> = Steps::new(blank);
+    let journal: Journal<F> = Journal::new(alloc, mem, later)?;
+    let mut machine = Machine::new(journal, head.cpus);
+    pass(&mut machine, plans, start.count, start.seed, &mut steps);
+    let lines = planned_lines(head.plans.as_slice());
+    let most = depth.unwrap_or(u32::MAX);
+    let mut menu = Vec::new(alloc);
+    menu.extend_from_slice(may)?;
+    let (search, verdict, said) = search_on(
+        alloc,
+        machine,
+        lines.as_slice(),
+        from,
+        menu,
+        labels,
+        most,
+        states,
+        steps,
+    )?;
+    let ways = ways_of(alloc, &search)?;
+    Ok(Told {
+        search,
+        verdict,
+        ways,
+        said,
+    })
+}
+
+// The interrupt lines of plans.
+fn planned_lines(plans: &[Plan]) -> ArrayVec<u32, 16>
+    requires { length plans.now ≤ 16 }
+    ensures { result.items ≡ lines_planned plans.now }
+{
+    let mut lines = ArrayVec::new();
+    for plan in plans {
+        lines.push(plan.line);
+    }
+    lines
+}
+
+// Writes the text, and all that the sink holds.
+fn show<K: Sink>(
+    head: &Header,
+    told: &Told,
+    labels: &[ArrayVec<u8, MAX_LABEL>],
+    sink: &mut K,
+) -> Result<(), Failed>
+    requires ways { HasWays told.now }
+    requires count { length told.now.said.items ≡ length labels.now }
+    requires some { 1 ≤ head.now.cpus }
+    ensures wrote { MatchResult result
+        (λ _. Appends (K.written sink.old) (K.written sink.new)
+        (told_text head.now told.now (label_bytes labels.now)))
+        (λ _. SendsPart (K.written sink.old) (K.written sink.new)
+        (told_text head.now told.now (label_bytes labels.now))) }
+    ensures none { OnOk result ((K.written sink.new).held ≡ []) }
+    ensures cause { HasCause (K.faults sink.old) (K.faults sink.new) result }
+{
+    give(head, told, labels, sink)?;
+    sink.settle()
+}
+
+// Writes the text.
+fn give<K: Sink>(
+    head: &Header,
+    told: &Told,
+    labels: &[ArrayVec<u8, MAX_LABEL>],
+    sink: &mut K,
+) -> Result<(), Failed>
+    requires ways { HasWays told.now }
+    requires count { length told.now.said.items ≡ length labels.now }
+    requires some { 1 ≤ head.now.cpus }
+    ensures wrote { Wrote result (K.written sink.old) (K.written sink.new)
+        (told_text head.now told.now (label_bytes labels.now)) }
+    ensures cause { HasCause (K.faults sink.old) (K.faults sink.new) result }
+{
+    let lines = planned_lines(head.plans.as_slice());
+    write_image(
+        head.frames,
+        head.cpus,
+        head.plans.len() as u64,
+        head.pages,
+        sink,
+    )?;
+    write_search(
+        sink,
+        head.cpus,
+        lines.as_slice(),
+        &told.search,
+        told.ways.as_slice(),
+        told.verdict,
+    )?;
+    write_said(
+        sink,
+        head.cpus,
+        lines.as_slice(),
+        labels,
+        told.said.as_slice(),
+    )
+}

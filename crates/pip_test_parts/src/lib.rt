@@ -1,0 +1,7 @@
+//! Tests of pip_parts: lines that are written and read, and merges of a few of them.
+#![tactic(auto)]
+
+#[cfg(test)]
+mod lines;
+#[cfg(test)]
+mod merges;

@@ -1,0 +1,165 @@
+//! A search that is cut into parts. Nobody has to trust it: a part that it gets wrong is refused, or asks for what no
+//! part has.
+
+use crate::Stop;
+use crate::input::{Part, load, text_of, whole_input};
+use pip_base::{Frame, Steps, WORDS};
+use pip_cpu::turn;
+use pip_every::note_words;
+use pip_frames::{Frames, RawFrames};
+use pip_io::Discard;
+use pip_search::Extent;
+use pip_switch::Machine;
+use rattle_std::{alloc::Global, marker::Brand, sync::ledger::Blank};
+use std::io::Write;
+
+/// How often words are noted, and how many turns of each processor come before each time.
+const TIMES: u32 = 4;
+const TURNS: u32 = 1000;
+
+/// The tree of a search: of each state the one from which it was found first, and by which choice.
+struct Tree {
+    parents: Vec<u32>,
+    choices: Vec<u32>,
+}
+
+impl Tree {
+    // The states with which parts begin: the first, and each whose own part would have that many states.
+    fn cuts(&self, size: u32) -> Vec<bool> {
+        let count = self.parents.len();
+        let mut sizes = vec![1u32; count];
+        let mut cuts = vec![false; count];
+        for i in (1..count).rev() {
+            cuts[i] = sizes[i] >= size;
+            if !cuts[i] {
+                sizes[self.parents[i] as usize] += sizes[i];
+            }
+        }
+        cuts[0] = true;
+        cuts
+    }
+
+    // The choices that lead to a state.
+    fn way(&self, state: u32) -> Vec<u32> {
+        let mut way = Vec::new();
+        let mut at = state as usize;
+        while at != 0 {
+            way.push(self.choices[at]);
+            at = self.parents[at] as usize;
+        }
+        way.reverse();
+        way
+    }
+
+    // Where the states that were found from each state begin in the order of all: they are one after another.
+    fn firsts(&self) -> Vec<u32> {
+        let mut firsts = vec![self.parents.len() as u32; self.parents.len() + 1];
+        for i in (1..self.parents.len()).rev() {
+            firsts[self.parents[i] as usize] = i as u32;
+        }
+        firsts
+    }
+
+    // The marks of a part, by the order in which its check makes choices.
+    fn marks(&self, firsts: &[u32], cuts: &[bool], first: u32, choices: u32) -> Vec<u8> {
+        let mut own = vec![first];
+        let mut marks = Vec::new();
+        let mut place = 0;
+        while place < own.len() {
+            let state = own[place];
+            let mut next = firsts[state as usize] as usize;
+            for choice in 0..choices {
+                let leads = next < self.parents.len()
+                    && self.parents[next] == state
+                    && self.choices[next] == choice;
+                let keeps = leads && !cuts[next];
+                marks.push(u8::from(keeps));
+                if keeps {
+                    own.push(next as u32);
+                }
+                next += usize::from(leads);
+            }
+            place += 1;
+        }
+        marks
+    }
+}
+
+// The words that a machine over an image's frames comes to hold, where those that compare with them make keys short.
+fn base_of(data: &[u8]) -> Result<Vec<(u32, u32, u32)>, Stop> {
+    let mut steps = Steps::<Brand>::new(Blank::new(1));
+    let first = load(data)?;
+    let mut later = load(data)?.mem;
+    let cpus = first.head.cpus;
+    let mut machine: Machine<RawFrames> = Machine::new(first.mem, cpus);
+    for _ in 0..TIMES {
+        for _ in 0..TURNS {
+            for cpu in 0..cpus {
+                let sink = &mut Discard::new();
+                _ = turn::<(), Machine<RawFrames>, Discard, Brand>(&mut machine, cpu, 0, sink, &mut steps);
+            }
+        }
+        note_words(machine.mem(), &mut later, &mut steps);
+    }
+    let first = load(data)?.mem;
+    let mut base = Vec::new();
+    for frame in 0..first.count() {
+        for index in 0..WORDS {
+            let word = later.word(Frame::new(frame), index, &mut steps);
+            if word != first.word(Frame::new(frame), index, &mut steps) {
+                base.push((frame, index, word));
+            }
+        }
+    }
+    Ok(base)
+}
+
+fn cant_write() -> Stop {
+    Stop::new(4, "a part can't be written")
+}
+
+/// Searches the image of the input with room for that many states, and writes parts of about `size` states into a
+/// folder.
+pub fn cut(from: u32, size: u32, states: u32, folder: &str) -> Result<(), Stop> {
+    let data = whole_input()?;
+    let loaded = load(&data)?;
+    let head = loaded.head;
+    let searched = pip_every::search(
+        Global,
+        loaded.mem,
+        head.cpus,
+        &head.lines,
+        from,
+        u32::MAX,
+        states,
+    );
+    let (search, extent) = searched.map_err(|_| Stop::new(5, "no memory"))?;
+    let Extent::Closed { depth } = extent else {
+        return Err(Stop::new(9, format!("stopped {}", search.visits.len())));
+    };
+    let tree = Tree {
+        parents: search.visits.iter().map(|visit| visit.parent).collect(),
+        choices: search.visits.iter().map(|visit| visit.choice).collect(),
+    };
+    drop(search);
+    let base = base_of(&data)?;
+    let firsts = tree.firsts();
+    let cuts = tree.cuts(size);
+    let mut count = 0;
+    for i in 0..cuts.len() {
+        if !cuts[i] {
+            continue;
+        }
+        let part = Part {
+            base: base.clone(),
+            way: tree.way(i as u32),
+            marks: tree.marks(&firsts, &cuts, i as u32, head.cpus + head.lines.len() as u32),
+        };
+        let path = format!("{folder}/{count:08}.part");
+        let mut file = std::fs::File::create(path).map_err(|_| cant_write())?;
+        file.write_all(&text_of(&part)).map_err(|_| cant_write())?;
+        count += 1;
+    }
+    println!("states {} depth {depth} parts {count}", cuts.len());
+    Ok(())
+}

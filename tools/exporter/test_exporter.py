@@ -1,0 +1,249 @@
+"""Tests of the exporter and of the comparison, beside the check `export`, which exports and compares all sources: how
+clauses look in an export, which forms are refused, and that a change of one token is found. The check `unit-tests` runs
+them."""
+
+from __future__ import annotations
+
+import os
+import random
+import tempfile
+import unittest
+from collections.abc import Sequence
+from pathlib import Path
+
+from . import comparing, crates, requirements, tokens, workspace
+from .rewriting import Role, exported
+from .scanner import words_of
+from .tokens import Trouble
+
+REPOSITORY = Path(__file__).resolve().parent.parent.parent
+CHANGES, SEED = 30, 20
+
+# What is exported of a source, and as what
+EXPORTED = {
+    "clauses of a declared method": (
+        "trait T {\n    fn f(&self) -> u8\n        ensures { result ≡ 1 };\n}\n",
+        "trait T {\n    // ensures { result ≡ 1 }\n    fn f(&self) -> u8;\n}\n"),
+    "clauses of a closure and a loop go": (
+        "fn f() {\n    g(|a| requires { a < 3 } { a + 1 })\n}\n", "fn f() {\n    g(|a| { a + 1 })\n}\n"),
+    "ghost items stay as comments": (
+        "struct S {\n    a: u8,\n    /// Why.\n    pub ghost b: { a < 3 },\n}\n",
+        "struct S {\n    a: u8,\n    // Why.\n    // pub ghost b: { a < 3 },\n}\n"),
+    "a model becomes a comment": (
+        "/// S.\nstruct S(u8);\n\nimpl Model for S {\n    ghost Value = { ℕ };\n}\n\nfn f() {}\n",
+        "/// S.\nstruct S(u8);\n\n// impl Model for S {\n//     ghost Value = { ℕ };\n// }\n\nfn f() {}\n"),
+    "clauses of a public function are its documentation": (
+        "/// F.\n#[inline]\npub const fn f(a: u8)\n    requires { a ∈\n        b }\n{}\n",
+        "/// F.\n///\n/// ```text\n/// requires { a ∈\n///     b }\n/// ```\n#[inline]\npub const fn f(a: u8) {}\n"),
+    "comments among clauses stay there": (
+        "/// F.\nfn f(a: A)\n    requires { Is a }\n    // Why.\n    ensures { Is a }\n{}\n",
+        "/// F.\n///\n/// ```text\n/// requires { Is a }\n/// // Why.\n/// ensures { Is a }\n/// ```\nfn f(a: A) {}\n"),
+    "clauses of a private function are a comment": (
+        "// F.\nfn f(a: A)\n    requires { Is a }\n{}\n", "// F.\n// requires { Is a }\nfn f(a: A) {}\n"),
+    "what a text or a remark has stays": (
+        "// requires { x } ghost\nfn f() -> &'static str {\n    \"ghost requires { x }\"\n}\n",) * 2,
+    "another function keeps its parameter": (
+        "use std::prelude::kit::*;\n\nfn g(rt: HostRuntime) {\n    h(rt);\n}\n",
+        "use std::prelude::kit::*;\n\nuse std::prelude::kit::*;\n\nfn g(rt: HostRuntime) {\n    h(rt);\n}\n"),
+}
+REFUSED = {
+    "a model with code": "impl Model for S {\n    fn f() {}\n}\n",
+    "a drop of another form": "impl Drop for S {\n    fn drop(self) {\n        free(self.a);\n    }\n}\n",
+    "what only a proof reads": "fn f() {\n    a ≡ b\n}\n",
+    "an unsafe body that can't be tested":
+        "fn f(&self, f: usize)\n    requires { IsGood f }\n{\n    unsafe { g() }\n}\n",
+    **{text: text for text in ("\"a", "fn f() requires { a", "fn f() requires a", "ghost a: {", "ghost a")},
+}
+# The tests of a requirement
+TYPES = {"s": "& [ u8 ]", "n": "u32", "m": "usize", "b": "u8", "f": "impl Fn ( u8 )"}
+TESTED = {"length s.now ≤ 3": ["s.len() <= 3"], "n < length s.now": ["(n as u128) < (s.len() as u128)"],
+          "m + 1 ≤ length s.now": ["(m as u128) + 1 <= (s.len() as u128)"], "b < 256": ["(b as u128) < 256"],
+          "n < 2 ^ 32": ["(n as u128) < 4294967296"], "n ≢ 0": ["n != 0"], "IsTrue n": [], "n < other": [], "3 < 4": [],
+          "(n < 3) ⊎ (m < 4)": [], "n < 3 → m < 4": [], "self.now.count < n": [],
+          "(n < 2 ^ 20) × (IsGood s)": ["n < 1048576"]}
+
+SOURCE = """//! A.
+#![tactic(auto)]
+
+ghost use A.{b};
+
+use std::marker::Model;
+
+/// S.
+#[derive(Debug, Drop)]
+pub struct S {
+    count: usize,
+    pub(crate) ghost least: { 1 ≤ count },
+}
+
+impl Model for S {
+    ghost Value = { ℕ };
+}
+
+impl S {
+    /// F.
+    #[inline]
+    pub fn f<T: Drop>(&self, f: usize, t: T) -> Vec<u8>
+        requires { f < self.now.count }
+        ensures { result.now ≡ "}" }
+    {
+        unsafe { g(f) }
+    }
+
+    fn g<U: Clone + Copy + Drop>(n: u32, m: u32)
+        requires sum { (n + m ≤ 2 ^ 20) × (m < 3) }
+    {
+        if n < 3 { h("a  b") }
+    }
+}
+
+#[test]
+fn t(rt: HostRuntime) {
+    f(rt).expect(rt, "c");
+}
+"""
+# Changes of its export, each of which is a difference, and what is said of some
+CHANGED = {
+    ("#![no_std]\n", ""): "", ("pub fn f", "fn f"): "", ("pub fn f", "pub fn F"): "", ("T>(", "T: Copy>("): "",
+    ("U: Clone + Copy>", "U: Clone>"): "", ("#[inline]\n", ""): "", ('"a  b"', '"a b"'): "",
+    ("let rt = ", "let rt = &"): "", ('expect("c")', 'expect(rt, "c")'): "", ("derive(Debug)", "derive()"): "",
+    ("use std::prelude::kit::*;", ""): "", ("if n < 3", "if n > 3"): "'>' where '<' of line 32 of the source is due",
+    ("assert!(f < self.count)", "assert!(f <= self.count)"): "", ("    assert!(f < self.count);\n", ""): "",
+    ("assert!(f < self.count)", "debug_assert!(f < self.count)"): "", ("<= 1048576", "<= 1048577"): "",
+    ("debug_assert!(m < 3)", "assert!(m < 3)"): "", ("debug_assert!(m < 3)", "debug_assert!(m < g())"): "",
+    ("(m < 3) }", "(m < 4) }"): "no comment shows",
+}
+DROP = "impl Drop for S {\n    fn drop(self) {\n        let S { a, b } = self;\n        c(b, a);\n    }\n}\n"
+
+
+def difference(source: str, export: str, role: Role = Role()) -> str | None:
+    return comparing.difference(source, export, role, comparing.Report())
+
+
+class Exports(unittest.TestCase):
+    def test_each_form_is_exported_as_it_should_be(self) -> None:
+        for what, (source, due) in EXPORTED.items():
+            self.assertEqual(exported(source), due, what)
+
+    def test_other_forms_are_refused(self) -> None:
+        for what, source in REFUSED.items():
+            with self.assertRaises((Trouble, ValueError), msg=what):
+                exported(source)
+
+    def test_tests_of_requirements(self) -> None:
+        for clause, tests in TESTED.items():
+            self.assertEqual(requirements.conditions_of(f"requires {{ {clause} }}", TYPES, False), tests, clause)
+
+
+class Differences(unittest.TestCase):
+    def test_words_of_each_kind(self) -> None:
+        words = words_of("a1 'b 'c' '\\'' \"d \\\" e\" br#\"f\"#\n // g\n"
+                         "1.5_u8 0..2 requires* h { \"}\" { i' } } ghost j: { k }, ghost m: { n } = { o }; l", True)
+        self.assertEqual([word.text for word in words],
+                         ["a1", "'b", "'c'", "'\\''", '"d \\" e"', 'br#"f"#', "// g", "1.5_u8", "0", ".", ".", "2",
+                          "requires* h { \"}\" { i' } }", "ghost j: { k },", "ghost m: { n } = { o };", "l"])
+        self.assertEqual([word.line for word in words][5:8], [1, 2, 3])
+        for text in ('"a', "requires { a", "requires a b { c }", "ghost a", "/* a"):
+            self.assertRaises(Trouble, words_of, text, True)
+
+    def test_an_export_is_accepted_and_no_change_of_it(self) -> None:
+        role = Role(root=True)
+        export = exported(SOURCE, role)
+        self.assertIsNone(difference(SOURCE, export, role))
+        for (old, new), said in CHANGED.items():
+            self.assertEqual(export.count(old), 1, old)
+            self.assertIn(said, difference(SOURCE, export.replace(old, new), role) or self.fail(new))
+        start, end = export.split("    assert!(f < self.count);")
+        for other in (export + "fn more() {}\n", start + "    assert!(f < self.count)" + end.replace(";", "")):
+            self.assertIsNotNone(difference(SOURCE, other, role))
+
+    def test_a_drop_by_parts_is_accepted_and_no_other(self) -> None:
+        self.assertIsNone(difference(DROP, exported(DROP)))
+        for old, new in (("let (a, b)", "let (b, a)"), ("&mut self", "&self"), ("&self.b", "&self.a")):
+            self.assertIsNotNone(difference(DROP, exported(DROP).replace(old, new)), new)
+
+    def test_a_part_of_a_choice_or_of_a_conclusion_is_no_requirement(self) -> None:
+        for clause in ("(n < 3) ⊎ (m < 3)", "A → ((m < 4) × (n < 3))", "¬ (n < 3)"):
+            source = f"fn f(n: u32, m: u32)\n    requires {{ {clause} }}\n{{\n    g()\n}}\n"
+            export = exported(source)
+            self.assertIsNone(difference(source, export))
+            tested = export.replace("    g()", "    debug_assert!(n < 3);\n    g()")
+            self.assertIsNotNone(difference(source, tested), clause)
+
+    def test_what_only_looks_as_if_it_were_for_proofs_stays(self) -> None:
+        for source in ("use std::ops::{Drop, Deref};\n", "impl Model for S {\n    fn f() {}\n}\n",
+                       "#[tactics]\nfn f() {}\n"):
+            self.assertIsNone(difference(source, source))
+            self.assertIsNotNone(difference(source, "\n"))
+
+    def test_a_changed_token_of_a_source_of_the_repository(self) -> None:
+        """One token of an export is left out, written twice, or replaced by another of the same file."""
+        chance = random.Random(SEED)
+        sources = [(crate.role(path), path) for crate in crates.crates_of(REPOSITORY).values()
+                   for path in crate.sources()]
+        for _ in range(CHANGES):
+            role, path = chance.choice(sources)
+            source = path.read_text(encoding="utf-8")
+            text = exported(source, role)
+            found = [token for token in tokens.tokens(text) if token.kind != "comment"]
+            token = chance.choice(found)
+            other = chance.choice([other.text for other in found if other.text != token.text])
+            new = chance.choice(["", f"{token.text} {token.text}", other])
+            changed = f"{text[:token.start]} {new} {text[token.end:]}"
+            self.assertIsNotNone(difference(source, changed, role), f"{path}: {token} became {new!r}")
+
+
+class Folders(unittest.TestCase):
+    """A small repository, and its export."""
+
+    def setUp(self) -> None:
+        place = tempfile.TemporaryDirectory()
+        self.addCleanup(place.cleanup)
+        self.repository, self.to = Path(place.name) / "from", Path(place.name) / "to"
+        self.write("crates.txt", "# A remark.\nlow: itoa\nhigh may_wait=1: low\nother:\n")
+        self.write("LICENSE", "The license.\n")
+        for name in ("low", "high", "other"):
+            self.write(f"crates/{name}/src/{'main' if name == 'high' else 'lib'}.rt", "fn main() {}\n")
+
+    def write(self, name: str, text: str) -> None:
+        path = self.repository / name
+        path.parent.mkdir(parents=True, exist_ok=True)
+        path.write_text(text, encoding="utf-8")
+
+    def files(self, only: Sequence[str] = ()) -> dict[str, str]:
+        found = crates.chosen(crates.crates_of(self.repository), list(only))
+        return workspace.files_of(found, self.repository, None)
+
+    def differences(self) -> list[str]:
+        return [text.rsplit("/", 1)[-1] for text in comparing.compared(self.repository, self.to).differences]
+
+    def test_a_crate_comes_with_those_that_it_stands_on_and_with_the_license(self) -> None:
+        files = self.files(["high"])
+        self.assertIn('low = { path = "../low" }', files["crates/high/Cargo.toml"])
+        self.assertIn('itoa = { path = "../../shims/itoa" }', files["crates/low/Cargo.toml"])
+        self.assertEqual((files["crates/low/LICENSE"], "crates/other/Cargo.toml" in files), ("The license.\n", False))
+
+    def test_a_crate_that_is_unknown_or_has_no_shim_is_refused(self) -> None:
+        self.assertRaises(Trouble, self.files, ["lower"])
+        self.write("crates.txt", "low: serde\n")
+        self.assertRaises(Trouble, self.files)
+
+    def test_what_did_not_change_is_not_written_and_what_is_gone_goes(self) -> None:
+        workspace.write(self.to, self.files())
+        kept, gone = self.to / "crates/low/src/lib.rs", self.to / "crates/other/src/lib.rs"
+        os.utime(kept, (1000, 1000))
+        workspace.write(self.to, self.files(["high"]))
+        self.assertEqual((kept.stat().st_mtime, gone.exists()), (1000, False))
+
+    def test_a_folder_of_something_else_is_left_alone(self) -> None:
+        self.to.mkdir()
+        (self.to / "Cargo.toml").write_text("[package]\n")
+        self.assertRaises(Trouble, workspace.write, self.to, self.files())
+        self.assertEqual([path.name for path in self.to.iterdir()], ["Cargo.toml"])
+
+    def test_a_file_too_few_and_too_many(self) -> None:
+        self.assertEqual(len(self.differences()), 1)
+        workspace.write(self.to, self.files())
+        self.assertEqual(self.differences(), [])
+        os.rename(self.to / "crates/low/src/lib.rs", self.to / "crates/low/src/c.rs")
+        self.assertEqual(self.differences(), ["lib.rs is missing", "c.rs is of no source"])
