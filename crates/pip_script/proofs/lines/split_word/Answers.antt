@@ -1,6 +1,6 @@
 use Rattle.std.proofs.Common.{ap, ◌∙◌, take, drop, arith}
 use Rattle.pip_script.proofs.TextWords.{drop_word, take_word, word_short}
-use Rattle.pip_searches.proofs.commands.against.menu_line.split_word.Goals as goal
+use Rattle.pip_script.proofs.lines.split_word.Goals as goal
 
 pub split_at-requires : goal.split_at-requires
 split_at-requires c =
