@@ -4,8 +4,6 @@
 
 The run has to end with status 0. Build the program first, by ./pip."""
 
-from __future__ import annotations
-
 import os
 import re
 import shutil

@@ -3,8 +3,6 @@
 A case is `bare` (a child of five pages), `rows N` in one table, `tables N` without rows,
 `children N` of the child, or `chain N` of partitions one below the other, as one word each (`rows1000`)."""
 
-from __future__ import annotations
-
 import re
 
 ROOT_PAGES = [0x400000 + 4096 * k for k in range(1, 2000)]

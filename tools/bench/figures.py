@@ -1,8 +1,6 @@
 """The figures of bench/run: the instructions that a program takes for each thing, as callgrind counts them. Those that
 are in the tables of docs/PERFORMANCE.md have the names that their rows have there."""
 
-from __future__ import annotations
-
 import os
 from collections.abc import Iterator
 

@@ -4,8 +4,6 @@
 
 Callgrind counts, as for bench/run: valgrind is needed, and the program that ./pip builds."""
 
-from __future__ import annotations
-
 import math
 import sys
 from typing import NamedTuple

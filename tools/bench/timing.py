@@ -1,7 +1,5 @@
 """The times of bench/run: of long inputs, two programs alternately, and of the worst inputs, once each."""
 
-from __future__ import annotations
-
 import os
 import statistics
 import struct

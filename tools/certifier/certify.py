@@ -1,5 +1,5 @@
-"""A certificate of all that can happen to an image: a search is cut into parts, each part is checked by itself, and the
-lines of all are merged.
+"""A certificate of all that can happen to an image: a search is cut into parts, `part` checks each by itself, and
+`merge` merges the lines of all.
 
 What it says at the end is the merge's word. The search and the cutting needn't be trusted for that: a part that is
 wrong is refused, or asks for a key that no part has. A run that was ended is gone on with: parts whose lines are there
@@ -11,6 +11,7 @@ from __future__ import annotations
 import argparse
 import hashlib
 import os
+import shutil
 import subprocess
 import sys
 import time
@@ -23,9 +24,10 @@ from ..common.calling import Failed
 from ..exporter.building import Program
 
 HERE = Path(__file__).resolve().parent
-PROGRAM = Program("pip_certifier", "the certifier", HERE, ("pip_every", "pip_image", "pip_kern", "pip_parts"))
+ENGINE = Program("pip_certifier", "the certifier", HERE, ("pip_every", "pip_image", "pip_kern"))
+CHECK_PARTS = HERE / "check_parts"
 SORTED = {**os.environ, "LC_ALL": "C"}
-SEARCH_BYTES, PART_BYTES, LINE_BYTES = 130, 300, 120      # of memory for a state, and of disk for a line, about
+SEARCH_BYTES, PART_BYTES, LINE_BYTES = 50, 300, 120       # of memory for a state, and of disk for a line, about
 
 
 def main() -> None:
@@ -33,12 +35,14 @@ def main() -> None:
     parser.add_argument("image", type=Path, metavar="IMAGE")
     parser.add_argument("--from", type=int, default=0, dest="first", metavar="N",
                         help="no line comes before that many turns: 0")
-    parser.add_argument("--states", type=int, default=100000000, metavar="N", help="room of the search: 100000000")
+    parser.add_argument("--states", type=int, default=1000000000, metavar="N", help="room of the search: 1000000000")
     parser.add_argument("--size", type=int, default=1000000, metavar="N", help="states of a part, about: 1000000")
     parser.add_argument("--workers", type=int, default=os.cpu_count() or 1, metavar="N",
-                        help="parts that are checked at once: as many as there are processors")
+                        help="how many search, and how many check parts: as many as there are processors")
     parser.add_argument("--to", type=Path, metavar="FOLDER",
                         help="where parts and lines are kept: a folder beside the image, named after it")
+    parser.add_argument("--cut", action="store_true", help="stop when parts are there, for others to check them")
+    calling.take_program(parser)
     given = parser.parse_args()
     calling.guarded("certify", lambda: sys.exit(certify(given)))
 
@@ -46,12 +50,14 @@ def main() -> None:
 def certify(given: argparse.Namespace) -> int:
     folder: Path = given.to or given.image.with_suffix(".parts")
     folder.mkdir(parents=True, exist_ok=True)
-    program = PROGRAM.path()
-    parts = cut(program, given, folder)
+    program = calling.direct(given.program)
+    parts = cut(given, folder)
     waiting = [part for part in parts if not lines_of(part).exists()]
     if len(waiting) < len(parts):
         say(f"{len(parts) - len(waiting)} of {len(parts)} parts were checked before")
-    check(program, given, waiting)
+    if given.cut:
+        return 0
+    check(program, given, folder, waiting)
     begun = time.monotonic()
     status = merge(program, [lines_of(part) for part in parts])
     say(f"merged in {time.monotonic() - begun:.1f} s")
@@ -66,18 +72,21 @@ def lines_of(part: Path) -> Path:
     return part.with_suffix(".lines")
 
 
-def cut(program: str, given: argparse.Namespace, folder: Path) -> list[Path]:
+def cut(given: argparse.Namespace, folder: Path) -> list[Path]:
     """The parts, which are searched and cut where they aren't there yet."""
     told = folder / "cut"
     whose = f"{hashlib.sha256(given.image.read_bytes()).hexdigest()} from {given.first} size {given.size}"
     if not told.exists():
         begun = time.monotonic()
-        say(f"searching; {SEARCH_BYTES} bytes of memory a state")
+        say(f"searching; about {SEARCH_BYTES} bytes of memory a state")
+        words = [str(each) for each in (given.first, given.size, given.states, given.workers, folder)]
         with given.image.open("rb") as image:
-            done = subprocess.run([program, "cut", str(given.first), str(given.size), str(given.states), str(folder)],
-                                  stdin=image, stdout=subprocess.PIPE, text=True, check=False)
+            done = subprocess.run([ENGINE.path(), "cut", *words], stdin=image, stdout=subprocess.PIPE, text=True,
+                                  check=False)
         if done.returncode:
             raise Failed(f"the search ended with status {done.returncode}: {done.stdout.strip()}")
+        shutil.copyfile(given.image, folder / "image")
+        (folder / "from").write_text(f"{given.first}\n", encoding="utf-8")
         told.write_text(f"{whose}\n{done.stdout}", encoding="utf-8")
         say(f"{done.stdout.strip()}, in {time.monotonic() - begun:.1f} s")
     before, cut_into = told.read_text(encoding="utf-8").split("\n", 1)
@@ -85,33 +94,27 @@ def cut(program: str, given: argparse.Namespace, folder: Path) -> list[Path]:
         raise Failed(f"{folder} has parts of another image, or of another --from or --size: take it away")
     states = int(cut_into.split()[1])
     say(f"checks take {PART_BYTES * given.size * given.workers >> 20} MB of memory or more, "
-        f"and about {2 * LINE_BYTES * states >> 20} MB of disk")
+        f"and about {3 * LINE_BYTES * states >> 20} MB of disk")
     return sorted(folder.glob("*.part"))
 
 
-def check(program: str, given: argparse.Namespace, parts: Sequence[Path]) -> None:
+def check(program: str, given: argparse.Namespace, folder: Path, parts: Sequence[Path]) -> None:
     """Checks parts, as many at once as there are workers."""
     begun = time.monotonic()
-    image = given.image.read_bytes()
     with ThreadPoolExecutor(given.workers) as pool:
         done = 0
-        for each in as_completed([pool.submit(check_one, program, given.first, image, part) for part in parts]):
+        for each in as_completed([pool.submit(check_one, program, folder, part) for part in parts]):
             each.result()
             done += 1
             if done == len(parts) or done % max(len(parts) // 20, 1) == 0:
                 say(f"{done} of {len(parts)} parts checked, {time.monotonic() - begun:.1f} s")
 
 
-def check_one(program: str, first: int, image: bytes, part: Path) -> None:
-    """Checks a part and keeps its lines, sorted."""
-    unsorted, sorting = part.with_suffix(".text"), part.with_suffix(".sorting")
-    with unsorted.open("wb") as text:
-        done = subprocess.run([program, "part", str(first)], input=image + part.read_bytes(), stdout=text, check=False)
+def check_one(program: str, folder: Path, part: Path) -> None:
+    done = subprocess.run([CHECK_PARTS, folder, part], env={**os.environ, "PIP": program}, stderr=subprocess.PIPE,
+                          text=True, check=False)
     if done.returncode:
-        raise Failed(f"{part.name} was refused with status {done.returncode}: {unsorted.read_text().strip()}")
-    subprocess.run(["sort", "-o", str(sorting), str(unsorted)], env=SORTED, check=True)
-    unsorted.unlink()
-    sorting.rename(lines_of(part))
+        raise Failed(done.stderr.strip())
 
 
 def merge(program: str, lines: Iterable[Path]) -> int:

@@ -1,7 +1,5 @@
 """The tools for authors of monitors beside the program: asmx, why, trace, explore and every."""
 
-from __future__ import annotations
-
 import glob
 import os
 import re
@@ -9,7 +7,7 @@ import tempfile
 
 from ..authors import why
 from ..reference import commands as reference, generate
-from .running import REPOSITORY, Differs, contents, run, says, text_of, tool, write, write_program
+from .running import REPOSITORY, Differs, contents, number_of, run, says, session, text_of, tool, write, write_program
 
 CASES = 300
 
@@ -49,13 +47,8 @@ def preprocessor(program: str) -> None:
         write(text_of(source) + "out r1\nlb r1 r2 0\n", source)
         says(program, ("asmx", source, "--image", built), 2, range_of,
              f"source.s:{last + 2}:1: 'lb' is no instruction; did you mean ldb?")
-        for words, due in (((programs()[0], "--image", "/dev/full"), "/dev/full: No space left"),
-                           (("/nonexistent",), "can't be read"), ((place,), "can't be read"),
-                           ((programs()[0], "--line", "0"), "lines"), ((source, "--image", "/nonexistent/x"), "range")):
-            says(program, ("asmx", *words), 2, due)
-        for data, due in ((b"\xff\x00\n.page \xfe\n", "- is no text: it has the byte 0x00 at offset 1"),
-                          (b"PIPIMG2\n", "- is an image, and no text"), (b"\xff\n", "-:1:1: ")):
-            says(program, ("asmx", "-"), 2, due, text=data)
+        says(program, ("asmx", source, "--image", "/nonexistent/x"), 2, "range")
+    session("asmx", program)
 
 
 def reasons(program: str) -> None:
@@ -73,15 +66,7 @@ def reasons(program: str) -> None:
                     raise Differs(f"tools/why, {command} of seed {seed}: {sentences}")
         if refused < CASES // 50:
             raise Differs(f"tools/why: only {refused} of the generated texts of {command} are refused")
-    for name, status, due in (("examples/bad_line.pip", 1, ":7:6: '00' is no number\n"),
-                              ("examples/first.pip", 0, "is a good script"), ("/nonexistent", 2, "can't be read")):
-        says(program, ("why", os.path.join(REPOSITORY, name)), status, due)
-    for text, dues in ((b"\xff\xfe", ["rule: "]), (b"a\n\x7f", ["- is no text: it has the byte 0x7f at offset 2"]),
-                       (b"boot 32 1\nld 0 00\nprint\nld 0 0\ncall 0\n", ["-:2:6: ", "-:3:1: ", "-:5:7: "]),
-                       (b"", ["- is empty"]), (b"PIPIMG2\n", ["is an image, and no text"]),
-                       (b".frames 16\n.cpus 1\n.equ A 3\n", ["a source of tools/asmx"])):
-        says(program, ("why", "-"), 1, *dues, text=text)
-    says(program, ("why", "-", "--as", "asm"), 1, "the text ends before")
+    session("why", program)
 
 
 def traces(program: str) -> None:
@@ -100,10 +85,7 @@ def traces(program: str) -> None:
         says(program, (*traced, programs()[0]), 0, "isn't the source of this image")
         says(liar(program, place, "s/0x00000004/0x00000005/"), ("trace", built, "20", "1"), 1,
              "the reference differs from the program")
-        for words, due in ((("-", "x", "1"), "STEPS is a number"), (("-", "1", "0"), "SEED is a number"),
-                           (("-", "1", "1"), "- is empty"), (("/nonexistent", "1", "1"), "can't be read"),
-                           ((built, "1", "1", "--source", "/nonexistent"), "can't be read")):
-            says(program, ("trace", *words), 2, due)
+        session("trace", program, IMAGE=built)
 
 
 def timers(program: str, place: str) -> None:
@@ -127,10 +109,7 @@ def timers(program: str, place: str) -> None:
     says(program, ("trace", built, "900", "1", "--from", step, "--source", source), 0, f"{step} 0 ", what)
     if (merged := says(program, ("explore", "--merge", write(told, place, "timers")))) != told:
         raise Differs(f"tools/explore --merge of timers: {merged!r}, where {told!r} is due")
-    for words, due in ((("--line", "16", "1", "1"), "L is a number"),
-                       (("--line", "0", "9..1", "1"), "the end of FIRST"),
-                       (("--write", built), "--write is for one seed")):
-        says(program, ("explore", lossy, "9", "1", "1", *words), 2, due)
+    session("timers", program, IMAGE=lossy)
 
 
 def groups(program: str) -> None:
@@ -148,61 +127,28 @@ def groups(program: str) -> None:
         if (merged := says(program, ("explore", "--merge", *parts))) != whole:
             raise Differs(f"tools/explore --merge: {merged!r}, where {whole!r} is due")
         timers(program, place)
-        for words, due in (((built, "x", "1", "2"), "STEPS is"), ((built, "1", "2", "1"), "LAST is"),
-                           ((built, "1", "0", "1"), "FIRST is"), ((built,), "either FILE"),
-                           (("-", "1", "1", "2"), "- is empty"), (("--merge", source), "no line of this tool"),
-                           ((built, "1", "1", "2", "--jobs", "0"), "--jobs is")):
-            says(program, ("explore", *words), 2, due)
+        session("explore", program, IMAGE=built)
 
 
 def interleavings(program: str) -> None:
     """The race's lines with their ways: as a trace, as a script, and as a run that shows the same."""
     race, guests = (os.path.join(REPOSITORY, "examples", name) for name in ("every/race.asmx", "two_guests.s"))
-    all_of_race = ("every", race, "10000")
-    told = says(program, all_of_race, 0, "call 10 reply 0 0x00000000: 0    # vcli: Ok",
-                "closed    # nothing else can come")
-    lost, early = number_of(told, " out 0x00000002: "), number_of(told, " switch 1 1 32: ")
-    says(program, (*all_of_race, "--page", early), 0, "<title>race.asmx: switch 1 1 32")
+    session("ways", program)
+    lost = number_of(says(program, ("every", race, "10000")), " out 0x00000002: ")
     told = says(program, ("every", guests, "2000", "--trouble"), 0, "Running", "by 920 choices")
     if len(told.splitlines()) != 3:
         raise Differs(f"tools/every --trouble of two guests: {told!r}")
-    told = says(program, (*all_of_race, "--script", lost), 0, "raise 0", "answers of the reference")
+    told = says(program, ("every", race, "10000", "--script", lost), 0, "raise 0", "answers of the reference")
     if run([program, "script"], told.encode())[1]:
         raise Differs(f"tools/every --script: the program refuses {told[-300:]!r}")
     with tempfile.TemporaryDirectory() as place:
         ways_of_an_image(program, race, lost, place)
-        ways_after_steps(program, race, os.path.join(place, "planned.img"))
         ways_with_a_menu(program, os.path.join(place, "served.img"))
 
 
-def number_of(told: str, part: str) -> str:
-    """The number of the first line with this part."""
-    return next(line.split()[0] for line in told.splitlines() if part in line)
-
-
-def ways_after_steps(program: str, race: str, planned: str) -> None:
-    """Ways that begin after steps of a run: a script and a run make these, too."""
-    searched = ("every", race, "10000", "--after", "60", "3")
-    told = says(program, searched, 0, "states 1652 depth 55 closed")
-    enters = number_of(told, " call 8 switch 1 28 64: 0x25")
-    says(program, (*searched, "--trace", enters), 0, "the program has this line, too")
-    says(program, (*searched, "--script", enters), 0, "# after 60 steps by the seed 3", "answers of the reference")
-    says(program, (*searched, "--plan", enters, planned), 0, "./pip run 86 ")
-    says(program, ("every", race, "10", "--after", "60", "0"), 2, "SEED is a number")
-
-
 def ways_with_a_menu(program: str, built: str) -> None:
-    """A way to where a child parks the root, of a source with a menu beside it and of an image with one after it."""
-    served, menu = (os.path.join(REPOSITORY, "examples", name) for name in ("every/served.asmx", "any_child.may"))
-    searched = ("every", served, "100000", "--may", menu)
-    told = says(program, (*searched, "--trouble"), 0, "d4: each trap 63 0 0", "whatever is done of the menu")
-    parks = number_of(told, " park 1 14: ")
-    for option, status, dues in (("--trace", 0, ["each trap 63 0 0", "the program has this line, too"]),
-                                 ("--script", 0, ["trap 0 63 ", "answers of the reference"]),
-                                 ("--page", 2, ["a run makes no deeds"])):
-        says(program, (*searched, option, parks), status, *dues)
-    says(program, (*searched, "--alone"), 0, "however long it runs")
-    says(program, ("asmx", served, "--against", built))
+    """What is searched of an image with a menu after it."""
+    says(program, ("asmx", "examples/every/served.asmx", "--against", built))
     image = contents(built)
     for deed, status, due in ((b"each trap 63 0 0\n", 0, "park 1 14: 0x43 0:d1 0"),
                               (b"each trap 63 0 0\neach trap 63 0\n", 2, "line 2 of the menu is bad")):
@@ -222,12 +168,4 @@ def ways_of_an_image(program: str, race: str, lost: str, place: str) -> None:
         raise Differs(f"tools/every --plan: the run ends with {trace[-200:]!r}")
     says(liar(program, place, "s/out 0x00000002:/out 0x00000007:/"), ("every", built, "10000", "--trace", lost), 1,
          "the reference differs from the program")
-    for words, due in (((built, "0"), "STATES is a number"), ((built, "1", "x"), "FROM is a number"),
-                       ((built, "1", "0", "0"), "DEPTH is a number"),
-                       ((built, "10000", "--trace", "99"), "N is a number"),
-                       ((built, "1", "--script", "1"), "no line can come"), (("/nonexistent", "1"), "can't be read"),
-                       (("-", "1"), "- is empty"),
-                       (("examples/hostile.s", "1", "--source", built), "--source is for an image")):
-        says(program, ("every", *words), 2, due)
-    says(program, ("every", "-", "1"), 2, "bad image oldversion 0", text=b"PIPIMG1\n")
-    says(program, ("every", "-", "1"), 2, "a source is given by its name", text=b".frames 16\n")
+    session("every", program, IMAGE=built)

@@ -1,5 +1,5 @@
-"""Certificates of the examples that close: they say what the search says; and those that have something wrong say
-nothing.
+"""Certificates of the examples that close, by the commands `part` and `merge`, and by tools/certify: they say what the
+search says; and those that have something wrong say nothing.
 """
 
 from __future__ import annotations
@@ -7,11 +7,12 @@ from __future__ import annotations
 import os
 import random
 import shutil
+import subprocess
 import tempfile
 from collections.abc import Iterator, Sequence
 from pathlib import Path
 
-from ..certifier.certify import PROGRAM
+from ..certifier.certify import CHECK_PARTS, ENGINE
 from ..common.calling import Failed
 from ..reference import generate_parts, parts
 from ..reference import image as images
@@ -24,36 +25,39 @@ MOST_CHECKED = 60                # parts with a wrong mark, a wrong way or a wro
 
 def certificates(program: str) -> None:
     """Each NAME.every that closes, part by part; the text of each part of a small one is the reference's."""
-    certifier, tried = built(), 0
+    engine, tried = built(), 0
     for name, image, words, told in closing(program):
         first = int((words[2:] or ["0"])[0])
         states = int(told[-1].split()[1])
         with tempfile.TemporaryDirectory() as folder:
             size = str(max(states // 5, 2))
             same(f"{name}: the end of the cut",
-                 run([certifier, "cut", str(first), size, "1000000", folder], image)[1], 0)
+                 run([engine, "cut", str(first), size, "1000000", "3", folder], image)[1], 0)
             texts = [path.read_bytes() for path in sorted(Path(folder).iterdir())]
-        lines = [checked(certifier, name, first, image + text) for text in texts]
+        lines = [checked(program, name, first, image + text) for text in texts]
         merged = together(lines)
-        expect(f"{name}: the merge", run([certifier, "merge"], b"".join(merged)), (said(told), 0))
-        tried += wrong_certificates(certifier, name, first, image, texts, lines)
+        expect(f"{name}: the merge", run([program, "merge"], b"".join(merged)), (said(told), 0))
+        tried += wrong_certificates(program, name, first, image, texts, lines)
         if states < 200:
             by_reference(name, first, image, texts, lines)
-    goes_on(image)
+    goes_on(program, image)
     if tried < PLANTED:
         raise Differs(f"{tried} wrong certificates were tried, which are less than {PLANTED}")
 
 
-def goes_on(image: bytes) -> None:
-    """tools/certify goes on where it was ended, and not with parts of other numbers."""
+def goes_on(program: str, image: bytes) -> None:
+    """tools/certify goes on where it was ended, and not with parts of other numbers; a task checks its share."""
     with tempfile.TemporaryDirectory() as place:
         path, folder = Path(place, "x.img"), Path(place, "parts")
         path.write_bytes(image)
         words = ("certify", str(path), "--to", str(folder), "--size")
-        says(None, (*words, "50"), 0, " closed\n")
+        says(program, (*words, "50", "--cut"))
+        for task in "01":
+            shared = {**os.environ, "PIP": program, "OMPI_COMM_WORLD_RANK": task, "OMPI_COMM_WORLD_SIZE": "2"}
+            subprocess.run([CHECK_PARTS, folder], env=shared, check=True)
         next(folder.glob("*.lines")).unlink()
-        says(None, (*words, "50"), 0, " parts were checked before", " closed\n")
-        says(None, (*words, "60"), 2, "parts of another image")
+        says(program, (*words, "50"), 0, " parts were checked before", " closed\n")
+        says(program, (*words, "60"), 2, "parts of another image")
 
 
 def same(what: str, found: object, wanted: object) -> None:
@@ -65,7 +69,7 @@ def built() -> str:
     if not shutil.which("cargo"):
         raise Skipped("no cargo")
     try:
-        return PROGRAM.path()
+        return ENGINE.path()
     except Failed as failed:
         raise Differs(str(failed)) from None
 
@@ -84,9 +88,9 @@ def said(told: Sequence[str]) -> bytes:
     return "".join(f"line {label}\n" for label in labels).encode() + f"{told[-1]}\n".encode()
 
 
-def checked(certifier: str, name: str, first: int, data: bytes) -> list[bytes]:
+def checked(program: str, name: str, first: int, data: bytes) -> list[bytes]:
     """The lines of a part."""
-    text, status = run([certifier, "part", str(first)], data)
+    text, status = run([program, "part", str(first)], data)
     same(f"{name}: the end of a part", status, 0)
     return text.splitlines(keepends=True)
 
@@ -98,30 +102,31 @@ def together(lines: Sequence[list[bytes]]) -> list[bytes]:
 def by_reference(name: str, first: int, image: bytes, texts: Sequence[bytes], lines: Sequence[list[bytes]]) -> None:
     machine = images.read(image)
     for text, own in zip(texts, lines):
-        part = parts.part_of(image + text, len(image), machine.frames)
+        part = parts.part_of(image + text, len(image), machine.frames, choices_of(machine))
         same(f"{name}: the text of a part", parts.written(part), text)
-        about = own[-1].decode()[len("part "):-28]
-        found = parts.check(machine, first, part)
-        assert found
-        told = sorted(line.decode().rstrip("\n") for line in own)
-        same(f"{name}: the lines of a part", told, parts.lines_of(found, about, len(part.way)))
+        same(f"{name}: the lines of a part", [line.decode().rstrip("\n") for line in own],
+             parts.part(image + text, first))
 
 
-def wrong_certificates(certifier: str, name: str, first: int, image: bytes, texts: Sequence[bytes],
+def choices_of(machine: images.Image) -> int:
+    return machine.cpus + len(machine.plans)
+
+
+def wrong_certificates(program: str, name: str, first: int, image: bytes, texts: Sequence[bytes],
                        lines: Sequence[list[bytes]]) -> int:
     """Certificates with one thing wrong, each of which is refused; how many."""
     chance, tried = random.Random(name), 0
     plain = [line.rstrip(b"\n") for line in together(lines)]
     for what, wrong in generate_parts.wrong_lines(chance, plain, 100):
-        text, status = run([certifier, "merge"], b"".join(line + b"\n" for line in wrong))
+        text, status = run([program, "merge"], b"".join(line + b"\n" for line in wrong))
         if status not in (2, 9):
             raise Differs(f"{name}: a merge with a wrong line ({what}) ends with status {status}: {text.decode()}")
         tried += 1
     for what, place, text in wrong_parts(chance, image, texts):
-        own, status = run([certifier, "part", str(first)], image + text)
+        own, status = run([program, "part", str(first)], image + text)
         if status == 0:
             changed = together([*lines[:place], own.splitlines(keepends=True), *lines[place + 1:]])
-            _, status = run([certifier, "merge"], b"".join(changed))
+            _, status = run([program, "merge"], b"".join(changed))
         if status not in (2, 9):
             raise Differs(f"{name}: a certificate with a wrong part ({what}) ends with status {status}")
         tried += 1
@@ -130,10 +135,11 @@ def wrong_certificates(certifier: str, name: str, first: int, image: bytes, text
 
 def wrong_parts(chance: random.Random, image: bytes, texts: Sequence[bytes]) -> Iterator[tuple[str, int, bytes]]:
     """Parts in whose place a certificate has a wrong one, and what is wrong."""
-    frames = images.read(image).frames
+    machine = images.read(image)
+    frames = machine.frames
     for _ in range(MOST_CHECKED):
         place = chance.randrange(len(texts))
-        part = parts.part_of(image + texts[place], len(image), frames)
+        part = parts.part_of(image + texts[place], len(image), frames, choices_of(machine))
         what = chance.choice(["mark", "way", "base", "cut", "another"])
         if what == "mark":
             j = chance.randrange(len(part.marks))

@@ -18,9 +18,9 @@ from collections.abc import Iterator
 from types import FrameType
 
 from ..common import calling
-from . import (authors, certificates, cheats, corners, counters, counts, documents, ended, endings, examples, exercises,
-               exporting, grading, guests, house, links, meanings, pages, plain, playground, playground_judge,
-               playground_runs, playing, public_calls, releasing, shells, sources, tools, tutorial, wrapper)
+from . import (authors, certificates, cheats, corners, counters, counts, documents, ended, endings, examples,
+               exercises, exporting, grading, guests, house, links, meanings, pages, plain, playground, playing,
+               public_calls, releasing, shells, sources, tools, tutorial, wrapper)
 from .running import Check, Differs, Skipped
 
 # A name, and its parts: functions that are given the program's path and raise Differs if something is wrong, or Skipped
@@ -39,7 +39,7 @@ CHECKS: dict[str, Check | tuple[Check, ...]] = {
     "examples": (examples.examples, examples.programs, examples.retries, examples.monitor, tutorial.sessions),
     "searches": examples.searches,
     "certificates": certificates.certificates,
-    "hostile-guests": (guests.hostile_guests, guests.children_are_separate),
+    "hostile-guests": guests.hostile_guests,
     "wrapper": (wrapper.wrapper, wrapper.in_turn, ended.nothing_is_proved),
     "unit-tests": tools.unit_tests,
     "pictures": tools.pictures,
@@ -58,8 +58,7 @@ CHECKS: dict[str, Check | tuple[Check, ...]] = {
     "export-registry": exporting.of_registry,
     "export-clippy": exporting.clippy,
     "export-miri": exporting.miri,
-    "playground": (playground.module, playground.states, playground_runs.runs, playground.reasons,
-                   playground_judge.judge),
+    "playground": (playground.module, playground.states, playground.runs, playground.reasons, playground.judge),
     "playground-browser": playing.in_browser,
     "release": releasing.works,
     "commands": (corners.corners, *(tools.compared(command, cases) for command, cases in tools.CASES.items())),

@@ -7,17 +7,17 @@ The commands may name them, and programs, which are known by their `fn main`; an
 other crate may stand. The search of pip_every has a counter of its own, too: its choices are calls of a trait of
 pip_search, which knows no counter, so it counts for nobody."""
 
-from __future__ import annotations
-
 import os
 import re
 import tempfile
 from collections.abc import Iterator
 
-from .running import REPOSITORY, Differs, write
+from ..common.blocks import blocks, parted
+from .running import REPOSITORY, Differs, plant
 from .sources import sources
 
-COMMANDS, TESTS = ("pip_searches", "pip_commands"), "pip_test_"
+COMMANDS, TESTS = ("pip_searches", "pip_certificates", "pip_commands"), "pip_test_"
+KERNEL = "crates/pip_mmu/src/lib.rt"
 NAMES = re.compile(r"\b(?:ledger|Blank|Brand|pip_test_\w+)\b")
 
 # What is no code, in the order in which a reader of Rust meets it: texts and remarks hide each other.
@@ -53,14 +53,11 @@ DEFINITION = {
 
 def step_counters(program: str) -> None:
     """No crate below the commands names what a counter is made of. Planted ways to make one are tried first."""
-    for spelling, files in FOUND.items():
-        if not found_in(files):
-            raise Differs(f"a planted counter isn't found: {spelling}")
-    for spelling, files in PASSED.items():
-        if found_in(files):
-            raise Differs(f"what makes no counter is refused: {spelling}")
-    found = list(counters_named(REPOSITORY))
-    if found:
+    for title, text in blocks("data/counters.txt", __file__).items():
+        files = parted(text) if text.startswith("crates/") else {KERNEL: f"fn leaf() {{ {text} }}\n"}
+        if bool(found_in(files)) == title.startswith("no "):
+            raise Differs(f"a planted counter is found, or isn't, where it is the other way round: {title}")
+    if found := list(counters_named(REPOSITORY)):
         raise Differs(f"a step counter can be made: {', '.join(found)}")
 
 
@@ -111,65 +108,5 @@ def ends_used(top: str, found: set[str]) -> Iterator[str]:
 def found_in(files: dict[str, str]) -> list[str]:
     """What is found in a tree of these files alone."""
     with tempfile.TemporaryDirectory() as planted:
-        for path, text in files.items():
-            write(text, planted, path)
+        plant(files, planted)
         return list(counters_named(planted))
-
-
-def in_kernel(text: str) -> dict[str, str]:
-    return {"crates/pip_mmu/src/lib.rt": f"fn leaf() {{ {text} }}\n"}
-
-
-OWN, MAIN = "pub fn own() { Steps::new(Blank::new(1)) }\n", "fn main(rt: HostRuntime) {}\n"
-
-# Ways to come by a counter, each of which a search for `Steps::new(Blank::new(1))` or a similar text might miss.
-FOUND = {
-    "plain": in_kernel("let mut own = Steps::new(Blank::new(1));"),
-    "under other names": in_kernel("use pip_base::Steps as Counter; use std::sync::ledger::Blank as Unopened; "
-                                   "let mut own = Counter::new(Unopened::new(1));"),
-    "by an alias of a type": in_kernel("type Counter = Steps<Brand>; type Page = Blank; Counter::new(Page::new(1));"),
-    "by qualified types": in_kernel("let mut own = <Steps<Brand>>::new(<Blank>::new(1));"),
-    "with the ledger written": in_kernel("let mut own = Steps::<Brand>::new(Blank::new(1));"),
-    "and a qualified type": in_kernel("let mut own = Steps::<Brand>::new(<Blank>::new(1));"),
-    "by a macro": in_kernel("macro_rules! made { ($t:ident, $a:expr) => { $t::new($a) } } "
-                            "let mut own = made!(Steps, made!(Blank, 1));"),
-    "after a text with //": in_kernel("note(\"//\", &mut Steps::new(Blank::new(1)));"),
-    "after a text with a quote": in_kernel("note(\"\\\" //\", b'\"', &mut Steps::new(Blank::new(1)));"),
-    "after a raw text": in_kernel("note(r#\"\" /*\"#, &mut Steps::new(Blank::new(1)));"),
-    "with remarks between": in_kernel("let mut own = Steps::/* */new(Blank::/* */new(1));"),
-    "over several lines": in_kernel("let mut own = Steps\n        ::new(Blank\n        ::new(1));\n"),
-    "by a function passed": in_kernel("let make: fn(Blank) -> Steps<Brand> = Steps::new; "
-                                      "let mut own = make((Blank::new as fn(u64) -> Blank)(1));"),
-    "by Self": in_kernel("impl<L: Ledger> Steps<L> { pub fn other(b: Blank) -> Self { Self::new(b) } }"),
-    "by the whole module": in_kernel("use std::sync::ledger as Statement; "
-                                     "let mut own = Counter::new(Statement::Blank::new(1));"),
-    "by all names of a module": in_kernel("use std::sync::*; let mut own = ledger::open();"),
-    "beside the import for clauses": in_kernel("ghost use Rattle.std.specs.Prelude.{length}; use std::marker::Brand;"),
-    "in pip_base, beside the counter": {
-        "crates/pip_base/src/steps.rt": "use std::sync::ledger::{Blank, Book, Ledger, Share};\nimpl<L: Ledger> "
-                                        "Steps<L> { pub fn new(blank: Blank) -> Self { opened(blank) } }\n"
-                                        "pub fn other(blank: Blank) -> Steps<Brand> { Steps::new(blank) }\n"},
-    "in a crate of tests that another names": {"crates/pip_test_counter/src/lib.rt": OWN,
-                                               "crates/pip_mmu/src/lib.rt": "use pip_test_counter::own;\n"},
-    "in a crate of tests that another stands on": {
-        "crates/pip_test_counter/src/lib.rt": OWN, "crates/pip_mmu/src/lib.rt": "",
-        "crates.txt": "pip_test_counter: pip_base\npip_mmu: pip_base pip_test_counter\n"},
-    "offered by pip_audit": {"crates/pip_audit/src/lib.rt": OWN},
-    "in the library part of a program": {
-        "crates/pip_own/src/main.rt": MAIN, "crates/pip_own/src/lib.rt": OWN,
-        "crates.txt": "pip_own: pip_base\npip_mmu: pip_base pip_own\n"},
-    "in a program that another stands on": {"crates/pip_own/src/main.rt": OWN + MAIN, "crates/pip_mmu/src/lib.rt": "",
-                                            "crates.txt": "pip_own: pip_base\npip_mmu: pip_own\n"},
-    "in a file main.rt without main": {"crates/pip_mmu/src/main.rt": OWN + "// fn main()\n"},
-}
-
-# What makes none, and is passed.
-PASSED = {
-    "a copied example": {"crates/pip_mine/src/main.rt": "use std::marker::Brand; use std::sync::ledger::Blank; "
-                                                        "fn main(rt: HostRuntime) { Steps::new(Blank::new(1)); }\n"},
-    "the commands": {"crates/pip_commands/src/commands/script.rt": OWN},
-    "a crate of tests": {"crates/pip_test_kernel/src/lib.rt": OWN, "crates.txt": "pip_test_kernel: pip_base\n"},
-    "a counter that is passed on": in_kernel("use std::sync::ledger::Ledger; steps.tick();"),
-    "texts and remarks": in_kernel("note(\"Steps::new(Blank::new(1))\"); // a Blank\n    /* Brand */\n"),
-    "a blank line": in_kernel("let kind = ScriptLine::Blank; enum Statement<'a> { Blank, Names(&'a [u8]), }"),
-}

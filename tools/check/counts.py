@@ -4,8 +4,6 @@ No output of the program depends on the caches. So a program that says after its
 in a copy of the sources counts_program.txt stands in the place of crates/pip/src/main.rt. `rt try` builds it, without
 proofs. The cases are those generated, the scripts of examples/, and one whose pages share places."""
 
-from __future__ import annotations
-
 import glob
 import os
 import shutil

@@ -1,7 +1,5 @@
 """The sessions and examples of the documents are what the program gives."""
 
-from __future__ import annotations
-
 import os
 import tempfile
 from pathlib import Path

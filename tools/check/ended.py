@@ -1,8 +1,6 @@
 """What a tool does that can't do its work: where its output can't be written, at Ctrl-C, and in a checkout in which
 nothing is built. It says so in one line, with a status that says nothing of the work."""
 
-from __future__ import annotations
-
 import os
 import shutil
 import signal

@@ -1,8 +1,6 @@
 """How the program ends: its exit statuses, and what it writes then; when the answers of a script are written; and what
 happens where memory is refused."""
 
-from __future__ import annotations
-
 import os
 import select
 import subprocess
@@ -13,6 +11,7 @@ from typing import IO
 from ..authors import asmx
 from ..common import forms
 from ..reference import commands as reference
+from ..reference import parts
 from .running import REPOSITORY, SECONDS, Differs, Output, contents, expect, run, short, write
 
 HERE = os.path.dirname(os.path.abspath(__file__))
@@ -128,6 +127,10 @@ def cases() -> Iterator[tuple[list[str], bytes]]:
     lines, _ = asmx.processed(os.path.join(REPOSITORY, "examples", "apart", "leaves.asmx"))
     guests, _ = reference.pip(["asm"], "".join(line + "\n" for _, line in lines).encode())
     yield ["apart", "40", "400", "1"], guests
+    part = image + parts.written(parts.Part([(1, 2, 3)], [0], [1, 0]))
+    yield ["part", "3"], part
+    yield ["merge"], b"".join(sorted(reference.pip(["part"], image + parts.written(parts.Part([], [], [])))[0]
+                                     .splitlines(keepends=True)))
 
 
 def refusals(program: str, library: str, place: str) -> Refused:

@@ -1,7 +1,5 @@
 """The scripts and programs of examples/ give what stands beside them, and the monitor shares its processor out."""
 
-from __future__ import annotations
-
 import glob
 import os
 import re

@@ -1,22 +1,18 @@
 """tools/exercise: each exercise has a section and a solution that reaches all goals, also by seeds; less doesn't."""
 
-from __future__ import annotations
-
 import itertools
 import os
 import subprocess
 import sys
 import tempfile
 from concurrent.futures import ThreadPoolExecutor
-from types import SimpleNamespace
 
 from ..exercises import exercise, judging
 from . import cheats, seeded
-from .running import REPOSITORY, SECONDS, Differs, contents, run, says, text_of, told_by as tool, write
+from .running import REPOSITORY, SECONDS, Differs, contents, run, session, text_of, told_by as tool, write
 
 TIMES = 3                # that each solution is judged, each time with another secret
 SEEDS = ("ada", "grace hopper", "\u00e9")
-BOOT, HEAD = b"boot 64 1\n", b".frames 16\n.cpus 1\n.page 0x400000\n"
 INCLUDED = {"monitor": "monitor.s", "no-loss": "timer_and_services.s"}     # what the solution includes
 
 
@@ -31,7 +27,7 @@ def solutions(program: str) -> None:
     whole_script(program, files["break-in"])
     drawn_again()
     lesser(files)
-    names_the_line()
+    session("exercise", program)
     without_cargo(files["map"])
 
 
@@ -68,20 +64,20 @@ def by_seed(seed: str, name: str, is_program: bool) -> None:
         raise Differs(f"tools/exercise {name} --seed {seed}: the solution of the repository is good")
     if name in INCLUDED:
         path = os.path.join(REPOSITORY, "examples", INCLUDED[name])
-    text = seeded.REWRITTEN[name](text_of(path), values)
+    text = seeded.rewritten(name, text_of(path), values)
     found = cheats.judged(name, text, os.path.splitext(path)[1], is_program, seed)
     if not found.is_whole:
         raise Differs(f"tools/exercise {name} --seed {seed} of a solution for it: {found.lines(True)}")
 
 
-def told_by_seed(name: str, seed: str) -> SimpleNamespace:
+def told_by_seed(name: str, seed: str) -> dict[str, int]:
     """The values of an exercise by a seed. Its section has each usual value, and by the seed the other one."""
     page, usual = (" ".join(exercise.told(name, by).split()) for by in (seed, None))
     values = judging.values(name, seed)
     for value, (_, told) in judging.values(name, None).items():
         if told not in usual or values[value][1] not in page:
             raise Differs(f"docs/EXERCISES.md, {name}: the value {value} isn't told")
-    return SimpleNamespace(**{value: number for value, (number, _) in values.items()})
+    return {value: number for value, (number, _) in values.items()}
 
 
 def whole_script(program: str, path: str) -> None:
@@ -95,7 +91,7 @@ def without_cargo(path: str) -> None:
     """Where no judge is built and there is no cargo, that is one sentence."""
     with tempfile.TemporaryDirectory() as place:
         script = ("from dataclasses import replace; from tools.exercises import exercise; from tools.judge import "
-                  "building; " "building.JUDGE = replace(building.JUDGE, name='none'); exercise.main()")
+                  "building; building.JUDGE = replace(building.JUDGE, name='none'); exercise.main()")
         words = [sys.executable, "-B", "-c", script, "map", path]
         done = subprocess.run(words, cwd=REPOSITORY, env={"PATH": place}, timeout=SECONDS, stdout=subprocess.PIPE,
                               stderr=subprocess.PIPE)
@@ -104,54 +100,11 @@ def without_cargo(path: str) -> None:
         raise Differs(f"tools/exercise without cargo: status {done.returncode}, {told}")
 
 
-def names_the_line() -> None:
-    """What was refused, parked or faulted is told with its line, or step, in words."""
-    with tempfile.TemporaryDirectory() as place:
-        path = os.path.join(place, "answer")
-        for name, text, due in (
-                ("map", BOOT + b"call 0 5 0x409000 0x401000 0x10000000 3\n",
-                 "line 2: call 0 5 0x409000 0x401000 0x10000000 3 -> reply 5 0x00000000 (addVAddr: NotChild: "),
-                ("fault", BOOT + b"# a remark\nld 0 0x400002\n",
-                 "line 3: ld 0 0x400002 -> park 1 17 (vector 17: an access to a word at"),
-                ("monitor", HEAD + b"sys 1\nint 64\n",
-                 "answer:4, step 0: processor 0, partition 1: call 1 reply 3 0x00000000 (deletePartition: NullPage: "),
-                ("monitor", HEAD + b"# a remark\n\nla r1 0x400001   # its address\nbegin: ldw r2 r1 0\n",
-                 "answer:7 (begin), step 2: processor 0, partition 1: park 1 17 (vector 17: an access to a word"),
-                ("sum", HEAD + b"int 64\n.page 0x401000\n.word 100\n", "it shows [], where 0x000013ba is due")):
-            write(text, path)
-            misses(name, path, due)
-
-
 def lesser(files: dict[str, str]) -> None:
-    """A solution without its last line, or a text that is no answer, misses a goal and gets a hint."""
+    """A solution without its last line misses a goal, and gets a hint."""
     with tempfile.TemporaryDirectory() as place:
-        path = os.path.join(place, "answer")
         for name in ("store", "map", "take-back", "enter", "interrupt", "end"):
-            lines = contents(files[name]).splitlines(keepends=True)
-            write(b"".join(lines[:-1]), path)
-            misses(name, path)
-        for name, text, due in (("map", BOOT, "0 of 4"), ("sum", HEAD + b"int 64\n", "1 of 6"),
-                                ("break-in", b"ld 0 0x10000020\n", "never read it"),
-                                ("map", BOOT + b"ld 0 00\n", "'00' is no number"),
-                                ("store", b"st 0 0x40800c 0x2a\n", "no machine was begun"),
-                                ("end", BOOT + b"ld 0 0x400002\ncall 0\n", "call has 2 to 7 numbers"),
-                                ("break-in", b"st 0 -5 1\n", "'-5' is no number"),
-                                ("break-in", b"ld 0 0x100000000\n", "has more than eight digits"),
-                                ("sum", b"li r1\n", "before the first page")):
-            write(text, path)
-            misses(name, path, due)
-        for words, due in ((("nothing", path), "there is no exercise"), (("map", "/nonexistent"), "can't be read"),
-                           ((), "which exercise"), (("sum", place), "can't be read"),
-                           (("map", path, "--script"), "--script is for break-in"),
-                           (("map", path, "--again", "xyz"), "--again is at most 16 digits")):
-            says(None, ("exercise", *words), 2, due)
-        write(b"boot 16 1\n" + b"raise 1\n" * 5001, path)
-        says(None, ("exercise", "store", path), 2, "more than 5000 lines")
-        write(b"peek 1 1\n", path)
-        says(None, ("exercise", "break-in", path), 2, "line 1: the child can't say")
-
-
-def misses(name: str, path: str, *due: str) -> None:
-    output, messages, status = tool("exercise", name, path)
-    if status != 1 or messages or any(part not in output for part in due) or not due and "hint: " not in output:
-        raise Differs(f"tools/exercise {name}: status {status}, where 1 is due; {output[-400:]}{messages}")
+            path = write(b"".join(contents(files[name]).splitlines(keepends=True)[:-1]), place, "answer")
+            output, messages, status = tool("exercise", name, path)
+            if status != 1 or messages or "hint: " not in output:
+                raise Differs(f"tools/exercise {name}: status {status}, where 1 is due; {output[-400:]}{messages}")

@@ -13,11 +13,10 @@ import sys
 import tempfile
 from collections.abc import Callable
 from pathlib import Path
-from typing import Any
 
 from ..exporter import export
 from ..reference import comparison, generate
-from .running import REPOSITORY, Differs, Skipped, contents, expect, part, text_of, write
+from .running import REPOSITORY, Differs, Skipped, contents, expect, finished, part, text_of, write
 
 EXPORT = os.path.join(REPOSITORY, "tools", "export")
 SECONDS = 900            # cargo builds everything
@@ -135,22 +134,13 @@ def exported() -> tempfile.TemporaryDirectory[str]:
 def written(place: str, deps: str | None) -> str:
     """Writes an export, and answers what tools/export says of it."""
     words = [sys.executable, "-B", EXPORT, "--to", place] + (["--deps", deps] if deps else [])
-    return finished("tools/export", words, {})
+    return finished("tools/export", words, SECONDS)
 
 
 def cargo(place: str, *words: str, **settings: str) -> str:
     """What a command of cargo writes that has to pass. It needs no network."""
     environment = dict(os.environ, CARGO_TARGET_DIR=os.path.join(place, "target"), CARGO_NET_OFFLINE="true", **settings)
-    return finished("cargo " + words[0], ["cargo", *words], {"cwd": place, "env": environment})
-
-
-def finished(what: str, words: list[str], settings: dict[str, Any]) -> str:
-    done = subprocess.run(words, stdin=subprocess.DEVNULL, stdout=subprocess.PIPE, stderr=subprocess.STDOUT,
-                          timeout=SECONDS, **settings)
-    told: str = done.stdout.decode("utf-8", "replace")
-    if done.returncode:
-        raise Differs(f"{what} ends with {done.returncode}:\n{told[-3000:]}")
-    return told
+    return finished("cargo " + words[0], ["cargo", *words], SECONDS, cwd=place, env=environment)
 
 
 def passed(told: str) -> int:

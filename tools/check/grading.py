@@ -1,7 +1,5 @@
 """tools/grade: a class as a table, works that are alike, and hostile ones, none of which gets beyond its folder."""
 
-from __future__ import annotations
-
 import os
 import shutil
 import signal
@@ -10,63 +8,42 @@ import sys
 import tempfile
 import time
 
+from ..common.blocks import blocks
 from ..exercises import alone
 from ..judge import building
 from . import cheats
 from .checkout import heed_interrupts
-from .running import REPOSITORY, Differs, contents, says, text_of, told_by as tool, write, write_program
+from .running import REPOSITORY, Differs, contents, says, session, text_of, told_by as tool, write, write_program
 
 HOSTILE = os.path.join(REPOSITORY, "tools", "exercises", "hostile")
-CLASS = """         map  break-in   sum  goals  solved
-ada     4/4=         -  6/6=  10/16     2/3
-bob      3/4         -   bad   3/16     0/3
-eve x   4/4=         ?     -   4/16     1/3
-solved   2/3       0/3   1/3
-map: the same text: ada, eve x
-sum: nearly the same text: ada, the solution of examples/solutions
-"""
-SPREADSHEET = """student,map of 4,break-in of 6,sum of 6,goals,solved,alike
-ada,4,,6,10,2,map: eve x; sum: the solution of examples/solutions
-bob,3,,0,3,0,
-eve x,4,0,,4,1,map: ada
-"""
-# A script for 'map' that isn't like the solution, and the same with other remarks and numbers
-MAP = b"""boot 64 2
-call 0 0 0x401000 0x412000 0x413000 0x414000 0x415000
-st 0 0x416000 0x417000
-st 0 0x417000 0x418000
-call 0 3 0x401000 0x10000000 0x416000
-call 0 5 0x419000 0x401000 0x10000000 3
-st 0 0x419008 0x1234
-"""
+CLASS = blocks("data/class.txt", __file__)
 PROMPT = 5               # seconds in which Ctrl-C ends everything
 
 
 def grades(program: str) -> None:
     """A class as a table, with what isn't judged on standard error; as a spreadsheet; and by seeds."""
     cheats.need_judge()
-    script, text = MAP, contents(cheats.solution_of("sum"))
+    script, text = CLASS["map"].encode(), contents(cheats.solution_of("sum"))
     text = text.replace(b"li r1 0x1000", b"li r1 0x1000\nmov r3 r10\nmov r4 r10")
-    again = b"# mine\n" + script.replace(b"0x1234", b"4660").replace(b"0x401000", b"0x00401000")
     with tempfile.TemporaryDirectory() as place:
         for path, content in (("ada/map.pip", script), ("ada/sum.s", text), ("bob/map.s", text),
                               ("bob/map.pip", script.replace(b" 3\nst", b" 7\nst")), ("bob/sum.asmx", b"lix r1\n"),
-                              ("eve x/break-in.pip", b"peek 1 1\n"), ("eve x/map.pip", again), ("eve x/notes", b"")):
+                              ("eve x/break-in.pip", b"peek 1 1\n"), ("eve x/map.pip", CLASS["again"].encode()),
+                              ("eve x/notes", b"")):
             write(content, place, path)
         output, messages, status = tool("grade", place, "--again", "1")
         due = ("map.s is no work: map ends with .pip", "notes is no work: there is no exercise notes",
                "break-in.pip: line 1: the child can't say")
         lacks = [part for part in due if part not in messages]
-        if (output, status) != (CLASS + "(--again 1 draws the same)\n", 0) or lacks or len(messages.splitlines()) != 3:
+        wanted = CLASS["table"] + "(--again 1 draws the same)\n"
+        if (output, status) != (wanted, 0) or lacks or len(messages.splitlines()) != 3:
             raise Differs(f"tools/grade: status {status}, {output}{messages}")
-        if (got := tool("grade", place, "--csv")[0]) != SPREADSHEET:
+        if (got := tool("grade", place, "--csv")[0]) != CLASS["spreadsheet"]:
             raise Differs(f"tools/grade --csv: {got}")
         seeds = tool("grade", place, "--seeds")[0]
         if "0/3       0/3  0/3" not in seeds:
             raise Differs(f"tools/grade --seeds: {seeds}")
-        for words, told in ((("/nonexistent",), "can't be read"), ((place, "--jobs", "0"), "--jobs is"),
-                            ((os.path.join(place, "ada"),), "no folder of a student")):
-            says(None, ("grade", *words), 2, told)
+        session("grade", program, CLASS=place)
     hostile_works()
     stopped()
 
@@ -128,7 +105,7 @@ def stopped() -> None:
                               f"if [ $act = list ]; then echo list | {building.program()}; exit; fi\n"
                               f"echo $$ >> {place}/begun\nexec sleep 60\n", place, "judge")
         for student in ("ada", "bob"):
-            write(MAP, place, "class", student, "map.pip")
+            write(CLASS["map"], place, "class", student, "map.pip")
         words = [sys.executable, "-B", os.path.join(REPOSITORY, "tools", "grade"), os.path.join(place, "class")]
         process = subprocess.Popen(words, env={**os.environ, "PIP_JUDGE": waits}, stdout=subprocess.PIPE,
                                    stderr=subprocess.PIPE, preexec_fn=heed_interrupts)

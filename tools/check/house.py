@@ -2,8 +2,6 @@
 
 A count above its allowance is refused, and so is one below it, until the allowance is lowered to it."""
 
-from __future__ import annotations
-
 import collections
 import glob
 import os
@@ -13,7 +11,7 @@ from collections.abc import Iterator
 from dataclasses import dataclass, field
 
 from .links import documents, without_code
-from .running import REPOSITORY, Differs, text_of, write
+from .running import REPOSITORY, Differs, plant, planted, text_of
 from .sources import sources, texts
 
 LIST = os.path.join(os.path.dirname(os.path.abspath(__file__)), "allowances.txt")
@@ -109,32 +107,15 @@ def troubles(top: str, allowed: Allowances) -> list[str]:
               for name in sorted((allowed.names - found.names) | (allowed.items - found.items)))]
 
 
-PLANTED = {
-    "crates/pip_one/specs/Rows.antt": "-- a row\nabbrev pub is_row : Bool\nis_row = true\n\n"
-                                      "pub record Row : Type 0 where\n  pub at : Bool\n",
-    "crates/pip_two/specs/Rows.antt": "-- a row of another kind\npub is_row : Bool\nis_row = false\n" + "-" * (MOST + 1)
-    + "\n",
-    "crates/pip_one/src/rows.rt":
-        "pub(crate) struct Rows<A> {\n    at: A,\n}\n\nimpl Rows {\n    type Kept = u32;\n}\n",
-    "crates/pip_two/src/rows.rt": "// " + "-" * MOST + "\nconst WIDE: &str = \"" + "-" * MOST
-    + "\";\n\npub enum Rows {}\n\ntype Kept = u8;\n",
-    "crates/pip_test_one/src/rows.rt": "const WIDE: u32 = 7;\n",
-    "tools/one/rows.py": "ROWS = (1,)      # " + "w" * MOST + "\n",
-    "docs/ROWS.md": "| " + "-" * MOST + " |\n\nA " + "w" * MOST + "\n",
-}
-
-
 def house(program: str) -> None:
     """The sources are within their allowances. That the check finds what isn't is tried first, on planted crates."""
-    with tempfile.TemporaryDirectory() as planted:
-        for path, text in PLANTED.items():
-            write(text, planted, path)
+    with tempfile.TemporaryDirectory() as place:
+        plant(planted("house"), place)
         wide = {"pip_two": 2, "documents": 1, "tools": 1}
         right = Allowances(wide, {"pip_one": 1}, {"is_row"}, {"Rows"})
         more = Allowances({**wide, "pip_two": 3}, {"pip_one": 2}, {"is_row", "is_gone"}, {"Rows", "Gone"})
         for allowed, count in ((right, 0), (Allowances(), 6), (more, 4)):
-            if len(troubles(planted, allowed)) != count:
-                raise Differs(f"planted crates: {troubles(planted, allowed)} by {allowed}")
-    found = troubles(REPOSITORY, allowances(text_of(LIST)))
-    if found:
+            if len(troubles(place, allowed)) != count:
+                raise Differs(f"planted crates: {troubles(place, allowed)} by {allowed}")
+    if found := troubles(REPOSITORY, allowances(text_of(LIST))):
         raise Differs("; ".join(found))

@@ -1,8 +1,6 @@
 """What a document links to in the repository, or names by its path from the top, is there; and so is each contract that
 PROVED.md names."""
 
-from __future__ import annotations
-
 import os
 import re
 from collections.abc import Iterator

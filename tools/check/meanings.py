@@ -1,7 +1,5 @@
 """The words that the tools show are those of docs/FORMATS.md: tools/common/meanings.json has the rows of its tables."""
 
-from __future__ import annotations
-
 import json
 from typing import Any
 

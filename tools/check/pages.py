@@ -1,7 +1,5 @@
 """tools/step: the pages of the examples are what program and reference say, hostile input is refused, keys step."""
 
-from __future__ import annotations
-
 import glob
 import json
 import os
@@ -14,7 +12,7 @@ from ..reference.model import World
 from ..reference import image as reference_image, runs, script
 from . import browser
 from .authors import built_of, liar
-from .running import REPOSITORY, SECONDS, Differs, Skipped, contents, part, run, text_of, tool, write
+from .running import REPOSITORY, SECONDS, Differs, Skipped, contents, part, run, session, text_of, tool, write
 
 MOST_LINES = 60          # of a script: a longer one may have too many tables
 
@@ -129,17 +127,7 @@ def names_of_a_run(program: str, place: str) -> None:
 
 def hostile(program: str) -> None:
     """Input that is no script or image, or means harm to the page."""
-    refused = ((("-",), b"", "no line with an answer"), (("-",), b"# only a remark\n", "no line with an answer"),
-               (("-",), b"ld 0 0\n", "bad line 1"), (("-",), b"\xff\xfe\n", "bad line 1"),
-               (("-",), b"PIPIMG2\n", "is an image"), (("-", "10", "1"), b"PIPIMG2\x00", "bad image"),
-               (("-", "10", "1"), b"no image", "a source is given by its name"),
-               (("-", "x", "1"), b"", "STEPS is a number"), (("-", "10", "0"), b"", "SEED is a number"),
-               (("-", "99999999999", "1"), b"", "STEPS is a number"), (("/nonexistent",), b"", "can't be read"),
-               (("-",), b"boot 16 1\n" + b"raise 1\n" * 3001, "a page has at most"), (("-", "10"), b"", "both needed"))
-    for words, text, due in refused:
-        output, messages, status = stepped(program, *words, text=text)
-        if status != 2 or output or due not in messages:
-            raise Differs(f"tools/step {' '.join(words)} of {text[:20]!r}: status {status}, {messages[-300:]!r}")
+    session("step", program)
     page, messages, status = stepped(program, "-", text=b"# </script><img src=x>\nboot 16 1\n# \xff\nld 0 0\n<b>\n")
     data = data_of(page)
     if status or [step["answer"] for step in data["steps"]] != ["boot 16 1", "park 1 14", "bad line 5"]:

@@ -1,7 +1,5 @@
 """The plain program of bench/plain, to which docs/PERFORMANCE.md compares, writes what the program writes."""
 
-from __future__ import annotations
-
 import glob
 import os
 from collections.abc import Iterator
@@ -13,6 +11,7 @@ from .exporting import need_cargo
 from .running import REPOSITORY, contents, expect, run
 
 CASES = 20               # of each command
+NOT_THERE = ("part", "merge")                # it has no certificates
 FIRST_SEED = 700_000     # no other check has these
 Work = tuple[list[str], bytes]
 # What is made of the image of each program of examples/
@@ -26,7 +25,7 @@ def plain(program: str) -> None:
     beside = plain_program()
     with ThreadPoolExecutor(os.cpu_count()) as pool:
         work = [*examples(program), *(generate.case(command, FIRST_SEED + k) for command in generate.COMMANDS
-                                      for k in range(CASES))]
+                                      if command not in NOT_THERE for k in range(CASES))]
         dues = pool.map(lambda one: run([program, *one[0]], one[1]), work)
         found = pool.map(lambda one: run([beside, *one[0]], one[1]), work)
         for (words, _), due, got in zip(work, dues, found):

@@ -1,8 +1,6 @@
 """The program as a module of WebAssembly answers as the program does, and the page over it shows what the other tools
 show."""
 
-from __future__ import annotations
-
 import atexit
 import functools
 import glob
@@ -14,13 +12,16 @@ import subprocess
 import sys
 import tempfile
 from collections.abc import Iterator
+from concurrent.futures import ThreadPoolExecutor
 from typing import Any
 
-from ..authors import why
+from ..authors import asmx, why
+from ..exercises import exercise, judging
+from ..judge import building
 from ..reference import generate
-from . import corners, pages
+from . import cheats, corners, pages
 from .exporting import SECONDS, need_cargo
-from .running import REPOSITORY, Differs, Skipped, contents, expect, part, text_of, write
+from .running import REPOSITORY, Differs, Skipped, contents, expect, finished, part, text_of, write
 
 PLAYGROUND = os.path.join(REPOSITORY, "tools", "playground")
 CASES = 20               # of each command
@@ -54,10 +55,8 @@ def made() -> str:
     atexit.register(shutil.rmtree, place, ignore_errors=True)
     path = os.path.join(place, "pip.wasm")
     make(path)
-    done = subprocess.run([sys.executable, "-B", os.path.join(PLAYGROUND, "make_page"), "--module", path, "--to",
-                           page_of(path)], stdout=subprocess.PIPE, stderr=subprocess.STDOUT)
-    if done.returncode:
-        raise Differs(f"the page isn't made: {done.stdout.decode('utf-8', 'replace')}")
+    finished("make_page", [sys.executable, "-B", os.path.join(PLAYGROUND, "make_page"), "--module", path, "--to",
+                           page_of(path)])
     if (size := os.path.getsize(page_of(path))) > MOST_BYTES:
         raise Differs(f"the page has {size} bytes, and at most {MOST_BYTES} are wanted")
     return path
@@ -161,8 +160,8 @@ def reasons(program: str) -> None:
     """Of each generated text that is refused, and of lines that are bad in one way each, the page says what tools/why
     says."""
     need_node()
-    refused_as(program, "script", bad_texts(), len(corners.BAD_LINES))
-    refused_as(program, "asm", bad_assembly(), len(corners.BAD_ASSEMBLY))
+    refused_as(program, "script", bad_texts(), len(list(corners.listed_of("lines of a script"))))
+    refused_as(program, "asm", bad_assembly(), len(list(corners.listed_of("lines of a text"))))
 
 
 def refused_as(program: str, kind: str, texts: list[bytes], least: int) -> None:
@@ -214,3 +213,139 @@ def same_reason(program: str, text: bytes, told: Any, as_assembly: bool) -> bool
     if page != [sentence for sentence in sentences if not sentence.startswith("    ")]:
         raise Differs(f"the page, {text!r}: {page}, where {sentences} is due")
     return True
+
+
+# What the page shows of a run is what a page of tools/step shows
+
+STEPS = 24               # of each window
+MOST_WITH_LINES = 6000   # steps among which windows are
+WINDOWS = 3
+
+
+def runs(program: str) -> None:
+    """The first steps of each program of examples/, and some around its lines further on, by two seeds. Registers are
+    the reference's."""
+    need_node()
+    work = [(program, made(), facts(), text, seed) for text in sources() for seed in (1, 7)]
+    with multiprocessing.Pool() as pool:
+        for found in pool.imap(same_run, work):
+            if found:
+                raise Differs(found)
+
+
+def sources() -> list[str]:
+    return sorted(glob.glob(os.path.join(REPOSITORY, "examples", "*.s")))
+
+
+def same_run(given: tuple[str, str, str, str, int]) -> str:
+    """What differs, in a sentence; nothing where all is the same."""
+    program, path, facts, source, seed = given
+    text = contents(source)
+    with tempfile.TemporaryDirectory() as place:
+        image = write(run([program, "asm"], text)[0], place, "image")
+        for first in windows(program, image, seed):
+            page, messages, status = pages.stepped(program, image, str(first + STEPS), str(seed), "--source", source,
+                                                   "--from", str(first), "--jobs", "1")
+            if status:
+                return f"tools/step {source}: {messages}"
+            found = run_differs(path, facts, text, seed, first, pages.data_of(page))
+            if found:
+                return f"the page of {os.path.basename(source)}, seed {seed}: {found}"[:2000]
+    return ""
+
+
+def windows(program: str, image: str, seed: int) -> list[int]:
+    """Where windows begin: at the beginning, and before some of the lines of the run."""
+    told, _ = run([program, "run", str(MOST_WITH_LINES), str(seed)], contents(image))
+    lines = told.decode().splitlines()[1:-1]
+    steps = [int(line.split(" ")[0]) for line in lines]
+    chosen = [steps[k * len(steps) // WINDOWS] for k in range(1, WINDOWS)] if steps else []
+    return sorted({0, *(max(0, step - STEPS // 2) for step in chosen)})
+
+
+def run_differs(path: str, facts: str, text: bytes, seed: int, first: int, due: dict[str, Any]) -> str:
+    counts = range(first, first + STEPS + 1)
+    told = run(["node", os.path.join(PLAYGROUND, "runs.mjs"), path, facts, str(seed),
+                           *map(str, counts)], text)[0].splitlines()
+    if len(told) != len(counts):
+        return f"{len(told)} states, where {len(counts)} are due"
+    for k, (count, line) in enumerate(zip(counts, told)):
+        data, chosen = json.loads(line), 7 * count % 16
+        got, wanted = shown(data, len(data["steps"]) - 1, chosen), shown(due, k, chosen)
+        if k == 0 and count:
+            # of the step before the window
+            wanted = {**wanted, **{name: got[name] for name in ("told", "answer", "did", "changed", "place")}}
+        found = next((f"{name} after {count} steps is {got[name]}, where {wanted[name]} is due" for name in wanted
+                      if got[name] != wanted[name]), "")
+        if found:
+            return found
+    return ""
+
+
+def shown(data: dict[str, Any], k: int, chosen: int) -> dict[str, Any]:
+    """A state without its remark, which is the page's own."""
+    state = state_of(data, k, chosen)
+    return {**{name: told for name, told in state.items() if name != "remarks"}, "did": data["steps"][k]["did"]}
+
+
+# The judge
+
+SEED, SECRET = "ada", "5eed"
+LEAST = 250              # requests: a folder that isn't found would pass
+ODD = (("map", b"boot 64 1\nld 0 00\n"), ("map", b""), ("map", b"# nothing\n"), ("end", b"boot 64 1\ncall 0\n"),
+       ("store", b"ld 0 0\n"), ("break-in", b"peek 1 1\n"), ("break-in", b"ld 0 0x10000020\nst 0 -5 1\n"),
+       ("break-in", b"ld 0 0x100000000\n"), ("break-in", b"\xff 0\n"), ("store", b"boot 64 1\nst 9 0 0\n"),
+       ("sum", b"li r1\n"), ("sum", b".frames 16\n.cpus 1\n.page 0x400000\nint 64\n"), ("nothing", b""),
+       ("store", b"boot 16 1\n" + b"raise 1\n" * 5001), ("child", "boot 64 4\nst 0 0x400000 \u00e9\n".encode()))
+
+
+def judge(program: str) -> None:
+    """The judge in the page's module says of each solution, cheat and odd text what that of tools/exercise says."""
+    need_node()
+    cheats.need_judge()
+    asked = [one.decode("utf-8", "replace") for one in requests()]
+    if len(asked) < LEAST:
+        raise Differs(f"there are {len(asked)} requests to the judge")
+    words = ["node", os.path.join(PLAYGROUND, "judge.mjs"), made()]
+    lines = "".join(json.dumps(one) + "\n" for one in asked)
+    done = subprocess.run(words, input=lines.encode(), stdout=subprocess.PIPE, timeout=SECONDS)
+    found = [json.loads(line) for line in done.stdout.splitlines()]
+    if len(found) != len(asked):
+        raise Differs(f"the module's judge answers {len(found)} requests of {len(asked)}")
+    path = building.program()
+    with ThreadPoolExecutor(os.cpu_count()) as pool:
+        due = pool.map(lambda one: answered(path, one), asked)
+        for one, got, wanted in zip(asked, found, due):
+            if got != wanted:
+                raise Differs(f"the module's judge says {got}, where {wanted} is due, of the request\n{one[:1000]}")
+
+
+def answered(path: str, one: str) -> str:
+    return subprocess.run([path], input=one.encode(), stdout=subprocess.PIPE).stdout.decode()
+
+
+def requests() -> Iterator[bytes]:
+    """What is asked: an act, an exercise, a seed, a secret and a text each."""
+    yield b"list\n\n\n\n"
+    for name, text in ODD:
+        yield request("judge", name, "", text)
+    for name, one in judging.exercises().items():
+        path = cheats.solution_of(name)
+        text = plain(path, one.is_program)
+        yield from (request("judge", name, seed, text) for seed in ("", SEED))
+        yield request("values", name, SEED, b"")
+        yield request("tell", name, SEED, exercise.told(name).encode())
+    for cheat in cheats.all_cheats():
+        told, ending = cheats.edited(cheat)
+        if ending != ".asmx":
+            yield request("judge", cheat.name, "", told.encode())
+
+
+def request(act: str, name: str, seed: str, text: bytes) -> bytes:
+    return "\n".join((act, name, seed, SECRET, "")).encode() + text
+
+
+def plain(path: str, is_program: bool) -> bytes:
+    if not is_program:
+        return contents(path)
+    return "".join(line + "\n" for _, line in asmx.processed(path)[0]).encode()

@@ -1,8 +1,6 @@
 """The page that runs, in a headless Chromium: its own check, typing, bad lines, keys and focus, links, assembly, a long
 file, sizes and colours."""
 
-from __future__ import annotations
-
 import glob
 import json
 import os

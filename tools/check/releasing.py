@@ -1,17 +1,14 @@
 """A release of these sources works where there is neither kit nor cargo."""
 
-from __future__ import annotations
-
 import os
 import shutil
-import subprocess
 import sys
 import tarfile
 import tempfile
 from typing import Any
 
-from .exporting import SECONDS, finished
-from .running import REPOSITORY, Differs, Skipped, contents, expect, write, write_program
+from .exporting import SECONDS
+from .running import REPOSITORY, Differs, Skipped, contents, expect, finished, run, write, write_program
 
 GATE = "#!/bin/sh\ncp {program} crates/pip/out/pip\necho '1 passed, 0 failed'\n"
 # Stands in for the kit, which prints its line, and for the page's module
@@ -29,8 +26,8 @@ def works(program: str) -> None:
         copied(checkout, program, tools)
         to, environment = os.path.join(place, "to"), dict(os.environ, PATH=tools + os.pathsep + os.environ["PATH"])
         for words in (["--gate"], ["1.0", "--to", to, "--module", os.path.join(place, "module")]):
-            finished("tools/release", [os.path.join(checkout, "tools", "release"), *words],
-                     {"cwd": checkout, "env": environment})
+            finished("tools/release", [os.path.join(checkout, "tools", "release"), *words], SECONDS, cwd=checkout,
+                     env=environment)
         with tarfile.open(os.path.join(to, "pip-1.0.tar.gz")) as archive:
             archive.extractall(os.path.join(place, "reader"))
         shutil.rmtree(checkout)
@@ -46,7 +43,7 @@ def copied(checkout: str, program: str, tools: str) -> None:
         write_program(text, path)
     write(MODULE, os.path.dirname(checkout), "module")
     for words in (["init", "-q"], ["add", "-A"], ["-c", "user.name=a", "-c", "user.email=a@b", "commit", "-qm", "all"]):
-        finished("git", ["git", *words], {"cwd": checkout})
+        finished("git", ["git", *words], SECONDS, cwd=checkout)
 
 
 def used(place: str, tools: str) -> None:
@@ -58,12 +55,12 @@ def used(place: str, tools: str) -> None:
     os.symlink("/usr/bin/env", os.path.join(tools, "env"))
     settings: dict[str, Any] = {"cwd": place, "env": {"PATH": tools}}
     due = contents(place, "examples", "first.out")
-    expect("./pip of a release", answered("./pip script < examples/first.pip", settings), (due, 0))
-    told, status = answered("tools/exercise store examples/solutions/store.pip", settings)
+    expect("./pip of a release", run(["sh", "-c", "./pip script < examples/first.pip"], **settings), (due, 0))
+    told, status = run(["sh", "-c", "tools/exercise store examples/solutions/store.pip"], **settings)
     if status:
         raise Differs(f"tools/exercise of a release ends with {status}: {told!r}")
     expect("the checksums of a release",
-           answered("grep -E '^[0-9a-f]{64}  ' PROOF | sha256sum --check --quiet", settings), (b"", 0))
+           run(["sh", "-c", "grep -E '^[0-9a-f]{64}  ' PROOF | sha256sum --check --quiet"], **settings), (b"", 0))
     for name in ("README.html", "docs/TUTORIAL.html", "pip.html", "rust/Cargo.toml", "rust/crates/pip/src/main.rs"):
         if not os.path.isfile(os.path.join(place, name)):
             raise Differs(f"a release has no {name}")
@@ -74,9 +71,3 @@ def found_in_path(name: str) -> str:
     if path is None:
         raise Skipped(f"no {name}")
     return path
-
-
-def answered(command: str, settings: dict[str, Any]) -> tuple[bytes, int]:
-    done = subprocess.run(["sh", "-c", command], stdin=subprocess.DEVNULL, stdout=subprocess.PIPE, timeout=SECONDS,
-                          **settings)
-    return done.stdout, done.returncode

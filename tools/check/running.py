@@ -6,8 +6,11 @@ import os
 import re
 import subprocess
 import sys
-from collections.abc import Callable, Sequence
+import tempfile
+from collections.abc import Callable, Mapping, Sequence
 from typing import Any
+
+from ..common.blocks import blocks, escaped, repeated
 
 REPOSITORY = os.path.dirname(os.path.dirname(os.path.dirname(os.path.abspath(__file__))))
 Output = tuple[bytes, int]           # what a program writes to standard output, and its status
@@ -40,6 +43,18 @@ def write_program(content: str, *parts: str) -> str:
     return path
 
 
+def plant(files: Mapping[str, str], place: str) -> None:
+    """Writes texts by their paths below a folder."""
+    for path, text in files.items():
+        write(text, place, path)
+
+
+def planted(check: str) -> dict[str, str]:
+    """The files that are planted for a check, by their paths: those of data/planted.txt."""
+    found = (title.partition(" ")[::2] + (text,) for title, text in blocks("data/planted.txt", __file__).items())
+    return {path: repeated(text) for name, path, text in found if name == check}
+
+
 class Differs(Exception):
     """What a check found, as a sentence."""
 
@@ -58,6 +73,16 @@ def run(command: Sequence[str | bytes], text: bytes = b"", **streams: Any) -> Ou
     return done.stdout, done.returncode
 
 
+def finished(what: str, words: Sequence[str], seconds: float | None = None, **settings: Any) -> str:
+    """What a command writes that has to end well."""
+    done = subprocess.run(words, stdin=subprocess.DEVNULL, stdout=subprocess.PIPE, stderr=subprocess.STDOUT,
+                          timeout=seconds, **settings)
+    told: str = done.stdout.decode("utf-8", "replace")
+    if done.returncode:
+        raise Differs(f"{what} ends with {done.returncode}:\n{told[-4000:]}")
+    return told
+
+
 def tool(program: str, name: str, *words: str, text: bytes = b"") -> tuple[str, str, int]:
     """Output, messages and status of a tool that needs a program."""
     return told_by(name, *words, "--program", program, text=text)
@@ -65,7 +90,8 @@ def tool(program: str, name: str, *words: str, text: bytes = b"") -> tuple[str, 
 
 def told_by(name: str, *words: str, text: bytes = b"") -> tuple[str, str, int]:
     command = [sys.executable, "-B", os.path.join(REPOSITORY, "tools", name), *words]
-    done = subprocess.run(command, input=text, timeout=SECONDS, stdout=subprocess.PIPE, stderr=subprocess.PIPE)
+    done = subprocess.run(command, input=text, timeout=SECONDS, cwd=REPOSITORY, stdout=subprocess.PIPE,
+                          stderr=subprocess.PIPE)
     messages = done.stderr.decode()
     if "Traceback" in messages:
         raise Differs(f"tools/{name} {' '.join(words)}: {messages[-400:]}")
@@ -80,6 +106,40 @@ def says(program: str | None, words: Sequence[str], status: int = 0, *parts: str
         raise Differs(f"tools/{' '.join(words)}: status {got}, where {status} is due; {missing} is missing in "
                       f"{(output + messages)[-300:]!r}")
     return output
+
+
+WITHOUT_PROGRAM = ("exercise", "grade", "certify")
+LINES = re.compile(rb"@(.*?\n)@(\d+)", re.S)      # a line that comes again and again
+SAID = re.compile(r"(\d+)([:>!]) (.*)")
+
+
+def session(title: str, program: str, **paths: str) -> None:
+    """Makes the commands of a block of data/sessions.txt, each of which has to end and to say as it is there."""
+    with tempfile.TemporaryDirectory() as place:
+        paths = {"PLACE": place, "FILE": os.path.join(place, "answer"), **paths}
+        for command in blocks("data/sessions.txt", __file__)[title].split("$ ")[1:]:
+            head, *lines = command.splitlines()
+            told, _, given = head.partition(" < ")
+            text = LINES.sub(lambda found: found[1] * int(found[2]), escaped(given))
+            write(text, paths["FILE"])
+            words = [word.format_map(paths) for word in told.split(" ")]
+            words += ["--program", program] if words[0] not in WITHOUT_PROGRAM else []
+            output, messages, status = told_by(*words, text=text)
+            said = SAID.fullmatch(lines[0])
+            assert said
+            named = dict(line[2:].split(" ", 1) for line in lines if line.startswith("= "))
+            parts = [said[3], *(line for line in lines[1:] if not line.startswith("= ")), *named.values()]
+            missing = [part for part in parts if escaped(part).decode() not in output + messages]
+            if status != int(said[1]) or missing or said[2] == ">" and messages or said[2] == "!" and output:
+                raise Differs(f"tools/{' '.join(words)} of {text[:40]!r}: status {status}, where {said[1]} is due; "
+                              f"{missing} is missing in {output[-300:]!r} and {messages[-300:]!r}")
+            for name, part in named.items():
+                paths[name] = number_of(output, escaped(part).decode())
+
+
+def number_of(told: str, part: str) -> str:
+    """What begins the first line with this part."""
+    return next(line.split()[0] for line in told.splitlines() if part in line)
 
 
 def expect(what: str, got: tuple[bytes | None, int], wanted: tuple[bytes | None, int]) -> None:

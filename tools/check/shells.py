@@ -1,7 +1,5 @@
 """tools/shell through a pipe and on a terminal; its session in tools/README.md is what it says."""
 
-from __future__ import annotations
-
 import fcntl
 import os
 import pty

@@ -1,8 +1,6 @@
 """What holds of the sources beside what is proved: no clause imports in vain, and the wrong bodies that are kept beside
 the crates fit. And how checks read sources."""
 
-from __future__ import annotations
-
 import collections
 import os
 import re
@@ -10,18 +8,16 @@ import tempfile
 from collections.abc import Iterator
 
 from ..edits.reading import NotApplied, all_edits, edited
-from .running import REPOSITORY, Differs, text_of, write
+from .running import REPOSITORY, Differs, plant, planted, text_of
 
 IMPORT = re.compile(r"^\s*ghost use [^{\n]*\{([^}\n]*)\};$")
 
 
 def ghost_imports(program: str) -> None:
     """Each name that a clause's import brings is used in its file. A planted file is tried first."""
-    with tempfile.TemporaryDirectory() as planted:
-        write("ghost use Rattle.std.specs.Prelude.{◌≡◌, ◌<◌, length};\n"
-              "fn same(a: u32) -> u32\n    ensures { result ≡ a } // length\n{\n    a\n}\n",
-              planted, "crates/pip_planted/src/lib.rt")
-        if [name for _, name in imports_in_vain(planted)] != ["◌<◌", "length"]:
+    with tempfile.TemporaryDirectory() as place:
+        plant(planted("imports"), place)
+        if [name for _, name in imports_in_vain(place)] != ["◌<◌", "length"]:
             raise Differs("planted imports aren't found")
     found = [f"{path}: {name}" for path, name in imports_in_vain(REPOSITORY)]
     if found:
@@ -65,19 +61,6 @@ def texts(top: str, parts: tuple[str, ...], ending: str) -> Iterator[tuple[str, 
 
 # Edits
 
-SOURCE = "fn one() -> u32 {\n    1\n}\n"
-PLANTED = {                     # three edits that apply, and five of which something is said
-    "must-fail/it_is_two.edit": "file: src/lib.rt\nold:     1\nnew:     2\n",
-    "tried/it_is_four.edit": "file: src/lib.rt\nold:     1\nnew:     3\nold:     3\nnew:     4\n",
-    "tried/admitted/it_is_a_sum.edit": "file: src/lib.rt\nold:     1\nnew:     0 + 1\n",
-    "tried/it_is_two.edit": "file: src/lib.rt\nold:     1\nnew:     5\n",
-    "tried/it_has_no_file.edit": "file: src/one.rt\nold:     1\nnew:     2\n",
-    "tried/it_is_there_twice.edit": "file: src/lib.rt\nold: n\nnew: m\n",
-    "tried/it_is_there_no_more.edit": "file: src/lib.rt\nold:     1\nnew:     2\nold:     1\nnew:     3\n",
-    "tried/admitted/it_changes_nothing.edit": "file: src/lib.rt\nold:     1\nnew:     1\n",
-}
-
-
 def troubles(top: str) -> list[str]:
     """Each edit that doesn't apply, and each name that two edits of a crate have."""
     found = []
@@ -93,12 +76,9 @@ def troubles(top: str) -> list[str]:
 
 def edits(program: str) -> None:
     """Each edit of must-fail/ and tried/ applies, and no two of a crate have one name. Planted ones are tried first."""
-    with tempfile.TemporaryDirectory() as planted:
-        write(SOURCE, planted, "crates/pip_one/src/lib.rt")
-        for path, text in PLANTED.items():
-            write(text, planted, "crates/pip_one", path)
-        if len(troubles(planted)) != 5:
-            raise Differs(f"planted edits: {troubles(planted)}")
-    found = troubles(REPOSITORY)
-    if found:
+    with tempfile.TemporaryDirectory() as place:
+        plant(planted("edits"), place)
+        if len(troubles(place)) != 5:
+            raise Differs(f"planted edits: {troubles(place)}")
+    if found := troubles(REPOSITORY):
         raise Differs("; ".join(found))

@@ -1,8 +1,6 @@
 """The tools themselves: their unit tests, those of the debugger beside the program, the comparison of the program with
 the reference, the pictures, and the hints of types, in which mypy, as strict as it is, finds nothing."""
 
-from __future__ import annotations
-
 import filecmp
 import glob
 import os
@@ -13,21 +11,19 @@ import sys
 import tempfile
 
 from ..reference import comparison
-from .running import REPOSITORY, Check, Differs, Skipped, text_of, write
+from .running import REPOSITORY, Check, Differs, Skipped, finished, plant, planted, text_of
 
 CASES = {"script": 400, "asm": 200, "dis": 200, "run": 200, "tree": 100, "core": 100, "soak": 200, "native": 200,
-         "slots": 200, "audit": 200, "every": 500, "against": 500, "apart": 300}
+         "slots": 200, "audit": 200, "every": 500, "against": 500, "apart": 300,
+         "part": 200, "merge": 400}
 
 
 def unit_tests(program: str) -> None:
     """The unit tests of the tools, and the test of the grammars for editors."""
     missing: dict[str, None] = {}
     for words in (["-s", "tools", "-t", "."], ["-s", "editors"]):
-        done = subprocess.run([sys.executable, "-B", "-m", "unittest", "discover", "-v", *words], cwd=REPOSITORY,
-                              stdout=subprocess.PIPE, stderr=subprocess.STDOUT)
-        told = done.stdout.decode("utf-8", "replace")
-        if done.returncode:
-            raise Differs(f"tests of {words[1]} fail:\n{told[-3000:]}")
+        told = finished(f"tests of {words[1]}", [sys.executable, "-B", "-m", "unittest", "discover", "-v", *words],
+                        cwd=REPOSITORY)
         missing.update(dict.fromkeys(re.findall(r"skipped '(.*)'$", told, re.M)))
     if missing:
         raise Skipped(", ".join(missing))
@@ -54,12 +50,9 @@ def pictures(program: str) -> None:
 
 def tested(program: str, *modules: str) -> None:
     """These unit tests, with this program."""
-    done = subprocess.run([sys.executable, "-B", "-m", "unittest", "-q",
-                           *(f"tools.debugger.{name}" for name in modules)], cwd=REPOSITORY,
-                          env=dict(os.environ, PIP=os.path.abspath(program)), stdout=subprocess.PIPE,
-                          stderr=subprocess.STDOUT)
-    if done.returncode:
-        raise Differs(f"tools/debugger: {done.stdout.decode()[-4000:]}")
+    finished("tools/debugger", [sys.executable, "-B", "-m", "unittest", "-q",
+                                *(f"tools.debugger.{name}" for name in modules)], cwd=REPOSITORY,
+             env=dict(os.environ, PIP=os.path.abspath(program)))
 
 
 def debugger(program: str) -> None:
@@ -76,10 +69,6 @@ def language_server(program: str) -> None:
 
 
 OF = ("tools", os.path.join("editors", "test_grammar.py"))
-PLANTED = {
-    "tools/planted.py": "def number(text: str) -> int:\n    return text\n\n\ndef bare(text):\n    return text\n",
-    "editors/test_grammar.py": "import tools.planted\n\nSIZE: str = tools.planted.number('1')\n",
-}
 DUE = ("tools/planted.py:2: error: Incompatible return value type",
        "tools/planted.py:5: error: Function is missing a type annotation",
        "editors/test_grammar.py:3: error: Incompatible types in assignment")
@@ -98,11 +87,9 @@ def types(program: str) -> None:
     mypy = shutil.which("mypy")
     if mypy is None:
         raise Skipped("no mypy")
-    with tempfile.TemporaryDirectory() as planted:
-        write("", planted, "tools/__init__.py")
-        for path, text in PLANTED.items():
-            write(text, planted, path)
-        told, status = judged(mypy, planted)
+    with tempfile.TemporaryDirectory() as place:
+        plant({"tools/__init__.py": "", **planted("types")}, place)
+        told, status = judged(mypy, place)
         missing = [due for due in DUE if due not in told]
         if status != 1 or missing:
             raise Differs(f"planted modules: mypy ends with {status}, and doesn't say {missing}: {told}")

@@ -1,7 +1,5 @@
 """docs/TUTORIAL.md shows the files of examples/tutorial/ as they are, and they give what is beside them."""
 
-from __future__ import annotations
-
 import glob
 import os
 import re

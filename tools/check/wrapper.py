@@ -5,6 +5,7 @@ from __future__ import annotations
 
 import os
 import pty
+import re
 import shutil
 import signal
 import subprocess
@@ -15,6 +16,7 @@ from collections.abc import Sequence
 from typing import IO
 
 from ..common import forms
+from ..common.blocks import blocks
 from .checkout import SOURCES, Checkout, Ended, Process
 from .running import SECONDS, Differs, Skipped, contents, expect as expect_output, part, run, text_of
 
@@ -22,23 +24,7 @@ BUILDS = "proving and building pip; this takes a quarter of an hour or more, and
 BY_CARGO = "building pip of its export by cargo; this takes about a minute, and what cargo says goes into "
 OF_CARGO = "unproved: cargo built this program of the same text, and nothing is proved of it\n"
 OF_REFERENCE = "unproved: the reference answers, a second telling of the model in Python, and nothing is proved of it\n"
-# Words that are no form, and how what is said of them begins.
-EXPLAINED = ((("script", "crates.txt"), "pip reads standard input: ./pip script < crates.txt\n"),
-             (("run", "crates.txt", "10", "1"), "pip reads standard input: ./pip run 10 1 < crates.txt\n"),
-             (("--unproved", "asm", "crates.txt"), "pip reads standard input: ./pip --unproved asm < crates.txt\n"),
-             (("script", "none.pip"), "./pip script < FILE "),
-             (("run", "06", "1"), "STEPS is a number, decimal without a 0 before it"),
-             (("run", "100000000", "1"), "STEPS is at most 10000000\n./pip run STEPS SEED < IMAGE "),
-             (("run", "1", "0"), "SEED is at least 1\n"), (("run", "1"), "./pip run STEPS SEED < IMAGE "),
-             (("slots", "8", "8", "125001"), "N * (TURNS + 2) * ROUNDS is at most 10000000\n"),
-             (("slots", "1", "2", "0:4999999"),
-              "a round has at most 10000000 / ROUNDS steps, TURNS + 2 for each slot\n"),
-             (("slots", "2", "2", "0:1", "2:1"), "K is at most 1\n"),
-             (("apart", "1", "5", "0"), "SEED is at least 1\n"), (("evry",), "evry: did you mean every?\n"),
-             (("every", "1", "after", "5", "0"), "SEED is at least 1\n./pip every STATES < IMAGE "),
-             (("against", "1", "10000001", "after", "5", "1"), "FROM is at most 10000000\n"),
-             (("--unprovd", "script"), "--unprovd: did you mean --unproved?\n"),
-             (("[a-z]*",), "[a-z]*: there is no such command\n./pip script < FILE "), ((), "./pip script < FILE "))
+READS_INPUT = "pip reads standard input: ./pip script < crates.txt\n"
 # What is said of a status.
 STATUSES = ((3, "status 3: standard input can't be read"), (4, "status 4: standard output can't be written"),
             (5, "status 5: no memory was found"), (6, "status 6: the input goes on after 16777216 bytes"))
@@ -274,14 +260,21 @@ def of_an_unproved_release(checkout: Checkout) -> None:
 
 def explains_wrong_words(checkout: Checkout) -> None:
     """What may be meant, on standard error; the rest is as ever, built or not."""
-    for words, due in EXPLAINED:
-        got = checkout.run(*words, cwd=checkout.place)
+    for words, due in blocks("data/explained.txt", __file__).items():
+        got = checkout.run(*(words.split() if words != "(nothing)" else ()), cwd=checkout.place)
         expect_told(f"with {words}", got, got[0] if got[0].startswith("usage: pip script") else "the usage line", 1,
                     builds=0)
-        expect(f"with {words}, that it says {due!r}", got[1].startswith(due), True)
+        expect(f"with {words}, that it says {due!r}", begins(got[1], due), True)
     checkout.run("script")
     output, messages, status, _ = checkout.run("script", "crates.txt", cwd=checkout.place)
-    expect("built, with a file as a word", (output, messages, status), ("ran script crates.txt\n", EXPLAINED[0][1], 7))
+    expect("built, with a file as a word", (output, messages, status), ("ran script crates.txt\n", READS_INPUT, 7))
+
+
+def begins(told: str, due: str) -> bool:
+    """Whether what is told begins with these lines; one that ends with ` ..` goes on."""
+    lines = [line.partition(" ..") for line in due.splitlines()]
+    pattern = "".join(re.escape(line) + (r"\b.*" if goes_on else "") + "\n" for line, goes_on, _ in lines)
+    return re.match(pattern, told) is not None
 
 
 def answers_wrong_words(checkout: Checkout, program: str) -> None:

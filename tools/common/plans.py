@@ -1,7 +1,5 @@
 """Plans of interrupt lines: as the words of a command line, and in an image in the place of its own."""
 
-from __future__ import annotations
-
 import itertools
 import re
 from collections.abc import Sequence

@@ -1,7 +1,5 @@
 """How far a tool is, on standard error."""
 
-from __future__ import annotations
-
 import sys
 import time
 

@@ -1,7 +1,5 @@
 """A drawing of rectangles, lines and texts, as SVG."""
 
-from __future__ import annotations
-
 from collections.abc import Sequence
 from xml.sax.saxutils import escape
 

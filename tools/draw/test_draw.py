@@ -1,8 +1,6 @@
 """What the check `pictures` doesn't show of the drawings: other texts, other frames, and what isn't there. The check
 `unit-tests` runs these tests."""
 
-from __future__ import annotations
-
 import unittest
 import xml.dom.minidom
 
@@ -31,17 +29,6 @@ class Draw(unittest.TestCase):
             self.assertRaises(texts.Misread, texts.partitions, text)
         for text in ("part 1", "0000: 1 2", CORE.replace("frame 1\n", "", 1)):
             self.assertRaises(texts.Misread, texts.memory, text)
-
-    def test_roles_of_frames_and_meanings_of_words(self) -> None:
-        roles = frames.roles(texts.memory(CORE))
-        self.assertEqual([roles[frame] for frame in (13, 14, 20, 17)], [
-            frames.Role("descriptor", 13), frames.Role("directory", 13, 0), frames.Role("table", 13, 2, 64),
-            frames.Role("list page", 13, 0)])
-        self.assertNotIn(12, roles)
-        for frame, index, word, told in ((13, 3, 14, "MMU directory: frame 14"),
-                                         (17, 5, 0x13, "slot 0, first shadow table: frame 19"),
-                                         (14, 64, 0x12001, "page table in frame 18, for 0x10000000 and above")):
-            self.assertEqual(frames.meaning(roles[frame], index, word), told)
 
     def test_a_handler_that_is_there_and_one_that_is_not(self) -> None:
         memory = texts.memory(CORE)

@@ -1,7 +1,5 @@
 """Draws the way from an address of a partition to its word: directory, page table, frame, and the two shadow words."""
 
-from __future__ import annotations
-
 from ..step import walk
 from . import frames
 from .svg import INK, PALE, PAPER, Drawing

@@ -1,7 +1,5 @@
 """Edits that put a wrong body into a crate: files of `must-fail/`, `tried/` and `tried/admitted/`."""
 
-from __future__ import annotations
-
 import os
 from collections.abc import Iterator
 from dataclasses import dataclass

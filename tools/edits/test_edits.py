@@ -1,43 +1,14 @@
 """Tests of what tools/tried says, without the prover."""
 
-from __future__ import annotations
-
 import unittest
 
+from ..common.blocks import blocks
 from ..common.calling import REPOSITORY, Failed
 from . import tried
 from .reading import Change, Edit, NotApplied, edited, read_edit
 
-SOURCE = """
-impl Cache {
-    /// Empties it.
-    pub fn empty(&mut self) {
-        self.used = 0;
-    }
-}
-
-impl First for Cache {
-    fn first(&self) -> u32 {
-        0
-    }
-}
-
-const LAST: u32 = 7;
-
-pub(crate) fn count<L: Ledger>(steps: &mut Steps<L>) {
-    steps.tick();
-}
-""".split("\n")
-OPEN = "note: src/cache.rt:169:9: it is not proved that the invariant of the loop holds (`loop-g-preserved`)\n"
-LOST = "./proofs/cache/Invariants.antt:9:28: error: `invariant-loop-g`: record `Live-loop-g` has no field `used`\n"
-# What is said of an output of the prover begins so
-VERDICTS = {
-    OPEN * 2 + "./proofs/cache/Answers.antt:27:32: error: `returns`: as printed, the two types differ\n":
-        "refused: loop-g-preserved, returns",
-    LOST + "./proofs/cache/Answers.antt:5:5: error: 1 declaration was not admitted, was not checked: returns\n":
-        "refused, but names were lost: ./proofs/cache/Invariants.antt:9:28",
-    "src/cache.rt:9:28: error[E0425]: cannot find it\n": "does not apply: ",
-}
+SAID = blocks("said.txt", __file__)
+SOURCE = SAID.pop("source").split("\n")
 
 
 class Tried(unittest.TestCase):
@@ -55,7 +26,7 @@ class Tried(unittest.TestCase):
             self.assertEqual(tried.function_at(SOURCE, text), function)
 
     def test_verdicts(self) -> None:
-        for text, told in VERDICTS.items():
+        for told, text in SAID.items():
             self.assertTrue(tried.verdict(text).startswith(told), tried.verdict(text))
         self.assertRaises(Failed, tried.verdict, "rt: pip_base: killed\n")
         for folder, verdict, is_due in (("tried", "refused: returns", True), ("tried", "passes", False),

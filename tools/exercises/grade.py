@@ -2,8 +2,6 @@
 
     tools/grade FOLDER [--csv] [--seeds] [--allow EXAMPLE ..]"""
 
-from __future__ import annotations
-
 import argparse
 import csv
 import os

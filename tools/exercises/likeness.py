@@ -1,7 +1,5 @@
 """Which works are the same text but for remarks, names and how numbers are written, or nearly so."""
 
-from __future__ import annotations
-
 import itertools
 import re
 from collections import Counter

@@ -1,7 +1,5 @@
 """A program of a tool: a crate of its own beside an export that it uses, built by cargo where a source is newer."""
 
-from __future__ import annotations
-
 import os
 import shutil
 import subprocess

@@ -1,7 +1,5 @@
 """The crates of a repository, by its crates.txt."""
 
-from __future__ import annotations
-
 from dataclasses import dataclass
 from pathlib import Path
 

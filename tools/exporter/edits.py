@@ -1,7 +1,5 @@
 """Changes to a text, by places in it."""
 
-from __future__ import annotations
-
 from .tokens import Trouble
 
 GONE = "\0"  # in the place of what was taken out, so that a line that is empty then goes, too

@@ -1,7 +1,5 @@
 """The kernel as ordinary Rust: writes the crates as a workspace of cargo, and compares its text with the sources."""
 
-from __future__ import annotations
-
 import argparse
 from pathlib import Path
 

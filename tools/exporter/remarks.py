@@ -1,7 +1,5 @@
 """Clauses and ghost items as comments: beside a function that is documented they are part of its documentation."""
 
-from __future__ import annotations
-
 import re
 
 from .edits import Edits

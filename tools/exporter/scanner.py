@@ -1,8 +1,6 @@
 """The words of a source and of an export, for their comparison. It reads character by character and shares nothing with
 tokens.py, which the exporter uses, so that no fault of one of them hides in the comparison."""
 
-from __future__ import annotations
-
 from dataclasses import dataclass
 
 from .tokens import Trouble

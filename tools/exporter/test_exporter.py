@@ -8,9 +8,10 @@ import os
 import random
 import tempfile
 import unittest
-from collections.abc import Sequence
+from collections.abc import Iterator, Sequence
 from pathlib import Path
 
+from ..common.blocks import blocks
 from . import comparing, crates, requirements, tokens, workspace
 from .rewriting import Role, exported
 from .scanner import words_of
@@ -19,101 +20,16 @@ from .tokens import Trouble
 REPOSITORY = Path(__file__).resolve().parent.parent.parent
 CHANGES, SEED = 30, 20
 
-# What is exported of a source, and as what
-EXPORTED = {
-    "clauses of a declared method": (
-        "trait T {\n    fn f(&self) -> u8\n        ensures { result ≡ 1 };\n}\n",
-        "trait T {\n    // ensures { result ≡ 1 }\n    fn f(&self) -> u8;\n}\n"),
-    "clauses of a closure and a loop go": (
-        "fn f() {\n    g(|a| requires { a < 3 } { a + 1 })\n}\n", "fn f() {\n    g(|a| { a + 1 })\n}\n"),
-    "ghost items stay as comments": (
-        "struct S {\n    a: u8,\n    /// Why.\n    pub ghost b: { a < 3 },\n}\n",
-        "struct S {\n    a: u8,\n    // Why.\n    // pub ghost b: { a < 3 },\n}\n"),
-    "a model becomes a comment": (
-        "/// S.\nstruct S(u8);\n\nimpl Model for S {\n    ghost Value = { ℕ };\n}\n\nfn f() {}\n",
-        "/// S.\nstruct S(u8);\n\n// impl Model for S {\n//     ghost Value = { ℕ };\n// }\n\nfn f() {}\n"),
-    "clauses of a public function are its documentation": (
-        "/// F.\n#[inline]\npub const fn f(a: u8)\n    requires { a ∈\n        b }\n{}\n",
-        "/// F.\n///\n/// ```text\n/// requires { a ∈\n///     b }\n/// ```\n#[inline]\npub const fn f(a: u8) {}\n"),
-    "comments among clauses stay there": (
-        "/// F.\nfn f(a: A)\n    requires { Is a }\n    // Why.\n    ensures { Is a }\n{}\n",
-        "/// F.\n///\n/// ```text\n/// requires { Is a }\n/// // Why.\n/// ensures { Is a }\n/// ```\nfn f(a: A) {}\n"),
-    "clauses of a private function are a comment": (
-        "// F.\nfn f(a: A)\n    requires { Is a }\n{}\n", "// F.\n// requires { Is a }\nfn f(a: A) {}\n"),
-    "what a text or a remark has stays": (
-        "// requires { x } ghost\nfn f() -> &'static str {\n    \"ghost requires { x }\"\n}\n",) * 2,
-    "another function keeps its parameter": (
-        "use std::prelude::kit::*;\n\nfn g(rt: HostRuntime) {\n    h(rt);\n}\n",
-        "use std::prelude::kit::*;\n\nuse std::prelude::kit::*;\n\nfn g(rt: HostRuntime) {\n    h(rt);\n}\n"),
-}
-REFUSED = {
-    "a model with code": "impl Model for S {\n    fn f() {}\n}\n",
-    "a drop of another form": "impl Drop for S {\n    fn drop(self) {\n        free(self.a);\n    }\n}\n",
-    "what only a proof reads": "fn f() {\n    a ≡ b\n}\n",
-    "an unsafe body that can't be tested":
-        "fn f(&self, f: usize)\n    requires { IsGood f }\n{\n    unsafe { g() }\n}\n",
-    **{text: text for text in ("\"a", "fn f() requires { a", "fn f() requires a", "ghost a: {", "ghost a")},
-}
-# The tests of a requirement
+FORMS = blocks("forms.txt", __file__)
+SOURCE, DROP = FORMS["source"], FORMS["drop"]
+# Of the parameters of tests of requirements
 TYPES = {"s": "& [ u8 ]", "n": "u32", "m": "usize", "b": "u8", "f": "impl Fn ( u8 )"}
-TESTED = {"length s.now ≤ 3": ["s.len() <= 3"], "n < length s.now": ["(n as u128) < (s.len() as u128)"],
-          "m + 1 ≤ length s.now": ["(m as u128) + 1 <= (s.len() as u128)"], "b < 256": ["(b as u128) < 256"],
-          "n < 2 ^ 32": ["(n as u128) < 4294967296"], "n ≢ 0": ["n != 0"], "IsTrue n": [], "n < other": [], "3 < 4": [],
-          "(n < 3) ⊎ (m < 4)": [], "n < 3 → m < 4": [], "self.now.count < n": [],
-          "(n < 2 ^ 20) × (IsGood s)": ["n < 1048576"]}
 
-SOURCE = """//! A.
-#![tactic(auto)]
 
-ghost use A.{b};
-
-use std::marker::Model;
-
-/// S.
-#[derive(Debug, Drop)]
-pub struct S {
-    count: usize,
-    pub(crate) ghost least: { 1 ≤ count },
-}
-
-impl Model for S {
-    ghost Value = { ℕ };
-}
-
-impl S {
-    /// F.
-    #[inline]
-    pub fn f<T: Drop>(&self, f: usize, t: T) -> Vec<u8>
-        requires { f < self.now.count }
-        ensures { result.now ≡ "}" }
-    {
-        unsafe { g(f) }
-    }
-
-    fn g<U: Clone + Copy + Drop>(n: u32, m: u32)
-        requires sum { (n + m ≤ 2 ^ 20) × (m < 3) }
-    {
-        if n < 3 { h("a  b") }
-    }
-}
-
-#[test]
-fn t(rt: HostRuntime) {
-    f(rt).expect(rt, "c");
-}
-"""
-# Changes of its export, each of which is a difference, and what is said of some
-CHANGED = {
-    ("#![no_std]\n", ""): "", ("pub fn f", "fn f"): "", ("pub fn f", "pub fn F"): "", ("T>(", "T: Copy>("): "",
-    ("U: Clone + Copy>", "U: Clone>"): "", ("#[inline]\n", ""): "", ('"a  b"', '"a b"'): "",
-    ("let rt = ", "let rt = &"): "", ('expect("c")', 'expect(rt, "c")'): "", ("derive(Debug)", "derive()"): "",
-    ("use std::prelude::kit::*;", ""): "", ("if n < 3", "if n > 3"): "'>' where '<' of line 32 of the source is due",
-    ("assert!(f < self.count)", "assert!(f <= self.count)"): "", ("    assert!(f < self.count);\n", ""): "",
-    ("assert!(f < self.count)", "debug_assert!(f < self.count)"): "", ("<= 1048576", "<= 1048577"): "",
-    ("debug_assert!(m < 3)", "assert!(m < 3)"): "", ("debug_assert!(m < 3)", "debug_assert!(m < g())"): "",
-    ("(m < 3) }", "(m < 4) }"): "no comment shows",
-}
-DROP = "impl Drop for S {\n    fn drop(self) {\n        let S { a, b } = self;\n        c(b, a);\n    }\n}\n"
+def lines_of(title: str) -> Iterator[list[str]]:
+    """The parts of each line of a block."""
+    for line in FORMS[title].splitlines():
+        yield [part.strip(" ").replace("\\n", "\n") for part in f"{line} ".split(" =>")]
 
 
 def difference(source: str, export: str, role: Role = Role()) -> str | None:
@@ -122,17 +38,21 @@ def difference(source: str, export: str, role: Role = Role()) -> str | None:
 
 class Exports(unittest.TestCase):
     def test_each_form_is_exported_as_it_should_be(self) -> None:
-        for what, (source, due) in EXPORTED.items():
-            self.assertEqual(exported(source), due, what)
+        for title, text in FORMS.items():
+            if title.startswith("exports: "):
+                source, _, due = text.partition("=>\n")
+                self.assertEqual(exported(source), due or source, title)
 
     def test_other_forms_are_refused(self) -> None:
-        for what, source in REFUSED.items():
-            with self.assertRaises((Trouble, ValueError), msg=what):
+        sources = [text for title, text in FORMS.items() if title.startswith("refuses: ")]
+        for source in [*sources, *FORMS["refused parts"].splitlines()]:
+            with self.assertRaises((Trouble, ValueError), msg=source):
                 exported(source)
 
     def test_tests_of_requirements(self) -> None:
-        for clause, tests in TESTED.items():
-            self.assertEqual(requirements.conditions_of(f"requires {{ {clause} }}", TYPES, False), tests, clause)
+        for clause, due in lines_of("tests"):
+            tests = requirements.conditions_of(f"requires {{ {clause} }}", TYPES, False)
+            self.assertEqual("; ".join(tests), due, clause)
 
 
 class Differences(unittest.TestCase):
@@ -150,9 +70,9 @@ class Differences(unittest.TestCase):
         role = Role(root=True)
         export = exported(SOURCE, role)
         self.assertIsNone(difference(SOURCE, export, role))
-        for (old, new), said in CHANGED.items():
+        for old, new, *said in lines_of("changes"):
             self.assertEqual(export.count(old), 1, old)
-            self.assertIn(said, difference(SOURCE, export.replace(old, new), role) or self.fail(new))
+            self.assertIn("".join(said), difference(SOURCE, export.replace(old, new), role) or self.fail(new))
         start, end = export.split("    assert!(f < self.count);")
         for other in (export + "fn more() {}\n", start + "    assert!(f < self.count)" + end.replace(";", "")):
             self.assertIsNotNone(difference(SOURCE, other, role))

@@ -1,7 +1,5 @@
 """The tokens of a source: those of Rust, with each clause and each ghost item as one token."""
 
-from __future__ import annotations
-
 import re
 from dataclasses import dataclass
 

@@ -14,13 +14,13 @@ import sys
 from collections.abc import Callable, Iterable, Sequence
 from typing import NamedTuple, Optional
 
-from . import against, apart, assembly, audit, every, image, native, runs, script, slots
+from . import against, apart, assembly, audit, every, image, native, parts, runs, script, slots
 from .model import World
 
 USAGE = b"usage: pip script | run STEPS SEED | asm | dis | tree STEPS SEED | core STEPS SEED | soak COUNT SEED" \
     b" | native N STEPS | slots N TURNS ROUNDS | slots N ROUNDS K:TURNS .. | audit FRAMES" \
     b" | every STATES [FROM [DEPTH]] [after STEPS SEED] | against STATES [FROM [DEPTH]] [after STEPS SEED]" \
-    b" | apart STATES STEPS SEED\n"
+    b" | apart STATES STEPS SEED | part [FROM] | merge\n"
 Ended = tuple[bytes, int, Optional[World]]       # output and status, and the world that the command leaves
 OnImage = Callable[[image.Image], tuple[Iterable[str], Optional[World]]]
 MOST_STEPS, MOST_COUNT = 10000000, 1000000
@@ -123,6 +123,9 @@ def ended(words: Sequence[str], text: bytes) -> Ended:
     if command == "apart" and (given := numbers_of(rest, (1, every.MOST_STATES), STEPS, SEED)):
         room, steps, seed = given
         return on_image(lambda machine: (apart.apart(machine, room, steps, seed), None), text)
+    if command == "part" and (given := numbers_of(rest or ["0"], (0, every.MOST))):
+        first, = given
+        return on_part(first, text)
     return USAGE, 1, None
 
 
@@ -155,7 +158,11 @@ def dis(data: bytes) -> Ended:
     return in_lines(told), 0, None
 
 
-ON_TEXTS: dict[str, Callable[[bytes], Ended]] = {"script": script.ended, "asm": asm, "dis": dis}
+def merge(text: bytes) -> Ended:
+    return *parts.merged(text), None
+
+
+ON_TEXTS: dict[str, Callable[[bytes], Ended]] = {"script": script.ended, "asm": asm, "dis": dis, "merge": merge}
 
 
 def on_image(command: OnImage, data: bytes, children: int = 0) -> Ended:
@@ -180,6 +187,16 @@ def on_menu(asked: Asked, data: bytes) -> Ended:
     except against.BadLine as bad:
         return in_lines([f"bad line {bad.line} {bad.kind}"]), 2, None
     return in_lines(against.against(machine, asked.states, asked.first, asked.deepest, menu, asked.after)), 0, None
+
+
+def on_part(first: int, data: bytes) -> Ended:
+    """What `part` says of an image with a part after it."""
+    try:
+        return in_lines(parts.part(data, first)), 0, None
+    except image.BadImage as bad:
+        return in_lines([f"bad image {bad.kind} {bad.at}"]), 2, None
+    except parts.BadPart as bad:
+        return in_lines([f"bad part {bad.kind} {bad.at}"]), 2, None
 
 
 def typed(read: Callable[[], bytes], write: Callable[[bytes], object]) -> int:

@@ -7,13 +7,14 @@ from __future__ import annotations
 
 import random
 from collections.abc import Callable
-from typing import TypeVar
 
-from . import (generate_against, generate_apart, generate_audit, generate_every, generate_native,
+from . import (generate_against, generate_apart, generate_audit, generate_every, generate_native, generate_parts,
                generate_programs)
-from .model import (HANDLERS, LAST_BLOCK, LINES, NOWHERE, PAGE, READ, ROOT, SAVED, SLOTS, WRITE, Node, Tree, World,
-                    pages_needed)
+from .model import (HANDLERS, LAST_BLOCK, LINES, NOWHERE, PAGE, READ, ROOT, SAVED, SLOTS, WORDS, WRITE, Node, Tree,
+                    World, pages_needed)
+from .phrases import Drawing
 from .script import LONGEST, Script
+from .spoiling import LINES as SPOILT, spoilt_line
 
 ODD_ADDRESSES = (0, 1, 4, 0x00400001, 0x00401800, 0x00800000, 0x7FFFF000, 0xFFFFFFFF, 0xFFFFF004)
 CHILD_PLACES = (0x10000000, 0x10001000, 0x10002000, 0x103FF000, 0xFFC0A000, 0xFFC0B000, 0x00400000, 0x00401000)
@@ -24,14 +25,11 @@ FRAMES = (16, 18, 24, 32, 32, 40, 48, 64, 64, 64, 96, 96, 128, 128, 200)
 MANY_FRAMES = (1037, 1038, 2065, 4096)
 
 
-T = TypeVar("T")
-
-
-class Story:
+class Story(Drawing):
     """A script in the making."""
 
     def __init__(self, seed: int) -> None:
-        self.random = random.Random(seed)
+        super().__init__(seed)
         self.script = Script()
         self.lines: list[bytes] = []
         # Each story has its own taste: some of its acts come often, some never.
@@ -51,23 +49,17 @@ class Story:
     def tree(self) -> Tree:
         return self.world.tree
 
-    def say(self, name: str, *numbers: int) -> None:
-        """Tells a line. Behind one that switches there often comes a look at the registers."""
-        line = " ".join([name] + [self.spelled(x) for x in numbers])
+    def say(self, *words: object) -> None:
+        """Tells a line. After one that switches there often comes a look at the registers."""
+        line = " ".join(self.spelled(word) if isinstance(word, int) else str(word) for word in words)
         self.lines.append(line.encode())
         answer = self.script.line(self.lines[-1])
         if answer and answer.startswith("switch") and self.chance(0.5):
-            self.say("reg", numbers[0], self.pick(0, 1, 2, 2, 3, 3, 15, 16))
+            self.say("reg", words[1], self.pick(0, 1, 2, 2, 3, 3, 15, 16))
 
     def spelled(self, x: int) -> str:
         way = self.random.random()
-        if way < 0.03:
-            return f"0x{x:08x}"
-        if way < 0.06:
-            return f"0x{x:x}"
-        if way < 0.1 or x < 1024:
-            return str(x)
-        return f"0x{x:x}"
+        return f"0x{x:08x}" if way < 0.03 else str(x) if 0.06 < way < 0.1 or way > 0.1 and x < 1024 else f"0x{x:x}"
 
     def boot(self, frames: int | None = None) -> None:
         few = self.random.random() < 0.98
@@ -87,16 +79,10 @@ class Story:
         lines = [line for line in range(LINES) if self.tree.handler(self.tree.nodes[ROOT], 32 + line)]
         if lines:
             self.say("raise", self.random.choice(lines))
-            self.say("poll", self.random.randrange(len(self.world.processors)))
+            self.say("poll", self.any_cpu())
         return bool(lines)
 
     # Choices
-
-    def chance(self, share: float | int) -> bool:
-        return self.random.random() < share
-
-    def pick(self, *options: T) -> T:
-        return self.random.choice(options)
 
     def cpu(self) -> int:
         """A processor, with luck one that runs something."""
@@ -187,26 +173,18 @@ class Story:
 
     def access(self) -> None:
         cpu, node = self.caller()
-        address = self.any_page(node)
+        offset = 4 * self.pick(0, 0, 1, 2, 1023)
         if self.spared(cpu):
             open_pages = [PAGE * v for v, row in node.rows.items() if not self.tree.is_hidden(row.page)]
-            address = self.random.choice(open_pages or [address]) + 4 * self.pick(0, 0, 1, 2, 1023)
+            address = self.random.choice(open_pages or [self.any_page(node)]) + offset
         else:
-            address = self.odd(address + 4 * self.pick(0, 0, 1, 2, 1023))
+            address = self.odd(self.any_page(node) + offset)
         byte = address + self.random.randrange(4) if address % 4 == 0 else address
-        way = self.random.randrange(8)
-        if way < 3:
-            self.say("ld", cpu, address)
-        elif way < 4:
-            self.say("lb", cpu, byte)
-        elif way < 6:
-            self.say("st", cpu, address, self.word())
-        elif way < 7:
-            self.say("sb", cpu, byte, self.random.randrange(256))
-        else:
-            if self.chance(0.5):
-                self.say("pc", cpu, self.any_page(node))
-            self.say("fetch", cpu)
+        if self.chance(0.1):
+            self.say("pc", cpu, self.any_page(node))
+        self.say(*self.random.choices(
+            (("ld", cpu, address), ("lb", cpu, byte), ("st", cpu, address, self.word()),
+             ("sb", cpu, byte, self.random.randrange(256)), ("fetch", cpu)), (3, 1, 2, 1, 1))[0])
 
     def hidden_access(self) -> None:
         """An access to a page that the partition gave away."""
@@ -215,28 +193,24 @@ class Story:
             return
         given = [PAGE * v for v, row in node.rows.items() if self.tree.is_hidden(row.page)]
         address = self.random.choice(given) if given else self.any_page(node)
+        self.reach(cpu, address, address + 3)
+
+    def reach(self, cpu: int, address: int, byte: int) -> None:
+        """An access of any kind, or a fetch from there."""
         if self.chance(0.3):
             self.say("pc", cpu, address)
             self.say("fetch", cpu)
         else:
-            word = self.word()
-            name, numbers = self.pick(("ld", [cpu, address]), ("st", [cpu, address, word]), ("lb", [cpu, address + 3]))
-            self.say(name, *numbers)
+            self.say(*self.pick(("ld", cpu, address), ("st", cpu, address, self.word()), ("lb", cpu, byte)))
 
     def fault(self) -> None:
         cpu = self.cpu()
         if self.spared(cpu):
             return
-        way = self.random.randrange(4)
-        if way == 0:
+        if self.chance(0.25):
             self.say("trap", cpu, self.random.choice(VECTORS), self.word(), self.word())
-        elif way == 1:
-            self.say("ld", cpu, self.pick(0, 0x20000000, 0x00400002))
-        elif way == 2:
-            self.say("pc", cpu, self.pick(0x20000000, 0x00400002, 0x00400000, 0x10000000))
-            self.say("fetch", cpu)
         else:
-            self.say("st", cpu, self.pick(0, 0x20000000, 0x00400003), self.word())
+            self.reach(cpu, self.pick(0, 0x20000000, 0x00400002, 0x00400003, 0x10000000), 0x20000001)
 
     def own_handler(self) -> None:
         """Entries in the handler table of what runs."""
@@ -332,45 +306,47 @@ class Story:
         if self.chance(0.6):
             self.say("raise", self.pick(0, 1, 2, 15, self.random.randrange(LINES)))
         if self.chance(0.8):
-            self.say("poll", self.random.randrange(len(self.world.processors)))
+            self.say("poll", self.any_cpu())
 
     def look(self) -> None:
-        cpu = self.random.randrange(len(self.world.processors))
-        way = self.random.random()
-        if way < 0.3:
-            self.say("reg", cpu, self.pick(0, 1, 2, 3, 15, 16, self.random.randrange(17)))
-        elif way < 0.35:
-            self.say("pc", cpu, self.pick(0x00400000, 0x10000000, self.word()))
+        if self.chance(0.3):
+            self.say("reg", self.any_cpu(), self.pick(0, 1, 2, 3, 15, 16, self.random.randrange(17)))
+        elif self.chance(0.07):
+            self.say("pc", self.any_cpu(), self.pick(0x00400000, 0x10000000, self.word()))
         else:
             self.peek()
 
     def peek(self) -> None:
+        """A word, mostly one of configuration or of a block in which something is saved."""
         if self.chance(0.04):
             self.say("peek", self.pick(0, self.tree.frames - 1, self.tree.frames, 1 << 20), self.pick(0, 1023, 1024))
             return
         node = self.random.choice(list(self.tree.nodes.values()))
-        way = self.random.randrange(6)
-        if way == 5:
-            self.say("peek", ROOT, self.pick(14, 14, 15, 16))
-        elif way == 0:
-            self.say("peek", node.name, self.pick(0, 1, 11, 12, 14, 15, 16, 17, 32, self.random.randrange(34)))
-        elif way == 1:
-            used = [table.index for table in node.tables if self.chance(0.8)]
-            index = self.random.choice(used) if used else self.random.randrange(1024)
-            self.say("peek", self.random.choice(node.base[1:4]).page, index)
-        elif way == 2:
-            page = self.random.choice([node.base[4]] + node.more).page
-            self.say("peek", page, self.pick(0, 1, 2, 3, 5, 7, 8, 9, 13, 14, self.random.randrange(1024)))
-        elif way == 3 and node.tables:
-            table = self.random.choice(node.tables)
-            rows = [v for v in node.rows if v // 1024 == table.index]
-            telling = [v for v in rows if self.tree.is_hidden(node.rows[v].page)] if self.chance(0.5) else rows
-            index = self.random.choice(telling) % 1024 if telling and self.chance(0.9) else self.random.randrange(1024)
-            self.say("peek", self.random.choice(table.pairs).page, index)
-        elif way == 4 and (place := self.tree.save_place(node, SAVED)):
-            self.say("peek", place.page, place.index + self.pick(0, 1, 2, 16, self.random.randrange(17)))
-        elif node.rows:
-            self.say("peek", self.random.choice(list(node.rows.values())).page, self.pick(0, 1, 1023))
+        any_index, tables = self.random.randrange(WORDS), node.tables
+        directory = self.random.choice(tables).index if tables and self.chance(0.8) else any_index
+        self.say("peek", *self.pick(
+            (ROOT, self.pick(14, 14, 15, 16)),
+            (node.name, self.pick(0, 1, 11, 12, 14, 15, 16, 17, 32, any_index % 34)),
+            (self.random.choice(node.base[1:4]).page, directory),
+            (self.random.choice([node.base[4], *node.more]).page, self.pick(0, 1, 2, 3, 5, 7, 8, 9, 13, 14, any_index)),
+            self.place_of_row(node, any_index), self.place_of_words(node)))
+
+    def place_of_row(self, node: Node, index: int) -> tuple[int, int]:
+        """Where a table has a row, half of the time one of a page that is hidden."""
+        if not node.tables:
+            return self.place_of_words(node)
+        table = self.random.choice(node.tables)
+        rows = [v for v in node.rows if v // 1024 == table.index]
+        telling = [v for v in rows if self.tree.is_hidden(node.rows[v].page)] if self.chance(0.5) else rows
+        at = self.random.choice(telling) % 1024 if telling and self.chance(0.9) else index
+        return self.random.choice(table.pairs).page, at
+
+    def place_of_words(self, node: Node) -> tuple[int, int]:
+        """Where a partition may have saved something, or a word of a page that it has."""
+        place = self.tree.save_place(node, SAVED)
+        if place and self.chance(0.5):
+            return place.page, place.index + self.pick(0, 1, 2, 16, self.random.randrange(17))
+        return self.random.choice([row.page for row in node.rows.values()] or [0]), self.pick(0, 1, 1023)
 
     # Acts: whole plots
 
@@ -423,16 +399,13 @@ class Story:
     def forge(self) -> None:
         """A child that makes up an interrupt, or gives its handler table away."""
         cpu, node = self.caller()
-        way = self.random.randrange(3)
-        if way == 0:
-            if not self.spared(cpu):
-                self.say("trap", cpu, self.pick(32, 33, 47), 0, 0)
-        elif way == 1:
+        pages = self.free_pages(node, READ | WRITE)
+        if self.chance(0.33):
             self.say("call", cpu, 8, 0, self.pick(32, 33, 47), self.save(node))
-        else:
-            pages = self.free_pages(node, READ | WRITE)
-            if len(pages) >= 4:
-                self.say("call", cpu, 0, *self.random.sample(pages, 4), HANDLERS)
+        elif self.chance(0.5) and not self.spared(cpu):
+            self.say("trap", cpu, self.pick(32, 33, 47), 0, 0)
+        elif len(pages) >= 4:
+            self.say("call", cpu, 0, *self.random.sample(pages, 4), HANDLERS)
 
     def beside(self) -> None:
         """The root takes a line on a processor beside a child that runs; before that it gets its handlers."""
@@ -461,21 +434,7 @@ ACTS: list[tuple[Callable[[Story], None], int]] = [
 
 def spoilt(rng: random.Random, line: bytes) -> bytes:
     """A line that is bad, or nearly so, made of a good one."""
-    words = line.split(b" ")
-    last = words[-1]
-    ways: tuple[Callable[[], bytes], ...] = (
-        lambda: line + b" ", lambda: b" " + line, lambda: line.replace(b" ", b"  ", 1), lambda: line + b"\r",
-        lambda: line + b" 0", lambda: b" ".join(words[:-1]), lambda: line.upper(), lambda: line.replace(b" ", b"\t", 1),
-        lambda: b" ".join(words[:-1] + [b"0" + last]), lambda: b" ".join(words[:-1] + [b"4294967296"]),
-        lambda: b" ".join(words[:-1] + [b"0x000000000"]), lambda: b" ".join(words[:-1] + [b"0xABC"]),
-        lambda: b" ".join(words[:-1] + [b"-1"]), lambda: b" ".join(words[:1] + [b"4"] + words[2:]),
-        lambda: b"boot 32 1", lambda: b"#" * (LONGEST + 1), lambda: b"call 0", lambda: b"call 0 0 1 2 3 4 5 6",
-        lambda: b"sb 0 0x400000 256", lambda: b"raise 16", lambda: b"trap 0 256 0 0", lambda: b"reg 0 17",
-        lambda: b"\xff\xfe", lambda: b"x", lambda: line + bytes([rng.randrange(256)]), lambda: b"ld 0 " + b"1" * 116,
-        lambda: b"st 0 0x400000 4294967295", lambda: b"call 0 4294967295 4294967295",
-        lambda: b"peek 4294967295 4294967295",
-    )
-    return rng.choice(ways)()
+    return spoilt_line(rng, line) if rng.random() < 0.6 else rng.choice(SPOILT["bad lines of a script"])
 
 
 def lists_story(story: Story) -> None:
@@ -526,48 +485,61 @@ def script(seed: int) -> bytes:
     story.tell(len(story.lines) + rng.choice((10, 30, 40, 50, 60, 70, 90, 150)))
     for _ in range(rng.randrange(16)):
         story.peek()
-    lines = story.lines
     if kind < 0.14:
-        place = rng.randrange(1, len(lines))
-        lines.insert(place, spoilt(rng, rng.choice(lines)))
-    return b"\n".join(lines) + (b"" if rng.random() < 0.1 else b"\n")
+        story.lines.insert(rng.randrange(1, len(story.lines)), spoilt(rng, rng.choice(story.lines)))
+    return b"\n".join(story.lines) + (b"" if rng.random() < 0.1 else b"\n")
 
 
-COMMANDS = ("script", "asm", "dis", "run", "tree", "core", "soak", "native", "slots", "audit", "every", "against",
-            "apart")
-SEARCHES = {"every": generate_every.case, "against": generate_against.case, "apart": generate_apart.case}
+Case = tuple[list[str], bytes]          # the words of a command, and its input
 
 
-def case(command: str, seed: int) -> tuple[list[str], bytes]:
+def of_run(rng: random.Random, seed: int) -> Case:
+    return [str(counted(rng)), str(started(rng))], generate_programs.image_bytes(seed, 0.08)
+
+
+def of_children(rng: random.Random, seed: int, is_slots: bool) -> Case:
+    """Native runs, or slots of the children in turn, or those of a round that is given."""
+    n, data = generate_native.case(seed)
+    turns, count = (0, 1, 2, 5, 11, 30, 100), counted(rng)
+    if not is_slots:
+        return [str(n), str(count)], data
+    if rng.random() < 0.5:
+        each = rng.choice(turns)
+        return [str(n), str(each), str(count // (n * (each + 2)))], data
+    round = [(rng.randrange(n), rng.choice(turns)) for _ in range(rng.randrange(1, 8))]
+    rounds = count // sum(each + 2 for _, each in round)
+    return [str(n), str(rounds), *(f"{child}:{each}" for child, each in round)], data
+
+
+def counted(rng: random.Random) -> int:
+    return rng.choice((0, 1, 30, 200, 500, 1000, 1500))
+
+
+def started(rng: random.Random) -> int:
+    return rng.choice((1, 4294967295, rng.randrange(1, 1 << 32)))
+
+
+CASES: dict[str, Callable[[random.Random, int], Case]] = {
+    "script": lambda rng, seed: ([], script(seed)),
+    "asm": lambda rng, seed: ([], generate_programs.assembly_text(seed)),
+    "dis": lambda rng, seed: ([], generate_programs.image_bytes(seed, 0.4)),
+    "run": of_run, "tree": of_run, "core": of_run,
+    "soak": lambda rng, seed: ([str(counted(rng)), str(started(rng))], b""),
+    "native": lambda rng, seed: of_children(rng, seed, False),
+    "slots": lambda rng, seed: of_children(rng, seed, True),
+    "audit": lambda rng, seed: generate_audit.case(seed, script(seed)),
+    "every": lambda rng, seed: generate_every.case(seed),
+    "against": lambda rng, seed: generate_against.case(seed),
+    "apart": lambda rng, seed: generate_apart.case(seed),
+    "part": lambda rng, seed: generate_parts.part_case(seed),
+    "merge": lambda rng, seed: generate_parts.merge_case(seed)}
+COMMANDS = tuple(CASES)
+
+
+def case(command: str, seed: int) -> Case:
     """The words and the input of a seed's case of a command."""
-    rng = random.Random(seed)
-    if command == "script":
-        return [command], script(seed)
-    if command == "asm":
-        return [command], generate_programs.assembly_text(seed)
-    if command == "dis":
-        return [command], generate_programs.image_bytes(seed, 0.4)
-    count, start = rng.choice((0, 1, 30, 200, 500, 1000, 1500)), rng.choice((1, 4294967295, rng.randrange(1, 1 << 32)))
-    if command == "soak":
-        return [command, str(count), str(start)], b""
-    if command == "audit":
-        frames, text = generate_audit.case(seed, script(seed))
-        return [command, str(frames)], text
-    if command in SEARCHES:
-        asked, data = SEARCHES[command](seed)
-        return [command, *asked], data
-    if command in ("native", "slots"):
-        n, data = generate_native.case(seed)
-        if command == "native":
-            return [command, str(n), str(count)], data
-        turns = (0, 1, 2, 5, 11, 30, 100)
-        if rng.random() < 0.5:
-            each = rng.choice(turns)
-            return [command, str(n), str(each), str(count // (n * (each + 2)))], data
-        round = [(rng.randrange(n), rng.choice(turns)) for _ in range(rng.randrange(1, 8))]
-        rounds = count // sum(each + 2 for _, each in round)
-        return [command, str(n), str(rounds), *(f"{child}:{each}" for child, each in round)], data
-    return [command, str(count), str(start)], generate_programs.image_bytes(seed, 0.08)
+    words, data = CASES[command](random.Random(seed), seed)
+    return [command, *words], data
 
 
 if __name__ == "__main__":

@@ -24,8 +24,8 @@ LONGEST = 6000                           # steps in which all guests begin, if t
 STATES = (1, 40, 400, 400, 400, 1000)
 
 
-def block(number: int, page: int = HANDLERS) -> int:
-    return page + 4 * (256 + 17 * number)
+def block(number: int) -> int:
+    return HANDLERS + 4 * (256 + 17 * number)
 
 
 class Company(Text):
@@ -45,11 +45,10 @@ class Company(Text):
             self.begun.append((max(self.with_worker), AGAIN))
 
     def image(self) -> list[str]:
-        self.say(".frames", 128)
-        self.say(".cpus", min(max(len(self.begun) + self.pick(-1, 0, 0, 0, 1), 2), 4))
-        for line in sorted({self.line, *self.random.sample(range(16), self.pick(0, 0, 1, 2))}):
-            self.say(".line", line, self.random.randrange(300), self.pick(17, 40, 90) if line == self.line else 0)
-        self.say(".page 0x00400000")
+        lines = {self.line, *self.random.sample(range(16), self.pick(0, 0, 1, 2))}
+        self.begin(128, min(max(len(self.begun) + self.pick(-1, 0, 0, 0, 1), 2), 4), [
+            (line, self.random.randrange(300), self.pick(17, 40, 90) if line == self.line else 0) for line in lines])
+        self.page(0x400000)
         self.boots()
         for k in range(self.guests):
             self.guest(k)
@@ -64,24 +63,17 @@ class Company(Text):
     def boots(self) -> None:
         self.say("sys 10")
         for k in range(self.guests):
-            given = 10 if k in self.with_worker else self.pick(0, 0, 5)
-            self.make(self.place(k), [(8, HANDLERS, 3), (9, PROGRAM, 5), (10, WORDS, 3)], given)
+            d, given = self.place(k), 10 if k in self.with_worker else self.pick(0, 0, 5)
+            self.tell("guest child", D=d)
+            for page, address, rights in [(10, WORDS, 3)] + [(11 + k, GIVEN + k * PAGE, 7) for k in range(given)]:
+                self.call(5, d + page * PAGE, d, address, rights)
         if self.chance(0.05):
             self.call(5, HANDLERS, self.place(self.random.randrange(self.guests)), WORDS - PAGE, 1)
         stages = [self.stage(k) for k in range(len(self.begun))]
         kept = [self.random.randrange(16)] if self.chance(0.05) else []
-        self.say(".page 0xfffff000")
+        self.page(HANDLERS)
         entries = {32 + self.line: block(1), **{vector: block(0) for vector in (14, 64, 65) if self.chance(0.3)}}
         self.words({**entries, **{32 + line: block(0) for line in kept}}, [stages[0], *stages])
-
-    def make(self, d: int, lent: list[tuple[int, int, int]], given: int) -> None:
-        """A child whose descriptor is at d, with these pages lent to it, and `given` more."""
-        self.call(0, *(d + PAGE * page for page in range(5)))
-        self.store(d + 5 * PAGE, d + 6 * PAGE)
-        self.store(d + 6 * PAGE, d + 7 * PAGE)
-        self.call(3, d, HANDLERS, d + 5 * PAGE)
-        for page, address, rights in lent + [(11 + page, GIVEN + page * PAGE, 7) for page in range(given)]:
-            self.call(5, d + page * PAGE, d, address, rights)
 
     def stage(self, k: int) -> str:
         """The next guest begins, on the processor on which none is let go on; the first at once. A top that is to begin
@@ -109,7 +101,7 @@ class Company(Text):
         for vector in range(256):
             self.say(".word", entries.get(vector, 0))
         for pc in blocks:
-            self.code(f".word {pc}", ".zero 16")
+            self.lines += [f".word {pc}", ".zero 16"]
 
     # Guests
 
@@ -117,100 +109,33 @@ class Company(Text):
         """The pages of a guest that have words, and those of its worker."""
         has_worker = k in self.with_worker
         serves, again = self.program(self.place(k, 9), has_worker, k in self.troubled)
-        self.say(f".page 0x{self.place(k, 8):08x}")
+        self.page(self.place(k, 8))
         vectors = dict.fromkeys((BEGIN, SAVED), block(0))
         if has_worker:
             vectors.update(dict.fromkeys((vector for vector in SERVED if self.chance(0.9)), block(1)))
         self.words({**vectors, AGAIN: block(2)}, [f"0x{pc:08x}" for pc in (PROGRAM, serves, again)])
         if has_worker:
             self.program(self.place(k, 20), False, k in self.troubled)
-            self.say(f".page 0x{self.place(k, 19):08x}")
+            self.page(self.place(k, 19))
             self.words({SAVED: block(0)}, [f"0x{PROGRAM:08x}"])
 
     def program(self, place: int, has_worker: bool, is_troubled: bool) -> tuple[int, int]:
         """A program, and where it serves and where it begins once more."""
-        self.say(f".page 0x{place:08x}")
-        first = len(self.lines)
-        again = at = 0
+        self.page(place)
+        first, serves, again = len(self.lines), 0, 0
         if has_worker:
-            self.make_worker()
-            at = self.words_since(first)
+            self.tell("guest child", D="PAGES")
+            self.tell("worker runs")
+            serves = self.words_since(first)
             self.say("out r0")
-            self.skips()
-            self.let_run()
+            self.tell("worker goes on")
+            self.tell("worker runs")
             again = self.words_since(first)
-        self.loop(is_troubled)
-        return PROGRAM + 4 * at, PROGRAM + 4 * again
+        self.tell("guest", TROUBLE=90 if is_troubled else 0)
+        return PROGRAM + 4 * serves, PROGRAM + 4 * again
 
     def words_since(self, first: int) -> int:
         return sum(not line.endswith(":") for line in self.lines[first:])
-
-    def make_worker(self) -> None:
-        lent = [(8, HANDLERS, 3), (9, PROGRAM, 5)]
-        self.make(GIVEN, lent, 0)
-        self.let_run()
-
-    def let_run(self) -> None:
-        self.call(8, GIVEN, SAVED, NOWHERE)
-        self.code("out r0", "beq r0 r0 -1")
-
-    def skips(self) -> None:
-        """The worker goes on after the instruction that faulted; where it trapped that one is left out."""
-        self.set(7, block(0, GIVEN + 8 * PAGE))
-        self.code("ldw r8 r7 0", f"addi r8 r8 {self.pick(4, 4, 0)}", "stw r8 r7 0")
-
-    def loop(self, is_troubled: bool) -> None:
-        """Some things over and over, so that it comes back to a state; with trouble one that leaves, or grows."""
-        top = self.label()
-        self.say(f"{top}:")
-        ways = (self.counts, self.counts, self.keeps, self.calls, self.yields, self.makes, self.serves)
-        for _ in range(self.pick(1, 1, 2, 3)):
-            self.random.choice(ways)()
-        if is_troubled and self.chance(0.9):
-            self.random.choice((self.leaves, self.leaves, self.leaves, self.strays, self.grows))()
-        self.say("beq r0 r0", top)
-
-    def counts(self) -> None:
-        self.code("addi r1 r1 1", f"andi r1 r1 {self.pick(1, 3, 3, 7)}")
-        if self.chance(0.6):
-            self.say("out r1")
-
-    def keeps(self) -> None:
-        """A count in a page."""
-        self.set(7, WORDS)
-        self.code("ldw r8 r7 0", "addi r8 r8 1", f"andi r8 r8 {self.pick(1, 3)}", "stw r8 r7 0")
-        if self.chance(0.5):
-            self.say("out r8")
-
-    def calls(self) -> None:
-        self.call(self.pick(2, 4, 6, 7, 9), self.pick(GIVEN, WORDS, 0), self.pick(WORDS, PROGRAM, 5))
-
-    def yields(self) -> None:
-        """To itself: refused where it has no handler, else it begins again, or goes on where it was saved."""
-        self.call(8, 1, self.pick(65, 65, SAVED, BEGIN), self.pick(SAVED, NOWHERE))
-
-    def makes(self) -> None:
-        """A child, and its end."""
-        self.call(0, *(GIVEN + PAGE * page for page in range(5)))
-        if self.chance(0.9):
-            self.call(1, GIVEN)
-
-    def serves(self) -> None:
-        """A trap or a fault that a top may serve, or a line."""
-        self.say(self.pick("int 70", "int 70", "ldw r3 r10 0") if self.chance(0.3) else "out r10")
-
-    def leaves(self) -> None:
-        way = self.random.randrange(5)
-        if way == 0:
-            self.call(8, 0, self.pick(64, 65, SAVED), self.pick(SAVED, NOWHERE))
-        else:
-            self.say(("int 64", "ldw r3 r10 0", ".word 0", "div r1 r2 r10")[way - 1])
-
-    def strays(self) -> None:
-        self.random_code(self.random.randrange(1, 4))
-
-    def grows(self) -> None:
-        self.say("addi r11 r11 1")
 
 
 def step_of_company(machine: Image, seed: int, entry: int) -> int | None:

@@ -1,14 +1,13 @@
 """Texts of raw memories made from a seed: what `core` writes of trees that scripts and images lead to, as it is, with
 words changed, or with a line that is broken."""
 
-from __future__ import annotations
-
 import random
-from collections.abc import Callable, Collection
+from collections.abc import Collection
 
 from . import image, runs, script
 from .generate_programs import image_bytes
 from .model import PAGE, WORDS, boot_tree, Tree
+from .spoiling import spoilt_line
 
 STEPS = 400              # of the run of an image
 
@@ -46,12 +45,9 @@ class Dump:
     def other(self, word: int) -> int:
         rng = self.rng
         page = rng.choice(self.own) if rng.random() < 0.7 else rng.randrange(self.tree.frames + 2)
-        ways: tuple[Callable[[], int], ...] = (
-            lambda: word ^ 1 << rng.randrange(32), lambda: word ^ 1 << rng.randrange(5), lambda: 0, lambda: word ^ PAGE,
-            lambda: page, lambda: word % PAGE + PAGE * page, lambda: word // PAGE * PAGE + rng.randrange(32),
-            lambda: word + 1 & 0xFFFFFFFF, lambda: rng.randrange(1 << 32), lambda: 1 + PAGE * page,
-        )
-        return rng.choice(ways)()
+        return rng.choice((word ^ 1 << rng.randrange(32), word ^ 1 << rng.randrange(5), 0, word ^ PAGE, page,
+                           word % PAGE + PAGE * page, word // PAGE * PAGE + rng.randrange(32),
+                           word + 1 & 0xFFFFFFFF, rng.getrandbits(32), 1 + PAGE * page))
 
     def copy(self) -> None:
         """Gives a group the words of another."""
@@ -69,25 +65,13 @@ class Dump:
 
     def spoil(self) -> None:
         """Breaks a line, or nearly."""
-        place = self.rng.randrange(len(self.lines))
+        place, rng = self.rng.randrange(len(self.lines)), self.rng
         line = self.lines[place]
-        ways: tuple[Callable[[], object], ...] = (
-            lambda: self.put(place, line + b" "), lambda: self.put(place, b" " + line), lambda: self.put(place, b""),
-            lambda: self.put(place, line.upper()), lambda: self.put(place, line + b"\r"),
-            lambda: self.put(place, line[:-1]), lambda: self.put(place, line.replace(b" ", b" 0", 1)),
-            lambda: self.put(place, line.replace(b" ", b"\t", 1)),
-            lambda: self.put(place, b"0004:" + line[5:]), lambda: self.put(place, b"1024:" + line[5:]),
-            lambda: self.put(place, line[:5] + b" 00000000" * 8), lambda: self.put(place, b"frame 4294967296"),
-            lambda: self.put(place, b"end 10000001"), lambda: self.put(place, b"end 0"),
-            lambda: self.put(place, b"0" * self.rng.choice((76, 77, 78, 120, 121, 5000))),
-            lambda: self.lines.pop(place), lambda: self.lines.insert(place, line),
-            lambda: self.lines.append(self.rng.choice((b"", b"end 0", b"frame 1"))),
-            lambda: self.put(place, bytes(self.rng.randrange(256) for _ in range(9))),
-        )
-        self.rng.choice(ways)()
-
-    def put(self, place: int, line: bytes) -> None:
-        self.lines[place] = line
+        odd = (b"", b"0004:" + line[5:], b"1024:" + line[5:], line[:5] + b" 00000000" * 8, line[:-1],
+               line.replace(b" ", b" 0", 1), b"frame 4294967296", b"end 10000001", b"end 0", rng.randbytes(9),
+               b"0" * rng.choice((76, 77, 78, 120, 121, 5000)), *4 * (spoilt_line(rng, line),))
+        self.lines[place:place + 1] = rng.choice((*([told] for told in odd), [], [line, line], [
+            line, rng.choice((b"", b"end 0", b"frame 1"))]))
 
 
 def tree_of(rng: random.Random, seed: int, told: bytes) -> Tree:
@@ -103,7 +87,7 @@ def tree_of(rng: random.Random, seed: int, told: bytes) -> Tree:
     return world.tree if world else boot_tree(16)
 
 
-def case(seed: int, told: bytes) -> tuple[int, bytes]:
+def case(seed: int, told: bytes) -> tuple[list[str], bytes]:
     """A number of frames and a text, by a seed and a script."""
     rng = random.Random(seed)
     tree = tree_of(rng, seed, told)
@@ -117,4 +101,4 @@ def case(seed: int, told: bytes) -> tuple[int, bytes]:
     if rng.random() < 0.05:
         frames = rng.choice((16, frames + 1, max(16, frames - 1), 4096 if frames < 64 else frames))
     end = b"" if rng.random() < 0.03 else b"\n"
-    return frames, b"\n".join(dump.lines) + end
+    return [str(frames)], b"\n".join(dump.lines) + end

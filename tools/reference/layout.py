@@ -1,7 +1,5 @@
 """What each word of each frame is for a given tree, in the words of docs/FORMATS.md."""
 
-from __future__ import annotations
-
 import functools
 from collections.abc import Callable
 

@@ -8,12 +8,14 @@ from typing import NamedTuple
 
 from . import layout
 from .every import AT_FIRST, Moment, Moments, begun
-from .image import Image
+from .image import Image, parted
 from .image import world as image_world
 from .model import WORDS
 
-MOST_CHOICES = 2 ** 31          # of a way
+MOST_CHOICES = 10000000         # of a way
+MOST_MARKS = 2 ** 32 - 1
 MOST_COUNT = 2 ** 64            # of lines, and of what parts say
+SUM, PRIME = 0xcbf29ce484222325, 0x100000001b3
 DIGITS = frozenset(b"0123456789abcdef")
 
 
@@ -61,28 +63,30 @@ class Numbers:
             last = (frame, index)
             yield frame, index, word
 
-    def way(self) -> list[int]:
+    def way(self, choices: int) -> list[int]:
         way: list[int] = []
         for _ in range(self.next()):
             at = self.at
             choice, count = self.next(), self.next()
-            if not count or way[-1:] == [choice] or len(way) + count >= MOST_CHOICES:
+            if choice >= choices or not count or way[-1:] == [choice] or len(way) + count > MOST_CHOICES:
                 raise BadPart("way", at)
             way += [choice] * count
         return way
 
     def marks(self) -> list[int]:
-        count = self.next()
+        at, count = self.at, self.next()
+        if count >= MOST_MARKS:
+            raise BadPart("marks", at)
         held = self.take((count + 7) // 8)
         if count % 8 and held[-1] >> count % 8:
             raise BadPart("marks", self.at - 1)
         return [held[i // 8] >> i % 8 & 1 for i in range(count)]
 
 
-def part_of(data: bytes, at: int, frames: int) -> Part:
-    """The part in an input from an offset on, to its end."""
+def part_of(data: bytes, at: int, frames: int, choices: int) -> Part:
+    """The part in an input from an offset on, to its end, of an image with that many frames and choices."""
     numbers = Numbers(data, at)
-    part = Part(list(numbers.base(frames)), numbers.way(), numbers.marks())
+    part = Part(list(numbers.base(frames)), numbers.way(choices), numbers.marks())
     if numbers.at < len(data):
         raise BadPart("long", numbers.at)
     return part
@@ -159,14 +163,12 @@ class Checked(NamedTuple):
     labels: list[str]
 
 
-def check(image: Image, first: int, part: Part) -> Checked | None:
-    """What a part is found to be; None where its way has a choice that can't be made."""
+def check(image: Image, first: int, part: Part) -> Checked:
+    """What a part is found to be."""
     moments = Moments(image, first, begun(image, AT_FIRST))
     keys = Keys(image, moments, part.base)
     at = moments.start
     for choice in part.way:
-        if choice not in moments.choices:
-            return None
         at, _ = moments.after(at, choice)
     own = [(at, len(part.way))]
     asked: list[tuple[bytes, int]] = []
@@ -184,34 +186,61 @@ def check(image: Image, first: int, part: Part) -> Checked | None:
     return Checked([(keys.key(moment), depth) for moment, depth in own], asked, list(labels))
 
 
+def about(image: Image, first: int, base: Sequence[tuple[int, int, int]]) -> str:
+    """What a part is of: numbers of the image, and a sum over its lines and the words that keys are compared with."""
+    moments = Moments(image, first, begun(image, AT_FIRST))
+    summed = SUM
+    for number in (*moments.lines, *(word for frame in Keys(image, moments, base).first for word in frame)):
+        summed = (summed ^ number) * PRIME % 2 ** 64
+    return f"{image.frames} {image.cpus} {len(image.plans)} {len(image.pages)} {first} {summed:016x}"
+
+
 def lines_of(checked: Checked, about: str, way: int) -> list[str]:
-    """The lines that a part writes, in order."""
-    return sorted([*(f"{key.hex()} + {depth:08x}" for key, depth in checked.keys),
-                   *(f"{key.hex()} ? {depth:08x}" for key, depth in checked.asked),
-                   *(f"line {label}" for label in checked.labels),
-                   f"part {about} {way:08x} {len(checked.keys):08x} {len(checked.asked):08x}"])
+    """The lines that a part writes, in the order in which its check finds them."""
+    return [*(f"{key.hex()} + {depth:08x}" for key, depth in checked.keys),
+            *(f"{key.hex()} ? {depth:08x}" for key, depth in checked.asked),
+            *(f"line {label}" for label in checked.labels),
+            f"part {about} {way:08x} {len(checked.keys):08x} {len(checked.asked):08x}"]
+
+
+def part(data: bytes, first: int) -> list[str]:
+    """The lines that `part` writes of an image and a part after it."""
+    image, after = parted(data)
+    given = part_of(data, len(data) - len(after), image.frames, image.cpus + len(image.plans))
+    return lines_of(check(image, first, given), about(image, first, given.base), len(given.way))
 
 
 # The merge
 
 
 class Refused(Exception):
-    """Why lines don't merge: a word, and the number of the line, from 1 on, or 0 at their end."""
+    """Why lines don't merge: a word, and the number of the line, from 1 on, and the line; 0 and none at their end."""
 
-    def __init__(self, why: str, line: int) -> None:
-        super().__init__(why, line)
-        self.why, self.line = why, line
+    def __init__(self, why: str, number: int, line: bytes) -> None:
+        super().__init__(why, number, line)
+        self.why, self.number, self.line = why, number, line
+
+    def told(self) -> tuple[bytes, int]:
+        """What `merge` writes then, and its status."""
+        if self.why in ("form", "order", "many"):
+            return f"bad line {self.number} {self.why}\n".encode(), 2
+        if not self.number:
+            return f"{self.why}\n".encode(), 9
+        return self.why.encode() + b" " + (str(self.number).encode() if self.why == "apart" else self.line) + b"\n", 9
 
 
 class Merged(NamedTuple):
-    """The labels of all parts, how many states they have, and the greatest depth."""
+    """The labels of all parts, with the space before each, how many states they have, and the greatest depth."""
 
-    labels: list[str]
+    labels: list[bytes]
     states: int
     depth: int
 
-    def text(self) -> list[str]:
-        return [*(f"line {label}" for label in self.labels), f"states {self.states} depth {self.depth} closed"]
+    def last_line(self) -> str:
+        return f"states {self.states} depth {self.depth} closed"
+
+    def text(self) -> bytes:
+        return b"".join(b"line" + label + b"\n" for label in self.labels) + f"{self.last_line()}\n".encode()
 
 
 def depth_of(text: bytes) -> int | None:
@@ -231,33 +260,47 @@ def merge(lines: Iterable[bytes]) -> Merged:
     for number, line in enumerate(lines, 1):
         if line.startswith(b"line"):
             if labels and line[4:] < labels[-1]:
-                raise Refused("order", number)
+                raise Refused("order", number, line)
             if line[4:] not in labels[-1:]:
                 labels.append(line[4:])
         elif line.startswith(b"part "):
             numbers = [depth_of(line[at:at + 9]) for at in range(len(line) - 27, len(line), 9)]
             if len(line) < 32 or None in numbers:
-                raise Refused("form", number)
+                raise Refused("form", number, line)
             if about not in (None, line[5:-27]):
-                raise Refused("apart", number)
+                raise Refused("apart", number, line)
             about = line[5:-27]
             way, own, wanted = (x or 0 for x in numbers)
             begins, said_keys, said_asked = begins or not way, said_keys + own, said_asked + wanted
         else:
             key, kind, depth = line[:-11], line[-11:-9], depth_of(line[-9:])
             if depth is None or kind not in (b" +", b" ?") or len(key) % 2 or not DIGITS.issuperset(key):
-                raise Refused("form", number)
+                raise Refused("form", number, line)
             if kind == b" +":
                 if keys and key <= keys[-1][0]:
-                    raise Refused("twice" if key == keys[-1][0] else "order", number)
+                    raise Refused("twice" if key == keys[-1][0] else "order", number, line)
                 keys.append((key, depth))
                 deepest = max(deepest, depth)
             elif not keys or keys[-1][0] != key or keys[-1][1] > depth:
-                raise Refused("open", number)
+                raise Refused("open", number, line)
             else:
                 asked += 1
     if not begins:
-        raise Refused("no start", 0)
+        raise Refused("no start", 0, b"")
     if (len(keys), asked) != (said_keys, said_asked):
-        raise Refused("apart", 0)
-    return Merged([label.decode()[1:] for label in labels], len(keys), deepest)
+        raise Refused("apart", 0, b"")
+    return Merged(labels, len(keys), deepest)
+
+
+def lines_in(data: bytes) -> list[bytes]:
+    """The lines of an input; a rest without a newline is a line, too, if it isn't empty."""
+    *lines, rest = data.split(b"\n")
+    return [*lines, rest] if rest else lines
+
+
+def merged(data: bytes) -> tuple[bytes, int]:
+    """What `merge` writes of an input, and its status."""
+    try:
+        return merge(lines_in(data)).text(), 0
+    except Refused as refused:
+        return refused.told()

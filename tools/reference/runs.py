@@ -1,7 +1,5 @@
 """Runs of an image: turns of processors, and the texts of the commands run, tree, core and soak."""
 
-from __future__ import annotations
-
 from collections.abc import Callable, Sequence
 
 from . import layout

@@ -1,8 +1,6 @@
 """Time slots of an image: children of the root are built as for `native`, and have the slots of a round, again and
 again: each one slot of so many turns in turn, or those that are given."""
 
-from __future__ import annotations
-
 from collections.abc import Sequence
 
 from .image import Image

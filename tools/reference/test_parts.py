@@ -19,9 +19,7 @@ def certificate(machine: Image, first: int, size: int, base: generate_parts.Base
 
 def lines_of(machine: Image, first: int, part: parts.Part) -> list[bytes]:
     """The lines of a part."""
-    checked = parts.check(machine, first, part)
-    assert checked
-    return [line.encode() for line in parts.lines_of(checked, "x", len(part.way))]
+    return [line.encode() for line in parts.lines_of(parts.check(machine, first, part), "x", len(part.way))]
 
 
 def together(lines: Sequence[list[bytes]]) -> list[bytes]:
@@ -36,14 +34,15 @@ class Parts(unittest.TestCase):
     def test_a_part_has_one_text(self) -> None:
         for part in (parts.Part([], [], []),
                      parts.Part([(3, 4, 5), (3, 9, 0)], [1, 1, 0, 2, 2, 2], [1, 0, 0, 1, 1, 0, 1, 1, 1])):
-            self.assertEqual(parts.part_of(b"ab" + parts.written(part), 2, 64), part)
+            self.assertEqual(parts.part_of(b"ab" + parts.written(part), 2, 64, 3), part)
 
     def test_a_part_has_no_other_text(self) -> None:
         text = parts.written(parts.Part([(3, 4, 5), (3, 9, 0)], [1, 1, 0], [1, 0, 1]))
         for wrong, kind in ((text + b"\0", "long"), (text[:-1], "short"), (text[:-1] + b"\x0d", "marks"),
-                            (text[:8] + b"\x0a" + text[9:], "base"), (text[:36] + b"\0" + text[37:], "way")):
+                            (text[:8] + b"\x0a" + text[9:], "base"), (text[:36] + b"\0" + text[37:], "way"),
+                            (text[:32] + b"\3" + text[33:], "way")):
             with self.assertRaises(parts.BadPart) as refused:
-                parts.part_of(wrong, 0, 64)
+                parts.part_of(wrong, 0, 64, 3)
             self.assertEqual(refused.exception.kind, kind)
 
     def test_keys_are_packed(self) -> None:
@@ -56,8 +55,8 @@ class Certificates(unittest.TestCase):
             machine = test_every.read(source)
             search, cut = certificate(machine, first, size, [(13, 5, 77)])
             merged = parts.merge(together([lines_of(machine, first, part) for part in cut]))
-            self.assertEqual(merged.text()[-1], every.last_line(search))
-            self.assertEqual(merged.labels, sorted(f"{cpu} {text}" for cpu, text in search.found))
+            self.assertEqual(merged.last_line(), every.last_line(search))
+            self.assertEqual(merged.labels, sorted(f" {cpu} {text}".encode() for cpu, text in search.found))
 
     def test_wrong_lines_are_refused(self) -> None:
         chance, tried = random.Random(7), 0
@@ -92,9 +91,18 @@ class Certificates(unittest.TestCase):
                     changed = lines_of(machine, 0, part._replace(marks=marks))
                     parts.merge(together([*lines[:i], changed, *lines[i + 1:]]))
 
-    def test_a_way_that_cant_be_gone_is_refused(self) -> None:
-        machine = test_every.read(test_every.LOOPS)
-        self.assertIsNone(parts.check(machine, 0, parts.Part([], [3], [])))
+    def test_a_merge_says_why_it_ends(self) -> None:
+        told = "part x 00000000 00000001 00000000\n"
+        for text, due, status in (("", "no start", 9), ("0a + 00000000\n" + told, "states 1 depth 0 closed", 0),
+                                  ("0a + 00000000\n" + told[:-1], "states 1 depth 0 closed", 0),
+                                  (told, "apart", 9), ("0A + 00000000\n", "bad line 1 form", 2),
+                                  ("\n", "bad line 1 form", 2),
+                                  ("0b + 00000000\n0a + 00000000\n", "bad line 2 order", 2),
+                                  ("0a + 00000001\n0a ? 00000000\n", "open 0a ? 00000000", 9),
+                                  ("0a + 00000001\n0a + 00000000\n", "twice 0a + 00000000", 9),
+                                  (told + told.replace("x", "y"), "apart 2", 9),
+                                  ("line\nlinex\nlinea\n", "bad line 3 order", 2)):
+            self.assertEqual(parts.merged(text.encode()), (f"{due}\n".encode(), status))
 
 
 if __name__ == "__main__":

@@ -1,18 +1,13 @@
 """What the comparison with the program, the examples and the checks don't show of the reference. The check `unit-tests`
 runs these tests."""
 
-from __future__ import annotations
-
 import copy
 import io
 import unittest
 
 from ..common import forms
-from . import (assembly, audit, caches, commands, generate, generate_programs, image, instructions, layout, runs,
-               script, sound)
+from . import caches, commands, generate, script, sound
 from .model import World, boot_tree, list_pages
-
-TEXT = b".frames 16\n.cpus 1\n.line 0 2 0\n.page 0x00400000\nli r1 7\nout r1\nsys 12\nint 64\n"
 
 
 def of_script(text: bytes) -> World:
@@ -50,33 +45,8 @@ class Worlds(unittest.TestCase):
         self.assertEqual([number for number in range(13) if caches.takes_pages(number, 0)], [0, 1, 4, 6])
         self.assertTrue(caches.takes_pages(3, 1))
 
-    def test_words_and_frames_agree_and_a_child_is_read_once(self) -> None:
-        tree = of_script(b"boot 64 1\ncall 0 0 0x401000 0x402000 0x403000 0x404000 0x405000\n").tree
-        memory = [layout.frame_words(tree, frame) for frame in range(64)]
-        self.assertEqual(memory, [[layout.word(tree, frame, index) for index in range(1024)] for frame in range(64)])
-        self.assertEqual(audit.judged(memory)[0][-1], "yes")
-        memory[7][2], memory[6][2] = 0x401001, memory[6][1]
-        self.assertEqual(audit.judged(memory)[0], ["no unread 7 2"])
-
 
 class Texts(unittest.TestCase):
-    def test_every_instruction_is_read_back(self) -> None:
-        for kind in instructions.KINDS.values():
-            operands = [15 if x in instructions.SHIFTS else kind.least for x in instructions.FORMS[kind.form]]
-            instruction = instructions.Instruction(kind.name, tuple(operands))
-            self.assertEqual(instructions.decode(instructions.encode(instruction)), instruction)
-
-    def test_images_are_read_back(self) -> None:
-        for data in (assembly.assemble(TEXT), *(generate_programs.image_bytes(seed, 0) for seed in range(10))):
-            self.assertEqual(assembly.assemble("\n".join(assembly.disassembled(data)).encode()), data)
-            self.assertEqual(image.written(image.read(data)), data)
-
-    def test_a_trace_and_the_generator(self) -> None:
-        trace = ["image 16 1 1 1", "1 0 out 0x00000007", "2 0 call 12 reply 1 0x00000000", "3 0 park 1 64", "end 6"]
-        self.assertEqual(runs.run(image.read(assembly.assemble(TEXT)), 6, 1)[0], trace)
-        draw = runs.Generator(1).draw
-        self.assertEqual([draw(1 << 32) for _ in range(3)], [270369, 67634689, 2647435461])
-
     def test_the_limit_of_bytes(self) -> None:
         rest = b"\n" * ((script.MOST - 9) % 121 - 2) + b"#\n" + (b"#" * 120 + b"\n") * ((script.MOST - 9) // 121)
         self.assertEqual(len(rest), script.MOST - 9)

@@ -1,7 +1,5 @@
 """The documents as HTML, by cmark-gfm, which reads Markdown as the pages of repositories do."""
 
-from __future__ import annotations
-
 import html
 import re
 import subprocess

@@ -1,7 +1,5 @@
 """The text of PROOF: what was proved of the program of a release, by what, and what a reader may compare."""
 
-from __future__ import annotations
-
 from ..common.calling import Failed
 from . import repository
 from .gate import Record

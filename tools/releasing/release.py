@@ -1,8 +1,6 @@
 """Makes a release: what is committed, with the program that the gate built, the page, the documents as HTML, the
 export, and PROOF."""
 
-from __future__ import annotations
-
 import argparse
 import gzip
 import os

@@ -3,8 +3,6 @@
     tools/step/step SCRIPT > page.html
     tools/step/step PROGRAM STEPS SEED > page.html"""
 
-from __future__ import annotations
-
 import argparse
 import os
 import sys

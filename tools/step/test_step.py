@@ -20,10 +20,6 @@ def state(tree: list[walk.Partition], words: walk.Words | None = None,
 
 
 class Walking(unittest.TestCase):
-    def test_the_words_that_were_seen_are_told_as_core_tells_them(self) -> None:
-        words = texts.memory(test_draw.CORE)
-        self.assertEqual(texts.memory(walk.core_text(words)), {frame: told for frame, told in words.items() if told})
-
     def test_each_frame_has_a_kind(self) -> None:
         kinds = walk.grid(32, tree_of(test_draw.CORE))
         self.assertEqual([kinds[k] for k in (0, 1, 6, 13, 14, 17, 18, 20, 21)],
@@ -54,14 +50,6 @@ class Changes(unittest.TestCase):
 class Contents(unittest.TestCase):
     tree = tree_of(test_draw.CORE)
 
-    def test_a_switch_can_change_the_block_of_what_was_left(self) -> None:
-        handlers = walk.Row(0xFFFFF, 31 * walk.PAGE + 0x1F, 0, 0)
-        root, words = [self.tree[0]._replace(rows=[*self.tree[0].rows, handlers])], {31: {63: 0x409010}}
-        self.assertEqual(contents.touched(b"ld 0 2", "park 1 17", 1, root, words), {21})
-        self.assertEqual(contents.touched(b"call 0 8 0x401000 64 256", "switch 1 13 64", 1, root, words), set())
-        self.assertEqual(contents.touched(b"call 0 8 0x401000 64 63", "switch 1 13 64", 1, root, words), {21})
-        self.assertEqual(contents.touched(b"call 0 8 0x401000 64", "reply 15 0x00000000", 1, root, words), set())
-
     def test_frames_that_become_configuration_are_no_change_of_words(self) -> None:
         before, now = state(self.tree[:1], {13: {0: 5}}), state(self.tree, {13: {0: 6}, 21: {1: 7}})
         self.assertEqual(contents.changes(before, now),
@@ -69,19 +57,6 @@ class Contents(unittest.TestCase):
 
 
 class Pages(unittest.TestCase):
-    def test_nothing_of_the_input_ends_the_script(self) -> None:
-        found = state(tree_of(test_draw.CORE))._replace(told="# </script><b>")
-        text = page.written('<"&', [found, found])
-        self.assertEqual(text.count("</script>"), 3)
-        self.assertIn("<title>&lt;&quot;&amp;</title>", text)
-
-    def test_words_are_kept_with_the_step_at_which_they_come(self) -> None:
-        found = page.Frames()
-        steps: tuple[walk.Words, ...] = ({}, {3: {1: 5}}, {3: {1: 5}}, {})
-        for at, words in enumerate(steps):
-            found.take(at, words)
-        self.assertEqual((found.found, found.contents.values), ({3: [[1, 0], [3, 1]]}, [{1: 5}, {}]))
-
     def test_what_comes_again_is_kept_once(self) -> None:
         found = state(tree_of(test_draw.CORE))
         data = page.data("title", [found, found._replace(tree=tree_of(test_draw.CORE))])

@@ -1,7 +1,5 @@
 """The tree of partitions, read off frames: from the root's descriptor on, by the words of docs/FORMATS.md."""
 
-from __future__ import annotations
-
 from collections.abc import Callable, Sequence
 from dataclasses import dataclass
 from typing import NamedTuple

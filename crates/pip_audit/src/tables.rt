@@ -380,7 +380,6 @@ impl Tables {
         ensures { IsFirstSought sought (M.memory mem.now) (tables_in (M.memory mem.now) self.now.part) from
             (32 * (from / 32) + 32) result }
     {
-        let _count = mem.count();
         let tables = self.at(from / WORDS)?;
         if blocks.lacks(sought, tables, from % WORDS / 32) {
             return None;

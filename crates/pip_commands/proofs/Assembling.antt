@@ -4,6 +4,7 @@ use Rattle.std.proofs.Common.{refl, sym, ap, subst, arith}
 use Rattle.pip_input.specs.Whole.{TakesMore, TakesPart, TakesWhole}
 use Rattle.pip_io.specs.Causes.{RoseByOne}
 use Rattle.pip_io.specs.Taken.{Keeps}
+use Rattle.pip_io.specs.Told.{writing}
 use Rattle.pip_model.specs.Assembly.{LineFault, assembly}
 use Rattle.pip_switch.specs.Standing.{State}
 use Rattle.pip_commands.specs.Dues.{asm_answer, asm_due}
@@ -40,7 +41,8 @@ module _ (code : ℕ) (p : Option State) (a b : Streams) (none : p ≡ None) (ca
     assembled t is = record { is = ap asm_answer (sym is); decided = inr (read.whole, read.limit) }
 
     tells : (t : Result (List ℕ) LineFault) → assembly input ≡ t
-        → EndsWithResponse (asm_answer t) code a.written b.written a.writes b.writes → EndsBy asm_due code p a b
+        → EndsWithResponse (asm_answer t) code (writing a.written a.writes) (writing b.written b.writes) → EndsBy
+        asm_due code p a b
     tells (Ok image) is told = by_plain asm_due code p a b calm settled apart input read.read none start 0 image
         (inl (omega arith)) (assembled (Ok image) is) told
     tells (Err fault) is told = by_plain asm_due code p a b calm settled apart input read.read none start 2
@@ -48,9 +50,10 @@ module _ (code : ℕ) (p : Option State) (a b : Streams) (none : p ≡ None) (ca
         (inl (omega arith)) (assembled (Err fault) is) told
 
     pub asm_written : (text : List ℕ) → text ≡ input
-        → EndsWithResponse (asm_answer (assembly text)) code a.written b.written a.writes b.writes ⊎
+        → EndsWithResponse (asm_answer (assembly text)) code (writing a.written a.writes) (writing b.written b.writes) ⊎
         ((code ≡ 5) × Keeps a.written b.written)
         → EndsBy asm_due code p a b
     asm_written text same (inl told) = tells (assembly input) refl
-        (subst (λ t. EndsWithResponse (asm_answer (assembly t)) code a.written b.written a.writes b.writes) same told)
+        (subst (λ t. EndsWithResponse (asm_answer (assembly t)) code (writing a.written a.writes)
+        (writing b.written b.writes)) same told)
     asm_written text same (inr want) = asm_lacks want.0 input (record { read = read.read; limit = read.limit }) want.1

@@ -12,6 +12,7 @@ use Rattle.pip_core_text.proofs.CanonicalRun.{only_texts}
 use Rattle.pip_dis.proofs.Written.{part_of_more}
 use Rattle.pip_io.specs.Causes.{RoseByOne}
 use Rattle.pip_io.specs.Taken.{Taken, Appends, Keeps, SendsPart, Wrote}
+use Rattle.pip_io.specs.Told.{writing}
 use Rattle.pip_io.proofs.Taken.{Appends-trans, SendsPart-after, part_sent}
 use Rattle.pip_model.specs.Audit.{Differs, Finding, HasWordsOnly, Lays, Unread, Unsound, finding}
 use Rattle.pip_model.specs.Dump.{tree_text}
@@ -67,15 +68,16 @@ no_answer (Differs d) line is = ap (λ l. plainly 9 l None) (inside is)
     inside e = cc
 
 pub answers_no : (m : Memory) (line : List ℕ) (code : ℕ) (before after : Taken) (writes writes' : ℕ)
-    → no_line (finding m) ≡ Some line → EndsLine 9 line code before after writes writes'
-    → EndsWithResponse (found_answer (finding m)) code before after writes writes'
+    → no_line (finding m) ≡ Some line → EndsLine 9 line code (writing before writes) (writing after writes')
+    → EndsWithResponse (found_answer (finding m)) code (writing before writes) (writing after writes')
 answers_no m line code before after writes writes' some h =
-    subst (λ v. EndsWithResponse v code before after writes writes') (sym (no_answer (finding m) line some)) h
+    subst (λ v. EndsWithResponse v code (writing before writes) (writing after writes'))
+    (sym (no_answer (finding m) line some)) h
 
 -- a text, and a line after it
 line_after : (status code : ℕ) (text line : List ℕ) (before mid after : Taken) (writes writes' : ℕ)
-    → Appends before mid text → EndsLine status line code mid after writes writes'
-    → EndsLine status (text ++ line) code before after writes writes'
+    → Appends before mid text → EndsLine status line code (writing mid writes) (writing after writes')
+    → EndsLine status (text ++ line) code (writing before writes) (writing after writes')
 line_after status code text line before mid after writes writes' wrote (inl h) =
     inl (h.0, Appends-trans before mid after text line wrote h.1)
 line_after status code text line before mid after writes writes' wrote (inr h) =
@@ -88,18 +90,18 @@ module _ (m : Memory) (shape : IsMemory m) (words : HasWordsOnly m) (none : no_l
 
   pub answers_yes : (mid : Taken) (writes mid_writes writes' : ℕ) → mid_writes ≡ writes
       → ((t : Tree) → IsHeld t m → Appends before mid (tree_text t))
-      → EndsLine 0 yes_line code mid after mid_writes writes'
-      → EndsWithResponse (found_answer (finding m)) code before after writes writes'
+      → EndsLine 0 yes_line code (writing mid mid_writes) (writing after writes')
+      → EndsWithResponse (found_answer (finding m)) code (writing before writes) (writing after writes')
   answers_yes mid writes mid_writes writes' same wrote line =
-      subst (λ f. EndsWithResponse (found_answer f) code before after writes writes') (sym there.1)
+      subst (λ f. EndsWithResponse (found_answer f) code (writing before writes) (writing after writes')) (sym there.1)
       (line_after 0 code (tree_text there.0) yes_line before mid after writes writes' (wrote there.0 there.2)
-      (subst (λ k. EndsLine 0 yes_line code mid after k writes') same line))
+      (subst (λ k. EndsLine 0 yes_line code (writing mid k) (writing after writes')) same line))
 
   pub answers_cut : {T E : Type 0} (r : Result T E) (writes writes' : ℕ) → IsErr r → code ≡ 4
       → ((t : Tree) → IsHeld t m → Wrote r before after (tree_text t)) → RoseByOne writes writes'
-      → EndsWithResponse (found_answer (finding m)) code before after writes writes'
+      → EndsWithResponse (found_answer (finding m)) code (writing before writes) (writing after writes')
   answers_cut r writes writes' err is wrote rose =
-      subst (λ f. EndsWithResponse (found_answer f) code before after writes writes') (sym there.1)
+      subst (λ f. EndsWithResponse (found_answer f) code (writing before writes) (writing after writes')) (sym there.1)
       (inr (is, cut r there.0 err (wrote there.0 there.2), rose))
     where
       cut : {T E : Type 0} (r : Result T E) (t : Tree) → IsErr r → Wrote r before after (tree_text t)
@@ -120,7 +122,7 @@ text_words n bytes m h = (only_texts n 128 refl bytes m h).small
 
 -- a line is written at no other status
 not_five : {A : Type 0} (status : ℕ) (line : List ℕ) (code : ℕ) (before after : Taken) (writes writes' : ℕ) → status ≢ 5
-    → EndsLine status line code before after writes writes' → (code == 5) ≡ true → A
+    → EndsLine status line code (writing before writes) (writing after writes') → (code == 5) ≡ true → A
 not_five status line code before after writes writes' not (inl h) five =
     absurd (not (sym h.0 ∙ eqb-true code 5 five))
 not_five status line code before after writes writes' not (inr h) five =
@@ -159,7 +161,7 @@ module _ (n code : ℕ) (p : Option State) (a c : Streams) (none : p ≡ None) (
   module _ (start : a.written.held ≡ []) where
     by_answer_line : (bytes : List ℕ) → Consumes a.left c.left bytes → (status : ℕ) (line : List ℕ) → IsOfAnswer status
         → status ≢ 5 → IsAnswered due bytes (plainly status line None) c.left
-        → EndsLine status line code a.written c.written a.writes c.writes → EndsBy due code p a c
+        → EndsLine status line code (writing a.written a.writes) (writing c.written c.writes) → EndsBy due code p a c
     by_answer_line bytes read status line of not is told =
         by_plain due code p a c calm settled (not_five status line code a.written c.written a.writes c.writes not told)
         bytes read
@@ -167,10 +169,10 @@ module _ (n code : ℕ) (p : Option State) (a c : Streams) (none : p ≡ None) (
 
     -- by a line that names a fault
     pub ends_bad : (k : ℕ) → IsBadText n a.left c.left k → {line : List ℕ} → line ≡ bad_line k
-        → EndsLine 2 line code a.written c.written a.writes c.writes → EndsBy due code p a c
+        → EndsLine 2 line code (writing a.written a.writes) (writing c.written c.writes) → EndsBy due code p a c
     ends_bad k h {line} named told =
         by_answer_line h.bytes h.taken 2 (bad_line k) (inl (omega arith)) (λ e. omega (arith, e)) (is_bad h.fault)
-        (subst (λ t. EndsLine 2 t code a.written c.written a.writes c.writes) named told)
+        (subst (λ t. EndsLine 2 t code (writing a.written a.writes) (writing c.written c.writes)) named told)
       where
         is_bad : IsBadLineOf n h.bytes c.left k → IsAnswered due h.bytes (plainly 2 (bad_line k) None) c.left
         is_bad (inl all) = record {
@@ -181,14 +183,15 @@ module _ (n code : ℕ) (p : Option State) (a c : Streams) (none : p ≡ None) (
 
     -- by the answer on a memory
     pub ends_judged : (m : Memory) → IsText n a.left c.left m
-        → EndsWithResponse (found_answer (finding m)) code a.written c.written a.writes c.writes → EndsBy due code p a c
+        → EndsWithResponse (found_answer (finding m)) code (writing a.written a.writes) (writing c.written c.writes)
+        → EndsBy due code p a c
     ends_judged m h told = go (finding m) refl told
       where
         is_found : (f : Finding) → finding m ≡ f → IsAnswered due h.bytes (found_answer f) c.left
         is_found f is = record { is = sym (ap audit_answer h.text ∙ ap found_answer is); decided = inr (h.ended, tt) }
 
         go : (f : Finding) → finding m ≡ f
-            → EndsWithResponse (found_answer f) code a.written c.written a.writes c.writes
+            → EndsWithResponse (found_answer f) code (writing a.written a.writes) (writing c.written c.writes)
             → EndsBy due code p a c
         go (Lays t) is told = by_answer_line h.bytes h.taken 0 (yes_text t) (inl (omega arith)) (λ e. omega (arith, e))
             (is_found (Lays t) is) told

@@ -13,9 +13,10 @@ use Rattle.pip_commands.specs.Words.{after_command, apart_words, as_round, from_
 use Rattle.pip_commands.specs.Words.{cons_slot, counted_command}
 use Rattle.pip_commands.specs.Words.{first_command, fixed_command, four_words, given_command, given_slots, is_depth}
 use Rattle.pip_commands.specs.Words.{later_command, start_words, starts_at}
-use Rattle.pip_commands.specs.Words.{native_words, numbered_slot, search_words, single_word, slots_in, slots_words}
+use Rattle.pip_commands.specs.Words.{native_words, numbered_slot, part_words, search_words, single_word, slots_in}
+use Rattle.pip_commands.specs.Words.{slots_words}
 use Rattle.pip_commands.specs.Words.{three_words, turn_words, two_words}
-use Rattle.pip_searches.specs.declared.commands.every.searching.Start.{Start}
+use Rattle.pip_searches.specs.declared.start.Start.{Start}
 use Rattle.pip_commands.specs.declared.words.Command.{Command}
 use Rattle.pip_commands.specs.declared.words.Command.TheVariants as C
 
@@ -120,12 +121,17 @@ audit_within (Some n) = go (nat_le 16 n && nat_le n 4096) refl
     go true e = let (x, y) = both (nat_le 16 n) (nat_le n 4096) e in (leb-true 16 n x, leb-true n 4096 y)
     go false e = tt
 
+part_within : (a : Option ℕ) → AreWithin (part_words a)
+part_within None = tt
+part_within (Some n) = first_or (nat_le n 10000000) (Some (C.Part n)) None tt tt
+
 two_within : (word : List ℕ) (a : Option ℕ) → AreWithin (two_words word a)
 two_within word a =
     first_or (bytes_eq word (codes "audit")) (audit_words a) _ (audit_within a)
+    (first_or (bytes_eq word (codes "part")) (part_words a) _ (part_within a)
     (first_or (bytes_eq word (codes "every")) (search_words C.Every a (Some 0) None) _ (every_within a (Some 0) None)
     (first_or (bytes_eq word (codes "against")) (search_words C.Against a (Some 0) None) None
-    (against_within a (Some 0) None) tt))
+    (against_within a (Some 0) None) tt)))
 
 slots_within : (n c : ℕ) (xs : List RoundSlot) → AllByRecursion (λ x. x.child < n) xs
     → AreWithin (slots_words n c (as_round xs))
@@ -180,16 +186,19 @@ four_within word a b (Some third) =
     (first_or (bytes_eq word (codes "against") && is_depth third) (search_words C.Against a b (Some third)) None
     (against_within a b (Some third)) tt)))
 
-no_numbers : (a b c : Bool)
-    → AreWithin (cond a (Some C.Script) (cond b (Some C.Assemble) (cond c (Some C.Disassemble) None)))
-no_numbers true b c = tt
-no_numbers false true c = tt
-no_numbers false false true = tt
-no_numbers false false false = tt
+no_numbers : (a b c d e : Bool) → AreWithin (cond a (Some C.Script) (cond b (Some C.Assemble)
+    (cond c (Some C.Disassemble) (cond d (Some (C.Part 0)) (cond e (Some C.Merge) None)))))
+no_numbers true b c d e = tt
+no_numbers false true c d e = tt
+no_numbers false false true d e = tt
+no_numbers false false false true e = tt
+no_numbers false false false false true = tt
+no_numbers false false false false false = tt
 
 single_within : (word : List ℕ) → AreWithin (single_word word)
 single_within word =
     no_numbers (bytes_eq word (codes "script")) (bytes_eq word (codes "asm")) (bytes_eq word (codes "dis"))
+    (bytes_eq word (codes "part")) (bytes_eq word (codes "merge"))
 
 fixed_within : (words : List (List ℕ)) → AreWithin (fixed_command words)
 fixed_within [] = tt

@@ -13,6 +13,7 @@ use Rattle.pip_image.specs.Reading.{IsCut, IsFault, parts_then, only_fault}
 use Rattle.pip_image.proofs.Steps.{after_parts}
 use Rattle.pip_io.specs.Causes.{RoseByOne}
 use Rattle.pip_io.specs.Taken.{Taken, Appends, Keeps, SendsPart}
+use Rattle.pip_io.specs.Told.{writing}
 use Rattle.pip_io.proofs.Taken.{Appends-kept, Appends-trans, SendsPart-after, past_sent}
 use Rattle.pip_model.specs.DisText.{dis_text}
 use Rattle.pip_model.specs.Images.{Image as Parsed, Part, image, image_parts}
@@ -97,7 +98,8 @@ module _ (code : ℕ) (p : Option State) (a c : Streams) (none : p ≡ None) (se
         (held : mid.held ≡ []) where
       -- the line of a fault was written, or a part of it
       dis_named : (e : ImageError) (line : List ℕ) → image_line e ≡ Some line → IsFault image_parts parts bytes c.left e
-          → c.reads ≡ a.reads → EndsLine 2 line code mid c.written half c.writes → EndsBy dis_due code p a c
+          → c.reads ≡ a.reads → EndsLine 2 line code (writing mid half) (writing c.written c.writes) → EndsBy dis_due
+          code p a c
       dis_named e line named is reads end =
           let text = subst (Appends a.written mid) (fault_text parts bytes c.left e is) wrote in
           let due = is_line parts bytes line c.left e named is in
@@ -137,14 +139,14 @@ module _ (code : ℕ) (p : Option State) (a c : Streams) (none : p ≡ None) (se
     image_ends : (mid : Taken) (half : ℕ) (e : ImageError)
         → StopsImage image_parts a (record c { written = mid; writes = half }) e
         → (code ≢ 4 → c.writes ≡ half)
-        → MatchOption (image_line e) ((code ≡ 3) × Keeps mid c.written) (λ line. EndsLine 2 line code mid c.written half
-        c.writes) → EndsBy dis_due code p a c
+        → MatchOption (image_line e) ((code ≡ 3) × Keeps mid c.written) (λ line. EndsLine 2 line code (writing mid half)
+        (writing c.written c.writes)) → EndsBy dis_due code p a c
     image_ends mid half e stop quiet end =
         let A = IsCut image_parts stop.parts stop.refused.bytes a.reads c.reads in
         let B = IsFault image_parts stop.parts stop.refused.bytes c.left e × (c.reads ≡ a.reads) in
         let ends : Option (List ℕ)
         → Type 0 = λ o. MatchOption o ((code ≡ 3) × Keeps mid c.written)
-        (λ line. EndsLine 2 line code mid c.written half c.writes) in
+        (λ line. EndsLine 2 line code (writing mid half) (writing c.written c.writes)) in
         elim (by_line e A B stop.refused.why) [
           | inl cut ↦ dis_part mid half stop.calm quiet stop.parts stop.refused.bytes stop.refused.taken stop.wrote
               stop.none cut.0 (subst ends cut.1 end)
@@ -155,8 +157,8 @@ module _ (code : ℕ) (p : Option State) (a c : Streams) (none : p ≡ None) (se
     -- as the disassembly stopped
     pub dis_image : (mid : Taken) (half : ℕ) (d : DisError) (e : ImageError) → d ≡ Image e
         → Stops image_parts a (record c { written = mid; writes = half }) d → (code ≢ 4 → c.writes ≡ half)
-        → MatchOption (image_line e) ((code ≡ 3) × Keeps mid c.written) (λ line. EndsLine 2 line code mid c.written half
-        c.writes) → EndsBy dis_due code p a c
+        → MatchOption (image_line e) ((code ≡ 3) × Keeps mid c.written) (λ line. EndsLine 2 line code (writing mid half)
+        (writing c.written c.writes)) → EndsBy dis_due code p a c
     dis_image mid half d e is stops =
         image_ends mid half e (subst (Stops image_parts a (record c { written = mid; writes = half })) is stops)
 

@@ -32,3 +32,5 @@ pub mod LayoutWords
 pub mod CoreAudited
 -- the law on `slots`
 pub mod SlotsApart
+-- the law on certificates
+pub mod CertifiedRuns

@@ -6,6 +6,7 @@ use Rattle.pip_base.specs.declared.types.Plan.{Plan}
 use Rattle.pip_image.specs.Reading.{IsFault}
 use Rattle.pip_io.specs.Causes.{RoseByOne}
 use Rattle.pip_io.specs.Taken.{Appends, Keeps, SendsPart}
+use Rattle.pip_io.specs.Told.{writing}
 use Rattle.pip_model.specs.Images.{Part, image_parts}
 use Rattle.pip_model.specs.declared.image.ImageError.{ImageError}
 use Rattle.pip_switch.specs.Standing.{StandsAs, State}
@@ -81,7 +82,7 @@ module _ (s : Scheduling) (n code : ℕ) (p : Option State) (a c : Streams)
     -- the header has too few frames
     pub children_short : a.written.held ≡ [] → {stop : ChildrenLoadError} {frames : ℕ} → stop ≡ T.Short frames
         → StoppedNative n stop a.left c.left a.reads c.reads → (code ≢ 4 → c.writes ≡ a.writes) → {line : List ℕ}
-        → line ≡ short_line frames n → EndsLine 8 line code a.written c.written a.writes c.writes
+        → line ≡ short_line frames n → EndsLine 8 line code (writing a.written a.writes) (writing c.written c.writes)
         → EndsBy due code p a c
     children_short start {stop} {frames} why stopped quiet {line} named told =
         let h : StoppedNative n (T.Short frames) a.left c.left a.reads c.reads =
@@ -112,7 +113,7 @@ module _ (s : Scheduling) (n code : ℕ) (p : Option State) (a c : Streams)
     pub children_faulted : a.written.held ≡ [] → {stop : ChildrenLoadError} {e f : ImageError} → stop ≡ T.Image e
         → StoppedNative n stop a.left c.left a.reads c.reads → (code ≢ 4 → c.writes ≡ a.writes) → f ≡ e
         → MatchOption (image_line f) ((code ≡ 3) × Keeps a.written c.written)
-        (λ line. EndsLine 2 line code a.written c.written a.writes c.writes) → EndsBy due code p a c
+        (λ line. EndsLine 2 line code (writing a.written a.writes) (writing c.written c.writes)) → EndsBy due code p a c
     children_faulted start {stop} {e} {f} why stopped quiet same ends =
         let h : RefusesUnshort n a.left c.left a.reads c.reads e =
         subst (λ x. StoppedNative n x a.left c.left a.reads c.reads) why stopped in

@@ -6,6 +6,7 @@ use Rattle.pip_base.specs.declared.types.Plan.{Plan}
 use Rattle.pip_image.specs.Reading.{IsFault, RefusesAfter}
 use Rattle.pip_io.specs.Causes.{RoseByOne}
 use Rattle.pip_io.specs.Taken.{Appends, Keeps, SendsPart}
+use Rattle.pip_io.specs.Told.{writing}
 use Rattle.pip_model.specs.Images.{Part, image_parts}
 use Rattle.pip_model.specs.declared.image.ImageError.{ImageError}
 use Rattle.pip_switch.specs.Standing.{StandsAs, State}
@@ -86,7 +87,7 @@ module _ (r : Report) (count seed code : ℕ) (p : Option State) (a c : Streams)
     pub run_faulted : a.written.held ≡ [] → {stop : LoadError} {e f : ImageError} → stop ≡ T.Image e
         → StoppedLoading stop a.left c.left a.reads c.reads → (code ≢ 4 → c.writes ≡ a.writes) → f ≡ e
         → MatchOption (image_line f) ((code ≡ 3) × Keeps a.written c.written)
-        (λ line. EndsLine 2 line code a.written c.written a.writes c.writes) → EndsBy due code p a c
+        (λ line. EndsLine 2 line code (writing a.written a.writes) (writing c.written c.writes)) → EndsBy due code p a c
     run_faulted start {stop} {e} {f} why stopped quiet same ends =
         let h : RefusesAfter image_parts a.left c.left a.reads c.reads e =
         subst (λ s. StoppedLoading s a.left c.left a.reads c.reads) why stopped in

@@ -10,6 +10,7 @@ use Rattle.pip_input.specs.declared.input.LineEnd.{LineEnd}
 use Rattle.pip_input.proofs.Taking.{all_read}
 use Rattle.pip_io.specs.Causes.{RoseByOne}
 use Rattle.pip_io.specs.Taken.{Taken, Appends, Keeps, SendsPart}
+use Rattle.pip_io.specs.Told.{Writing, writing}
 use Rattle.pip_io.proofs.Taken.{Appends-kept, Appends-nil, Appends-trans, Keeps-trans, SendsPart-after, cut_sent}
 use Rattle.pip_model.specs.Grammar.{lines_of}
 use Rattle.pip_model.specs.Text.{transcript_from}
@@ -30,14 +31,11 @@ some_same : {x y : End} → ◌≡◌ {A = Option End} (Some x) (Some y) → x �
 some_same {x} {y} is = cc
 
 -- a line that wasn't run to its end is no failed read
-pub not_read : (stop : ScriptLineError) (e : End) (n : ℕ) (before after : Taken) (writes writes' : ℕ)
-    → Names stop n e before after writes writes' → ◌≡◌ {A = Option End} (Some e) (Some ReadFault) → ⊥
-not_read Bad e n before after writes writes' names is =
-    absurd (subst (λ e. Names Bad n e before after writes writes') (some_same is) names)
-not_read Write e n before after writes writes' names is =
-    absurd (subst (λ e. Names Write n e before after writes writes') (some_same is) names)
-not_read Memory e n before after writes writes' names is =
-    absurd (subst (λ e. Names Memory n e before after writes writes') (some_same is) names)
+pub not_read : (stop : ScriptLineError) (e : End) (n : ℕ) (before after : Writing) → Names stop n e before after
+    → ◌≡◌ {A = Option End} (Some e) (Some ReadFault) → ⊥
+not_read Bad e n before after names is = absurd (subst (λ e. Names Bad n e before after) (some_same is) names)
+not_read Write e n before after names is = absurd (subst (λ e. Names Write n e before after) (some_same is) names)
+not_read Memory e n before after names is = absurd (subst (λ e. Names Memory n e before after) (some_same is) names)
 
 -- ---- it isn't known what stands at the head
 
@@ -318,7 +316,7 @@ module _ (a c : Streams) (w : Taken) (m : ℕ) (machine machine' : Option State)
   last = record { left = c.left; written = w; reads = c.reads; writes = m }
 
   by_settling : (e e' : End) → status_of e ≢ 3 → status_of e ≢ 4 → TurnDoes (Some e) machine machine' n i j a c
-      → IsSettled e e' c.written w c.writes m → TurnDoes (Some e') machine machine' n i j a last
+      → IsSettled e e' (writing c.written c.writes) (writing w m) → TurnDoes (Some e') machine machine' n i j a last
   by_settling e e' not3 not4 h s = elim s.1 [
     | inl whole ↦ subst (λ x. TurnDoes (Some x) machine machine' n i j a last) (sym whole.0) (
       record { reads = h.0.reads; writes = λ not. whole.2 ∙ h.0.writes not },
@@ -331,7 +329,8 @@ module _ (a c : Streams) (w : Taken) (m : ℕ) (machine machine' : Option State)
     )
   ]
 
-  pub turn_settled : (e e' : End) → TurnDoes (Some e) machine machine' n i j a c → Settles e e' c.written w c.writes m
+  pub turn_settled : (e e' : End) → TurnDoes (Some e) machine machine' n i j a c → Settles e e'
+      (writing c.written c.writes) (writing w m)
       → TurnDoes (Some e') machine machine' n i j a last
   turn_settled ReadFault e' h s = subst (λ x. TurnDoes (Some x) machine machine' n i j a last) (sym s.0) (
     record { reads = λ not. absurd (not refl); writes = λ not. s.2 ∙ h.0.writes not },
@@ -351,19 +350,19 @@ module _ (a c : Streams) (w : Taken) (m : ℕ) (machine machine' : Option State)
       by_settling Limit e' (λ is. absurd (omega (arith, is))) (λ is. absurd (omega (arith, is))) h s
 
 -- nothing is held at an end that is no failed write
-held_none : (e e' : End) (before after : Taken) (writes writes' : ℕ) → IsSettled e e' before after writes writes'
-    → e' ≢ WriteFault → after.held ≡ []
-held_none e e' before after writes writes' s not = elim s.1 [
+held_none : (e e' : End) (before after : Writing) → IsSettled e e' before after → e' ≢ WriteFault
+    → after.written.held ≡ []
+held_none e e' before after s not = elim s.1 [
   | inl whole ↦ whole.1
   | inr part ↦ absurd (not part.0)
 ]
 
-pub none_held : (e e' : End) (before after : Taken) (writes writes' : ℕ)
-    → (◌≡◌ {A = Option End} (Some e) (Some ReadFault) → before.held ≡ []) → Settles e e' before after writes writes'
-    → e' ≢ WriteFault → after.held ≡ []
-none_held ReadFault e' before after writes writes' none s not = ap (λ w. w.held) s.1 ∙ none refl
-none_held WriteFault e' before after writes writes' none s not = absurd (not s.0)
-none_held Finished e' before after writes writes' none s not = held_none Finished e' before after writes writes' s not
-none_held BadLine e' before after writes writes' none s not = held_none BadLine e' before after writes writes' s not
-none_held NoMemory e' before after writes writes' none s not = held_none NoMemory e' before after writes writes' s not
-none_held Limit e' before after writes writes' none s not = held_none Limit e' before after writes writes' s not
+pub none_held : (e e' : End) (before after : Writing)
+    → (◌≡◌ {A = Option End} (Some e) (Some ReadFault) → before.written.held ≡ []) → Settles e e' before after
+    → e' ≢ WriteFault → after.written.held ≡ []
+none_held ReadFault e' before after none s not = ap (λ w. w.held) s.1 ∙ none refl
+none_held WriteFault e' before after none s not = absurd (not s.0)
+none_held Finished e' before after none s not = held_none Finished e' before after s not
+none_held BadLine e' before after none s not = held_none BadLine e' before after s not
+none_held NoMemory e' before after none s not = held_none NoMemory e' before after s not
+none_held Limit e' before after none s not = held_none Limit e' before after s not

@@ -6,6 +6,7 @@ use Rattle.pip_dump.specs.Totals.{TotalsOf}
 use Rattle.pip_dump.specs.declared.numbers.Totals.{Totals}
 use Rattle.pip_io.specs.Causes.{RoseByOne}
 use Rattle.pip_io.specs.Taken.{Taken, Appends, Keeps, SendsPart}
+use Rattle.pip_io.specs.Told.{writing}
 use Rattle.pip_model.specs.Happens.{outcomes}
 use Rattle.pip_model.specs.Layout.{LaysOut}
 use Rattle.pip_model.specs.Partitions.{IsHeld}
@@ -43,10 +44,10 @@ module _ (count seed code : ℕ) (p : Option State) (before after : Taken) (writ
   due = soak_due count seed
 
   abbrev a : Streams
-  a = beside left reads before writes
+  a = beside left reads (writing before writes)
 
   abbrev b : Streams
-  b = beside left reads after writes'
+  b = beside left reads (writing after writes')
 
   loaded : IsAnswered due [] (plainly 0 (soak_text count seed) (Some (soak_world count seed))) left
   loaded = record { is = refl; decided = inl tt }

@@ -13,6 +13,7 @@ use Rattle.pip_input.specs.declared.input.LineEnd.TheVariants.{Newline, Last, En
 use Rattle.pip_input.proofs.Taking.{all_read, line_split, took_line}
 use Rattle.pip_io.specs.Causes.{RoseByOne}
 use Rattle.pip_io.specs.Taken.{Taken, Appends, AppendsPart, Keeps, SendsPart}
+use Rattle.pip_io.specs.Told.{Writing, writing}
 use Rattle.pip_io.proofs.Taken.{Appends-kept, Appends-trans, Keeps-trans, part_sent}
 use Rattle.pip_model.specs.Grammar.{lines_of}
 use Rattle.pip_model.specs.Script.{bad}
@@ -173,7 +174,7 @@ module _ (v : Option World) (n : ℕ) (i : Held) (a b : Streams) (machine : Opti
 
   pub ends_stopped : (stop : ScriptLineError) (e : End) → (stop ≢ Write → faults ≡ a.writes)
       → (stop ≡ Write → RoseByOne a.writes faults) → Stopped stop v line a.written mid
-      → Names stop n e mid b.written faults b.writes → EndsTurn e v n i a b machine
+      → Names stop n e (writing mid faults) (writing b.written b.writes) → EndsTurn e v n i a b machine
   ends_stopped Bad BadLine ran rose stopped names =
       ends_bad (decided stopped.0) (keeps_appends a.written mid b.written _ stopped.1 names)
   ends_stopped Bad WriteFault ran rose stopped names = part_bad (decided stopped.0) (kept_part a.written mid b.written _
@@ -211,19 +212,19 @@ module _ (v : Option World) (n : ℕ) (i : Held) (a b : Streams) (machine : Opti
   ends_stopped Memory WriteFault ran rose stopped names = absurd names
   ends_stopped Memory Limit ran rose stopped names = absurd names
 
--- the count of failed writes, where the script doesn't end with a write that failed: x before the line, y when it was
--- stopped, z at the end
-pub ended_calm : (stop : ScriptLineError) (e : End) (n : ℕ) (before after : Taken) (x y z : ℕ)
-    → Names stop n e before after y z
-    → (stop ≢ Write → y ≡ x) → (e ≢ WriteFault → z ≡ y) → status_of e ≢ 4 → z ≡ x
-ended_calm Bad e n before after x y z names ran named other = named (λ is. other (ap status_of is)) ∙ ran (λ is. cc)
-ended_calm Memory e n before after x y z names ran named other = named (λ is. other (ap status_of is)) ∙ ran (λ is. cc)
-ended_calm Write WriteFault n before after x y z names ran named other = absurd (other refl)
-ended_calm Write Finished n before after x y z names ran named other = absurd names
-ended_calm Write BadLine n before after x y z names ran named other = absurd names
-ended_calm Write ReadFault n before after x y z names ran named other = absurd names
-ended_calm Write NoMemory n before after x y z names ran named other = absurd names
-ended_calm Write Limit n before after x y z names ran named other = absurd names
+-- the count of failed writes, where the script doesn't end with a write that failed: x before the line, then that of
+-- the sink when it was stopped, and at the end
+pub ended_calm : (stop : ScriptLineError) (e : End) (n : ℕ) (before after : Writing) (x : ℕ)
+    → Names stop n e before after → (stop ≢ Write → before.faults ≡ x)
+    → (e ≢ WriteFault → after.faults ≡ before.faults) → status_of e ≢ 4 → after.faults ≡ x
+ended_calm Bad e n before after x names ran named other = named (λ is. other (ap status_of is)) ∙ ran (λ is. cc)
+ended_calm Memory e n before after x names ran named other = named (λ is. other (ap status_of is)) ∙ ran (λ is. cc)
+ended_calm Write WriteFault n before after x names ran named other = absurd (other refl)
+ended_calm Write Finished n before after x names ran named other = absurd names
+ended_calm Write BadLine n before after x names ran named other = absurd names
+ended_calm Write ReadFault n before after x names ran named other = absurd names
+ended_calm Write NoMemory n before after x names ran named other = absurd names
+ended_calm Write Limit n before after x names ran named other = absurd names
 
 -- a line with its newline, and one at the end of the input
 module _ (v : Option World) (n : ℕ) (i j : Held) (a b : Streams) (machine : Option State) (count : ℕ) (line : List ℕ)
@@ -231,7 +232,7 @@ module _ (v : Option World) (n : ℕ) (i j : Held) (a b : Streams) (machine : Op
     (mid : Taken) (faults : ℕ) (stop : ScriptLineError) (e : End) (ran : stop ≢ Write → faults ≡ a.writes)
     (rose : stop ≡ Write
     → RoseByOne a.writes faults) (stopped : Stopped stop v line a.written mid)
-    (names : Names stop n e mid b.written faults b.writes) where
+    (names : Names stop n e (writing mid faults) (writing b.written b.writes)) where
   pub ends_newline : HoldsLine (still i) j b.left (Newline count) → EndsTurn e v n i a b machine
   ends_newline holds =
       let took = took_line count i j (record { bytes = drop (count + 1) j.bytes; room = j.room }) a.left b.left kept
@@ -270,7 +271,7 @@ decided_uncut v bytes beyond left known = elim known [
 -- a line that is too long is bad
 pub ends_long : (v : Option World) (n : ℕ) (i j : Held) (a b : Streams) (machine : Option State) (e : End)
     → IO.Keeps (bytes_coming i a) (prepend_known j.bytes b.left) → HoldsLine (still i) j b.left TooLong
-    → Names Bad n e a.written b.written a.writes b.writes → EndsTurn e v n i a b machine
+    → Names Bad n e (writing a.written a.writes) (writing b.written b.writes) → EndsTurn e v n i a b machine
 ends_long v n i j a b machine e kept holds names =
     let bytes = take 121 j.bytes in
     let size : length bytes ≡ 121 = length-take-le 121 j.bytes holds.1 in
@@ -280,7 +281,8 @@ ends_long v n i j a b machine e kept holds names =
     by e takes decided names
   where
     by : (e : End) → TakesLast i a b (take 121 j.bytes) (drop 121 j.bytes) → IsDecided v (take 121 j.bytes)
-        (drop 121 j.bytes) b.left → Names Bad n e a.written b.written a.writes b.writes → EndsTurn e v n i a b machine
+        (drop 121 j.bytes) b.left → Names Bad n e (writing a.written a.writes) (writing b.written b.writes) → EndsTurn e
+        v n i a b machine
     by BadLine takes decided names =
         record {
           bytes = take 121 j.bytes;

@@ -2,6 +2,7 @@
 use Rattle.std.proofs.Common.{◌≡◌, ◌≢◌, ℕ, inl, Option, None, List, [], refl, arith}
 use Rattle.std.proofs.KnownBytes.{Consumes-nil}
 use Rattle.pip_io.specs.Taken.{Taken}
+use Rattle.pip_io.specs.Told.{writing}
 use Rattle.pip_model.specs.Text.{line_text}
 use Rattle.pip_switch.specs.Standing.{State}
 use Rattle.pip_commands.specs.Dues.{usage_due}
@@ -14,10 +15,10 @@ use Rattle.pip_due.proofs.Endings.{by_plain}
 pub usage_ends : (code : ℕ) (p : Option State) (left : Option (List ℕ)) (reads : ℕ) (before after : Taken)
     (writes writes' : ℕ)
     → before.held ≡ [] → p ≡ None → (code ≢ 4 → writes' ≡ writes) → (code ≢ 4 → after.held ≡ [])
-    → EndsLine 1 (line_text usage) code before after writes writes'
-    → EndsBy usage_due code p (beside left reads before writes) (beside left reads after writes')
+    → EndsLine 1 (line_text usage) code (writing before writes) (writing after writes')
+    → EndsBy usage_due code p (beside left reads (writing before writes)) (beside left reads (writing after writes'))
 usage_ends code p left reads before after writes writes' start none calm settled told =
-    by_plain usage_due code p (beside left reads before writes) (beside left reads after writes')
+    by_plain usage_due code p (beside left reads (writing before writes)) (beside left reads (writing after writes'))
     (record { reads = λ not. refl; writes = calm }) settled (λ e. (refl, refl)) [] (Consumes-nil left) none start 1
     (line_text usage)
     (inl (omega arith)) (record { is = refl; decided = inl tt }) told

@@ -24,6 +24,8 @@ use Rattle.pip_model.specs.declared.image.ImageError.{ImageError}
 use Rattle.pip_model.specs.declared.script.ScriptLine.TheVariants.{Boot}
 use Rattle.pip_slots.specs.declared.time_slot.RoundSlot.{RoundSlot}
 use Rattle.pip_watch.specs.Watching.{pages_taken, short_line}
+use Rattle.pip_certificates.specs.MergeDues.{merge_due}
+use Rattle.pip_certificates.specs.PartDues.{part_due}
 use Rattle.pip_commands.specs.AuditTexts.{bad_line, differs_line, unread_line, unsound_line, yes_line}
 use Rattle.pip_commands.specs.Children.{children_text, children_world}
 use Rattle.pip_due.specs.EndsBy.{Due, Response, plainly}
@@ -277,3 +279,5 @@ due_of (Some (C.Audit frames)) = audit_due frames
 due_of (Some (C.Every states from depth start)) = every_due states from depth start
 due_of (Some (C.Against states from depth start)) = against_due states from depth start
 due_of (Some (C.Apart states count seed)) = apart_due states count seed
+due_of (Some (C.Part from)) = part_due from
+due_of (Some C.Merge) = merge_due

@@ -11,3 +11,4 @@ pub mod AuditTexts
 pub mod AuditLaw
 pub mod SlotsLaw
 pub mod Pacing
+pub mod CertifiedRuns

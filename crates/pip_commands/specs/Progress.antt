@@ -9,7 +9,8 @@ use Rattle.pip_input.specs.Lines.{HasNoNewline, HoldsLine, HoldsPart, still}
 use Rattle.pip_input.specs.declared.input.LineEnd.TheVariants.{Newline}
 use Rattle.pip_io.specs.Causes.{RoseByOne}
 use Rattle.pip_io.specs.Moments.{NoneFailed}
-use Rattle.pip_io.specs.Taken.{Taken, Appends, AppendsPart, Keeps, SendsPart}
+use Rattle.pip_io.specs.Taken.{Appends, AppendsPart, Keeps, SendsPart}
+use Rattle.pip_io.specs.Told.{Writing}
 use Rattle.pip_model.specs.Grammar.{lines_of}
 use Rattle.pip_model.specs.Text.{Transcript, finished, bad_at, text_before, line_text, transcript_from}
 use Rattle.pip_model.specs.Worlds.{World}
@@ -157,15 +158,16 @@ TurnDoes None machine machine' n i j a b =
 TurnDoes (Some e) machine machine' n i j a b =
     IsCalm (status_of e) a b × ((v : Option World) → StandsIfAny machine v → EndsTurn e v n i a b machine')
 
--- the line that names a bad line, or a part of it; nothing else is written at the end. The last two are counts of
--- faults
-abbrev pub Names : ScriptLineError → ℕ → End → Taken → Taken → ℕ → ℕ → Type 0
-Names Bad n BadLine before after writes writes' = Appends before after (line_text (codes "bad line " ++ decimal n))
-Names Bad n WriteFault before after writes writes' =
-    AppendsPart before after (line_text (codes "bad line " ++ decimal n)) × RoseByOne writes writes'
-Names Write n WriteFault before after writes writes' = Keeps before after × (writes' ≡ writes)
-Names Memory n NoMemory before after writes writes' = Keeps before after
-Names _ _ _ _ _ _ _ = ⊥
+-- the line that names a bad line, or a part of it; nothing else is written at the end
+abbrev pub Names : ScriptLineError → ℕ → End → Writing → Writing → Type 0
+Names Bad n BadLine before after =
+    Appends before.written after.written (line_text (codes "bad line " ++ decimal n))
+Names Bad n WriteFault before after =
+    AppendsPart before.written after.written (line_text (codes "bad line " ++ decimal n))
+    × RoseByOne before.faults after.faults
+Names Write n WriteFault before after = Keeps before.written after.written × (after.faults ≡ before.faults)
+Names Memory n NoMemory before after = Keeps before.written after.written
+Names _ _ _ _ _ = ⊥
 
 -- a line of that many bytes and its newline stand at the head, and nothing was done yet
 pub record HasLine (count : ℕ) (machine machine' : Option State) (i j : Held) (a b : Streams) : Type 0 where
@@ -191,17 +193,19 @@ HasNoLine _ _ _ _ _ = ⊥
 
 -- what became of what was held at an end: after a failed read or write nothing was tried; else it was written, or a
 -- part of it
-abbrev pub StaysSo : End → End → Taken → Taken → ℕ → ℕ → Type 0
-StaysSo end end' before after writes writes' = (end' ≡ end) × (after ≡ before) × (writes' ≡ writes)
+abbrev pub StaysSo : End → End → Writing → Writing → Type 0
+StaysSo end end' before after =
+    (end' ≡ end) × (after.written ≡ before.written) × (after.faults ≡ before.faults)
 
 -- what is held was written and nothing else changed, or its writing failed and the end says that
-abbrev pub IsSettled : End → End → Taken → Taken → ℕ → ℕ → Type 0
-IsSettled end end' before after writes writes' =
-    Keeps before after × (((end' ≡ end) × (after.held ≡ []) × (writes' ≡ writes))
-    ⊎ ((end' ≡ WriteFault) × (after.held ≢ []) × RoseByOne writes writes'))
+abbrev pub IsSettled : End → End → Writing → Writing → Type 0
+IsSettled end end' before after =
+    Keeps before.written after.written
+    × (((end' ≡ end) × (after.written.held ≡ []) × (after.faults ≡ before.faults))
+    ⊎ ((end' ≡ WriteFault) × (after.written.held ≢ []) × RoseByOne before.faults after.faults))
 
 -- after a fault nothing more is written; any other end is settled
-abbrev pub Settles : End → End → Taken → Taken → ℕ → ℕ → Type 0
-Settles ReadFault end' before after writes writes' = StaysSo ReadFault end' before after writes writes'
-Settles WriteFault end' before after writes writes' = StaysSo WriteFault end' before after writes writes'
-Settles end end' before after writes writes' = IsSettled end end' before after writes writes'
+abbrev pub Settles : End → End → Writing → Writing → Type 0
+Settles ReadFault end' before after = StaysSo ReadFault end' before after
+Settles WriteFault end' before after = StaysSo WriteFault end' before after
+Settles end end' before after = IsSettled end end' before after

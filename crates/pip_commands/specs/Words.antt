@@ -7,7 +7,7 @@ use Rattle.pip_model.specs.Grammar.{number_of}
 use Rattle.arrayvec.specs.ArrayVec.{ArrayVec}
 use Rattle.pip_slots.specs.Images.{in_turn, round_steps}
 use Rattle.pip_slots.specs.declared.time_slot.RoundSlot.{RoundSlot}
-use Rattle.pip_searches.specs.declared.commands.every.searching.Start.{Start}
+use Rattle.pip_searches.specs.declared.start.Start.{Start}
 use Rattle.pip_commands.specs.declared.words.Command.{Command}
 use Rattle.pip_commands.specs.declared.words.Command.TheVariants as C
 
@@ -24,12 +24,19 @@ single_word word =
     if bytes_eq word (codes "script") then Some C.Script
     else if bytes_eq word (codes "asm") then Some C.Assemble
     else if bytes_eq word (codes "dis") then Some C.Disassemble
+    else if bytes_eq word (codes "part") then Some (C.Part 0)
+    else if bytes_eq word (codes "merge") then Some C.Merge
     else None
 
 -- `audit` takes a number of frames, 16 to 4096
 abbrev pub audit_words : Option ℕ → Option Command
 audit_words (Some frames) = if nat_le 16 frames && nat_le frames 4096 then Some (C.Audit frames) else None
 audit_words None = None
+
+-- `part` takes the turns before which no line comes, at most 10,000,000
+abbrev pub part_words : Option ℕ → Option Command
+part_words (Some from) = if nat_le from 10000000 then Some (C.Part from) else None
+part_words None = None
 
 -- where a search begins that has no `after`: no steps are made, so that the seed is none's
 abbrev pub from_first : Start
@@ -51,10 +58,11 @@ apart_words (Some states) (Some count) (Some seed) =
     (C.Apart states count seed) else None
 apart_words _ _ _ = None
 
--- a frame count, or states and nothing else
+-- a frame count, turns before the first line, or states and nothing else
 abbrev pub two_words : List ℕ → Option ℕ → Option Command
 two_words word number =
     if bytes_eq word (codes "audit") then audit_words number
+    else if bytes_eq word (codes "part") then part_words number
     else if bytes_eq word (codes "every") then search_words C.Every number (Some 0) None
     else if bytes_eq word (codes "against") then search_words C.Against number (Some 0) None
     else None
@@ -192,4 +200,4 @@ command_of words = first_command (fixed_command words) (first_command (later_com
 
 -- the usage line
 abbrev pub usage : List ℕ
-usage = codes "usage: pip script | run STEPS SEED | asm | dis | tree STEPS SEED | core STEPS SEED | soak COUNT SEED | native N STEPS | slots N TURNS ROUNDS | slots N ROUNDS K:TURNS .. | audit FRAMES | every STATES [FROM [DEPTH]] [after STEPS SEED] | against STATES [FROM [DEPTH]] [after STEPS SEED] | apart STATES STEPS SEED"
+usage = codes "usage: pip script | run STEPS SEED | asm | dis | tree STEPS SEED | core STEPS SEED | soak COUNT SEED | native N STEPS | slots N TURNS ROUNDS | slots N ROUNDS K:TURNS .. | audit FRAMES | every STATES [FROM [DEPTH]] [after STEPS SEED] | against STATES [FROM [DEPTH]] [after STEPS SEED] | apart STATES STEPS SEED | part [FROM] | merge"

@@ -1,6 +1,7 @@
 //! Laws of the commands. They compute nothing: what each says is its contract.
 ghost use Rattle.pip_commands.specs.Answered.{InputsAreAnswered};
 ghost use Rattle.pip_commands.specs.AuditLaw.{CoreIsAudited};
+ghost use Rattle.pip_commands.specs.CertifiedRuns.{CertificatesNameRuns};
 ghost use Rattle.pip_commands.specs.SlotsLaw.{ChildrenAreSeparate};
 
 /// What `core` writes of a sound tree's frames, `audit` answers with the text of that tree and `yes`.
@@ -16,4 +17,10 @@ pub fn law_inputs_answered()
 /// What `slots` writes in the time slots of a child is a matter of that child alone.
 pub fn law_slots_apart()
     ensures { ChildrenAreSeparate }
+{}
+
+/// Where the lines of parts of an image could be merged, and the merge is whole, each line of any run is one of the
+/// labels that were merged.
+pub fn law_certified_runs()
+    ensures { CertificatesNameRuns }
 {}

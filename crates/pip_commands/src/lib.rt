@@ -1,9 +1,10 @@
 //! The commands of the program, over any source and any sink.
 //!
-//! [`pip`] and the thirteen commands carry the headline: by the words and the status, what was read and what was
+//! [`pip`] and the fifteen commands carry the headline: by the words and the status, what was read and what was
 //! written (`EndsBy` of pip_due, one record for all). What is due of a command, a value of `Due`, is in specs/Dues,
 //! which chooses it by the words. `words` reads the command line, `commands/` has a file for each command but the
-//! searches of pip_searches, and `text` has the lines that the commands write themselves.
+//! searches of pip_searches and the commands of pip_certificates, and `text` has the lines that the commands write
+//! themselves.
 //!
 //! - `script`: `line` runs one line, over any port once there is one; `turn` takes a line from the input and runs it
 //!   (`LineComes`); the sink is settled before more is read, and at the end. Between two turns `HasRun` holds: all
@@ -33,9 +34,10 @@ pub use commands::run::{core_dump, run, tree};
 pub use commands::script::script;
 pub use commands::slots::slots;
 pub use commands::soak::soak;
-pub use laws::{law_core_audited, law_inputs_answered, law_slots_apart};
+pub use laws::{law_certified_runs, law_core_audited, law_inputs_answered, law_slots_apart};
 pub use machines::new_machine;
 pub use monitor::MONITOR;
+pub use pip_certificates::{law_certified, merge, part};
 pub use pip_due::Ended;
 pub use pip_searches::{
     Start, against, apart, every, law_against, law_apart, law_every, law_every_runs,

@@ -1,10 +1,8 @@
 //! The program as one call.
-ghost use Rattle.std.specs.Prelude.{◌≡◌, ◌≢◌, [], map, string_bytes};
+ghost use Rattle.std.specs.Prelude.{◌≡◌, [], map, string_bytes};
 ghost use Rattle.pip_commands.specs.Dues.{due_of, usage_due};
-ghost use Rattle.pip_due.specs.EndsBy.{EndsBy};
-ghost use Rattle.pip_due.specs.Pacing.{IsPaced};
-ghost use Rattle.pip_due.specs.Streams.{streams};
 ghost use Rattle.pip_commands.specs.Words.{command_of};
+ghost use Rattle.pip_due.specs.Commands.{Fulfils, MayStart};
 
 use crate::commands::asm::asm;
 use crate::commands::audit::audit;
@@ -15,13 +13,14 @@ use crate::commands::script::script;
 use crate::commands::slots::slots;
 use crate::commands::soak::soak;
 use crate::words::{Command, read_words};
+use pip_certificates::{merge, part};
 use pip_due::{Ended, end_with};
 use pip_io::{Sink, Source};
 use pip_searches::{against, apart, every};
 use std::alloc::Global;
 
 const USAGE: &[u8] =
-    b"usage: pip script | run STEPS SEED | asm | dis | tree STEPS SEED | core STEPS SEED | soak COUNT SEED | native N STEPS | slots N TURNS ROUNDS | slots N ROUNDS K:TURNS .. | audit FRAMES | every STATES [FROM [DEPTH]] [after STEPS SEED] | against STATES [FROM [DEPTH]] [after STEPS SEED] | apart STATES STEPS SEED\n";
+    b"usage: pip script | run STEPS SEED | asm | dis | tree STEPS SEED | core STEPS SEED | soak COUNT SEED | native N STEPS | slots N TURNS ROUNDS | slots N ROUNDS K:TURNS .. | audit FRAMES | every STATES [FROM [DEPTH]] [after STEPS SEED] | against STATES [FROM [DEPTH]] [after STEPS SEED] | apart STATES STEPS SEED | part [FROM] | merge\n";
 
 /// Does what the words of the command line ask for. The words leave out the program's name (docs/FORMATS.md,
 /// "Statuses"). The sink holds nothing at first, and at each status but 4 it holds nothing at the end. Whatever the
@@ -33,13 +32,10 @@ pub fn pip<S: Source, K: Sink>(
     source: &mut S,
     sink: &mut K,
 ) -> Ended
-    requires none { (K.written sink.old).held ≡ [] }
-    requires paced { IsPaced (due_of (command_of (map string_bytes words.now))) (S.is_open source.old) S.allows
-        (streams S.left S.faults K.written K.faults source.old sink.old) }
-    ensures ends { EndsBy (due_of (command_of (map string_bytes words.now))) result.status result.machine
-        (streams S.left S.faults K.written K.faults source.old sink.old)
-        (streams S.left S.faults K.written K.faults source.new sink.new) }
-    ensures none { result.status ≢ 4 → (K.written sink.new).held ≡ [] }
+    requires paced { MayStart (due_of (command_of (map string_bytes words.now))) S.is_open S.allows S.told K.told
+        source.old sink.old }
+    ensures ends { Fulfils (due_of (command_of (map string_bytes words.now))) result S.told K.told source.old sink.old
+        source.new sink.new }
 {
     match read_words(words) {
         Some(Command::Script) => script(alloc, source, sink),
@@ -81,17 +77,16 @@ pub fn pip<S: Source, K: Sink>(
                 seed,
             },
         ) => apart(alloc, states, count, seed, source, sink),
+        Some(Command::Part { from }) => part(alloc, from, source, sink),
+        Some(Command::Merge) => merge(alloc, source, sink),
         None => show_usage(source, sink),
     }
 }
 
 // Shows which words there are. Nothing is read.
 fn show_usage<S: Source, K: Sink>(_source: &mut S, sink: &mut K) -> Ended
-    requires { (K.written sink.old).held ≡ [] }
-    ensures ends { EndsBy usage_due result.status result.machine
-        (streams S.left S.faults K.written K.faults _source.old sink.old)
-        (streams S.left S.faults K.written K.faults _source.new sink.new) }
-    ensures none { result.status ≢ 4 → (K.written sink.new).held ≡ [] }
+    requires { (K.told sink.old).written.held ≡ [] }
+    ensures ends { Fulfils usage_due result S.told K.told _source.old sink.old _source.new sink.new }
 {
     end_with(sink, USAGE, 1)
 }

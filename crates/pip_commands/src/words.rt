@@ -3,8 +3,9 @@ ghost use Rattle.std.specs.Prelude.{◌≡◌, ◌≤◌, ◌+◌, ◌*◌, ◌^
 ghost use Rattle.std.specs.Prelude.{Some};
 ghost use Rattle.pip_commands.specs.Words.{after_command, apart_words, as_round, from_first, audit_words, command_of};
 ghost use Rattle.pip_commands.specs.Words.{first_command, fixed_command, four_words, later_command, starts_at};
-ghost use Rattle.pip_commands.specs.Words.{given_command, native_words, rounds_command, search_words, single_word};
-ghost use Rattle.pip_commands.specs.Words.{slot_in, slots_in, slots_words, three_words, turn_words, two_words};
+ghost use Rattle.pip_commands.specs.Words.{given_command, native_words, part_words, rounds_command, search_words};
+ghost use Rattle.pip_commands.specs.Words.{single_word, slot_in, slots_in, slots_words, three_words, turn_words};
+ghost use Rattle.pip_commands.specs.Words.{two_words};
 ghost use Rattle.pip_slots.specs.Images.{round_steps};
 
 use arrayvec::ArrayVec;
@@ -64,6 +65,10 @@ pub enum Command {
         count: u32,
         seed: u32,
     },
+    Part {
+        from: u32,
+    },
+    Merge,
 }
 
 /// The most children of `native` and `slots`.
@@ -78,7 +83,7 @@ const MAX_EVENTS: u32 = 1_000_000;
 /// The most states of `every` and `against`, and of each guest of `apart`.
 const MAX_STATES: u32 = 100_000_000;
 
-/// The most turns of these two before their first line, and the most choices.
+/// The most turns of these two and of `part` before their first line, and the most choices.
 const MAX_CHOICES: u32 = 10_000_000;
 
 /// The command, or `None` where the words are none of the forms.
@@ -145,6 +150,12 @@ fn read_single(word: &[u8]) -> Option<Command>
     if word == b"dis".as_slice() {
         return Some(Command::Disassemble);
     }
+    if word == b"part".as_slice() {
+        return Some(Command::Part { from: 0 });
+    }
+    if word == b"merge".as_slice() {
+        return Some(Command::Merge);
+    }
     None
 }
 
@@ -154,6 +165,9 @@ fn read_two(word: &[u8], number: Option<u32>) -> Option<Command>
     let count = number?;
     if word == b"audit".as_slice() {
         return read_audit(count);
+    }
+    if word == b"part".as_slice() {
+        return read_part(count);
     }
     if word == b"every".as_slice() {
         return read_every(count, 0, None);
@@ -169,6 +183,13 @@ fn read_audit(frames: u32) -> Option<Command>
     ensures { result ≡ audit_words (Some frames) }
 {
     (frames >= MIN_FRAMES && frames <= MAX_FRAMES).then_some(Command::Audit { frames })
+}
+
+// The turns before the first line.
+fn read_part(from: u32) -> Option<Command>
+    ensures { result ≡ part_words (Some from) }
+{
+    (from <= MAX_CHOICES).then_some(Command::Part { from })
 }
 
 fn read_three(word: &[u8], first: Option<u32>, second: Option<u32>) -> Option<Command>

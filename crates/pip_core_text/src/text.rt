@@ -1,12 +1,8 @@
 //! The text of a raw memory, read from a source.
-ghost use Rattle.std.specs.Prelude.{◌≡◌, ◌≤◌, ℕ, [], IfOk, MatchResult, None, Ok, OnErr, length, replicate};
-ghost use Rattle.std.specs.Io.KnownBytes.{Keeps, prepend_known};
+ghost use Rattle.std.specs.Prelude.{◌≡◌, ◌≤◌, [], MatchResult, None, Ok, length, replicate};
 ghost use Rattle.pip_base.specs.Memory.{zeros};
-ghost use Rattle.pip_input.specs.Lines.{HoldsLine, HoldsPart, IsLineless, still};
-ghost use Rattle.pip_io.specs.Causes.{HasCause};
-ghost use Rattle.pip_io.specs.Moments.{joined};
-ghost use Rattle.pip_io.specs.Pacing.{MayRead, MayReadOn};
-ghost use Rattle.pip_io.specs.Taken.{plain};
+ghost use Rattle.pip_io.specs.Moments.{joined, alone};
+ghost use Rattle.pip_io.specs.Pacing.{MayRead};
 ghost use Rattle.pip_core_text.specs.CoreRead.{BeginsLines, IsText, RefusesText};
 
 use crate::place::{LastNamed, LineEffect, take_line};
@@ -39,42 +35,18 @@ const MAX_LINES: u64 = 528_385;
 /// More bytes than the most lines and one line too long have together.
 const MAX_BYTES: u32 = 1 << 26;
 
-// Tells what stands at the head of what is left.
-fn next_line<S: Source, K: Sink>(
-    input: &mut Input,
-    joint: &mut Joint<'_, S, K>,
-) -> Result<LineEnd, Failed>
-    requires is_open { S.is_open joint.old.source.now }
-    requires settled { (K.written joint.old.sink.now).held ≡ [] }
-    requires paced { MayReadOn S.allows (IsLineless input.old) (joined S.left S.faults K.written K.faults joint.old) }
-    ensures same_source { joint.new.source.ghost_name ≡ joint.old.source.ghost_name }
-    ensures sink { joint.new.sink ≡ joint.old.sink }
-    ensures kept { Keeps (prepend_known input.old.bytes (S.left joint.old.source.now))
-        (prepend_known input.new.bytes (S.left joint.new.source.now)) }
-    ensures line { IfOk result (HoldsLine (still input.old) input.new (S.left joint.new.source.now)) }
-    ensures part { OnErr result (HoldsPart (still input.old) input.new) }
-    ensures cause { HasCause (S.faults joint.old.source.now) (S.faults joint.new.source.now) result }
-    ensures is_open { (n : ℕ) → result ≡ Ok (LineEnd.Newline n) → S.is_open joint.new.source.now }
-{
-    match input.line_ahead() {
-        Some(end) => Ok(end),
-        None => input.read_line(joint),
-    }
-}
-
 /// Reads the text that `core` writes into a memory of zeros, to the end of the source (docs/FORMATS.md). The memory has
 /// at most 4096 frames. After an error it may hold some of the words.
 pub fn read_core<S: Source, M: Frames>(source: &mut S, mem: &mut M) -> Result<(), CoreError>
     requires is_open { S.is_open source.old }
-    requires paced { MayRead S.allows (BeginsLines (length (M.memory mem.old))) (S.left source.old)
-        (S.faults source.old) (plain None) 0 }
+    requires paced { MayRead S.allows (BeginsLines (length (M.memory mem.old))) (alone (S.told source.old)) }
     requires zeros { M.memory mem.old ≡ replicate (length (M.memory mem.old)) (zeros 1024) }
     requires most { length (M.memory mem.old) ≤ 4096 }
     ensures reads { MatchResult result
-        (λ _. IsText (length (M.memory mem.old)) (S.left source.old) (S.left source.new) (M.memory mem.new)
-        × (S.faults source.new ≡ S.faults source.old))
-        (RefusesText (length (M.memory mem.old)) (S.left source.old) (S.left source.new)
-        (S.faults source.old) (S.faults source.new)) }
+        (λ _. IsText (length (M.memory mem.old)) (S.told source.old).left (S.told source.new).left (M.memory mem.new)
+        × ((S.told source.new).faults ≡ (S.told source.old).faults))
+        (RefusesText (length (M.memory mem.old)) (S.told source.old).left (S.told source.new).left
+        (S.told source.old).faults (S.told source.new).faults) }
     ensures count { length (M.memory mem.new) ≡ length (M.memory mem.old) }
 {
     let mut sink = Discard::new();
@@ -88,19 +60,17 @@ pub fn read_core_from_joint<S: Source, K: Sink, M: Frames>(
     mem: &mut M,
 ) -> Result<(), CoreError>
     requires is_open { S.is_open joint.old.source.now }
-    requires settled { (K.written joint.old.sink.now).held ≡ [] }
-    requires paced { MayReadOn S.allows (BeginsLines (length (M.memory mem.old)))
-        (joined S.left S.faults K.written K.faults joint.old) }
+    requires settled { (K.told joint.old.sink.now).written.held ≡ [] }
+    requires paced { MayRead S.allows (BeginsLines (length (M.memory mem.old))) (joined S.told K.told joint.old) }
     requires zeros { M.memory mem.old ≡ replicate (length (M.memory mem.old)) (zeros 1024) }
     requires most { length (M.memory mem.old) ≤ 4096 }
     ensures same_source { joint.new.source.ghost_name ≡ joint.old.source.ghost_name }
     ensures sink { joint.new.sink ≡ joint.old.sink }
     ensures reads { MatchResult result
-        (λ _. IsText (length (M.memory mem.old)) (S.left joint.old.source.now) (S.left joint.new.source.now)
-        (M.memory mem.new)
-        × (S.faults joint.new.source.now ≡ S.faults joint.old.source.now))
-        (RefusesText (length (M.memory mem.old)) (S.left joint.old.source.now) (S.left joint.new.source.now)
-        (S.faults joint.old.source.now) (S.faults joint.new.source.now)) }
+        (λ _. IsText (length (M.memory mem.old)) (S.told joint.old.source.now).left (S.told joint.new.source.now).left
+        (M.memory mem.new) × ((S.told joint.new.source.now).faults ≡ (S.told joint.old.source.now).faults))
+        (RefusesText (length (M.memory mem.old)) (S.told joint.old.source.now).left (S.told joint.new.source.now).left
+        (S.told joint.old.source.now).faults (S.told joint.new.source.now).faults) }
     ensures count { length (M.memory mem.new) ≡ length (M.memory mem.old) }
 {
     let mut input = Input::with_room(MAX_BYTES);
@@ -109,7 +79,7 @@ pub fn read_core_from_joint<S: Source, K: Sink, M: Frames>(
         group: None,
     };
     for k in 1..MAX_LINES + 1 {
-        let LineEnd::Newline(count) = next_line(&mut input, joint)? else {
+        let LineEnd::Newline(count) = input.next_line(joint)? else {
             return Err(CoreError::Line(k));
         };
         let step = take_line(mem, place, input.head(count));
@@ -118,7 +88,7 @@ pub fn read_core_from_joint<S: Source, K: Sink, M: Frames>(
             LineEffect::Bad => return Err(CoreError::Line(k)),
             LineEffect::Goes(next) => place = next,
             LineEffect::Ends => {
-                return match next_line(&mut input, joint)? {
+                return match input.next_line(joint)? {
                     LineEnd::End => Ok(()),
                     _ => Err(CoreError::Line(k + 1)),
                 };

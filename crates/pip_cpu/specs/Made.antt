@@ -1,6 +1,7 @@
 -- What a call on a machine and a sink did of a list of acts.
 use Rattle.std.specs.Prelude.{◌≡◌, ◌≢◌, ℕ, List, [], ◌∷◌, ◌++◌, Result, MatchResult}
 use Rattle.pip_io.specs.Taken.{Taken, Appends}
+use Rattle.pip_io.specs.Told.{Writing}
 use Rattle.pip_model.specs.Acts.{Act, Writes, after_acts, text_of}
 use Rattle.pip_model.specs.Effects.{next}
 use Rattle.pip_model.specs.Worlds.{World, ctx_on}
@@ -29,9 +30,10 @@ MadeOrCut result stands old new w acts =
     MatchResult result (λ v. Made stands old new w acts) (λ e. Cut stands old new w acts)
 
 -- the acts that start at each world for which the machine stood before
-abbrev pub Acts : {T E : Type 0} → Result T E → (World → Type 0) → (World → Type 0) → Taken → Taken → (World → List Act)
-    → Type 0
-Acts result before after old new acts = (w : World) → before w → MadeOrCut result after old new w (acts w)
+abbrev pub Acts : {T E : Type 0} → Result T E → (World → Type 0) → (World → Type 0) → Writing → Writing
+    → (World → List Act) → Type 0
+Acts result before after old new acts =
+    (w : World) → before w → MadeOrCut result after old.written new.written w (acts w)
 
 -- the next instruction of what runs on a processor stands there
 abbrev pub IsNext : (World → Type 0) → ℕ → ℕ → Type 0

@@ -4,9 +4,10 @@ use Rattle.std.specs.Prelude.{IsErrAnd, MatchOption, MatchResult}
 use Rattle.std.proofs.Common.{ap, sym, subst, ◌∙◌, append-nil, append_assoc}
 use Rattle.std.proofs.KnownBytes.{Consumes-trans}
 use Rattle.pip_io.specs.Causes.{RoseByOne}
-use Rattle.pip_io.specs.Moments.{NoneFailed, Streams}
+use Rattle.pip_io.specs.Moments.{NoneFailed, Streams, beside}
 use Rattle.pip_io.specs.Pacing.{MayRead}
 use Rattle.pip_io.specs.Taken.{Taken, Appends, SendsPart, SendsPast}
+use Rattle.pip_io.specs.Told.{writing}
 use Rattle.pip_io.proofs.Taken.{Appends-nil, Appends-trans, SendsPart-after, SendsPast-after, past_sent}
 use Rattle.pip_model.specs.declared.image.ImageError.{ImageError}
 use Rattle.pip_model.specs.Images.{Part, PartsRead, image_or_fault, image_parts}
@@ -79,9 +80,9 @@ module _ (t u : List ℕ → PartsRead) (a b : Streams) (p : Passes t u a b) whe
   }
 
 -- what may be read of the next part, and after parts whose text is out
-module _ (allows : Option (List ℕ) → ℕ → Taken → ℕ → Type 0) where
+module _ (allows : Streams → Type 0) where
   pub part_may_read : (t : List ℕ → PartsRead) (a : Streams) → a.written.held ≡ [] → MayGoOn allows t a
-      → MayRead allows (IsPartless t) a.left a.reads a.written a.writes
+      → MayRead allows (IsPartless t) a
   part_may_read t a none paced = λ bytes left taken is.
       paced bytes left a.written taken is.1
       (subst (λ ps. Appends a.written a.written (parts_text ps)) (sym is.0) (Appends-nil a.written)) none
@@ -91,8 +92,8 @@ module _ (allows : Option (List ℕ) → ℕ → Taken → ℕ → Type 0) where
   goes_on_after t u a b calm p paced = λ bytes left written taken is wrote none.
       let text = sym (parts_append p.parts (u bytes).parts)
       ∙ ap parts_text (sym (ap (λ t. t.parts) (p.took.is bytes) ∙ after_parts p.parts (u bytes))) in
-      subst (λ n. allows left n written b.writes) (sym calm.reads)
-      (subst (λ j. allows left a.reads written j) (sym calm.writes)
+      subst (λ n. allows (beside left n (writing written b.writes))) (sym calm.reads)
+      (subst (λ j. allows (beside left a.reads (writing written j))) (sym calm.writes)
       (paced (p.took.bytes ++ bytes) left written (Consumes-trans _ _ _ _ _ p.took.taken taken)
       (faultless_after t u p.parts a.left b.left p.took bytes is)
       (subst (Appends a.written written) text (Appends-trans a.written b.written written (parts_text p.parts)

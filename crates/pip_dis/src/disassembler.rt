@@ -51,15 +51,15 @@ impl From<Failed> for DisError {
 #[tactic(auto, using(crate::proofs::Passing::all_disassembled))]
 pub fn disassemble<S: Source, K: Sink>(source: &mut S, sink: &mut K) -> Result<(), DisError>
     requires is_open { S.is_open source.old }
-    requires none { (K.written sink.old).held ≡ [] }
-    requires paced { MayGoOn S.allows image_parts (streams S.left S.faults K.written K.faults source.old sink.old) }
-    ensures told { let a = streams S.left S.faults K.written K.faults source.old sink.old in
-        let b = streams S.left S.faults K.written K.faults source.new sink.new in
+    requires none { (K.told sink.old).written.held ≡ [] }
+    requires paced { MayGoOn S.allows image_parts (streams S.told K.told source.old sink.old) }
+    ensures told { let a = streams S.told K.told source.old sink.old in
+        let b = streams S.told K.told source.new sink.new in
         MatchResult result (λ _. Disassembles a b) (Stops image_parts a b) }
-    ensures calm { OnOk result (NoneFailed (streams S.left S.faults K.written K.faults source.old sink.old)
-        (streams S.left S.faults K.written K.faults source.new sink.new)) }
-    ensures source { S.faults source.old ≤ S.faults source.new }
-    ensures sink { K.faults sink.old ≤ K.faults sink.new }
+    ensures calm { OnOk result
+        (NoneFailed (streams S.told K.told source.old sink.old) (streams S.told K.told source.new sink.new)) }
+    ensures source { (S.told source.old).faults ≤ (S.told source.new).faults }
+    ensures sink { (K.told sink.old).faults ≤ (K.told sink.new).faults }
 {
     let mut joint = Joint::new(source, sink);
     pass_all(&mut JointReader::new(), &mut joint)?;
@@ -73,17 +73,16 @@ fn pass_all<S: Source, K: Sink>(
 ) -> Result<(), DisError>
     requires new { IsNew reader.old.place }
     requires is_open { S.is_open joint.old.source.now }
-    requires none { (K.written joint.old.sink.now).held ≡ [] }
-    requires paced { MayGoOn S.allows image_parts (joined S.left S.faults K.written K.faults joint.old) }
+    requires none { (K.told joint.old.sink.now).written.held ≡ [] }
+    requires paced { MayGoOn S.allows image_parts (joined S.told K.told joint.old) }
     ensures same_source { joint.new.source.ghost_name ≡ joint.old.source.ghost_name }
     ensures same_sink { joint.new.sink.ghost_name ≡ joint.old.sink.ghost_name }
-    ensures told { let a = joined S.left S.faults K.written K.faults joint.old in
-        let b = joined S.left S.faults K.written K.faults joint.new in
+    ensures told { let a = joined S.told K.told joint.old in
+        let b = joined S.told K.told joint.new in
         MatchResult result (λ _. PassesAll image_parts a b) (Stops image_parts a b) }
-    ensures calm { OnOk result (NoneFailed (joined S.left S.faults K.written K.faults joint.old)
-        (joined S.left S.faults K.written K.faults joint.new)) }
-    ensures source { S.faults joint.old.source.now ≤ S.faults joint.new.source.now }
-    ensures sink { K.faults joint.old.sink.now ≤ K.faults joint.new.sink.now }
+    ensures calm { OnOk result (NoneFailed (joined S.told K.told joint.old) (joined S.told K.told joint.new)) }
+    ensures source { (S.told joint.old.source.now).faults ≤ (S.told joint.new.source.now).faults }
+    ensures sink { (K.told joint.old.sink.now).faults ≤ (K.told joint.new.sink.now).faults }
 {
     pass_fields(reader, joint)?;
     pass_plans(reader, joint)?;
@@ -98,18 +97,17 @@ fn pass_fields<S: Source, K: Sink>(
 ) -> Result<(), DisError>
     requires new { IsNew reader.old.place }
     requires is_open { S.is_open joint.old.source.now }
-    requires none { (K.written joint.old.sink.now).held ≡ [] }
-    requires paced { MayGoOn S.allows image_parts (joined S.left S.faults K.written K.faults joint.old) }
+    requires none { (K.told joint.old.sink.now).written.held ≡ [] }
+    requires paced { MayGoOn S.allows image_parts (joined S.told K.told joint.old) }
     ensures same_source { joint.new.source.ghost_name ≡ joint.old.source.ghost_name }
     ensures same_sink { joint.new.sink.ghost_name ≡ joint.old.sink.ghost_name }
-    ensures told { let a = joined S.left S.faults K.written K.faults joint.old in
-        let b = joined S.left S.faults K.written K.faults joint.new in
+    ensures told { let a = joined S.told K.told joint.old in
+        let b = joined S.told K.told joint.new in
         MatchResult result (λ _. Passes image_parts (coming reader.new.place) a b) (Stops image_parts a b) }
     ensures is_open { OnOk result (S.is_open joint.new.source.now) }
-    ensures calm { OnOk result (NoneFailed (joined S.left S.faults K.written K.faults joint.old)
-        (joined S.left S.faults K.written K.faults joint.new)) }
-    ensures source { S.faults joint.old.source.now ≤ S.faults joint.new.source.now }
-    ensures sink { K.faults joint.old.sink.now ≤ K.faults joint.new.sink.now }
+    ensures calm { OnOk result (NoneFailed (joined S.told K.told joint.old) (joined S.told K.told joint.new)) }
+    ensures source { (S.told joint.old.source.now).faults ≤ (S.told joint.new.source.now).faults }
+    ensures sink { (K.told joint.old.sink.now).faults ≤ (K.told joint.new.sink.now).faults }
 {
     let fields = reader.fields(joint)?;
     write_fields(&mut *joint.sink, &fields)?;
@@ -122,21 +120,19 @@ fn pass_plans<S: Source, K: Sink>(
     joint: &mut Joint<'_, S, K>,
 ) -> Result<(), DisError>
     requires is_open { S.is_open joint.old.source.now }
-    requires none { (K.written joint.old.sink.now).held ≡ [] }
-    requires paced { MayGoOn S.allows (coming reader.old.place)
-        (joined S.left S.faults K.written K.faults joint.old) }
+    requires none { (K.told joint.old.sink.now).written.held ≡ [] }
+    requires paced { MayGoOn S.allows (coming reader.old.place) (joined S.told K.told joint.old) }
     ensures same_source { joint.new.source.ghost_name ≡ joint.old.source.ghost_name }
     ensures same_sink { joint.new.sink.ghost_name ≡ joint.old.sink.ghost_name }
-    ensures told { let a = joined S.left S.faults K.written K.faults joint.old in
-        let b = joined S.left S.faults K.written K.faults joint.new in
+    ensures told { let a = joined S.told K.told joint.old in
+        let b = joined S.told K.told joint.new in
         MatchResult result (λ _. Passes (coming reader.old.place) (coming reader.new.place) a b)
         (Stops (coming reader.old.place) a b) }
     ensures plans { OnOk result (reader.new.place.plans ≡ 0) }
     ensures is_open { OnOk result (S.is_open joint.new.source.now) }
-    ensures calm { OnOk result (NoneFailed (joined S.left S.faults K.written K.faults joint.old)
-        (joined S.left S.faults K.written K.faults joint.new)) }
-    ensures source { S.faults joint.old.source.now ≤ S.faults joint.new.source.now }
-    ensures sink { K.faults joint.old.sink.now ≤ K.faults joint.new.sink.now }
+    ensures calm { OnOk result (NoneFailed (joined S.told K.told joint.old) (joined S.told K.told joint.new)) }
+    ensures source { (S.told joint.old.source.now).faults ≤ (S.told joint.new.source.now).faults }
+    ensures sink { (K.told joint.old.sink.now).faults ≤ (K.told joint.new.sink.now).faults }
 {
     while reader.has_plan() {
         let plan = reader.plan(joint)?;
@@ -152,19 +148,16 @@ fn pass_pages<S: Source, K: Sink>(
 ) -> Result<(), DisError>
     requires plans { reader.old.place.plans ≡ 0 }
     requires is_open { S.is_open joint.old.source.now }
-    requires none { (K.written joint.old.sink.now).held ≡ [] }
-    requires paced { MayGoOn S.allows (coming reader.old.place)
-        (joined S.left S.faults K.written K.faults joint.old) }
+    requires none { (K.told joint.old.sink.now).written.held ≡ [] }
+    requires paced { MayGoOn S.allows (coming reader.old.place) (joined S.told K.told joint.old) }
     ensures same_source { joint.new.source.ghost_name ≡ joint.old.source.ghost_name }
     ensures same_sink { joint.new.sink.ghost_name ≡ joint.old.sink.ghost_name }
-    ensures told { let a = joined S.left S.faults K.written K.faults joint.old in
-        let b = joined S.left S.faults K.written K.faults joint.new in
-        MatchResult result (λ _. PassesAll (coming reader.old.place) a b)
-        (Stops (coming reader.old.place) a b) }
-    ensures calm { OnOk result (NoneFailed (joined S.left S.faults K.written K.faults joint.old)
-        (joined S.left S.faults K.written K.faults joint.new)) }
-    ensures source { S.faults joint.old.source.now ≤ S.faults joint.new.source.now }
-    ensures sink { K.faults joint.old.sink.now ≤ K.faults joint.new.sink.now }
+    ensures told { let a = joined S.told K.told joint.old in
+        let b = joined S.told K.told joint.new in
+        MatchResult result (λ _. PassesAll (coming reader.old.place) a b) (Stops (coming reader.old.place) a b) }
+    ensures calm { OnOk result (NoneFailed (joined S.told K.told joint.old) (joined S.told K.told joint.new)) }
+    ensures source { (S.told joint.old.source.now).faults ≤ (S.told joint.new.source.now).faults }
+    ensures sink { (K.told joint.old.sink.now).faults ≤ (K.told joint.new.sink.now).faults }
 {
     let mut words = [0; 1024];
     loop {

@@ -22,7 +22,7 @@ use pip_script::word_line;
 // A line, to which its newline is put.
 fn write_line<K: Sink>(sink: &mut K, line: &mut ArrayString<64>) -> Result<(), Failed>
     requires { array_string_len line.old ≤ 60 }
-    ensures { Writes K.written K.faults sink.old sink.new result (line_text line.old.bytes) }
+    ensures { Writes K.told sink.old sink.new result (line_text line.old.bytes) }
 {
     line.push_str("\n");
     write_all(sink, line.as_str().as_bytes())
@@ -42,7 +42,7 @@ fn data_line(word: u32) -> [u8; 17]
 // The line of a word: the instruction that it is, else the word.
 #[tactic(auto, using(crate::proofs::RowTexts::said_instruction))]
 fn write_word<K: Sink>(sink: &mut K, word: u32) -> Result<(), Failed>
-    ensures { Writes K.written K.faults sink.old sink.new result (line_text (word_said word)) }
+    ensures { Writes K.told sink.old sink.new result (line_text (word_said word)) }
 {
     if decode(word).is_none() {
         return write_all(sink, &data_line(word));
@@ -55,7 +55,7 @@ fn write_word<K: Sink>(sink: &mut K, word: u32) -> Result<(), Failed>
 // Lines with their last newline, and settles.
 fn write_part<K: Sink>(sink: &mut K, mut lines: ArrayString<64>) -> Result<(), Failed>
     requires { array_string_len lines ≤ 60 }
-    ensures { WritesOut K.written K.faults sink.old sink.new result (line_text lines.bytes) }
+    ensures { WritesOut K.told sink.old sink.new result (line_text lines.bytes) }
 {
     lines.push_str("\n");
     write_out(sink, lines.as_str().as_bytes())
@@ -63,7 +63,7 @@ fn write_part<K: Sink>(sink: &mut K, mut lines: ArrayString<64>) -> Result<(), F
 
 /// Writes the lines of the fields at once, and settles.
 pub fn write_fields<K: Sink>(sink: &mut K, fields: &Fields) -> Result<(), Failed>
-    ensures { WritesOut K.written K.faults sink.old sink.new result (parts_text (Head (fields_seen fields.now) ∷ [])) }
+    ensures { WritesOut K.told sink.old sink.new result (parts_text (Head (fields_seen fields.now) ∷ [])) }
 {
     write_part(sink, fields_lines(fields))?;
     Ok(())
@@ -71,7 +71,7 @@ pub fn write_fields<K: Sink>(sink: &mut K, fields: &Fields) -> Result<(), Failed
 
 /// Writes the line of a plan, and settles.
 pub fn write_plan<K: Sink>(sink: &mut K, plan: &Plan) -> Result<(), Failed>
-    ensures { WritesOut K.written K.faults sink.old sink.new result (parts_text (Line plan.now ∷ [])) }
+    ensures { WritesOut K.told sink.old sink.new result (parts_text (Line plan.now ∷ [])) }
 {
     write_part(sink, plan_line(plan))?;
     Ok(())
@@ -79,7 +79,7 @@ pub fn write_plan<K: Sink>(sink: &mut K, plan: &Plan) -> Result<(), Failed>
 
 /// Writes the lines of a page, each by a write of its own, and settles.
 pub fn write_page<K: Sink>(sink: &mut K, vpage: VPage, words: &[u32; 1024]) -> Result<(), Failed>
-    ensures { WritesOut K.written K.faults sink.old sink.new result
+    ensures { WritesOut K.told sink.old sink.new result
         (parts_text (Holds (record { vpage = vpage; words = words.now }) ∷ [])) }
 {
     write_page_lines(sink, vpage, words)?;
@@ -88,7 +88,7 @@ pub fn write_page<K: Sink>(sink: &mut K, vpage: VPage, words: &[u32; 1024]) -> R
 
 // The lines of a page.
 fn write_page_lines<K: Sink>(sink: &mut K, vpage: VPage, words: &[u32; 1024]) -> Result<(), Failed>
-    ensures { Writes K.written K.faults sink.old sink.new result
+    ensures { Writes K.told sink.old sink.new result
         (parts_text (Holds (record { vpage = vpage; words = words.now }) ∷ [])) }
 {
     let mut line = page_line(vpage);
@@ -99,7 +99,7 @@ fn write_page_lines<K: Sink>(sink: &mut K, vpage: VPage, words: &[u32; 1024]) ->
 
 // A line for each word.
 fn write_words<K: Sink>(sink: &mut K, words: &[u32]) -> Result<(), Failed>
-    ensures { Writes K.written K.faults sink.old sink.new result (text_of_lines (map word_said words.now)) }
+    ensures { Writes K.told sink.old sink.new result (text_of_lines (map word_said words.now)) }
 {
     for word in words {
         write_word(sink, *word)?;

@@ -13,8 +13,9 @@ use Rattle.pip_image.specs.declared.header.Header.{Header}
 use Rattle.pip_image.specs.declared.place.Place.{Place}
 use Rattle.pip_image.proofs.Loaded.{image_begun, image_loaded, image_with, loads_pages}
 use Rattle.pip_image.proofs.Steps.{faultless_after, takes_refused}
+use Rattle.pip_io.specs.Moments.{Streams, beside}
 use Rattle.pip_io.specs.Pacing.{MayRead}
-use Rattle.pip_io.specs.Taken.{Taken}
+use Rattle.pip_io.specs.Told.{Writing}
 use Rattle.pip_io.proofs.Pacing.{paced_after}
 use Rattle.pip_model.specs.Booted.{HasBooted, IsBooted}
 use Rattle.pip_model.specs.Images.{Holds, Page, Part, PartsRead, image_parts, page_parts, plan_parts, image_word}
@@ -161,15 +162,14 @@ loads h a c m s plans l same cpus stands = record {
 }
 
 -- where an image may be read, its pages may be once the header was, if the sink is the same
-pub pages_paced : {K : Type 0} (allows : Option (List ℕ) → ℕ → Taken → ℕ → Type 0) (written : K → Taken)
-    (writes : K → ℕ) {sink mid : K} {next : List ℕ → PartsRead} {parts : List Part} {a b : Option (List ℕ)} {m n : ℕ}
-    {P : List ℕ → Type 0} → mid ≡ sink → n ≡ m → (took : TakesParts image_parts next parts a b)
+pub pages_paced : {K : Type 0} (allows : Streams → Type 0) (told : K → Writing) {sink mid : K}
+    {next : List ℕ → PartsRead} {parts : List Part} {a b : Option (List ℕ)} {m n : ℕ} {P : List ℕ → Type 0} → mid ≡ sink
+    → n ≡ m → (took : TakesParts image_parts next parts a b)
     → ((bytes : List ℕ) → IsFaultless image_parts (took.bytes ++ bytes) → P (took.bytes ++ bytes))
-    → MayRead allows P a m (written sink) (writes sink)
-    → MayRead allows (IsFaultless next) b n (written mid) (writes mid)
-pages_paced allows written writes {sink} {mid} {next} {parts} {a} {b} {m} {n} {P} kept same took more paced =
-    subst (λ k. MayRead allows (IsFaultless next) b n (written k) (writes k)) (sym kept)
-    (paced_after allows P (IsFaultless next) a b m n (written sink) (writes sink) took.bytes same took.taken
+    → MayRead allows P (beside a m (told sink)) → MayRead allows (IsFaultless next) (beside b n (told mid))
+pages_paced allows told {sink} {mid} {next} {parts} {a} {b} {m} {n} {P} kept same took more paced =
+    subst (λ k. MayRead allows (IsFaultless next) (beside b n (told k))) (sym kept)
+    (paced_after allows P (IsFaultless next) a b m n (told sink) took.bytes same took.taken
     (λ bytes is. more bytes (faultless_after image_parts next parts a b took bytes is)) paced)
 
 -- all frames hold zeros, however many there are

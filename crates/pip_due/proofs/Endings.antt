@@ -5,6 +5,7 @@ use Rattle.std.specs.Io.KnownBytes.{Consumes}
 use Rattle.std.proofs.KnownBytes.{Consumes-nil}
 use Rattle.pip_io.specs.Causes.{RoseByOne}
 use Rattle.pip_io.specs.Taken.{Taken, GrowsInPart, GrowsPast, Keeps, SendsPart, SendsPast}
+use Rattle.pip_io.specs.Told.{Writing, writing}
 use Rattle.pip_switch.specs.Standing.{State}
 use Rattle.pip_due.specs.Machines.{StandsIfAny}
 use Rattle.pip_due.specs.EndsBy.{Response, GivesAnswer, Due, EndsBy, IsAnswered, IsOfAnswer, IsSoFar, PassesLimit}
@@ -54,13 +55,13 @@ part_plain d a b bytes text v due f l none part = record {
 }
 
 -- what ends from a sink that is the same, where nothing was held
-pub ends_same : {K : Type 0} (written : K → Taken) (writes : K → ℕ) {sink mid : K} {d : Due} {code : ℕ}
-    {p : Option State} {left : Option (List ℕ)} {reads : ℕ} {b : Streams} → mid ≡ sink → (written sink).held ≡ []
-    → ((written mid).held ≡ [] → EndsBy d code p (beside left reads (written mid) (writes mid)) b)
-    → EndsBy d code p (beside left reads (written sink) (writes sink)) b
-ends_same written writes {sink} {mid} {d} {code} {p} {left} {reads} {b} same none ends =
-    subst (λ k. EndsBy d code p (beside left reads (written k) (writes k)) b) same
-    (ends (subst (λ k. (written k).held ≡ []) (sym same) none))
+pub ends_same : {K : Type 0} (told : K → Writing) {sink mid : K} {d : Due} {code : ℕ} {p : Option State}
+    {left : Option (List ℕ)} {reads : ℕ} {b : Streams} → mid ≡ sink → (told sink).written.held ≡ []
+    → ((told mid).written.held ≡ [] → EndsBy d code p (beside left reads (told mid)) b)
+    → EndsBy d code p (beside left reads (told sink)) b
+ends_same told {sink} {mid} {d} {code} {p} {left} {reads} {b} same none ends =
+    subst (λ k. EndsBy d code p (beside left reads (told k)) b) same
+    (ends (subst (λ k. (told k).written.held ≡ []) (sym same) none))
 
 -- ---- the ways to end, from a to b
 
@@ -147,7 +148,7 @@ module _ (d : Due) (code : ℕ) (p : Option State) (a b : Streams) (calm : IsCal
     -- a line is the answer, and was written, or a part of it
     pub by_plain : a.written.held ≡ [] → (status : ℕ) (line : List ℕ) → IsOfAnswer status
         → IsAnswered d bytes (plainly status line None) b.left
-        → EndsLine status line code a.written b.written a.writes b.writes → EndsBy d code p a b
+        → EndsLine status line code (writing a.written a.writes) (writing b.written b.writes) → EndsBy d code p a b
     by_plain start status line o due (inl whole) = by_answer (subst IsOfAnswer (sym whole.0) o) (record {
       answer = plainly status line None;
       due = due;

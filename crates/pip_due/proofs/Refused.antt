@@ -3,6 +3,7 @@ use Rattle.std.proofs.Common.{◌≡◌, ◌≢◌, ℕ, inl, inr, true, Option,
 use Rattle.std.specs.Prelude.{MatchOption}
 use Rattle.pip_image.specs.Reading.{EndsAtMost, IsCut, IsFault, Refuses}
 use Rattle.pip_io.specs.Taken.{Keeps}
+use Rattle.pip_io.specs.Told.{writing}
 use Rattle.pip_model.specs.Images.{Part, image_parts}
 use Rattle.pip_model.specs.declared.image.ImageError.{ImageError}
 use Rattle.pip_switch.specs.Standing.{State}
@@ -18,14 +19,14 @@ module _ (d : Due) (code : ℕ) (p : Option State) (a c : Streams) (start : a.wr
     (x : Refuses image_parts parts a.left c.left a.reads c.reads e) where
   abbrev Ends : Option (List ℕ) → Type 0
   Ends o = MatchOption o ((code ≡ 3) × Keeps a.written c.written)
-      (λ line. EndsLine 2 line code a.written c.written a.writes c.writes)
+      (λ line. EndsLine 2 line code (writing a.written a.writes) (writing c.written c.writes))
 
   -- by what is due of a failed read, and of a fault
   pub by_refusal : IsWithin d.limit x.bytes → (EndsAtMost (image_parts x.bytes).fault → d.so_far x.bytes [])
       → ((line : List ℕ) → image_line e ≡ Some line → IsFault image_parts parts x.bytes c.left e
       → IsAnswered d x.bytes (plainly 2 line None) c.left) → {f : ImageError} → f ≡ e
       → MatchOption (image_line f) ((code ≡ 3) × Keeps a.written c.written)
-      (λ line. EndsLine 2 line code a.written c.written a.writes c.writes) → EndsBy d code p a c
+      (λ line. EndsLine 2 line code (writing a.written a.writes) (writing c.written c.writes)) → EndsBy d code p a c
   by_refusal limit so_far refused {f} same wrote =
       let ends : Ends (image_line e) = subst (λ e. Ends (image_line e)) same wrote in
       let A = IsCut image_parts parts x.bytes a.reads c.reads in

@@ -2,7 +2,8 @@
 use Rattle.std.specs.Prelude.{◌≡◌, ◌≢◌, ℕ, ◌≤◌, ◌<◌, ◌⊎◌, Bool, true, List, [], ◌∷◌, ◌++◌, length, Option, Some, None}
 use Rattle.std.specs.Io.KnownBytes.{Consumes, IsAtEnd}
 use Rattle.pip_io.specs.Causes.{RoseByOne}
-use Rattle.pip_io.specs.Taken.{Taken, Appends, Keeps, SendsPart, SendsPast}
+use Rattle.pip_io.specs.Taken.{Appends, Keeps, SendsPart, SendsPast}
+use Rattle.pip_io.specs.Told.{Writing}
 use Rattle.pip_model.specs.Worlds.{World}
 use Rattle.pip_switch.specs.Standing.{State}
 use Rattle.pip_due.specs.Machines.{StandsIfAny}
@@ -118,8 +119,6 @@ pub record EndsBy (d : Due) (code : ℕ) (p : Option State) (a b : Streams) : Ty
   -- what reads nothing leaves the source alone
   pub unread : d.unread code ≡ true → (b.left ≡ a.left) × (b.reads ≡ a.reads)
 
--- of a sink alone: the last of an answer was written, with its status, or a part of it, where a write failed. The last
--- two numbers count faults
-abbrev pub EndsWithResponse : Response → ℕ → Taken → Taken → ℕ → ℕ → Type 0
-EndsWithResponse v code before after writes writes' =
-    EndsLine v.status (or_nothing v.last) code before after writes writes'
+-- of a sink alone: the last of an answer was written, with its status, or a part of it, where a write failed
+abbrev pub EndsWithResponse : Response → ℕ → Writing → Writing → Type 0
+EndsWithResponse v code before after = EndsLine v.status (or_nothing v.last) code before after

@@ -5,3 +5,4 @@ pub mod Faults
 pub mod ImageDues
 pub mod Loading
 pub mod Pacing
+pub mod Commands

@@ -1,7 +1,6 @@
 -- Where a command may read more of its input.
-use Rattle.std.specs.Prelude.{◌≡◌, ℕ, List, [], Option}
+use Rattle.std.specs.Prelude.{◌≡◌, ℕ, List, []}
 use Rattle.std.specs.Io.KnownBytes.{Consumes}
-use Rattle.pip_io.specs.Taken.{Taken}
 use Rattle.pip_due.specs.EndsBy.{Due, IsSoFar}
 use Rattle.pip_due.specs.Streams.{Streams}
 
@@ -14,7 +13,9 @@ pub record Waits (d : Due) (a b : Streams) : Type 0 where
   pub reads : b.reads ≡ a.reads
   pub writes : b.writes ≡ a.writes
 
--- a source is open if the command waits at first, and whatever it asks for at a read holds wherever the command waits
-abbrev pub IsPaced : Due → Type 0 → (Option (List ℕ) → ℕ → Taken → ℕ → Type 0) → Streams → Type 0
-IsPaced d is_open allows a =
-    (Waits d a a → is_open) × ((now : Streams) → Waits d a now → allows now.left now.reads now.written now.writes)
+-- nothing is held; the source is open if the command waits at first, and whatever it asks for at a read holds wherever
+-- the command waits
+pub record IsPaced (d : Due) (opened : Type 0) (may_read : Streams → Type 0) (a : Streams) : Type 0 where
+  pub none : a.written.held ≡ []
+  pub is_open : Waits d a a → opened
+  pub allows : (now : Streams) → Waits d a now → may_read now

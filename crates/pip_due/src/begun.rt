@@ -3,7 +3,7 @@ ghost use Rattle.std.specs.Prelude.{◌≡◌, [], IfErr, IfOk, OnOk, MatchResul
 ghost use Rattle.pip_image.specs.Coming.{IsHeader};
 ghost use Rattle.pip_image.specs.Pacing.{IsFaultless};
 ghost use Rattle.pip_io.specs.Moments.{joined};
-ghost use Rattle.pip_io.specs.Pacing.{MayReadOn};
+ghost use Rattle.pip_io.specs.Pacing.{MayRead};
 ghost use Rattle.pip_model.specs.Booted.{HasBooted};
 ghost use Rattle.pip_model.specs.Images.{image_parts};
 ghost use Rattle.pip_due.specs.Loading.{IsStopInside, LoadsFrames, LoadsFront, StoppedLoading};
@@ -31,19 +31,18 @@ pub fn load<S: Source, K: Sink, L: Ledger>(
     steps: &mut Steps<L>,
 ) -> Result<Begun, LoadError>
     requires is_open { S.is_open joint.old.source.now }
-    requires settled { (K.written joint.old.sink.now).held ≡ [] }
-    requires paced { MayReadOn S.allows (IsFaultless image_parts)
-        (joined S.left S.faults K.written K.faults joint.old) }
+    requires settled { (K.told joint.old.sink.now).written.held ≡ [] }
+    requires paced { MayRead S.allows (IsFaultless image_parts) (joined S.told K.told joint.old) }
     ensures same_source { joint.new.source.ghost_name ≡ joint.old.source.ghost_name }
     ensures sink { joint.new.sink ≡ joint.old.sink }
     ensures loads { MatchResult result
-        (λ b. LoadsFrames (S.left joint.old.source.now) (S.left joint.new.source.now) b.head
+        (λ b. LoadsFrames (S.told joint.old.source.now).left (S.told joint.new.source.now).left b.head
         (⟦<RawFrames as Frames>⟧.memory b.mem))
-        (λ stop. StoppedLoading stop (S.left joint.old.source.now) (S.left joint.new.source.now)
-        (S.faults joint.old.source.now) (S.faults joint.new.source.now)) }
+        (λ stop. StoppedLoading stop (S.told joint.old.source.now).left (S.told joint.new.source.now).left
+        (S.told joint.old.source.now).faults (S.told joint.new.source.now).faults) }
     ensures limits { IfOk result (λ b. IsHeader b.head) }
     ensures booted { IfOk result (λ b. HasBooted (⟦<RawFrames as Frames>⟧.memory b.mem)) }
-    ensures calm { OnOk result (S.faults joint.new.source.now ≡ S.faults joint.old.source.now) }
+    ensures calm { OnOk result ((S.told joint.new.source.now).faults ≡ (S.told joint.old.source.now).faults) }
 {
     let mut reader = JointReader::new();
     let head = reader.header(joint)?;
@@ -58,21 +57,20 @@ pub fn load_front<S: Source, K: Sink, L: Ledger>(
     steps: &mut Steps<L>,
 ) -> Result<Begun, LoadError>
     requires is_open { S.is_open joint.old.source.now }
-    requires settled { (K.written joint.old.sink.now).held ≡ [] }
-    requires paced { MayReadOn S.allows (IsFaultless image_parts)
-        (joined S.left S.faults K.written K.faults joint.old) }
+    requires settled { (K.told joint.old.sink.now).written.held ≡ [] }
+    requires paced { MayRead S.allows (IsFaultless image_parts) (joined S.told K.told joint.old) }
     ensures same_source { joint.new.source.ghost_name ≡ joint.old.source.ghost_name }
     ensures sink { joint.new.sink ≡ joint.old.sink }
     ensures loads { MatchResult result
-        (λ b. LoadsFront (S.left joint.old.source.now) (S.left joint.new.source.now) b.head
+        (λ b. LoadsFront (S.told joint.old.source.now).left (S.told joint.new.source.now).left b.head
         (⟦<RawFrames as Frames>⟧.memory b.mem))
-        (λ stop. StoppedLoading stop (S.left joint.old.source.now) (S.left joint.new.source.now)
-        (S.faults joint.old.source.now) (S.faults joint.new.source.now)) }
+        (λ stop. StoppedLoading stop (S.told joint.old.source.now).left (S.told joint.new.source.now).left
+        (S.told joint.old.source.now).faults (S.told joint.new.source.now).faults) }
     ensures inside { IfErr result IsStopInside }
     ensures limits { IfOk result (λ b. IsHeader b.head) }
     ensures booted { IfOk result (λ b. HasBooted (⟦<RawFrames as Frames>⟧.memory b.mem)) }
     ensures is_open { OnOk result (S.is_open joint.new.source.now) }
-    ensures calm { OnOk result (S.faults joint.new.source.now ≡ S.faults joint.old.source.now) }
+    ensures calm { OnOk result ((S.told joint.new.source.now).faults ≡ (S.told joint.old.source.now).faults) }
 {
     let mut reader = JointReader::new();
     let head = reader.header(joint)?;

@@ -31,11 +31,10 @@ impl Ended {
 
 /// Writes one line and all that the sink holds, and ends with this status, or with 4 where that can't be written.
 pub fn end_with<K: Sink>(sink: &mut K, line: &[u8], status: u8) -> Ended
-    ensures wrote { EndsLine status line.now result.status (K.written sink.old) (K.written sink.new) (K.faults sink.old)
-        (K.faults sink.new) }
-    ensures calm { result.status ≢ 4 → K.faults sink.new ≡ K.faults sink.old }
+    ensures wrote { EndsLine status line.now result.status (K.told sink.old) (K.told sink.new) }
+    ensures calm { result.status ≢ 4 → (K.told sink.new).faults ≡ (K.told sink.old).faults }
     ensures none { result.machine ≡ None }
-    ensures settled { result.status ≢ 4 → (K.written sink.new).held ≡ [] }
+    ensures settled { result.status ≢ 4 → (K.told sink.new).written.held ≡ [] }
 {
     match write_out(sink, line) {
         Ok(()) => Ended::with_status(status),
@@ -46,13 +45,13 @@ pub fn end_with<K: Sink>(sink: &mut K, line: &[u8], status: u8) -> Ended
 /// Ends at a fault of an image: with the line that names it, or without one where the source failed. The sink holds
 /// nothing.
 pub fn end_at_image<K: Sink>(sink: &mut K, fault: ImageError) -> Ended
-    requires { (K.written sink.old).held ≡ [] }
-    ensures wrote { MatchOption (image_line fault) ((result.status ≡ 3)
-        × Keeps (K.written sink.old) (K.written sink.new)) (λ line. EndsLine 2 line result.status (K.written sink.old)
-        (K.written sink.new) (K.faults sink.old) (K.faults sink.new)) }
-    ensures calm { result.status ≢ 4 → K.faults sink.new ≡ K.faults sink.old }
+    requires { (K.told sink.old).written.held ≡ [] }
+    ensures wrote { MatchOption (image_line fault)
+        ((result.status ≡ 3) × Keeps (K.told sink.old).written (K.told sink.new).written)
+        (λ line. EndsLine 2 line result.status (K.told sink.old) (K.told sink.new)) }
+    ensures calm { result.status ≢ 4 → (K.told sink.new).faults ≡ (K.told sink.old).faults }
     ensures none { result.machine ≡ None }
-    ensures settled { result.status ≢ 4 → (K.written sink.new).held ≡ [] }
+    ensures settled { result.status ≢ 4 → (K.told sink.new).written.held ≡ [] }
 {
     match bad_image(fault) {
         None => Ended::with_status(3),

@@ -2,9 +2,11 @@
 //!
 //! What is due is a value of `Due` (specs/EndsBy): the answer to each input, which bytes are enough to be answered,
 //! what is written before more is read, and when memory is asked for. `EndsBy` says how a command ends by it, whatever
-//! its status: what was read and what was written. It is the one record of all commands. `IsPaced` (specs/Pacing) says
-//! where a command may read more. [`Ended`] is what a command returns, and [`end_with`] and [`end_at_image`] are its
-//! usual ends; each proof of a command ends with one of the lemmas of proofs/Endings, the ways to end.
+//! its status: what was read and what was written. It is the one record of all commands. The contract of a command is
+//! two clauses (specs/Commands): `MayStart` says that the sink holds nothing and where the command may read more
+//! (`IsPaced`), and `Fulfils` that it ends by what is due. [`Ended`] is what a command returns, and [`end_with`] and
+//! [`end_at_image`] are its usual ends; each proof of a command ends with one of the lemmas of proofs/Endings, the ways
+//! to end.
 //!
 //! Most commands read an image first (specs/ImageDues): [`loading`] reads one into a new machine (`LoadsImage`) and
 //! makes a callback of each plan, [`begun`] reads one into frames (`LoadsFrames`), and [`pass`] makes steps and shows

@@ -6,7 +6,7 @@ ghost use Rattle.pip_image.specs.Coming.{IsAfter, IsHeader, coming, header_parts
 ghost use Rattle.pip_image.specs.Pacing.{IsFaultless};
 ghost use Rattle.pip_image.specs.Reading.{TakesParts};
 ghost use Rattle.pip_io.specs.Moments.{joined};
-ghost use Rattle.pip_io.specs.Pacing.{MayReadOn};
+ghost use Rattle.pip_io.specs.Pacing.{MayRead};
 ghost use Rattle.pip_lines.specs.Due.{AnswersDue};
 ghost use Rattle.pip_model.specs.Booted.{HasBooted};
 ghost use Rattle.pip_model.specs.Images.{image_parts};
@@ -70,17 +70,16 @@ pub fn load<S: Source, K: Sink, G: Fn(Plan) -> F, F: Callback + Drop, L: Ledger>
     requires makes { G.IsAlwaysCallable make }
     requires answer { (p : Plan) (f : F) → G.post make p f → AnswersDue (F.may_ask f) (F.answers f) p }
     requires is_open { S.is_open joint.old.source.now }
-    requires settled { (K.written joint.old.sink.now).held ≡ [] }
-    requires paced { MayReadOn S.allows (IsFaultless image_parts)
-        (joined S.left S.faults K.written K.faults joint.old) }
+    requires settled { (K.told joint.old.sink.now).written.held ≡ [] }
+    requires paced { MayRead S.allows (IsFaultless image_parts) (joined S.told K.told joint.old) }
     ensures same_source { joint.new.source.ghost_name ≡ joint.old.source.ghost_name }
     ensures sink { joint.new.sink ≡ joint.old.sink }
     ensures loads { MatchResult result
-        (λ l. LoadsImage (S.left joint.old.source.now) (S.left joint.new.source.now) l.frames l.pages l.lines.items
-        l.machine)
-        (λ stop. StoppedLoading stop (S.left joint.old.source.now) (S.left joint.new.source.now)
-        (S.faults joint.old.source.now) (S.faults joint.new.source.now)) }
-    ensures calm { OnOk result (S.faults joint.new.source.now ≡ S.faults joint.old.source.now) }
+        (λ l. LoadsImage (S.told joint.old.source.now).left (S.told joint.new.source.now).left l.frames l.pages
+        l.lines.items l.machine)
+        (λ stop. StoppedLoading stop (S.told joint.old.source.now).left (S.told joint.new.source.now).left
+        (S.told joint.old.source.now).faults (S.told joint.new.source.now).faults) }
+    ensures calm { OnOk result ((S.told joint.new.source.now).faults ≡ (S.told joint.old.source.now).faults) }
     ensures below { IfOk result (λ l. AllByRecursion (λ p. p.line < 16) l.lines.items) }
 {
     let mut reader = JointReader::new();
@@ -103,19 +102,17 @@ pub fn load_after<S: Source, K: Sink, G: Fn(Plan) -> F, F: Callback + Drop, L: L
     requires makes { G.IsAlwaysCallable make }
     requires answer { (p : Plan) (f : F) → G.post make p f → AnswersDue (F.may_ask f) (F.answers f) p }
     requires is_open { S.is_open joint.old.source.now }
-    requires settled { (K.written joint.old.sink.now).held ≡ [] }
-    requires paced { MayReadOn S.allows (IsFaultless (coming reader.old.place))
-        (joined S.left S.faults K.written K.faults joint.old) }
+    requires settled { (K.told joint.old.sink.now).written.held ≡ [] }
+    requires paced { MayRead S.allows (IsFaultless (coming reader.old.place)) (joined S.told K.told joint.old) }
     ensures same_source { joint.new.source.ghost_name ≡ joint.old.source.ghost_name }
     ensures sink { joint.new.sink ≡ joint.old.sink }
-    ensures loads { (first : Option (List ℕ)) → TakesParts image_parts (coming reader.old.place)
-        (header_parts head.now) first
-        (S.left joint.old.source.now) → MatchResult result
-        (λ l. LoadsImage first (S.left joint.new.source.now) l.frames l.pages l.lines.items l.machine)
-        (λ stop. StoppedAfter head.now stop first (S.left joint.new.source.now) (S.faults joint.old.source.now)
-        (S.faults joint.new.source.now)) }
+    ensures loads { (first : Option (List ℕ)) → TakesParts image_parts (coming reader.old.place) (header_parts head.now)
+        first (S.told joint.old.source.now).left → MatchResult result
+        (λ l. LoadsImage first (S.told joint.new.source.now).left l.frames l.pages l.lines.items l.machine)
+        (λ stop. StoppedAfter head.now stop first (S.told joint.new.source.now).left
+        (S.told joint.old.source.now).faults (S.told joint.new.source.now).faults) }
     ensures frames { IfOk result (λ l. l.frames ≡ head.now.frames) }
-    ensures calm { OnOk result (S.faults joint.new.source.now ≡ S.faults joint.old.source.now) }
+    ensures calm { OnOk result ((S.told joint.new.source.now).faults ≡ (S.told joint.old.source.now).faults) }
     ensures below { IfOk result (λ l. AllByRecursion (λ p. p.line < 16) l.lines.items) }
 {
     let lines = lines_of(alloc, head.plans.as_slice(), make)?;
@@ -140,19 +137,17 @@ pub fn load_frames<S: Source, K: Sink, L: Ledger>(
     requires plans { reader.old.place.plans ≡ 0 }
     requires limits { IsHeader head.now }
     requires is_open { S.is_open joint.old.source.now }
-    requires settled { (K.written joint.old.sink.now).held ≡ [] }
-    requires paced { MayReadOn S.allows (IsFaultless (coming reader.old.place))
-        (joined S.left S.faults K.written K.faults joint.old) }
+    requires settled { (K.told joint.old.sink.now).written.held ≡ [] }
+    requires paced { MayRead S.allows (IsFaultless (coming reader.old.place)) (joined S.told K.told joint.old) }
     ensures same_source { joint.new.source.ghost_name ≡ joint.old.source.ghost_name }
     ensures sink { joint.new.sink ≡ joint.old.sink }
-    ensures loads { (first : Option (List ℕ)) → TakesParts image_parts (coming reader.old.place)
-        (header_parts head.now) first
-        (S.left joint.old.source.now) → MatchResult result
-        (λ mem. LoadsFrames first (S.left joint.new.source.now) head.now (⟦<RawFrames as Frames>⟧.memory mem))
-        (λ stop. StoppedAfter head.now stop first (S.left joint.new.source.now) (S.faults joint.old.source.now)
-        (S.faults joint.new.source.now)) }
+    ensures loads { (first : Option (List ℕ)) → TakesParts image_parts (coming reader.old.place) (header_parts head.now)
+        first (S.told joint.old.source.now).left → MatchResult result
+        (λ mem. LoadsFrames first (S.told joint.new.source.now).left head.now (⟦<RawFrames as Frames>⟧.memory mem))
+        (λ stop. StoppedAfter head.now stop first (S.told joint.new.source.now).left
+        (S.told joint.old.source.now).faults (S.told joint.new.source.now).faults) }
     ensures booted { IfOk result (λ mem. HasBooted (⟦<RawFrames as Frames>⟧.memory mem)) }
-    ensures calm { OnOk result (S.faults joint.new.source.now ≡ S.faults joint.old.source.now) }
+    ensures calm { OnOk result ((S.told joint.new.source.now).faults ≡ (S.told joint.old.source.now).faults) }
 {
     let mut mem = RawFrames::new(alloc, head.frames)?;
     boot_zeros(&mut mem, steps);

@@ -69,13 +69,11 @@ fn table_text<K: Sink>(
     sink: &mut K,
 ) -> Result<(), Failed>
     requires { i < 1024 }
-    ensures text { (t : Tree) (x : Node) (old : Taken) (whole : List ℕ) → AreLeaves t x i leaves.now →
-        AreGiven t x i given.now
-        → RowsLeft t x (1024 * i) old (K.written sink.old) whole
-        → MatchResult result
-        (λ _. RowsLeft t x (1024 * i + 1024) old (K.written sink.new) whole)
-        (λ _. AppendsPart old (K.written sink.new) whole) }
-    ensures cause { HasCause (K.faults sink.old) (K.faults sink.new) result }
+    ensures text { (t : Tree) (x : Node) (old : Taken) (whole : List ℕ) → AreLeaves t x i leaves.now → AreGiven t x i
+        given.now → RowsLeft t x (1024 * i) old (K.told sink.old).written whole → MatchResult result
+        (λ _. RowsLeft t x (1024 * i + 1024) old (K.told sink.new).written whole)
+        (λ _. AppendsPart old (K.told sink.new).written whole) }
+    ensures cause { HasCause (K.told sink.old).faults (K.told sink.new).faults result }
 {
     let mut line = ArrayString::new();
     let mut from = 0;
@@ -101,9 +99,9 @@ fn rows_text<M: Frames, K: Sink, L: Ledger>(
     steps: &mut Steps<L>,
 ) -> Result<(), Failed>
     requires { HasPartition (M.memory mem.now) part }
-    ensures text { InEach (M.memory mem.now) part (λ t x. Wrote result (K.written sink.old) (K.written sink.new)
-        (flat_map (row_text t x) x.rows)) }
-    ensures cause { HasCause (K.faults sink.old) (K.faults sink.new) result }
+    ensures text { InEach (M.memory mem.now) part
+        (λ t x. Wrote result (K.told sink.old).written (K.told sink.new).written (flat_map (row_text t x) x.rows)) }
+    ensures cause { HasCause (K.told sink.old).faults (K.told sink.new).faults result }
 {
     let mut from = 0;
     while let Some(i) = next_tables(mem, part, from, steps) {
@@ -123,9 +121,10 @@ pub(crate) fn part_text<M: Frames, K: Sink, L: Ledger>(
     steps: &mut Steps<L>,
 ) -> Result<(), Failed>
     requires { HasPartition (M.memory mem.now) place.now.part }
-    ensures text { InEach (M.memory mem.now) place.now.part (λ t x. place.now.depth ≡ depth_of t x →
-        Wrote result (K.written sink.old) (K.written sink.new) (part_text t x)) }
-    ensures cause { HasCause (K.faults sink.old) (K.faults sink.new) result }
+    ensures text { InEach (M.memory mem.now) place.now.part
+        (λ t x. place.now.depth ≡ depth_of t x → Wrote result (K.told sink.old).written (K.told sink.new).written
+        (part_text t x)) }
+    ensures cause { HasCause (K.told sink.old).faults (K.told sink.new).faults result }
 {
     write_all(sink, head_line(mem, place, steps).as_bytes())?;
     rows_text(mem, place.part, sink, steps)

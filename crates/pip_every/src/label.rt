@@ -1,6 +1,7 @@
 //! What a choice shows.
 ghost use Rattle.std.specs.Prelude.{◌≡◌, ◌<◌, [], Some};
 ghost use Rattle.pip_io.specs.Taken.{plain};
+ghost use Rattle.pip_io.specs.Told.{writing};
 
 use pip_io::{Failed, Sink};
 use std::alloc::Global;
@@ -39,9 +40,7 @@ impl Label {
 }
 
 impl Sink for Label {
-    ghost written = { λ s. plain (Some s.bytes.items) };
-
-    ghost faults = { λ s. s.failed };
+    ghost told = { λ s. writing (plain (Some s.bytes.items)) s.failed };
 
     fn write(&mut self, piece: &[u8]) -> Result<usize, Failed> {
         match self.bytes.extend_from_slice(piece) {

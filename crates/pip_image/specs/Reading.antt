@@ -1,5 +1,5 @@
 -- What a reader of an image has still to read, and what its calls take from the source.
-use Rattle.std.specs.Prelude.{◌≡◌, ℕ, ◌<◌, ◌⊎◌, ⊤, Bool, cond, List, [], ◌∷◌, ◌++◌, length, Option, Some, None}
+use Rattle.std.specs.Prelude.{◌≡◌, ℕ, ◌<◌, ◌⊎◌, Bool, cond, List, [], ◌∷◌, ◌++◌, length, Option, Some, None}
 use Rattle.std.specs.Io.KnownBytes.{Consumes, IsAtEnd}
 use Rattle.pip_io.specs.Causes.{RoseByOne}
 use Rattle.pip_model.specs.declared.image.ImageError.{ImageError}
@@ -35,12 +35,12 @@ pub record EndsInput (tell : List ℕ → PartsRead) (left left' : Option (List 
 -- a fault of the image itself, and not that the input goes on after it
 abbrev pub IsFaultWithin : ImageError → Type 0
 IsFaultWithin (F.Long at) = ⊥
-IsFaultWithin e = ⊤
+IsFaultWithin e = Unit {0}
 
 -- no fault but the end of the bytes
 abbrev pub EndsAtMost : Option ImageError → Type 0
-EndsAtMost None = ⊤
-EndsAtMost (Some (F.Short at)) = ⊤
+EndsAtMost None = Unit {0}
+EndsAtMost (Some (F.Short at)) = Unit {0}
 EndsAtMost (Some e) = ⊥
 
 -- of a failed read the first, of any other fault the second

@@ -1,5 +1,5 @@
 -- Bytes that can't be the beginning of the part that is sought.
-use Rattle.std.specs.Prelude.{◌≤◌, ◌^◌, ⊤, ℕ, Bool, true, false, List, Result, Ok, Err}
+use Rattle.std.specs.Prelude.{◌≤◌, ◌^◌, ℕ, Bool, true, false, List, Result, Ok, Err}
 use Rattle.pip_model.specs.declared.image.ImageError.{ImageError}
 use Rattle.pip_model.specs.declared.image.ImageError.TheVariants as F
 use Rattle.pip_model.specs.Images.{fields_of, plan_at, front_page}
@@ -20,6 +20,6 @@ is_wrong (Page frames before at) bytes = is_fault (front_page frames before.now 
 
 -- the offset and the number of frames are within their limits
 abbrev pub IsSought : Sought → Type 0
-IsSought Fields = ⊤
+IsSought Fields = Unit {0}
 IsSought (Plan at least) = at ≤ 2 ^ 32
 IsSought (Page frames before at) = (16 ≤ frames) × (frames ≤ 4096)

@@ -1,7 +1,7 @@
 //! Buffers that are filled from a source.
 ghost use Rattle.std.specs.Prelude.{◌≡◌, ◌≤◌, [], length};
 ghost use Rattle.pip_io.specs.Moments.{joined};
-ghost use Rattle.pip_io.specs.Pacing.{MayReadOn};
+ghost use Rattle.pip_io.specs.Pacing.{MayRead};
 ghost use Rattle.pip_image.specs.Filling.{IsFilled};
 ghost use Rattle.pip_image.specs.Pacing.{IsUnfilled};
 ghost use Rattle.pip_image.specs.Reading.{IsFaultWithin, fault_of};
@@ -68,14 +68,13 @@ pub fn fill<S: Source, K: Sink>(
 ) -> Filled
     requires sought { IsSought sought.now }
     requires is_open { S.is_open joint.old.source.now }
-    requires settled { (K.written joint.old.sink.now).held ≡ [] }
-    requires paced { MayReadOn S.allows (IsUnfilled (length buf.old) sought.now)
-        (joined S.left S.faults K.written K.faults joint.old) }
+    requires settled { (K.told joint.old.sink.now).written.held ≡ [] }
+    requires paced { MayRead S.allows (IsUnfilled (length buf.old) sought.now) (joined S.told K.told joint.old) }
     ensures same_source { joint.new.source.ghost_name ≡ joint.old.source.ghost_name }
     ensures sink { joint.new.sink ≡ joint.old.sink }
-    ensures filled { IsFilled (is_wrong sought.now) result buf.new (S.left joint.old.source.now)
-        (S.left joint.new.source.now) (S.faults joint.old.source.now) (S.faults joint.new.source.now) }
-    ensures later { S.faults joint.old.source.now ≤ S.faults joint.new.source.now }
+    ensures filled { IsFilled (is_wrong sought.now) result buf.new (S.told joint.old.source.now).left
+        (S.told joint.new.source.now).left (S.told joint.old.source.now).faults (S.told joint.new.source.now).faults }
+    ensures later { (S.told joint.old.source.now).faults ≤ (S.told joint.new.source.now).faults }
     ensures is_open { result.count ≡ length buf.new → S.is_open joint.new.source.now }
 {
     let mut taken = 0;

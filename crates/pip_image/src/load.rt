@@ -5,7 +5,7 @@ ghost use Rattle.pip_model.specs.Images.{has_row};
 ghost use Rattle.pip_model.specs.Layout.{LaysOut};
 ghost use Rattle.pip_model.specs.Tree.{Tree};
 ghost use Rattle.pip_io.specs.Moments.{joined};
-ghost use Rattle.pip_io.specs.Pacing.{MayReadOn};
+ghost use Rattle.pip_io.specs.Pacing.{MayRead};
 ghost use Rattle.pip_image.specs.Coming.{coming, IsAfter};
 ghost use Rattle.pip_image.specs.Loading.{AreWords, Loads, LoadsAll, LoadsUpTo, with_page};
 ghost use Rattle.pip_image.specs.Pacing.{IsFaultless};
@@ -29,17 +29,16 @@ pub fn load_from_joint<S: Source, K: Sink, M: Frames>(
     requires after { IsAfter head.now reader.old.place }
     requires boot { LaysOut (boot_tree head.now.frames) (M.memory mem.old) }
     requires is_open { S.is_open joint.old.source.now }
-    requires settled { (K.written joint.old.sink.now).held ≡ [] }
-    requires paced { MayReadOn S.allows (IsFaultless (coming reader.old.place))
-        (joined S.left S.faults K.written K.faults joint.old) }
+    requires settled { (K.told joint.old.sink.now).written.held ≡ [] }
+    requires paced { MayRead S.allows (IsFaultless (coming reader.old.place)) (joined S.told K.told joint.old) }
     ensures same_source { joint.new.source.ghost_name ≡ joint.old.source.ghost_name }
     ensures sink { joint.new.sink ≡ joint.old.sink }
-    ensures loaded { let a = joined S.left S.faults K.written K.faults joint.old in
-        let b = joined S.left S.faults K.written K.faults joint.new in
+    ensures loaded { let a = joined S.told K.told joint.old in
+        let b = joined S.told K.told joint.new in
         MatchResult result (λ _. LoadsAll head.now.frames (coming reader.old.place) a.left b.left (M.memory mem.new))
         (LoadsUpTo head.now.frames (coming reader.old.place) a.left b.left a.reads b.reads (M.memory mem.new)) }
-    ensures later { S.faults joint.old.source.now ≤ S.faults joint.new.source.now }
-    ensures calm { OnOk result (S.faults joint.new.source.now ≡ S.faults joint.old.source.now) }
+    ensures later { (S.told joint.old.source.now).faults ≤ (S.told joint.new.source.now).faults }
+    ensures calm { OnOk result ((S.told joint.new.source.now).faults ≡ (S.told joint.old.source.now).faults) }
     ensures count { length (M.memory mem.new) ≡ length (M.memory mem.old) }
 {
     match load_pages(reader, joint, head, mem) {
@@ -59,13 +58,12 @@ pub fn load_pages<S: Source, K: Sink, M: Frames>(
     requires after { IsAfter head.now reader.old.place }
     requires boot { LaysOut (boot_tree head.now.frames) (M.memory mem.old) }
     requires is_open { S.is_open joint.old.source.now }
-    requires settled { (K.written joint.old.sink.now).held ≡ [] }
-    requires paced { MayReadOn S.allows (IsFaultless (coming reader.old.place))
-        (joined S.left S.faults K.written K.faults joint.old) }
+    requires settled { (K.told joint.old.sink.now).written.held ≡ [] }
+    requires paced { MayRead S.allows (IsFaultless (coming reader.old.place)) (joined S.told K.told joint.old) }
     ensures same_source { joint.new.source.ghost_name ≡ joint.old.source.ghost_name }
     ensures sink { joint.new.sink ≡ joint.old.sink }
-    ensures loaded { let a = joined S.left S.faults K.written K.faults joint.old in
-        let b = joined S.left S.faults K.written K.faults joint.new in
+    ensures loaded { let a = joined S.told K.told joint.old in
+        let b = joined S.told K.told joint.new in
         MatchResult result (λ _. Loads head.now.frames (coming reader.old.place) (coming reader.new.place) a.left b.left
         reader.new.place.seen.items (M.memory mem.new))
         (LoadsUpTo head.now.frames (coming reader.old.place) a.left b.left a.reads b.reads (M.memory mem.new)) }
@@ -73,8 +71,8 @@ pub fn load_pages<S: Source, K: Sink, M: Frames>(
     ensures pages { OnOk result (reader.new.place.pages ≡ 0) }
     ensures inside { IfErr result IsFaultWithin }
     ensures is_open { OnOk result (S.is_open joint.new.source.now) }
-    ensures later { S.faults joint.old.source.now ≤ S.faults joint.new.source.now }
-    ensures calm { OnOk result (S.faults joint.new.source.now ≡ S.faults joint.old.source.now) }
+    ensures later { (S.told joint.old.source.now).faults ≤ (S.told joint.new.source.now).faults }
+    ensures calm { OnOk result ((S.told joint.new.source.now).faults ≡ (S.told joint.old.source.now).faults) }
     ensures count { length (M.memory mem.new) ≡ length (M.memory mem.old) }
 {
     let mut words = [0; 1024];

@@ -1,10 +1,10 @@
 //! Images read from a source that has no sink beside it.
-ghost use Rattle.std.specs.Prelude.{◌≡◌, ◌+◌, ◌≤◌, ◌∷◌, [], length, MatchResult, MatchOption, None, IfOk, IfSome, OnOk};
+ghost use Rattle.std.specs.Prelude.{◌≡◌, ◌+◌, ◌≤◌, ◌∷◌, [], length, MatchResult, MatchOption, IfOk, IfSome, OnOk};
 ghost use Rattle.pip_model.specs.Boot.{boot_tree};
 ghost use Rattle.pip_model.specs.Images.{Holds, image_parts};
 ghost use Rattle.pip_model.specs.Layout.{LaysOut};
 ghost use Rattle.pip_io.specs.Pacing.{MayRead};
-ghost use Rattle.pip_io.specs.Taken.{plain};
+ghost use Rattle.pip_io.specs.Moments.{alone};
 ghost use Rattle.pip_image.specs.Coming.{coming, IsNew, IsAfter, IsHeader, IsNextPage, header_parts};
 ghost use Rattle.pip_image.specs.Loading.{LoadsAll, LoadsUpTo};
 ghost use Rattle.pip_image.specs.Pacing.{IsFaultless, IsHeaderless, IsPartless};
@@ -44,20 +44,19 @@ impl<'a, S: Source> ImageReader<'a, S> {
     pub fn header(&mut self) -> Result<Header, ImageError>
         requires new { IsNew self.old.reader.place }
         requires is_open { S.is_open self.old.source.now }
-        requires paced { MayRead S.allows IsHeaderless (S.left self.old.source.now) (S.faults self.old.source.now)
-            (plain None) 0 }
+        requires paced { MayRead S.allows IsHeaderless (alone (S.told self.old.source.now)) }
         ensures same_source { self.new.source.ghost_name ≡ self.old.source.ghost_name }
         ensures reads { MatchResult result
             (λ h. TakesParts image_parts (coming self.new.reader.place) (header_parts h)
-            (S.left self.old.source.now) (S.left self.new.source.now))
-            (RefusesHeader image_parts (S.left self.old.source.now) (S.left self.new.source.now)
-            (S.faults self.old.source.now) (S.faults self.new.source.now)) }
+            (S.told self.old.source.now).left (S.told self.new.source.now).left)
+            (RefusesHeader image_parts (S.told self.old.source.now).left (S.told self.new.source.now).left
+            (S.told self.old.source.now).faults (S.told self.new.source.now).faults) }
         ensures plans { IfOk result (λ _. self.new.reader.place.plans ≡ 0) }
         ensures place { IfOk result (λ h. IsAfter h self.new.reader.place) }
         ensures limits { IfOk result IsHeader }
-        ensures later { S.faults self.old.source.now ≤ S.faults self.new.source.now }
+        ensures later { (S.told self.old.source.now).faults ≤ (S.told self.new.source.now).faults }
         ensures is_open { OnOk result (S.is_open self.new.source.now) }
-        ensures calm { OnOk result (S.faults self.new.source.now ≡ S.faults self.old.source.now) }
+        ensures calm { OnOk result ((S.told self.new.source.now).faults ≡ (S.told self.old.source.now).faults) }
     {
         let mut sink = Discard::new();
         let mut joint = Joint::new(&mut *self.source, &mut sink);
@@ -68,25 +67,25 @@ impl<'a, S: Source> ImageReader<'a, S> {
     pub fn page(&mut self, words: &mut [u32; 1024]) -> Result<Option<VPage>, ImageError>
         requires plans { self.old.reader.place.plans ≡ 0 }
         requires is_open { S.is_open self.old.source.now }
-        requires paced { MayRead S.allows (IsPartless (coming self.old.reader.place)) (S.left self.old.source.now)
-            (S.faults self.old.source.now) (plain None) 0 }
+        requires paced { MayRead S.allows (IsPartless (coming self.old.reader.place))
+            (alone (S.told self.old.source.now)) }
         ensures same_source { self.new.source.ghost_name ≡ self.old.source.ghost_name }
         ensures reads { MatchResult result
-            (λ r. MatchOption r
-            (EndsInput (coming self.old.reader.place) (S.left self.old.source.now) (S.left self.new.source.now))
+            (λ r. MatchOption r (EndsInput (coming self.old.reader.place) (S.told self.old.source.now).left
+            (S.told self.new.source.now).left)
             (λ v. TakesParts (coming self.old.reader.place) (coming self.new.reader.place)
-            (Holds (record { vpage = v; words = words.new }) ∷ [])
-            (S.left self.old.source.now) (S.left self.new.source.now)))
-            (Refuses (coming self.old.reader.place) [] (S.left self.old.source.now) (S.left self.new.source.now)
-            (S.faults self.old.source.now) (S.faults self.new.source.now)) }
+            (Holds (record { vpage = v; words = words.new }) ∷ []) (S.told self.old.source.now).left
+            (S.told self.new.source.now).left))
+            (Refuses (coming self.old.reader.place) [] (S.told self.old.source.now).left
+            (S.told self.new.source.now).left (S.told self.old.source.now).faults (S.told self.new.source.now).faults) }
         ensures plans { self.new.reader.place.plans ≡ 0 }
         ensures frames { self.new.reader.place.frames ≡ self.old.reader.place.frames }
         ensures pages { IfOk result
             (λ r. IfSome r (λ _. self.new.reader.place.pages + 1 ≡ self.old.reader.place.pages)) }
         ensures next { IfOk result (λ r. IfSome r (IsNextPage self.old.reader.place self.new.reader.place)) }
-        ensures later { S.faults self.old.source.now ≤ S.faults self.new.source.now }
+        ensures later { (S.told self.old.source.now).faults ≤ (S.told self.new.source.now).faults }
         ensures is_open { IfOk result (λ r. IfSome r (λ _. S.is_open self.new.source.now)) }
-        ensures calm { OnOk result (S.faults self.new.source.now ≡ S.faults self.old.source.now) }
+        ensures calm { OnOk result ((S.told self.new.source.now).faults ≡ (S.told self.old.source.now).faults) }
     {
         let mut sink = Discard::new();
         let mut joint = Joint::new(&mut *self.source, &mut sink);
@@ -106,17 +105,17 @@ pub fn load_image<S: Source, M: Frames>(
     requires after { IsAfter head.now reader.old.reader.place }
     requires boot { LaysOut (boot_tree head.now.frames) (M.memory mem.old) }
     requires is_open { S.is_open reader.old.source.now }
-    requires paced { MayRead S.allows (IsFaultless (coming reader.old.reader.place)) (S.left reader.old.source.now)
-        (S.faults reader.old.source.now) (plain None) 0 }
+    requires paced { MayRead S.allows (IsFaultless (coming reader.old.reader.place))
+        (alone (S.told reader.old.source.now)) }
     ensures same_source { reader.new.source.ghost_name ≡ reader.old.source.ghost_name }
     ensures loaded { MatchResult result
-        (λ _. LoadsAll head.now.frames (coming reader.old.reader.place) (S.left reader.old.source.now)
-        (S.left reader.new.source.now) (M.memory mem.new))
-        (LoadsUpTo head.now.frames (coming reader.old.reader.place) (S.left reader.old.source.now)
-        (S.left reader.new.source.now)
-        (S.faults reader.old.source.now) (S.faults reader.new.source.now) (M.memory mem.new)) }
-    ensures later { S.faults reader.old.source.now ≤ S.faults reader.new.source.now }
-    ensures calm { OnOk result (S.faults reader.new.source.now ≡ S.faults reader.old.source.now) }
+        (λ _. LoadsAll head.now.frames (coming reader.old.reader.place) (S.told reader.old.source.now).left
+        (S.told reader.new.source.now).left (M.memory mem.new))
+        (LoadsUpTo head.now.frames (coming reader.old.reader.place) (S.told reader.old.source.now).left
+        (S.told reader.new.source.now).left (S.told reader.old.source.now).faults (S.told reader.new.source.now).faults
+        (M.memory mem.new)) }
+    ensures later { (S.told reader.old.source.now).faults ≤ (S.told reader.new.source.now).faults }
+    ensures calm { OnOk result ((S.told reader.new.source.now).faults ≡ (S.told reader.old.source.now).faults) }
     ensures count { length (M.memory mem.new) ≡ length (M.memory mem.old) }
 {
     let mut sink = Discard::new();

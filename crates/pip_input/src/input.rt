@@ -4,7 +4,8 @@ ghost use Rattle.std.specs.declared.option.Option.{Option};
 ghost use Rattle.std.specs.Io.KnownBytes.{Keeps, prepend_known};
 ghost use Rattle.pip_io.specs.Causes.{HasCause};
 ghost use Rattle.pip_io.specs.Moments.{joined};
-ghost use Rattle.pip_io.specs.Pacing.{MayReadOn};
+ghost use Rattle.pip_io.specs.Pacing.{MayRead};
+ghost use Rattle.pip_io.specs.Taken.{plain};
 ghost use Rattle.pip_input.specs.Lines.{BeginsLine, HasNoNewline, HoldsLine, HoldsPart, IsLineless, ReadsOn, still};
 
 use pip_base::{MAX_INPUT, MAX_LINE};
@@ -93,16 +94,15 @@ impl Input {
     ) -> Result<LineEnd, Failed>
         requires part { HoldsPart (still self.old) self.old }
         requires is_open { S.is_open joint.old.source.now }
-        requires settled { (K.written joint.old.sink.now).held ≡ [] }
-        requires paced { MayReadOn S.allows (IsLineless self.old)
-            (joined S.left S.faults K.written K.faults joint.old) }
+        requires settled { (K.told joint.old.sink.now).written.held ≡ [] }
+        requires paced { MayRead S.allows (IsLineless self.old) (joined S.told K.told joint.old) }
         ensures same_source { joint.new.source.ghost_name ≡ joint.old.source.ghost_name }
         ensures sink { joint.new.sink ≡ joint.old.sink }
-        ensures kept { Keeps (prepend_known self.old.bytes (S.left joint.old.source.now))
-            (prepend_known self.new.bytes (S.left joint.new.source.now)) }
-        ensures line { IfOk result (HoldsLine (still self.old) self.new (S.left joint.new.source.now)) }
+        ensures kept { Keeps (prepend_known self.old.bytes (S.told joint.old.source.now).left)
+            (prepend_known self.new.bytes (S.told joint.new.source.now).left) }
+        ensures line { IfOk result (HoldsLine (still self.old) self.new (S.told joint.new.source.now).left) }
         ensures part { OnErr result (HoldsPart (still self.old) self.new) }
-        ensures cause { HasCause (S.faults joint.old.source.now) (S.faults joint.new.source.now) result }
+        ensures cause { HasCause (S.told joint.old.source.now).faults (S.told joint.new.source.now).faults result }
         ensures is_open { (n : ℕ) → result ≡ Ok (LineEnd.Newline n) → S.is_open joint.new.source.now }
     {
         loop {
@@ -122,6 +122,29 @@ impl Input {
             if let Some(end) = self.look(seen) {
                 return Ok(end);
             }
+        }
+    }
+
+    /// What stands at the head of what is left. It reads where that isn't known yet, and takes nothing.
+    pub fn next_line<S: Source, K: Sink>(
+        &mut self,
+        joint: &mut Joint<'_, S, K>,
+    ) -> Result<LineEnd, Failed>
+        requires is_open { S.is_open joint.old.source.now }
+        requires settled { (K.told joint.old.sink.now).written.held ≡ [] }
+        requires paced { MayRead S.allows (IsLineless self.old) (joined S.told K.told joint.old) }
+        ensures same_source { joint.new.source.ghost_name ≡ joint.old.source.ghost_name }
+        ensures sink { joint.new.sink ≡ joint.old.sink }
+        ensures kept { Keeps (prepend_known self.old.bytes (S.told joint.old.source.now).left)
+            (prepend_known self.new.bytes (S.told joint.new.source.now).left) }
+        ensures line { IfOk result (HoldsLine (still self.old) self.new (S.told joint.new.source.now).left) }
+        ensures part { OnErr result (HoldsPart (still self.old) self.new) }
+        ensures cause { HasCause (S.told joint.old.source.now).faults (S.told joint.new.source.now).faults result }
+        ensures is_open { (n : ℕ) → result ≡ Ok (LineEnd.Newline n) → S.is_open joint.new.source.now }
+    {
+        match self.line_ahead() {
+            Some(end) => Ok(end),
+            None => self.read_line(joint),
         }
     }
 
@@ -168,17 +191,17 @@ impl Input {
     fn read_on<S: Source, K: Sink>(&mut self, joint: &mut Joint<'_, S, K>) -> Result<usize, Failed>
         requires short { length self.old.bytes < MAX_HELD }
         requires is_open { S.is_open joint.old.source.now }
-        requires settled { (K.written joint.old.sink.now).held ≡ [] }
-        requires allowed { S.allows (S.left joint.old.source.now) (S.faults joint.old.source.now)
-            (K.written joint.old.sink.now) (K.faults joint.old.sink.now) }
+        requires settled { (K.told joint.old.sink.now).written.held ≡ [] }
+        requires allowed { S.allows (joined S.told K.told joint.old) }
         ensures same_source { joint.new.source.ghost_name ≡ joint.old.source.ghost_name }
         ensures sink { joint.new.sink ≡ joint.old.sink }
-        ensures kept { Keeps (prepend_known self.old.bytes (S.left joint.old.source.now))
-            (prepend_known self.new.bytes (S.left joint.new.source.now)) }
-        ensures more { IfOk result (λ count. ReadsOn count self.old self.new (S.left joint.old.source.now)
-            (S.left joint.new.source.now)) }
+        ensures kept { Keeps (prepend_known self.old.bytes (S.told joint.old.source.now).left)
+            (prepend_known self.new.bytes (S.told joint.new.source.now).left) }
+        ensures more { IfOk result
+            (λ count. ReadsOn count self.old self.new (S.told joint.old.source.now).left
+            (S.told joint.new.source.now).left) }
         ensures part { OnErr result (self.new ≡ self.old) }
-        ensures cause { HasCause (S.faults joint.old.source.now) (S.faults joint.new.source.now) result }
+        ensures cause { HasCause (S.told joint.old.source.now).faults (S.told joint.new.source.now).faults result }
         ensures is_open { IfOk result (λ count. 0 < count → S.is_open joint.new.source.now) }
     {
         self.bytes.copy_within(self.start..self.end, 0);

@@ -1,7 +1,7 @@
 //! A whole source, as one vector.
 ghost use Rattle.std.specs.Prelude.{◌≡◌, ◌≢◌, ◌≤◌, [], Err, MatchResult};
 ghost use Rattle.pip_io.specs.Moments.{joined};
-ghost use Rattle.pip_io.specs.Pacing.{MayReadOn};
+ghost use Rattle.pip_io.specs.Pacing.{MayRead};
 ghost use Rattle.pip_input.specs.Whole.{IsWithinLimit, StopsReading, TakesWhole};
 
 use pip_base::MAX_INPUT;
@@ -25,16 +25,17 @@ pub fn read_whole<S: Source, K: Sink>(
     joint: &mut Joint<'_, S, K>,
 ) -> Result<Vec<u8>, ReadError>
     requires is_open { S.is_open joint.old.source.now }
-    requires settled { (K.written joint.old.sink.now).held ≡ [] }
-    requires paced { MayReadOn S.allows IsWithinLimit (joined S.left S.faults K.written K.faults joint.old) }
+    requires settled { (K.told joint.old.sink.now).written.held ≡ [] }
+    requires paced { MayRead S.allows IsWithinLimit (joined S.told K.told joint.old) }
     ensures same_source { joint.new.source.ghost_name ≡ joint.old.source.ghost_name }
     ensures sink { joint.new.sink ≡ joint.old.sink }
     ensures read { MatchResult result
-        (λ bytes. TakesWhole bytes.items (S.left joint.old.source.now) (S.left joint.new.source.now))
-        (StopsReading (S.left joint.old.source.now) (S.left joint.new.source.now) (S.faults joint.old.source.now)
-        (S.faults joint.new.source.now)) }
-    ensures later { S.faults joint.old.source.now ≤ S.faults joint.new.source.now }
-    ensures calm { result ≢ Err ReadError.Failed → S.faults joint.new.source.now ≡ S.faults joint.old.source.now }
+        (λ bytes. TakesWhole bytes.items (S.told joint.old.source.now).left (S.told joint.new.source.now).left)
+        (StopsReading (S.told joint.old.source.now).left (S.told joint.new.source.now).left
+        (S.told joint.old.source.now).faults (S.told joint.new.source.now).faults) }
+    ensures later { (S.told joint.old.source.now).faults ≤ (S.told joint.new.source.now).faults }
+    ensures calm { result ≢ Err ReadError.Failed → (S.told joint.new.source.now).faults
+        ≡ (S.told joint.old.source.now).faults }
 {
     let mut bytes = Vec::new(alloc);
     let mut chunk = [0; 4096];

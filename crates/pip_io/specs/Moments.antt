@@ -1,6 +1,7 @@
 -- What a source and a sink tell at a moment, and how calls lead from one moment, a, to a later one, b.
-use Rattle.std.specs.Prelude.{◌≡◌, ℕ, List, Option}
-use Rattle.pip_io.specs.Taken.{Taken}
+use Rattle.std.specs.Prelude.{◌≡◌, ℕ, List, Option, None}
+use Rattle.pip_io.specs.Taken.{Taken, plain}
+use Rattle.pip_io.specs.Told.{Remaining, Writing, writing}
 use Rattle.pip_io.specs.declared.joint.Joint.{Joint}
 
 -- the bytes that are left, where these are told, what was taken to be written, and how often a read and a write failed
@@ -10,18 +11,21 @@ pub record Streams : Type 0 where
   pub reads : ℕ
   pub writes : ℕ
 
+-- of a sink, beside a source with these bytes left and that many faults
+abbrev pub beside : Option (List ℕ) → ℕ → Writing → Streams
+beside left reads w = record { left = left; written = w.written; reads = reads; writes = w.faults }
+
+-- of a source, beside a sink that takes all and says nothing
+abbrev pub alone : Remaining → Streams
+alone r = beside r.left r.faults (writing (plain None) 0)
+
 -- by what a source and a sink tell
-abbrev pub streams : {S K : Type 0} → (S → Option (List ℕ)) → (S → ℕ) → (K → Taken) → (K → ℕ) → S → K → Streams
-streams left reads written writes source sink =
-    record { left = left source; written = written sink; reads = reads source; writes = writes sink }
+abbrev pub streams : {S K : Type 0} → (S → Remaining) → (K → Writing) → S → K → Streams
+streams reads writes source sink = beside (reads source).left (reads source).faults (writes sink)
 
 -- by what the source and the sink of a joint tell
-abbrev pub joined : {S K : Type 0} → (S → Option (List ℕ)) → (S → ℕ) → (K → Taken) → (K → ℕ) → Joint S K → Streams
-joined left reads written writes joint = streams left reads written writes joint.source.now joint.sink.now
-
--- of a sink alone, beside a source that nobody asks
-abbrev pub beside : Option (List ℕ) → ℕ → Taken → ℕ → Streams
-beside left reads written writes = record { left = left; written = written; reads = reads; writes = writes }
+abbrev pub joined : {S K : Type 0} → (S → Remaining) → (K → Writing) → Joint S K → Streams
+joined reads writes joint = streams reads writes joint.source.now joint.sink.now
 
 -- no read and no write has failed
 pub record NoneFailed (a b : Streams) : Type 0 where

@@ -4,6 +4,7 @@ ghost use Rattle.std.specs.Io.{WritesAtMost};
 ghost use Rattle.pip_io.specs.Causes.{HasCause};
 ghost use Rattle.pip_io.specs.Gathering.{between};
 ghost use Rattle.pip_io.specs.Taken.{Appends, Keeps, WriteTakes, over};
+ghost use Rattle.pip_io.specs.Told.{writing};
 ghost use Rattle.pip_io.specs.declared.gather.TheConstants.{HELD};
 
 use crate::{Failed, Sink};
@@ -48,11 +49,11 @@ impl<K: Sink> Gatherer<K> {
     // held.
     #[inline(never)]
     fn hand_on(&mut self) -> Result<(), Failed>
-        ensures kept { Keeps (over (K.written self.old.sink) (between self.old.bytes self.old.start self.old.end))
-            (over (K.written self.new.sink) (between self.new.bytes self.new.start self.new.end)) }
+        ensures kept { Keeps (over (K.told self.old.sink).written (between self.old.bytes self.old.start self.old.end))
+            (over (K.told self.new.sink).written (between self.new.bytes self.new.start self.new.end)) }
         ensures none { OnOk result (self.new.start ≡ self.new.end) }
         ensures some { OnErr result (between self.new.bytes self.new.start self.new.end ≢ []) }
-        ensures cause { HasCause (K.faults self.old.sink) (K.faults self.new.sink) result }
+        ensures cause { HasCause (K.told self.old.sink).faults (K.told self.new.sink).faults result }
     {
         let (place, result) = write_between(&mut self.sink, &self.bytes, self.start, self.end);
         self.start = place;
@@ -73,9 +74,7 @@ impl<K: Sink> Gatherer<K> {
 }
 
 impl<K: Sink> Sink for Gatherer<K> {
-    ghost written = { λ g. over (K.written g.sink) (between g.bytes g.start g.end) };
-
-    ghost faults = { λ g. K.faults g.sink };
+    ghost told = { λ g. writing (over (K.told g.sink).written (between g.bytes g.start g.end)) (K.told g.sink).faults };
 
     /// Holds as much of the piece as fits. If not all of it fits, what is held is written first, and only that can
     /// fail.
@@ -83,9 +82,11 @@ impl<K: Sink> Sink for Gatherer<K> {
         requires { 0 < length piece.now }
         ensures bound { WritesAtMost result piece.now }
         ensures some { IfOk result (λ n. 0 < n) }
-        ensures bytes { WriteTakes (over (K.written self.old.sink) (between self.old.bytes self.old.start self.old.end))
-            (over (K.written self.new.sink) (between self.new.bytes self.new.start self.new.end)) result piece.now }
-        ensures cause { HasCause (K.faults self.old.sink) (K.faults self.new.sink) result }
+        ensures bytes { WriteTakes
+            (over (K.told self.old.sink).written (between self.old.bytes self.old.start self.old.end))
+            (over (K.told self.new.sink).written (between self.new.bytes self.new.start self.new.end)) result
+            piece.now }
+        ensures cause { HasCause (K.told self.old.sink).faults (K.told self.new.sink).faults result }
     {
         if piece.len() <= HELD - self.end {
             self.hold(piece);
@@ -99,13 +100,13 @@ impl<K: Sink> Sink for Gatherer<K> {
 
     /// Writes all that is held, and then what the sink below holds.
     fn settle(&mut self) -> Result<(), Failed>
-        ensures kept { Keeps (over (K.written self.old.sink) (between self.old.bytes self.old.start self.old.end))
-            (over (K.written self.new.sink) (between self.new.bytes self.new.start self.new.end)) }
-        ensures none { OnOk result ((K.written self.new.sink).held ++ between self.new.bytes self.new.start self.new.end
-            ≡ []) }
-        ensures some { OnErr result ((K.written self.new.sink).held ++ between self.new.bytes self.new.start
-            self.new.end ≢ []) }
-        ensures cause { HasCause (K.faults self.old.sink) (K.faults self.new.sink) result }
+        ensures kept { Keeps (over (K.told self.old.sink).written (between self.old.bytes self.old.start self.old.end))
+            (over (K.told self.new.sink).written (between self.new.bytes self.new.start self.new.end)) }
+        ensures none { OnOk result
+            ((K.told self.new.sink).written.held ++ between self.new.bytes self.new.start self.new.end ≡ []) }
+        ensures some { OnErr result
+            ((K.told self.new.sink).written.held ++ between self.new.bytes self.new.start self.new.end ≢ []) }
+        ensures cause { HasCause (K.told self.old.sink).faults (K.told self.new.sink).faults result }
 
         // The buffer is empty, so a piece of up to 16384 bytes fits.
         ensures room { OnOk result (self.new.end ≡ 0) }
@@ -130,8 +131,8 @@ fn write_between<K: Sink>(
     ensures most { result.0 ≤ end }
     ensures all { OnOk result.1 (result.0 ≡ end) }
     ensures some { OnErr result.1 (result.0 < end) }
-    ensures bytes { Appends (K.written sink.old) (K.written sink.new) (between bytes.now start result.0) }
-    ensures cause { HasCause (K.faults sink.old) (K.faults sink.new) result.1 }
+    ensures bytes { Appends (K.told sink.old).written (K.told sink.new).written (between bytes.now start result.0) }
+    ensures cause { HasCause (K.told sink.old).faults (K.told sink.new).faults result.1 }
 {
     let mut place = start;
     while place < end {

@@ -3,6 +3,7 @@ ghost use Rattle.std.specs.Prelude.{◌≡◌, ◌<◌, [], length, IfOk};
 ghost use Rattle.std.specs.Io.{ReadsAtMost};
 ghost use Rattle.std.specs.Io.KnownBytes.{ReadConsumes};
 ghost use Rattle.pip_io.specs.Causes.{HasCause};
+ghost use Rattle.pip_io.specs.Moments.{joined};
 
 use crate::{Failed, Sink, Source};
 
@@ -28,15 +29,14 @@ impl<'a, S: Source, K: Sink> Joint<'a, S, K> {
     pub fn read(&mut self, buf: &mut [u8]) -> Result<usize, Failed>
         requires some { 0 < length buf.old }
         requires is_open { S.is_open self.old.source.now }
-        requires settled { (K.written self.old.sink.now).held ≡ [] }
-        requires allowed { S.allows (S.left self.old.source.now) (S.faults self.old.source.now)
-            (K.written self.old.sink.now)
-            (K.faults self.old.sink.now) }
+        requires settled { (K.told self.old.sink.now).written.held ≡ [] }
+        requires allowed { S.allows (joined S.told K.told self.old) }
         ensures same_source { self.new.source.ghost_name ≡ self.old.source.ghost_name }
         ensures sink { self.new.sink ≡ self.old.sink }
         ensures bound { ReadsAtMost result buf.new }
-        ensures bytes { ReadConsumes (S.left self.old.source.now) (S.left self.new.source.now) result buf.new }
-        ensures cause { HasCause (S.faults self.old.source.now) (S.faults self.new.source.now) result }
+        ensures bytes { ReadConsumes (S.told self.old.source.now).left (S.told self.new.source.now).left result
+            buf.new }
+        ensures cause { HasCause (S.told self.old.source.now).faults (S.told self.new.source.now).faults result }
         ensures is_open { IfOk result (λ n. 0 < n → S.is_open self.new.source.now) }
     {
         self.source.read(buf)

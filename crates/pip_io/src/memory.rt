@@ -5,6 +5,7 @@ ghost use Rattle.std.specs.Io.{ReadsAtMost, WritesAtMost};
 ghost use Rattle.std.specs.Io.KnownBytes.{ReadConsumes};
 ghost use Rattle.pip_io.specs.Causes.{HasCause, next_count, faults_after};
 ghost use Rattle.pip_io.specs.Taken.{WriteTakes, plain};
+ghost use Rattle.pip_io.specs.Told.{remaining, writing};
 
 use crate::calls::Calls;
 use crate::{Failed, Sink, Source};
@@ -31,9 +32,7 @@ impl<'a> SureSource<'a> {
 impl Source for SureSource<'_> {
     ghost use Rattle.pip_io.specs.Memory.{sure_left};
 
-    ghost left = { λ s. Some (sure_left s) };
-
-    ghost faults = { λ _. 0 };
+    ghost told = { λ s. remaining (Some (sure_left s)) 0 };
 
     /// Reads all that is left, or as much of it as fits.
     fn read(&mut self, buf: &mut [u8]) -> Result<usize, Failed>
@@ -79,9 +78,7 @@ impl Source for MemSource<'_> {
     ghost use Rattle.pip_io.specs.Memory.{source_left, source_calls, source_faults, source_failing};
     ghost use Rattle.pip_io.specs.Memory.{read_fails};
 
-    ghost left = { λ s. Some (source_left s) };
-
-    ghost faults = { λ s. source_faults s };
+    ghost told = { λ s. remaining (Some (source_left s)) (source_faults s) };
 
     /// Fails if the call's number is listed; else it reads all that is left, or as much of it as fits.
     fn read(&mut self, buf: &mut [u8]) -> Result<usize, Failed>
@@ -150,9 +147,7 @@ impl Sink for MemSink<'_> {
     ghost use Rattle.pip_io.specs.Memory.{sink_bytes, sink_room, sink_calls, sink_faults};
     ghost use Rattle.pip_io.specs.Memory.{sink_failing, write_fails};
 
-    ghost written = { λ s. plain (Some (sink_bytes s)) };
-
-    ghost faults = { λ s. sink_faults s };
+    ghost told = { λ s. writing (plain (Some (sink_bytes s))) (sink_faults s) };
 
     /// Fails if the call's number is listed or the piece is longer than the room that is left; else it takes the whole
     /// piece.
@@ -200,9 +195,7 @@ impl Discard {
 }
 
 impl Sink for Discard {
-    ghost written = { λ _. plain None };
-
-    ghost faults = { λ _. 0 };
+    ghost told = { λ _. writing (plain None) 0 };
 
     /// Takes the whole piece.
     fn write(&mut self, piece: &[u8]) -> Result<usize, Failed>

@@ -1,9 +1,11 @@
 //! What a source and a sink promise, and the writing of a whole text.
-ghost use Rattle.std.specs.Prelude.{◌≡◌, ◌≢◌, ◌<◌, ℕ, [], List, length, None, Option, IfOk, IsOk, IsTrue, OnOk, OnErr};
+ghost use Rattle.std.specs.Prelude.{◌≡◌, ◌≢◌, ◌<◌, [], length, None, IfOk, IsOk, IsTrue, OnOk, OnErr};
 ghost use Rattle.std.specs.Io.{ReadsAtMost, WritesAtMost};
 ghost use Rattle.std.specs.Io.KnownBytes.{ReadConsumes};
 ghost use Rattle.pip_io.specs.Causes.{HasCause};
-ghost use Rattle.pip_io.specs.Taken.{Taken, Appends, AppendsPart, Keeps, SendsPart, WriteTakes};
+ghost use Rattle.pip_io.specs.Moments.{Streams};
+ghost use Rattle.pip_io.specs.Taken.{Appends, AppendsPart, Keeps, SendsPart, WriteTakes};
+ghost use Rattle.pip_io.specs.Told.{Remaining, Writing};
 
 use thiserror::Error;
 
@@ -14,16 +16,14 @@ pub struct Failed;
 
 /// Where bytes come from.
 pub trait Source {
-    /// The bytes that are left; None if the source doesn't say.
-    ghost left: { Self → Option (List ℕ) };
+    /// What it tells of itself: the bytes that are left, if it says which, and how many faults it has counted. The
+    /// count never falls.
+    ghost told: { Self → Remaining };
 
-    /// How many faults it has counted. The count never falls.
-    ghost faults: { Self → ℕ };
-
-    /// Whether a `Joint` with a sink may read more, by the bytes that are left, the reads that failed, what was
-    /// written, and the writes that failed. It always may, unless a source says otherwise. Code that reads through a
-    /// `Joint` is proved for any source, so it reads only when its own contract lets it.
-    ghost allows: { Option (List ℕ) → ℕ → Taken → ℕ → Type 0 } = { λ _ _ _ _. Unit {0} };
+    /// Whether a `Joint` with a sink may read more, by what the two tell. It always may, unless a source says
+    /// otherwise. Code that reads through a `Joint` is proved for any source, so it reads only when its own contract
+    /// lets it.
+    ghost allows: { Streams → Type 0 } = { λ _. Unit {0} };
 
     /// Whether it may be read. It still may after a read that gave bytes. After one that answered 0 or failed nothing
     /// is known, unless a source says so. So code for any source reads the end once, and nothing after a fault.
@@ -36,18 +36,16 @@ pub trait Source {
         requires some { 0 < length buf.old }
         requires is_open { is_open self.old }
         ensures bound { ReadsAtMost result buf.new }
-        ensures bytes { ReadConsumes (left self.old) (left self.new) result buf.new }
-        ensures cause { HasCause (faults self.old) (faults self.new) result }
+        ensures bytes { ReadConsumes (told self.old).left (told self.new).left result buf.new }
+        ensures cause { HasCause (told self.old).faults (told self.new).faults result }
         ensures is_open { IfOk result (λ n. 0 < n → is_open self.new) };
 }
 
 /// Where bytes go. A sink may hold bytes that it took, to write them later.
 pub trait Sink {
-    /// What it took: the bytes that went out, if it says which, and those that it still holds.
-    ghost written: { Self → Taken };
-
-    /// How many faults it has counted. The count never falls.
-    ghost faults: { Self → ℕ };
+    /// What it tells of itself: what it took, which is the bytes that went out, if it says which, and those that it
+    /// still holds; and how many faults it has counted. The count never falls.
+    ghost told: { Self → Writing };
 
     /// Takes the front of a piece that isn't empty, and answers how many bytes it took, at least one. It fails only if
     /// it counted one more fault, and then it took nothing. Above this crate that is called: a write failed.
@@ -55,20 +53,20 @@ pub trait Sink {
         requires { 0 < length piece.now }
         ensures bound { WritesAtMost result piece.now }
         ensures some { IfOk result (λ n. 0 < n) }
-        ensures bytes { WriteTakes (written self.old) (written self.new) result piece.now }
-        ensures cause { HasCause (faults self.old) (faults self.new) result };
+        ensures bytes { WriteTakes (told self.old).written (told self.new).written result piece.now }
+        ensures cause { HasCause (told self.old).faults (told self.new).faults result };
 
     /// Writes all that it holds. It fails only if it counted one more fault, and then it still holds something.
     fn settle(&mut self) -> Result<(), Failed>
-        ensures kept { Keeps (written self.old) (written self.new) }
-        ensures none { OnOk result ((written self.new).held ≡ []) }
-        ensures some { OnErr result ((written self.new).held ≢ []) }
-        ensures cause { HasCause (faults self.old) (faults self.new) result };
+        ensures kept { Keeps (told self.old).written (told self.new).written }
+        ensures none { OnOk result ((told self.new).written.held ≡ []) }
+        ensures some { OnErr result ((told self.new).written.held ≢ []) }
+        ensures cause { HasCause (told self.old).faults (told self.new).faults result };
 
     /// Whether nothing that is written is kept, so that no text need be made for it. A sink that says what went out
     /// doesn't discard.
     fn discards(&self) -> bool
-        ensures untold { IsTrue result → (written self.now).out ≡ None }
+        ensures untold { IsTrue result → (told self.now).written.out ≡ None }
     {
         false
     }
@@ -78,10 +76,9 @@ pub trait Sink {
 /// of it.
 #[inline(always)]
 pub fn write_all<K: Sink>(sink: &mut K, text: &[u8]) -> Result<(), Failed>
-    ensures whole { OnOk result (Appends (K.written sink.old) (K.written sink.new) text.now) }
-    ensures prefix { OnErr result
-        (AppendsPart (K.written sink.old) (K.written sink.new) text.now) }
-    ensures cause { HasCause (K.faults sink.old) (K.faults sink.new) result }
+    ensures whole { OnOk result (Appends (K.told sink.old).written (K.told sink.new).written text.now) }
+    ensures prefix { OnErr result (AppendsPart (K.told sink.old).written (K.told sink.new).written text.now) }
+    ensures cause { HasCause (K.told sink.old).faults (K.told sink.new).faults result }
     ensures empty { text.now ≡ [] → (sink.new ≡ sink.old) × IsOk result }
 {
     let mut rest = text;
@@ -96,10 +93,10 @@ pub fn write_all<K: Sink>(sink: &mut K, text: &[u8]) -> Result<(), Failed>
 
 /// Writes a whole text, and all that the sink holds.
 pub fn write_out<K: Sink>(sink: &mut K, text: &[u8]) -> Result<(), Failed>
-    ensures whole { OnOk result (Appends (K.written sink.old) (K.written sink.new) text.now) }
-    ensures part { OnErr result (SendsPart (K.written sink.old) (K.written sink.new) text.now) }
-    ensures none { OnOk result ((K.written sink.new).held ≡ []) }
-    ensures cause { HasCause (K.faults sink.old) (K.faults sink.new) result }
+    ensures whole { OnOk result (Appends (K.told sink.old).written (K.told sink.new).written text.now) }
+    ensures part { OnErr result (SendsPart (K.told sink.old).written (K.told sink.new).written text.now) }
+    ensures none { OnOk result ((K.told sink.new).written.held ≡ []) }
+    ensures cause { HasCause (K.told sink.old).faults (K.told sink.new).faults result }
 {
     write_all(sink, text)?;
     sink.settle()

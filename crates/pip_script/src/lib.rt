@@ -16,7 +16,7 @@ mod numbers;
 mod text;
 
 pub use generator::Generator;
-pub use lines::{answer_line, is_blank, read_line, read_phrase};
+pub use lines::{answer_line, is_blank, read_line, read_phrase, split_word};
 pub use numbers::read_number;
 pub use pip_model::{Said, ScriptLine};
 pub use text::{

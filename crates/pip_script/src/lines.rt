@@ -6,7 +6,7 @@ ghost use Rattle.pip_model.specs.declared.script.ScriptLine.TheVariants.{Blank};
 ghost use Rattle.pip_script.specs.Phrases.{HasForm, HasNoForm, HasWords};
 ghost use Rattle.pip_script.specs.Proper.{IsProper, IsProperEvent};
 ghost use Rattle.pip_script.specs.Replies.{RepliesTo};
-ghost use Rattle.pip_script.specs.Words.{first_word};
+ghost use Rattle.pip_script.specs.Words.{after_word, first_word};
 
 use crate::forms::{answer_form, read_form};
 use crate::numbers::take_number;
@@ -80,13 +80,22 @@ fn split_phrase<'a>(line: &'a [u8], numbers: &mut ArrayVec<u32, 7>) -> Option<&'
     if line.len() > MAX_LINE {
         return None;
     }
-    let (name, mut rest) = line.split_at(word_len(line));
+    let (name, mut rest) = split_word(line);
     while let [_, text @ ..] = rest {
         let number = take_number(text)?;
         numbers.try_push(number.value).ok()?;
         rest = number.rest;
     }
     Some(name)
+}
+
+/// The first word of a text, and what follows it, from its space on.
+#[inline(always)]
+pub fn split_word(text: &[u8]) -> (&[u8], &[u8])
+    ensures word { result.0.now ≡ first_word text.now }
+    ensures rest { result.1.now ≡ after_word text.now }
+{
+    text.split_at(word_len(text))
 }
 
 // How many bytes stand before the first space.

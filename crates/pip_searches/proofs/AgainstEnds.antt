@@ -11,7 +11,9 @@ use Rattle.pip_image.specs.declared.header.Header.{Header}
 use Rattle.pip_image.proofs.Steps.{after_fault}
 use Rattle.pip_io.specs.Causes.{RoseByOne}
 use Rattle.pip_io.specs.Pacing.{MayRead}
-use Rattle.pip_io.specs.Taken.{Taken, Keeps}
+use Rattle.pip_io.specs.Taken.{Keeps}
+use Rattle.pip_io.specs.Told.{Writing, writing}
+use Rattle.pip_io.specs.Moments.{beside}
 use Rattle.pip_model.specs.Images.{Part, image_parts}
 use Rattle.pip_model.specs.declared.image.ImageError.{ImageError}
 use Rattle.pip_switch.specs.Standing.{State}
@@ -28,7 +30,7 @@ use Rattle.pip_due.specs.Streams.{EndsLine, IsCalm, Streams}
 use Rattle.pip_searches.specs.declared.commands.against.menu.MenuFault.{MenuFault}
 use Rattle.pip_searches.specs.declared.commands.against.menu.MenuStop.{MenuStop}
 use Rattle.pip_searches.specs.declared.commands.against.menu.MenuStop.TheVariants.{Bad, Unread}
-use Rattle.pip_searches.specs.declared.commands.every.searching.Start.{Start}
+use Rattle.pip_searches.specs.declared.start.Start.{Start}
 use Rattle.pip_due.specs.declared.loading.LoadError.{LoadError}
 use Rattle.pip_due.specs.declared.loading.LoadError.TheVariants as T
 use Rattle.pip_due.proofs.Endings.{apart, by_memory, by_plain, by_read_fault}
@@ -48,15 +50,13 @@ abbrev pub begins : {h : Header} {m : Memory} {a b : Option (List ℕ)} (l : Loa
 begins l bytes = record { front = l.front; after = bytes; all = refl; parsed = l.parsed; good = l.good }
 
 -- where an image with a menu may be read, the menu may be once the image was, if the sink is the same
-pub after_front : {K : Type 0} (allows : Option (List ℕ) → ℕ → Taken → ℕ → Type 0) (written : K → Taken)
-    (writes : K → ℕ) {sink mid : K} {h : Header} {m : Memory} {a b : Option (List ℕ)} {j k : ℕ} → mid ≡ sink → k ≡ j
-    → (l : LoadsFront a b h m)
+pub after_front : {K : Type 0} (allows : Streams → Type 0) (told : K → Writing) {sink mid : K} {h : Header} {m : Memory}
+    {a b : Option (List ℕ)} {j k : ℕ} → mid ≡ sink → k ≡ j → (l : LoadsFront a b h m)
     → ((bytes : List ℕ) (left : Option (List ℕ)) → Consumes a left bytes
-    → (x : BeginsImage bytes) × BeginsMenu x.after → allows left j (written sink) (writes sink))
-    → MayRead allows BeginsMenu b k (written mid) (writes mid)
-after_front allows written writes {sink} {mid} {h} {m} {a} {b} {j} {k} kept same l paced = λ bytes left taken is.
-    subst (λ s. allows left k (written s) (writes s)) (sym kept)
-    (subst (λ n. allows left n (written sink) (writes sink)) (sym same)
+    → (x : BeginsImage bytes) × BeginsMenu x.after → allows (beside left j (told sink)))
+    → MayRead allows BeginsMenu (beside b k (told mid))
+after_front allows told {sink} {mid} {h} {m} {a} {b} {j} {k} kept same l paced = λ bytes left taken is.
+    subst (λ s. allows (beside left k (told s))) (sym kept) (subst (λ n. allows (beside left n (told sink))) (sym same)
     (paced (l.front ++ bytes) left (both_read h m a b left l bytes taken) (begins l bytes, is)))
 
 -- ---- where it waits at first
@@ -112,7 +112,7 @@ module _ (states from : ℕ) (depth : Option ℕ) (origin : Start) (code : ℕ) 
   pub against_faulted : {stop : LoadError} {e f : ImageError} → stop ≡ T.Image e → IsStopInside stop
       → StoppedLoading stop a.left c.left a.reads c.reads → (code ≢ 4 → c.writes ≡ a.writes) → f ≡ e
       → MatchOption (image_line f) ((code ≡ 3) × Keeps a.written c.written)
-      (λ line. EndsLine 2 line code a.written c.written a.writes c.writes) → EndsBy due code p a c
+      (λ line. EndsLine 2 line code (writing a.written a.writes) (writing c.written c.writes)) → EndsBy due code p a c
   against_faulted {stop} {e} {f} why within stopped quiet same ends =
       let h : RefusesAfter image_parts a.left c.left a.reads c.reads e =
       subst (λ s. StoppedLoading s a.left c.left a.reads c.reads) why stopped in
@@ -161,7 +161,7 @@ module _ (states from : ℕ) (depth : Option ℕ) (origin : Start) (code : ℕ) 
     -- a line is bad
     pub against_bad : {stop : MenuStop} (fault : MenuFault) → stop ≡ Bad fault → {before : ℕ} → before ≡ a.reads
         → StopsMenu b c.left before c.reads stop → (code ≢ 4 → c.writes ≡ a.writes) → {line : List ℕ}
-        → line ≡ bad_menu_line fault → EndsLine 2 line code a.written c.written a.writes c.writes
+        → line ≡ bad_menu_line fault → EndsLine 2 line code (writing a.written a.writes) (writing c.written c.writes)
         → EndsBy due code p a c
     against_bad {stop} fault why {before} same stopped quiet {line} is ends =
         let t : StopsMenu b c.left before c.reads (Bad fault) =
@@ -169,12 +169,12 @@ module _ (states from : ℕ) (depth : Option ℕ) (origin : Start) (code : ℕ) 
         by_plain due code p a c (record { reads = λ not. t.1 ∙ same; writes = quiet }) settled apart
         (l.front ++ t.0.bytes) (both_read h m a.left b c.left l t.0.bytes t.0.taken) none start 2 (bad_menu_line fault)
         (inl (omega arith)) (bad_answered fault t.0)
-        (subst (λ x. EndsLine 2 x code a.written c.written a.writes c.writes) is ends)
+        (subst (λ x. EndsLine 2 x code (writing a.written a.writes) (writing c.written c.writes)) is ends)
 
     -- the search ended, and its text was written or not; or there was no memory for it
     pub against_searched : (menu : MenuSaid) → TakesMenu b c.left menu → IsCalm code a c
-        → EndsWithFound (IsSearchedAgainst menu states from depth origin) l.parsed code a.written c.written a.writes
-        c.writes
+        → EndsWithFound (IsSearchedAgainst menu states from depth origin) l.parsed code (writing a.written a.writes)
+        (writing c.written c.writes)
         → EndsBy due code p a c
     against_searched menu t calm (inl (text, (found, ends))) =
         by_plain due code p a c calm settled apart (l.front ++ t.bytes)

@@ -25,7 +25,7 @@ use Rattle.pip_due.specs.EndsBy.{Response, plainly}
 use Rattle.pip_due.specs.Faults.{image_line}
 use Rattle.pip_searches.specs.MenuText.{MenuSaid, menu_of}
 use Rattle.pip_searches.specs.declared.commands.against.menu.MenuFault.{MenuFault}
-use Rattle.pip_searches.specs.declared.commands.every.searching.Start.{Start}
+use Rattle.pip_searches.specs.declared.start.Start.{Start}
 use Rattle.pip_searches.proofs.EveryOnce.{searched_once, told_every}
 use Rattle.pip_due.proofs.OneImage.{one_front, one_rest, too_long}
 

@@ -22,7 +22,7 @@ use Rattle.pip_search.specs.declared.searching.Extent.TheVariants.{Closed, Stopp
 use Rattle.pip_search.specs.declared.ways.Run.{Run}
 use Rattle.pip_search.proofs.Once.{no_later_both, says_once}
 use Rattle.pip_searches.specs.SearchDues.{IsSearchedAgainst, begun_moment, image_menu, image_scope, most_choices}
-use Rattle.pip_searches.specs.declared.commands.every.searching.Start.{Start}
+use Rattle.pip_searches.specs.declared.start.Start.{Start}
 use Rattle.pip_ways.specs.Texts.{spaced_run}
 use Rattle.pip_due.specs.EndsBy.{Response, plainly}
 use Rattle.pip_searches.specs.EveryLaw.{SearchesSayOnce}

@@ -36,7 +36,7 @@ use Rattle.pip_search.specs.Systems.{after_choices}
 use Rattle.pip_search.specs.declared.searching.Extent.{Extent}
 use Rattle.pip_search.specs.declared.searching.Extent.TheVariants.{Closed, Stopped, Within}
 use Rattle.pip_searches.specs.SearchDues.{begun_moment, begun_world, image_scope}
-use Rattle.pip_searches.specs.declared.commands.every.searching.Start.{Start}
+use Rattle.pip_searches.specs.declared.start.Start.{Start}
 use Rattle.pip_searches.specs.RunLaw.{AreChosen, AreLinesOf, ArePlansFrom, CanComeBy, ClosedNamesRuns}
 use Rattle.pip_searches.specs.RunLaw.{CoveredNamesRuns, IsNamedBy, IsQuietIn, RunsAreChoices, TracesGoOn}
 use Rattle.pip_searches.specs.RunLaw.{acts_chosen, choices_in, lines_raised, steps_from}
@@ -334,7 +334,7 @@ traces_go_on i start n =
 
 -- ---- what a search says
 
-lines_known : (P Q : List ℕ → Type 0) (n t : ℕ) (text : List ℕ)
+pub lines_known : (P Q : List ℕ → Type 0) (n t : ℕ) (text : List ℕ)
     → ((label : List ℕ) → label ≢ [] → P label → Q label) → AreLinesOf P t n text → AreLinesOf Q t n text
 lines_known P Q zero t text f h = h
 lines_known P Q (suc n) t text f h = record {

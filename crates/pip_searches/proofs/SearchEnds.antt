@@ -5,6 +5,7 @@ use Rattle.pip_base.specs.Memory.{Memory}
 use Rattle.pip_image.specs.Reading.{IsFault, RefusesAfter}
 use Rattle.pip_image.specs.declared.header.Header.{Header}
 use Rattle.pip_io.specs.Taken.{Keeps}
+use Rattle.pip_io.specs.Told.{writing}
 use Rattle.pip_model.specs.Images.{Image, Part, image_parts}
 use Rattle.pip_model.specs.declared.image.ImageError.{ImageError}
 use Rattle.pip_switch.specs.Standing.{State}
@@ -45,7 +46,7 @@ module _ (P : Image → Response → Type 0) (code : ℕ) (p : Option State) (a 
 
   -- the search ended, and its text was written or not; or there was no memory for it
   pub found_ends : {h : Header} {m : Memory} (l : LoadsFrames a.left c.left h m) → IsCalm code a c
-      → EndsWithFound P l.parsed code a.written c.written a.writes c.writes → EndsBy due code p a c
+      → EndsWithFound P l.parsed code (writing a.written a.writes) (writing c.written c.writes) → EndsBy due code p a c
   found_ends {h} {m} l calm (inl (text, (found, ends))) =
       by_plain due code p a c calm settled apart l.input l.read none start 0 text (inl (omega arith))
       (is_found h m l text found) ends
@@ -65,7 +66,7 @@ module _ (P : Image → Response → Type 0) (code : ℕ) (p : Option State) (a 
   pub found_faulted : {stop : LoadError} {e f : ImageError} → stop ≡ T.Image e
       → StoppedLoading stop a.left c.left a.reads c.reads → (code ≢ 4 → c.writes ≡ a.writes) → f ≡ e
       → MatchOption (image_line f) ((code ≡ 3) × Keeps a.written c.written)
-      (λ line. EndsLine 2 line code a.written c.written a.writes c.writes) → EndsBy due code p a c
+      (λ line. EndsLine 2 line code (writing a.written a.writes) (writing c.written c.writes)) → EndsBy due code p a c
   found_faulted {stop} {e} {f} why stopped quiet same ends =
       let h : RefusesAfter image_parts a.left c.left a.reads c.reads e =
       subst (λ s. StoppedLoading s a.left c.left a.reads c.reads) why stopped in

@@ -24,7 +24,7 @@ use Rattle.pip_searches.specs.SearchDues.{IsSearchedAgainst}
 use Rattle.pip_searches.specs.SearchDues.{most_choices}
 use Rattle.pip_due.specs.Loading.{BeginsFrames}
 use Rattle.pip_searches.specs.Searches.{IsToldFrom, told_text, world_after}
-use Rattle.pip_searches.specs.declared.commands.every.searching.Start.{Start}
+use Rattle.pip_searches.specs.declared.start.Start.{Start}
 use Rattle.pip_searches.specs.declared.commands.every.searching.Told.{Told}
 
 -- ---- lines and choices

@@ -16,7 +16,7 @@ use Rattle.pip_searches.specs.SearchDues.{most_choices}
 use Rattle.pip_due.specs.EndsBy.{Response}
 use Rattle.pip_searches.specs.MenuText.{MenuSaid, no_menu}
 use Rattle.pip_searches.specs.RunLaw.{IsNamedBy}
-use Rattle.pip_searches.specs.declared.commands.every.searching.Start.{Start}
+use Rattle.pip_searches.specs.declared.start.Start.{Start}
 
 -- an input has one answer, by the words of the command line
 abbrev pub InputsSayOnce : Type 0

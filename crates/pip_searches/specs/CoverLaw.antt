@@ -17,7 +17,7 @@ use Rattle.pip_searches.specs.EveryText.{lines_planned}
 use Rattle.pip_searches.specs.MenuText.{MenuSaid}
 use Rattle.pip_searches.specs.RunLaw.{AreLinesOf, ArePlansFrom, IsNamedBy, steps_from}
 use Rattle.pip_searches.specs.SearchDues.{IsSearchedAgainst, begun_world, image_menu}
-use Rattle.pip_searches.specs.declared.commands.every.searching.Start.{Start}
+use Rattle.pip_searches.specs.declared.start.Start.{Start}
 
 -- two worlds look alike from outside of partitions with these names: their trees differ in words of these pages alone,
 -- and their processors run the same, but for the registers and the pc of those partitions. Caches may differ

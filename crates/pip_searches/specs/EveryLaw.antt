@@ -8,7 +8,7 @@ use Rattle.pip_ways.specs.Texts.{inner}
 use Rattle.pip_searches.specs.MenuText.{no_menu}
 use Rattle.pip_searches.specs.SearchDues.{IsSearchedAgainst}
 use Rattle.pip_due.specs.EndsBy.{Response}
-use Rattle.pip_searches.specs.declared.commands.every.searching.Start.{Start}
+use Rattle.pip_searches.specs.declared.start.Start.{Start}
 
 -- what can happen to an image has one text, by the words of the command line
 abbrev pub SearchesSayOnce : Type 0

@@ -25,7 +25,7 @@ use Rattle.pip_searches.specs.SearchDues.{IsSearchedAgainst, begun_moment, begun
 use Rattle.pip_due.specs.EndsBy.{Response}
 use Rattle.pip_searches.specs.EveryLaw.{IsLineAt}
 use Rattle.pip_searches.specs.EveryText.{lines_planned}
-use Rattle.pip_searches.specs.declared.commands.every.searching.Start.{Start}
+use Rattle.pip_searches.specs.declared.start.Start.{Start}
 
 -- ---- acts as choices
 

@@ -22,7 +22,7 @@ use Rattle.pip_searches.specs.EveryText.{against_text, lines_planned}
 use Rattle.pip_searches.specs.MenuReading.{BeginsMenu}
 use Rattle.pip_searches.specs.MenuText.{MenuSaid, bad_menu_line, menu_of, no_menu}
 use Rattle.pip_searches.specs.declared.commands.against.menu.MenuFault.{MenuFault}
-use Rattle.pip_searches.specs.declared.commands.every.searching.Start.{Start}
+use Rattle.pip_searches.specs.declared.start.Start.{Start}
 use Rattle.pip_due.specs.ImageDues.{BeginsImage, IsFaultAnswer, IsFaulty, IsHeaderText, searching_due}
 
 -- what is searched of an image: no line comes before that many turns

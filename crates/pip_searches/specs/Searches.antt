@@ -8,7 +8,8 @@ use Rattle.pip_every.specs.Menus.{Menu, menu_model, usual_choices}
 use Rattle.pip_every.specs.Moments.{moment_at}
 use Rattle.pip_every.specs.declared.menus.May.{May}
 use Rattle.pip_image.specs.declared.header.Header.{Header}
-use Rattle.pip_io.specs.Taken.{Taken, Keeps}
+use Rattle.pip_io.specs.Taken.{Keeps}
+use Rattle.pip_io.specs.Told.{Writing}
 use Rattle.pip_model.specs.Acts.{after_acts}
 use Rattle.pip_model.specs.Booted.{IsBooted}
 use Rattle.pip_model.specs.Images.{Image}
@@ -23,7 +24,7 @@ use Rattle.pip_due.specs.EndsBy.{Response, plainly}
 use Rattle.pip_searches.specs.EveryText.{again_text, label_bytes, lines_planned}
 use Rattle.pip_searches.specs.MenuText.{MenuSaid}
 use Rattle.pip_due.specs.Streams.{EndsLine}
-use Rattle.pip_searches.specs.declared.commands.every.searching.Start.{Start}
+use Rattle.pip_searches.specs.declared.start.Start.{Start}
 use Rattle.pip_searches.specs.declared.commands.every.searching.Told.{Told}
 
 -- the text of what was found from frames with this header, and of what is said of these labels
@@ -65,9 +66,8 @@ IsToldFrom menu states from depth start h first t = (n : ℕ) (words : ℕ → �
     × AreSaid (menu_model first (header_menu menu from h)) (usual_choices (header_menu menu from h))
     (moment_at (world_after words n h.cpus h.plans.items start.count start.seed)) menu.again t.verdict t.said.items
 
--- an answer to an image was written, or a part of it, where a write failed; or there was no memory. The last two are
--- counts of faults
-abbrev pub EndsWithFound : (Image → Response → Type 0) → Image → ℕ → Taken → Taken → ℕ → ℕ → Type 0
-EndsWithFound P i status before after writes writes' =
-    ((text : List ℕ) × (P i (plainly 0 text None) × EndsLine 0 text status before after writes writes'))
-    ⊎ ((status ≡ 5) × Keeps before after)
+-- an answer to an image was written, or a part of it, where a write failed; or there was no memory
+abbrev pub EndsWithFound : (Image → Response → Type 0) → Image → ℕ → Writing → Writing → Type 0
+EndsWithFound P i status before after =
+    ((text : List ℕ) × (P i (plainly 0 text None) × EndsLine 0 text status before after))
+    ⊎ ((status ≡ 5) × Keeps before.written after.written)

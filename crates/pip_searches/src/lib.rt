@@ -14,10 +14,11 @@
 
 mod commands;
 mod laws;
+mod start;
 mod text;
 
 pub use commands::against::against;
 pub use commands::apart::apart;
 pub use commands::every::every;
-pub use commands::every::searching::Start;
 pub use laws::{law_against, law_apart, law_every, law_every_runs};
+pub use start::Start;

@@ -1,6 +1,8 @@
 ghost use Rattle.std.specs.Prelude.{◌<◌};
 ghost use Rattle.pip_base.specs.Opening.{CanOpen};
 ghost use Rattle.pip_io.specs.Memory.{source_faults};
+ghost use Rattle.pip_io.specs.Taken.{plain};
+ghost use Rattle.pip_io.specs.Told.{remaining, writing};
 
 use pip_base::Steps;
 use pip_commands::{pip, script};
@@ -218,9 +220,7 @@ struct Drip<'a>(MemSource<'a>);
 impl Source for Drip<'_> {
     ghost use Rattle.std.specs.Prelude.{None};
 
-    ghost left = { λ _. None };
-
-    ghost faults = { λ s. source_faults s.0 };
+    ghost told = { λ s. remaining None (source_faults s.0) };
 
     fn read(&mut self, buf: &mut [u8]) -> Result<usize, Failed> {
         self.0.read(&mut buf[..1])
@@ -328,9 +328,7 @@ struct Typed<'a> {
 impl Source for Typed<'_> {
     ghost use Rattle.std.specs.Prelude.{None};
 
-    ghost left = { λ _. None };
-
-    ghost faults = { λ _. 0 };
+    ghost told = { λ _. remaining None 0 };
 
     fn read(&mut self, buf: &mut [u8]) -> Result<usize, Failed> {
         if self.next >= self.pieces.len() {
@@ -356,9 +354,7 @@ impl Sink for Watched<'_> {
     ghost use Rattle.std.specs.Prelude.{None};
     ghost use Rattle.pip_io.specs.Taken.{plain};
 
-    ghost written = { λ _. plain None };
-
-    ghost faults = { λ _. 0 };
+    ghost told = { λ _. writing (plain None) 0 };
 
     fn write(&mut self, piece: &[u8]) -> Result<usize, Failed> {
         self.written
@@ -423,9 +419,7 @@ struct Blanks {
 impl Source for Blanks {
     ghost use Rattle.std.specs.Prelude.{None};
 
-    ghost left = { λ _. None };
-
-    ghost faults = { λ _. 0 };
+    ghost told = { λ _. remaining None 0 };
 
     fn read(&mut self, buf: &mut [u8]) -> Result<usize, Failed> {
         let count = buf.len().min(self.bytes as usize).min(121);
@@ -490,9 +484,7 @@ impl Sink for Trickle<'_> {
     ghost use Rattle.pip_io.specs.Memory.{sink_faults};
     ghost use Rattle.pip_io.specs.Taken.{plain};
 
-    ghost written = { λ _. plain None };
-
-    ghost faults = { λ s. sink_faults s.0 };
+    ghost told = { λ s. writing (plain None) (sink_faults s.0) };
 
     fn write(&mut self, piece: &[u8]) -> Result<usize, Failed> {
         self.0.write(&piece[..1])

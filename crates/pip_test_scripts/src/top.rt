@@ -1,12 +1,13 @@
 use pip_commands::pip;
 use pip_io::{MemSink, MemSource};
+use std::process::Abort;
 use std::test::Fail;
 
 const USAGE: &str =
-    "usage: pip script | run STEPS SEED | asm | dis | tree STEPS SEED | core STEPS SEED | soak COUNT SEED | native N STEPS | slots N TURNS ROUNDS | slots N ROUNDS K:TURNS .. | audit FRAMES | every STATES [FROM [DEPTH]] [after STEPS SEED] | against STATES [FROM [DEPTH]] [after STEPS SEED] | apart STATES STEPS SEED\n";
+    "usage: pip script | run STEPS SEED | asm | dis | tree STEPS SEED | core STEPS SEED | soak COUNT SEED | native N STEPS | slots N TURNS ROUNDS | slots N ROUNDS K:TURNS .. | audit FRAMES | every STATES [FROM [DEPTH]] [after STEPS SEED] | against STATES [FROM [DEPTH]] [after STEPS SEED] | apart STATES STEPS SEED | part [FROM] | merge\n";
 
 // The words of a command line, the status where the first read fails, and what is written.
-static ROWS: [(&str, u8, &str); 81] = [
+static ROWS: [(&str, u8, &str); 88] = [
     ("run 6 1", 3, ""),
     ("run 0x6 1", 3, ""),
     ("script", 3, ""),
@@ -35,6 +36,13 @@ static ROWS: [(&str, u8, &str); 81] = [
     ("against 1 0 1 after 5 1", 3, ""),
     ("apart 1 0 1", 3, ""),
     ("apart 100000000 10000000 4294967295", 3, ""),
+    ("part", 3, ""),
+    ("part 10000000", 3, ""),
+    ("merge", 3, ""),
+    ("part 10000001", 1, USAGE),
+    ("part 1 1", 1, USAGE),
+    ("part 1 after 5 1", 1, USAGE),
+    ("merge 1", 1, USAGE),
     ("apart 0 0 1", 1, USAGE),
     ("apart 1 10000001 1", 1, USAGE),
     ("apart 1 0 0", 1, USAGE),
@@ -90,21 +98,25 @@ static ROWS: [(&str, u8, &str); 81] = [
     ("", 1, USAGE),
 ];
 
-#[test]
-fn words_ask_for_commands(rt: HostRuntime) -> Result<(), Fail> {
-    for (line, status, text) in ROWS {
+// What the program answers to the words of each row, where the first read would fail.
+fn check_rows(rt: &(impl Abort + AllocGlobal), rows: &[(&str, u8, &str)]) -> Result<(), Fail> {
+    for (line, status, text) in rows {
         let mut words = Vec::new(rt.alloc());
         for word in line.split(' ') {
             words.push(String::from_str(rt.alloc(), word)?)?;
         }
-        // The first read would fail.
         let mut source = MemSource::new(b"", &[1]);
         let mut sink = MemSink::new(rt.alloc(), 4096, &[])?;
         let ended = pip(rt.alloc(), &words, &mut source, &mut sink);
-        assert_eq!(rt; ended.status, status, "of {line}");
+        assert_eq!(rt; ended.status, *status, "of {line}");
         assert_eq!(rt; sink.bytes(), text.as_bytes(), "of {line}");
     }
     Ok(())
+}
+
+#[test]
+fn words_ask_for_commands(rt: HostRuntime) -> Result<(), Fail> {
+    check_rows(&rt, &ROWS)
 }
 
 #[test]

@@ -3,27 +3,20 @@
 
 use crate::Stop;
 use crate::input::{Part, load, text_of, whole_input};
+use crate::searching::{Found, Task, search};
 use pip_base::{Frame, Steps, WORDS};
 use pip_cpu::turn;
 use pip_every::note_words;
 use pip_frames::{Frames, RawFrames};
 use pip_io::Discard;
-use pip_search::Extent;
 use pip_switch::Machine;
 use rattle_std::{alloc::Global, marker::Brand, sync::ledger::Blank};
-use std::io::Write;
 
 /// How often words are noted, and how many turns of each processor come before each time.
 const TIMES: u32 = 4;
 const TURNS: u32 = 1000;
 
-/// The tree of a search: of each state the one from which it was found first, and by which choice.
-struct Tree {
-    parents: Vec<u32>,
-    choices: Vec<u32>,
-}
-
-impl Tree {
+impl Found {
     // The states with which parts begin: the first, and each whose own part would have that many states.
     fn cuts(&self, size: u32) -> Vec<bool> {
         let count = self.parents.len();
@@ -44,7 +37,7 @@ impl Tree {
         let mut way = Vec::new();
         let mut at = state as usize;
         while at != 0 {
-            way.push(self.choices[at]);
+            way.push(u32::from(self.choices[at]));
             at = self.parents[at] as usize;
         }
         way.reverse();
@@ -71,7 +64,7 @@ impl Tree {
             for choice in 0..choices {
                 let leads = next < self.parents.len()
                     && self.parents[next] == state
-                    && self.choices[next] == choice;
+                    && u32::from(self.choices[next]) == choice;
                 let keeps = leads && !cuts[next];
                 marks.push(u8::from(keeps));
                 if keeps {
@@ -118,48 +111,32 @@ fn cant_write() -> Stop {
     Stop::new(4, "a part can't be written")
 }
 
-/// Searches the image of the input with room for that many states, and writes parts of about `size` states into a
-/// folder.
-pub fn cut(from: u32, size: u32, states: u32, folder: &str) -> Result<(), Stop> {
+/// Searches the image of the input with that many workers and room for that many states, and writes parts of about
+/// `size` states into a folder.
+pub fn cut(from: u32, size: u32, states: u32, workers: u32, folder: &str) -> Result<(), Stop> {
     let data = whole_input()?;
-    let loaded = load(&data)?;
-    let head = loaded.head;
-    let searched = pip_every::search(
-        Global,
-        loaded.mem,
-        head.cpus,
-        &head.lines,
-        from,
-        u32::MAX,
-        states,
-    );
-    let (search, extent) = searched.map_err(|_| Stop::new(5, "no memory"))?;
-    let Extent::Closed { depth } = extent else {
-        return Err(Stop::new(9, format!("stopped {}", search.visits.len())));
-    };
-    let tree = Tree {
-        parents: search.visits.iter().map(|visit| visit.parent).collect(),
-        choices: search.visits.iter().map(|visit| visit.choice).collect(),
-    };
-    drop(search);
     let base = base_of(&data)?;
-    let firsts = tree.firsts();
-    let cuts = tree.cuts(size);
+    let head = load(&data)?.head;
+    let task = Task {
+        data: &data,
+        from,
+        base: &base,
+        states: u64::from(states),
+    };
+    let found = search(&task, workers as usize)?;
+    let choices = head.cpus + head.lines.len() as u32;
+    let (firsts, cuts) = (found.firsts(), found.cuts(size));
     let mut count = 0;
-    for i in 0..cuts.len() {
-        if !cuts[i] {
-            continue;
-        }
+    for i in (0..cuts.len()).filter(|i| cuts[*i]) {
         let part = Part {
             base: base.clone(),
-            way: tree.way(i as u32),
-            marks: tree.marks(&firsts, &cuts, i as u32, head.cpus + head.lines.len() as u32),
+            way: found.way(i as u32),
+            marks: found.marks(&firsts, &cuts, i as u32, choices),
         };
         let path = format!("{folder}/{count:08}.part");
-        let mut file = std::fs::File::create(path).map_err(|_| cant_write())?;
-        file.write_all(&text_of(&part)).map_err(|_| cant_write())?;
+        std::fs::write(path, text_of(&part)).map_err(|_| Stop::new(4, "a part can't be written"))?;
         count += 1;
     }
-    println!("states {} depth {depth} parts {count}", cuts.len());
+    println!("states {} depth {} parts {count}", cuts.len(), found.depth);
     Ok(())
 }

@@ -9,13 +9,12 @@ use pip_kern::boot_zeros;
 use rattle_std::{alloc::Global, marker::Brand, sync::ledger::Blank};
 use std::io::Read;
 
-/// What stands in an image before its pages, and how many bytes it has.
+/// What stands in an image before its pages.
 pub struct Head {
     pub frames: u32,
     pub cpus: u32,
     pub lines: Vec<u32>,
     pub pages: u32,
-    pub size: usize,
 }
 
 /// An image that was read: its head, and its frames.
@@ -53,7 +52,6 @@ pub fn load(data: &[u8]) -> Result<Loaded, Stop> {
             cpus: head.cpus,
             lines: plans.iter().map(|plan| plan.line).collect(),
             pages: head.pages,
-            size: 24 + 12 * plans.len() + 4100 * head.pages as usize,
         },
         mem,
     })
@@ -66,86 +64,7 @@ pub struct Part {
     pub marks: Vec<u8>,
 }
 
-/// Numbers of 32 bits, one after another.
-struct Numbers<'a> {
-    data: &'a [u8],
-    at: usize,
-}
-
-impl Numbers<'_> {
-    fn bad(kind: &str, at: usize) -> Stop {
-        Stop::new(2, format!("bad part {kind} {at}"))
-    }
-
-    fn next(&mut self) -> Result<u32, Stop> {
-        let Some(bytes) = self.data.get(self.at..self.at + 4) else {
-            return Err(Numbers::bad("short", self.data.len()));
-        };
-        self.at += 4;
-        Ok(u32::from_le_bytes([bytes[0], bytes[1], bytes[2], bytes[3]]))
-    }
-
-    fn base(&mut self, frames: u32) -> Result<Vec<(u32, u32, u32)>, Stop> {
-        let count = self.next()?;
-        let mut base: Vec<(u32, u32, u32)> = Vec::new();
-        for _ in 0..count {
-            let at = self.at;
-            let place = (self.next()?, self.next()?, self.next()?);
-            let rises = base.last().is_none_or(|last| (last.0, last.1) < (place.0, place.1));
-            if place.0 >= frames || place.1 >= 1024 || !rises {
-                return Err(Numbers::bad("base", at));
-            }
-            base.push(place);
-        }
-        Ok(base)
-    }
-
-    fn way(&mut self) -> Result<Vec<u32>, Stop> {
-        let count = self.next()?;
-        let mut way: Vec<u32> = Vec::new();
-        for _ in 0..count {
-            let at = self.at;
-            let (choice, times) = (self.next()?, self.next()?);
-            if times == 0 || way.last() == Some(&choice) || way.len() + times as usize >= 1 << 31 {
-                return Err(Numbers::bad("way", at));
-            }
-            way.extend(std::iter::repeat_n(choice, times as usize));
-        }
-        Ok(way)
-    }
-
-    fn marks(&mut self) -> Result<Vec<u8>, Stop> {
-        let count = self.next()? as usize;
-        let Some(bytes) = self.data.get(self.at..self.at + count.div_ceil(8)) else {
-            return Err(Numbers::bad("short", self.data.len()));
-        };
-        let last = self.at + bytes.len();
-        if count % 8 != 0 && bytes[bytes.len() - 1] >> (count % 8) != 0 {
-            return Err(Numbers::bad("marks", last - 1));
-        }
-        self.at = last;
-        Ok((0..count).map(|i| bytes[i / 8] >> (i % 8) & 1).collect())
-    }
-}
-
-/// The part that comes after an image of that many bytes, to the end of the input.
-pub fn part_of(data: &[u8], head: &Head) -> Result<Part, Stop> {
-    let mut numbers = Numbers {
-        data,
-        at: head.size,
-    };
-    let part = Part {
-        base: numbers.base(head.frames)?,
-        way: numbers.way()?,
-        marks: numbers.marks()?,
-    };
-    if numbers.at != data.len() {
-        return Err(Numbers::bad("long", numbers.at));
-    }
-    Ok(part)
-}
-
-/// Writes a part as `part_of` reads it.
+/// Writes a part as `part` reads it.
 pub fn text_of(part: &Part) -> Vec<u8> {
     let mut runs: Vec<(u32, u32)> = Vec::new();
     for choice in &part.way {
@@ -172,13 +91,6 @@ pub fn text_of(part: &Part) -> Vec<u8> {
         text.push(eight.iter().enumerate().map(|(i, mark)| mark << i).sum());
     }
     text
-}
-
-/// A sum over bytes, which finds mistakes.
-pub fn sum_of(data: &[u8]) -> u64 {
-    data.iter().fold(0xcbf2_9ce4_8422_2325, |sum, byte| {
-        (sum ^ u64::from(*byte)).wrapping_mul(0x100_0000_01b3)
-    })
 }
 
 /// Writes words into frames.

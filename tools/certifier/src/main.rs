@@ -1,12 +1,10 @@
-//! Certificates of a search: a search that is cut into parts, the check of a part, and the merge of all lines.
+//! The search behind a certificate: what can happen to an image is searched by workers and cut into parts.
 //!
-//! What is proved are the functions that this calls: the check (`pip_every::part`), each line (pip_parts) and the merge
-//! (`Merger`). What stands around them here isn't: reading an image and a part, and which lines are given to the merge.
+//! Nobody has to trust it: `part` of the program checks each part by itself, and `merge` finds what is missing.
 
-mod checking;
 mod cutting;
 mod input;
-mod merging;
+mod searching;
 
 use std::process::ExitCode;
 
@@ -25,7 +23,7 @@ impl Stop {
     }
 }
 
-const USAGE: &str = "usage: pip_certifier cut FROM SIZE STATES FOLDER < IMAGE | part FROM < INPUT | merge < LINES";
+const USAGE: &str = "usage: pip_certifier cut FROM SIZE STATES WORKERS FOLDER < IMAGE";
 
 fn number(word: &str) -> Result<u32, Stop> {
     word.parse().map_err(|_| Stop::new(1, USAGE))
@@ -34,11 +32,9 @@ fn number(word: &str) -> Result<u32, Stop> {
 fn run(words: &[String]) -> Result<(), Stop> {
     let words: Vec<&str> = words.iter().map(String::as_str).collect();
     match words.as_slice() {
-        ["cut", from, size, states, folder] => {
-            cutting::cut(number(from)?, number(size)?, number(states)?, folder)
+        ["cut", from, size, states, workers, folder] => {
+            cutting::cut(number(from)?, number(size)?, number(states)?, number(workers)?, folder)
         }
-        ["part", from] => checking::part(number(from)?),
-        ["merge"] => merging::merge(),
         _ => Err(Stop::new(1, USAGE)),
     }
 }

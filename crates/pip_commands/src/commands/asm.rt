@@ -3,9 +3,8 @@ ghost use Rattle.std.specs.Prelude.{◌≡◌, ◌≢◌, ◌≤◌, ◌^◌, �
 ghost use Rattle.pip_io.specs.Taken.{Keeps};
 ghost use Rattle.pip_model.specs.Assembly.{assembly};
 ghost use Rattle.pip_commands.specs.Dues.{asm_answer, asm_due};
-ghost use Rattle.pip_due.specs.EndsBy.{EndsBy, EndsWithResponse};
-ghost use Rattle.pip_due.specs.Pacing.{IsPaced};
-ghost use Rattle.pip_due.specs.Streams.{streams};
+ghost use Rattle.pip_due.specs.EndsBy.{EndsWithResponse};
+ghost use Rattle.pip_due.specs.Commands.{Fulfils, FulfilsJoined, MayStart, MayStartJoined};
 
 use crate::text::bad_asm_line;
 use pip_asm::{AsmError, assemble};
@@ -17,13 +16,8 @@ use std::alloc::Global;
 /// Writes the image that an assembly text is (docs/FORMATS.md, "Assembly"). The whole input is read before a line is
 /// judged.
 pub fn asm<S: Source, K: Sink>(alloc: Global, source: &mut S, sink: &mut K) -> Ended
-    requires none { (K.written sink.old).held ≡ [] }
-    requires paced { IsPaced asm_due (S.is_open source.old) S.allows
-        (streams S.left S.faults K.written K.faults source.old sink.old) }
-    ensures ends { EndsBy asm_due result.status result.machine
-        (streams S.left S.faults K.written K.faults source.old sink.old)
-        (streams S.left S.faults K.written K.faults source.new sink.new) }
-    ensures none { result.status ≢ 4 → (K.written sink.new).held ≡ [] }
+    requires paced { MayStart asm_due S.is_open S.allows S.told K.told source.old sink.old }
+    ensures ends { Fulfils asm_due result S.told K.told source.old sink.old source.new sink.new }
 {
     let mut joint = Joint::new(source, sink);
     assemble_input(alloc, &mut joint)
@@ -31,15 +25,10 @@ pub fn asm<S: Source, K: Sink>(alloc: Global, source: &mut S, sink: &mut K) -> E
 
 // Assembles what a joint reads.
 fn assemble_input<S: Source, K: Sink>(alloc: Global, joint: &mut Joint<'_, S, K>) -> Ended
-    requires none { (K.written joint.old.sink.now).held ≡ [] }
-    requires paced { IsPaced asm_due (S.is_open joint.old.source.now) S.allows
-        (streams S.left S.faults K.written K.faults joint.old.source.now joint.old.sink.now) }
+    requires paced { MayStartJoined asm_due S.is_open S.allows S.told K.told joint.old }
     ensures same_source { joint.new.source.ghost_name ≡ joint.old.source.ghost_name }
     ensures same_sink { joint.new.sink.ghost_name ≡ joint.old.sink.ghost_name }
-    ensures ends { EndsBy asm_due result.status result.machine
-        (streams S.left S.faults K.written K.faults joint.old.source.now joint.old.sink.now)
-        (streams S.left S.faults K.written K.faults joint.new.source.now joint.new.sink.now) }
-    ensures none { result.status ≢ 4 → (K.written joint.new.sink.now).held ≡ [] }
+    ensures ends { FulfilsJoined asm_due result S.told K.told joint.old joint.new }
 {
     match read_whole(alloc, joint) {
         Ok(text) => write_assembly(alloc, text.as_slice(), &mut *joint.sink),
@@ -52,14 +41,12 @@ fn assemble_input<S: Source, K: Sink>(alloc: Global, joint: &mut Joint<'_, S, K>
 // Writes the image of a text, or the line that names its first fault.
 fn write_assembly<K: Sink>(alloc: Global, text: &[u8], sink: &mut K) -> Ended
     requires limit { length text.now ≤ 2 ^ 24 }
-    requires none { (K.written sink.old).held ≡ [] }
-    ensures wrote { EndsWithResponse (asm_answer (assembly text.now)) result.status (K.written sink.old)
-        (K.written sink.new)
-        (K.faults sink.old) (K.faults sink.new) ⊎ ((result.status ≡ 5) × Keeps (K.written sink.old)
-        (K.written sink.new)) }
-    ensures calm { result.status ≢ 4 → K.faults sink.new ≡ K.faults sink.old }
+    requires none { (K.told sink.old).written.held ≡ [] }
+    ensures wrote { EndsWithResponse (asm_answer (assembly text.now)) result.status (K.told sink.old) (K.told sink.new)
+        ⊎ ((result.status ≡ 5) × Keeps (K.told sink.old).written (K.told sink.new).written) }
+    ensures calm { result.status ≢ 4 → (K.told sink.new).faults ≡ (K.told sink.old).faults }
     ensures none { result.machine ≡ None }
-    ensures settled { result.status ≢ 4 → (K.written sink.new).held ≡ [] }
+    ensures settled { result.status ≢ 4 → (K.told sink.new).written.held ≡ [] }
 {
     match assemble(alloc, text) {
         Ok(image) => end_with(sink, image.as_slice(), 0),

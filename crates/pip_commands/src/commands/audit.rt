@@ -6,9 +6,8 @@ ghost use Rattle.pip_audit.specs.Verdict.{verdict_of};
 ghost use Rattle.pip_base.specs.Memory.{IsMemory, zeros};
 ghost use Rattle.pip_model.specs.Audit.{HasWordsOnly, finding};
 ghost use Rattle.pip_commands.specs.Dues.{audit_due, found_answer};
-ghost use Rattle.pip_due.specs.EndsBy.{EndsBy, EndsWithResponse};
-ghost use Rattle.pip_due.specs.Pacing.{IsPaced};
-ghost use Rattle.pip_due.specs.Streams.{streams};
+ghost use Rattle.pip_due.specs.EndsBy.{EndsWithResponse};
+ghost use Rattle.pip_due.specs.Commands.{Fulfils, FulfilsJoined, MayStart, MayStartJoined};
 
 use crate::text::{bad_line, no_line};
 use pip_audit::{Auditor, Verdict};
@@ -25,15 +24,10 @@ use std::sync::ledger::{Blank, Ledger};
 /// Judges a memory of `frames` frames, 16 to 4096, whose text is read (docs/FORMATS.md, "audit"). Memory is taken
 /// before the first read alone. No machine is handed back.
 pub fn audit<S: Source, K: Sink>(alloc: Global, frames: u32, source: &mut S, sink: &mut K) -> Ended
-    requires none { (K.written sink.old).held ≡ [] }
     requires least { 16 ≤ frames }
     requires most { frames ≤ 4096 }
-    requires paced { IsPaced (audit_due frames) (S.is_open source.old) S.allows
-        (streams S.left S.faults K.written K.faults source.old sink.old) }
-    ensures ends { EndsBy (audit_due frames) result.status result.machine
-        (streams S.left S.faults K.written K.faults source.old sink.old)
-        (streams S.left S.faults K.written K.faults source.new sink.new) }
-    ensures none { result.status ≢ 4 → (K.written sink.new).held ≡ [] }
+    requires paced { MayStart (audit_due frames) S.is_open S.allows S.told K.told source.old sink.old }
+    ensures ends { Fulfils (audit_due frames) result S.told K.told source.old sink.old source.new sink.new }
 {
     let mut joint = Joint::new(source, sink);
     audit_input(alloc, frames, &mut joint)
@@ -41,17 +35,12 @@ pub fn audit<S: Source, K: Sink>(alloc: Global, frames: u32, source: &mut S, sin
 
 // Judges what a joint reads.
 fn audit_input<S: Source, K: Sink>(alloc: Global, frames: u32, joint: &mut Joint<'_, S, K>) -> Ended
-    requires none { (K.written joint.old.sink.now).held ≡ [] }
     requires least { 16 ≤ frames }
     requires most { frames ≤ 4096 }
-    requires paced { IsPaced (audit_due frames) (S.is_open joint.old.source.now) S.allows
-        (streams S.left S.faults K.written K.faults joint.old.source.now joint.old.sink.now) }
+    requires paced { MayStartJoined (audit_due frames) S.is_open S.allows S.told K.told joint.old }
     ensures same_source { joint.new.source.ghost_name ≡ joint.old.source.ghost_name }
     ensures same_sink { joint.new.sink.ghost_name ≡ joint.old.sink.ghost_name }
-    ensures ends { EndsBy (audit_due frames) result.status result.machine
-        (streams S.left S.faults K.written K.faults joint.old.source.now joint.old.sink.now)
-        (streams S.left S.faults K.written K.faults joint.new.source.now joint.new.sink.now) }
-    ensures none { result.status ≢ 4 → (K.written joint.new.sink.now).held ≡ [] }
+    ensures ends { FulfilsJoined (audit_due frames) result S.told K.told joint.old joint.new }
 {
     let Ok(mut room) = take_room(alloc, frames) else {
         return Ended::with_status(5);
@@ -88,16 +77,15 @@ fn take_room(alloc: Global, frames: u32) -> Result<AuditRoom, AllocError>
 // Judges what was read, with a counter of steps that nobody reads, and writes the answer.
 fn judge<K: Sink, L: Ledger>(room: &mut AuditRoom, sink: &mut K, blank: Blank) -> Ended
     requires blank { CanOpen blank.name blank.parts L.name L.parts }
-    requires none { (K.written sink.old).held ≡ [] }
+    requires none { (K.told sink.old).written.held ≡ [] }
     requires room { IsFor (length (⟦<RawFrames as Frames>⟧.memory room.old.mem)) room.old.auditor }
     requires shape { IsMemory (⟦<RawFrames as Frames>⟧.memory room.old.mem) }
     requires words { HasWordsOnly (⟦<RawFrames as Frames>⟧.memory room.old.mem) }
     ensures wrote { EndsWithResponse (found_answer (finding (⟦<RawFrames as Frames>⟧.memory room.old.mem)))
-        result.status
-        (K.written sink.old) (K.written sink.new) (K.faults sink.old) (K.faults sink.new) }
-    ensures calm { result.status ≢ 4 → K.faults sink.new ≡ K.faults sink.old }
+        result.status (K.told sink.old) (K.told sink.new) }
+    ensures calm { result.status ≢ 4 → (K.told sink.new).faults ≡ (K.told sink.old).faults }
     ensures machine { result.machine ≡ None }
-    ensures none { result.status ≢ 4 → (K.written sink.new).held ≡ [] }
+    ensures none { result.status ≢ 4 → (K.told sink.new).written.held ≡ [] }
 {
     let mut steps: Steps<L> = Steps::new(blank);
     let verdict = room.auditor.audit(&room.mem, &mut steps);
@@ -114,11 +102,11 @@ fn tell<M: Frames, K: Sink, L: Ledger>(
     requires shape { IsMemory (M.memory mem.now) }
     requires words { HasWordsOnly (M.memory mem.now) }
     requires verdict { verdict ≡ verdict_of (finding (M.memory mem.now)) }
-    ensures wrote { EndsWithResponse (found_answer (finding (M.memory mem.now))) result.status (K.written sink.old)
-        (K.written sink.new) (K.faults sink.old) (K.faults sink.new) }
-    ensures calm { result.status ≢ 4 → K.faults sink.new ≡ K.faults sink.old }
+    ensures wrote { EndsWithResponse (found_answer (finding (M.memory mem.now))) result.status (K.told sink.old)
+        (K.told sink.new) }
+    ensures calm { result.status ≢ 4 → (K.told sink.new).faults ≡ (K.told sink.old).faults }
     ensures machine { result.machine ≡ None }
-    ensures none { result.status ≢ 4 → (K.written sink.new).held ≡ [] }
+    ensures none { result.status ≢ 4 → (K.told sink.new).written.held ≡ [] }
 {
     if let Some(line) = no_line(verdict) {
         return end_with(sink, line.as_str().as_bytes(), 9);

@@ -1,15 +1,13 @@
 //! The commands `native` and `slots`: an image is read, children of the root are built, and a monitor or time slots run
 //! them.
-ghost use Rattle.std.specs.Prelude.{◌≡◌, ◌≢◌, ◌≤◌, []};
+ghost use Rattle.std.specs.Prelude.{◌≡◌, ◌≤◌};
 ghost use Rattle.pip_base.specs.Opening.{CanOpen};
 ghost use Rattle.pip_base.specs.declared.types.Plan.{Plan};
 ghost use Rattle.pip_lines.specs.Due.{AnswersDue};
 ghost use Rattle.pip_native.specs.Choice.{AnswersNext};
-ghost use Rattle.pip_due.specs.EndsBy.{EndsBy};
 ghost use Rattle.pip_commands.specs.Children.{IsBounded};
 ghost use Rattle.pip_commands.specs.Dues.{children_due};
-ghost use Rattle.pip_due.specs.Pacing.{IsPaced};
-ghost use Rattle.pip_due.specs.Streams.{streams};
+ghost use Rattle.pip_due.specs.Commands.{Fulfils, FulfilsJoined, MayStart, MayStartJoined};
 
 pub mod loading;
 pub mod scheduling;
@@ -39,16 +37,11 @@ pub fn children<S: Source, K: Sink, L: Ledger>(
     blank: Blank,
 ) -> Ended
     requires blank { CanOpen blank.name blank.parts L.name L.parts }
-    requires none { (K.written sink.old).held ≡ [] }
     requires least { 1 ≤ n }
     requires most { n ≤ 8 }
     requires bounded { IsBounded scheduling n }
-    requires paced { IsPaced (children_due scheduling n) (S.is_open source.old) S.allows
-        (streams S.left S.faults K.written K.faults source.old sink.old) }
-    ensures ends { EndsBy (children_due scheduling n) result.status result.machine
-        (streams S.left S.faults K.written K.faults source.old sink.old)
-        (streams S.left S.faults K.written K.faults source.new sink.new) }
-    ensures none { result.status ≢ 4 → (K.written sink.new).held ≡ [] }
+    requires paced { MayStart (children_due scheduling n) S.is_open S.allows S.told K.told source.old sink.old }
+    ensures ends { Fulfils (children_due scheduling n) result S.told K.told source.old sink.old source.new sink.new }
 {
     let mut steps: Steps<L> = Steps::new(blank);
     let mut joint = Joint::new(source, sink);
@@ -83,18 +76,13 @@ fn children_with<
     requires makes { G.IsAlwaysCallable make }
     requires answer { (p : Plan) (f : F) → G.post make p f → AnswersDue (F.may_ask f) (F.answers f) p }
     requires next { AnswersNext (C.may_choose choose) (C.chooses choose) n }
-    requires none { (K.written joint.old.sink.now).held ≡ [] }
     requires least { 1 ≤ n }
     requires most { n ≤ 8 }
     requires bounded { IsBounded scheduling n }
-    requires paced { IsPaced (children_due scheduling n) (S.is_open joint.old.source.now) S.allows
-        (streams S.left S.faults K.written K.faults joint.old.source.now joint.old.sink.now) }
+    requires paced { MayStartJoined (children_due scheduling n) S.is_open S.allows S.told K.told joint.old }
     ensures same_source { joint.new.source.ghost_name ≡ joint.old.source.ghost_name }
     ensures same_sink { joint.new.sink.ghost_name ≡ joint.old.sink.ghost_name }
-    ensures ends { EndsBy (children_due scheduling n) result.status result.machine
-        (streams S.left S.faults K.written K.faults joint.old.source.now joint.old.sink.now)
-        (streams S.left S.faults K.written K.faults joint.new.source.now joint.new.sink.now) }
-    ensures none { result.status ≢ 4 → (K.written joint.new.sink.now).held ≡ [] }
+    ensures ends { FulfilsJoined (children_due scheduling n) result S.told K.told joint.old joint.new }
 {
     match load(alloc, n, joint, make, steps) {
         Ok(mut loaded) => match show(&mut loaded, n, scheduling, choose, &mut *joint.sink, steps) {

@@ -1,9 +1,7 @@
 //! The command `native`: children of the root of an image, which a monitor runs.
-ghost use Rattle.std.specs.Prelude.{◌≡◌, ◌≢◌, ◌≤◌, []};
-ghost use Rattle.pip_due.specs.EndsBy.{EndsBy};
+ghost use Rattle.std.specs.Prelude.{◌≤◌};
 ghost use Rattle.pip_commands.specs.Dues.{native_due};
-ghost use Rattle.pip_due.specs.Pacing.{IsPaced};
-ghost use Rattle.pip_due.specs.Streams.{streams};
+ghost use Rattle.pip_due.specs.Commands.{Fulfils, MayStart};
 
 use super::children::children;
 use super::children::scheduling::Scheduling;
@@ -22,15 +20,10 @@ pub fn native<S: Source, K: Sink>(
     source: &mut S,
     sink: &mut K,
 ) -> Ended
-    requires none { (K.written sink.old).held ≡ [] }
     requires least { 1 ≤ n }
     requires most { n ≤ 8 }
-    requires paced { IsPaced (native_due n count) (S.is_open source.old) S.allows
-        (streams S.left S.faults K.written K.faults source.old sink.old) }
-    ensures ends { EndsBy (native_due n count) result.status result.machine
-        (streams S.left S.faults K.written K.faults source.old sink.old)
-        (streams S.left S.faults K.written K.faults source.new sink.new) }
-    ensures none { result.status ≢ 4 → (K.written sink.new).held ≡ [] }
+    requires paced { MayStart (native_due n count) S.is_open S.allows S.told K.told source.old sink.old }
+    ensures ends { Fulfils (native_due n count) result S.told K.told source.old sink.old source.new sink.new }
 {
     let scheduling = Scheduling::Monitor { count };
     children::<S, K, Brand>(alloc, n, scheduling, source, sink, Blank::new(1))

@@ -1,13 +1,11 @@
 //! The commands `run`, `tree` and `core`: an image is read, its steps are made, and each shows something else of them.
-ghost use Rattle.std.specs.Prelude.{◌≡◌, ◌≢◌, ◌≤◌, []};
+ghost use Rattle.std.specs.Prelude.{◌≡◌, ◌≤◌};
 ghost use Rattle.pip_base.specs.Opening.{CanOpen};
 ghost use Rattle.pip_base.specs.declared.types.Plan.{Plan};
 ghost use Rattle.pip_lines.specs.Due.{AnswersDue};
-ghost use Rattle.pip_due.specs.EndsBy.{EndsBy};
 ghost use Rattle.pip_commands.specs.Dues.{run_due};
-ghost use Rattle.pip_due.specs.Pacing.{IsPaced};
-ghost use Rattle.pip_due.specs.Streams.{streams};
 ghost use Rattle.pip_commands.specs.declared.commands.run.report.Report.TheVariants as R;
+ghost use Rattle.pip_due.specs.Commands.{Fulfils, FulfilsJoined, MayStart, MayStartJoined};
 
 pub(super) mod report;
 
@@ -30,14 +28,9 @@ pub fn run<S: Source, K: Sink>(
     source: &mut S,
     sink: &mut K,
 ) -> Ended
-    requires none { (K.written sink.old).held ≡ [] }
     requires seed { 1 ≤ seed }
-    requires paced { IsPaced (run_due R.Trace count seed) (S.is_open source.old) S.allows
-        (streams S.left S.faults K.written K.faults source.old sink.old) }
-    ensures ends { EndsBy (run_due R.Trace count seed) result.status result.machine
-        (streams S.left S.faults K.written K.faults source.old sink.old)
-        (streams S.left S.faults K.written K.faults source.new sink.new) }
-    ensures none { result.status ≢ 4 → (K.written sink.new).held ≡ [] }
+    requires paced { MayStart (run_due R.Trace count seed) S.is_open S.allows S.told K.told source.old sink.old }
+    ensures ends { Fulfils (run_due R.Trace count seed) result S.told K.told source.old sink.old source.new sink.new }
 {
     make_run(Report::Trace, alloc, count, seed, source, sink)
 }
@@ -51,14 +44,9 @@ pub fn tree<S: Source, K: Sink>(
     source: &mut S,
     sink: &mut K,
 ) -> Ended
-    requires none { (K.written sink.old).held ≡ [] }
     requires seed { 1 ≤ seed }
-    requires paced { IsPaced (run_due R.Tree count seed) (S.is_open source.old) S.allows
-        (streams S.left S.faults K.written K.faults source.old sink.old) }
-    ensures ends { EndsBy (run_due R.Tree count seed) result.status result.machine
-        (streams S.left S.faults K.written K.faults source.old sink.old)
-        (streams S.left S.faults K.written K.faults source.new sink.new) }
-    ensures none { result.status ≢ 4 → (K.written sink.new).held ≡ [] }
+    requires paced { MayStart (run_due R.Tree count seed) S.is_open S.allows S.told K.told source.old sink.old }
+    ensures ends { Fulfils (run_due R.Tree count seed) result S.told K.told source.old sink.old source.new sink.new }
 {
     make_run(Report::Tree, alloc, count, seed, source, sink)
 }
@@ -72,14 +60,9 @@ pub fn core_dump<S: Source, K: Sink>(
     source: &mut S,
     sink: &mut K,
 ) -> Ended
-    requires none { (K.written sink.old).held ≡ [] }
     requires seed { 1 ≤ seed }
-    requires paced { IsPaced (run_due R.Frames count seed) (S.is_open source.old) S.allows
-        (streams S.left S.faults K.written K.faults source.old sink.old) }
-    ensures ends { EndsBy (run_due R.Frames count seed) result.status result.machine
-        (streams S.left S.faults K.written K.faults source.old sink.old)
-        (streams S.left S.faults K.written K.faults source.new sink.new) }
-    ensures none { result.status ≢ 4 → (K.written sink.new).held ≡ [] }
+    requires paced { MayStart (run_due R.Frames count seed) S.is_open S.allows S.told K.told source.old sink.old }
+    ensures ends { Fulfils (run_due R.Frames count seed) result S.told K.told source.old sink.old source.new sink.new }
 {
     make_run(Report::Frames, alloc, count, seed, source, sink)
 }
@@ -93,14 +76,9 @@ fn make_run<S: Source, K: Sink>(
     source: &mut S,
     sink: &mut K,
 ) -> Ended
-    requires none { (K.written sink.old).held ≡ [] }
     requires seed { 1 ≤ seed }
-    requires paced { IsPaced (run_due report count seed) (S.is_open source.old) S.allows
-        (streams S.left S.faults K.written K.faults source.old sink.old) }
-    ensures ends { EndsBy (run_due report count seed) result.status result.machine
-        (streams S.left S.faults K.written K.faults source.old sink.old)
-        (streams S.left S.faults K.written K.faults source.new sink.new) }
-    ensures none { result.status ≢ 4 → (K.written sink.new).held ≡ [] }
+    requires paced { MayStart (run_due report count seed) S.is_open S.allows S.told K.told source.old sink.old }
+    ensures ends { Fulfils (run_due report count seed) result S.told K.told source.old sink.old source.new sink.new }
 {
     run_counted::<S, K, Brand>(report, alloc, count, seed, source, sink, Blank::new(1))
 }
@@ -116,14 +94,9 @@ fn run_counted<S: Source, K: Sink, L: Ledger>(
     blank: Blank,
 ) -> Ended
     requires blank { CanOpen blank.name blank.parts L.name L.parts }
-    requires none { (K.written sink.old).held ≡ [] }
     requires seed { 1 ≤ seed }
-    requires paced { IsPaced (run_due report count seed) (S.is_open source.old) S.allows
-        (streams S.left S.faults K.written K.faults source.old sink.old) }
-    ensures ends { EndsBy (run_due report count seed) result.status result.machine
-        (streams S.left S.faults K.written K.faults source.old sink.old)
-        (streams S.left S.faults K.written K.faults source.new sink.new) }
-    ensures none { result.status ≢ 4 → (K.written sink.new).held ≡ [] }
+    requires paced { MayStart (run_due report count seed) S.is_open S.allows S.told K.told source.old sink.old }
+    ensures ends { Fulfils (run_due report count seed) result S.told K.told source.old sink.old source.new sink.new }
 {
     let mut steps: Steps<L> = Steps::new(blank);
     let mut joint = Joint::new(source, sink);
@@ -150,16 +123,11 @@ fn run_plans<S: Source, K: Sink, G: Fn(Plan) -> F, F: Callback + Drop, L: Ledger
 ) -> Ended
     requires makes { G.IsAlwaysCallable make }
     requires answer { (p : Plan) (f : F) → G.post make p f → AnswersDue (F.may_ask f) (F.answers f) p }
-    requires none { (K.written joint.old.sink.now).held ≡ [] }
     requires seed { 1 ≤ seed }
-    requires paced { IsPaced (run_due report count seed) (S.is_open joint.old.source.now) S.allows
-        (streams S.left S.faults K.written K.faults joint.old.source.now joint.old.sink.now) }
+    requires paced { MayStartJoined (run_due report count seed) S.is_open S.allows S.told K.told joint.old }
     ensures same_source { joint.new.source.ghost_name ≡ joint.old.source.ghost_name }
     ensures same_sink { joint.new.sink.ghost_name ≡ joint.old.sink.ghost_name }
-    ensures ends { EndsBy (run_due report count seed) result.status result.machine
-        (streams S.left S.faults K.written K.faults joint.old.source.now joint.old.sink.now)
-        (streams S.left S.faults K.written K.faults joint.new.source.now joint.new.sink.now) }
-    ensures none { result.status ≢ 4 → (K.written joint.new.sink.now).held ≡ [] }
+    ensures ends { FulfilsJoined (run_due report count seed) result S.told K.told joint.old joint.new }
 {
     match load(alloc, joint, make, steps) {
         Ok(mut loaded) => match report.show(&mut loaded, count, seed, &mut *joint.sink, steps) {

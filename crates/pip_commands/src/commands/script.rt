@@ -1,10 +1,8 @@
 //! The command `script`.
-ghost use Rattle.std.specs.Prelude.{◌≡◌, ◌≢◌, []};
+ghost use Rattle.std.specs.Prelude.{◌≡◌};
 ghost use Rattle.pip_base.specs.Opening.{CanOpen};
-ghost use Rattle.pip_due.specs.EndsBy.{EndsBy};
 ghost use Rattle.pip_commands.specs.Dues.{script_due};
-ghost use Rattle.pip_due.specs.Pacing.{IsPaced};
-ghost use Rattle.pip_due.specs.Streams.{streams};
+ghost use Rattle.pip_due.specs.Commands.{Fulfils, FulfilsJoined, MayStart, MayStartJoined};
 
 mod line;
 mod turn;
@@ -21,12 +19,8 @@ use turn::{End, take_turn};
 /// Runs a script (docs/FORMATS.md, "Scripts"). What was answered is written before more is read. At status 0 the
 /// machine that its boot line made is handed back.
 pub fn script<S: Source, K: Sink>(alloc: Global, source: &mut S, sink: &mut K) -> Ended
-    requires none { (K.written sink.old).held ≡ [] }
-    requires paced { IsPaced script_due (S.is_open source.old) S.allows
-        (streams S.left S.faults K.written K.faults source.old sink.old) }
-    ensures ends { EndsBy script_due result.status result.machine (streams S.left S.faults K.written K.faults source.old
-        sink.old) (streams S.left S.faults K.written K.faults source.new sink.new) }
-    ensures none { result.status ≢ 4 → (K.written sink.new).held ≡ [] }
+    requires paced { MayStart script_due S.is_open S.allows S.told K.told source.old sink.old }
+    ensures ends { Fulfils script_due result S.told K.told source.old sink.old source.new sink.new }
 {
     run_script::<S, K, Brand>(alloc, source, sink, Blank::new(1))
 }
@@ -39,12 +33,8 @@ fn run_script<S: Source, K: Sink, L: Ledger>(
     blank: Blank,
 ) -> Ended
     requires blank { CanOpen blank.name blank.parts L.name L.parts }
-    requires none { (K.written sink.old).held ≡ [] }
-    requires paced { IsPaced script_due (S.is_open source.old) S.allows
-        (streams S.left S.faults K.written K.faults source.old sink.old) }
-    ensures ends { EndsBy script_due result.status result.machine (streams S.left S.faults K.written K.faults source.old
-        sink.old) (streams S.left S.faults K.written K.faults source.new sink.new) }
-    ensures none { result.status ≢ 4 → (K.written sink.new).held ≡ [] }
+    requires paced { MayStart script_due S.is_open S.allows S.told K.told source.old sink.old }
+    ensures ends { Fulfils script_due result S.told K.told source.old sink.old source.new sink.new }
 {
     let mut steps: Steps<L> = Steps::new(blank);
     let mut joint = Joint::new(source, sink);
@@ -57,15 +47,10 @@ fn run_lines<S: Source, K: Sink, L: Ledger>(
     joint: &mut Joint<'_, S, K>,
     steps: &mut Steps<L>,
 ) -> Ended
-    requires none { (K.written joint.old.sink.now).held ≡ [] }
-    requires paced { IsPaced script_due (S.is_open joint.old.source.now) S.allows
-        (streams S.left S.faults K.written K.faults joint.old.source.now joint.old.sink.now) }
+    requires paced { MayStartJoined script_due S.is_open S.allows S.told K.told joint.old }
     ensures same_source { joint.new.source.ghost_name ≡ joint.old.source.ghost_name }
     ensures same_sink { joint.new.sink.ghost_name ≡ joint.old.sink.ghost_name }
-    ensures ends { EndsBy script_due result.status result.machine
-        (streams S.left S.faults K.written K.faults joint.old.source.now joint.old.sink.now)
-        (streams S.left S.faults K.written K.faults joint.new.source.now joint.new.sink.now) }
-    ensures none { result.status ≢ 4 → (K.written joint.new.sink.now).held ≡ [] }
+    ensures ends { FulfilsJoined script_due result S.told K.told joint.old joint.new }
 {
     let mut input = Input::new();
     let mut machine = None;

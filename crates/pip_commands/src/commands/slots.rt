@@ -1,11 +1,9 @@
 //! The command `slots`: children of the root of an image, each of which has time slots.
-ghost use Rattle.std.specs.Prelude.{◌≡◌, ◌≢◌, ◌≤◌, ◌<◌, ◌*◌, ◌^◌, []};
+ghost use Rattle.std.specs.Prelude.{◌≤◌, ◌<◌, ◌*◌, ◌^◌};
 ghost use Rattle.std.specs.List.{AllByRecursion};
 ghost use Rattle.pip_slots.specs.Images.{round_steps};
-ghost use Rattle.pip_due.specs.EndsBy.{EndsBy};
 ghost use Rattle.pip_commands.specs.Dues.{slots_due};
-ghost use Rattle.pip_due.specs.Pacing.{IsPaced};
-ghost use Rattle.pip_due.specs.Streams.{streams};
+ghost use Rattle.pip_due.specs.Commands.{Fulfils, MayStart};
 
 use super::children::children;
 use super::children::scheduling::Scheduling;
@@ -27,17 +25,12 @@ pub fn slots<S: Source, K: Sink>(
     source: &mut S,
     sink: &mut K,
 ) -> Ended
-    requires none { (K.written sink.old).held ≡ [] }
     requires least { 1 ≤ n }
     requires most { n ≤ 8 }
     requires steps { rounds * round_steps round.items < 2 ^ 32 }
     requires children { AllByRecursion (λ x. x.child < n) round.items }
-    requires paced { IsPaced (slots_due n rounds round) (S.is_open source.old) S.allows
-        (streams S.left S.faults K.written K.faults source.old sink.old) }
-    ensures ends { EndsBy (slots_due n rounds round) result.status result.machine
-        (streams S.left S.faults K.written K.faults source.old sink.old)
-        (streams S.left S.faults K.written K.faults source.new sink.new) }
-    ensures none { result.status ≢ 4 → (K.written sink.new).held ≡ [] }
+    requires paced { MayStart (slots_due n rounds round) S.is_open S.allows S.told K.told source.old sink.old }
+    ensures ends { Fulfils (slots_due n rounds round) result S.told K.told source.old sink.old source.new sink.new }
 {
     let scheduling = Scheduling::Slots { round, rounds };
     children::<S, K, Brand>(alloc, n, scheduling, source, sink, Blank::new(1))

@@ -1,12 +1,13 @@
 //! The command `soak`.
-ghost use Rattle.std.specs.Prelude.{◌≡◌, ◌≢◌, ◌≤◌, ℕ, [], List, OnOk, OnErr, Option};
+ghost use Rattle.std.specs.Prelude.{◌≡◌, ◌≤◌, ℕ, [], List, OnOk, OnErr, Option};
 ghost use Rattle.pip_base.specs.Opening.{CanOpen};
 ghost use Rattle.pip_io.specs.Causes.{HasCause};
 ghost use Rattle.pip_io.specs.Taken.{Appends, SendsPart};
 ghost use Rattle.pip_soak.specs.LoadText.{load_text};
 ghost use Rattle.pip_commands.specs.Dues.{soak_due};
 ghost use Rattle.pip_due.specs.EndsBy.{EndsBy};
-ghost use Rattle.pip_due.specs.Streams.{beside, streams};
+ghost use Rattle.pip_due.specs.Streams.{beside};
+ghost use Rattle.pip_due.specs.Commands.{Fulfils};
 
 use crate::machines::new_machine;
 use pip_base::Steps;
@@ -36,11 +37,8 @@ pub fn soak<S: Source, K: Sink>(
 ) -> Ended
     requires count { count ≤ 1000000 }
     requires seed { 1 ≤ seed }
-    requires none { (K.written sink.old).held ≡ [] }
-    ensures ends { EndsBy (soak_due count seed) result.status result.machine
-        (streams S.left S.faults K.written K.faults _source.old sink.old)
-        (streams S.left S.faults K.written K.faults _source.new sink.new) }
-    ensures none { result.status ≢ 4 → (K.written sink.new).held ≡ [] }
+    requires none { (K.told sink.old).written.held ≡ [] }
+    ensures ends { Fulfils (soak_due count seed) result S.told K.told _source.old sink.old _source.new sink.new }
 {
     make_load::<K, Brand>(alloc, count, seed, sink, Blank::new(1))
 }
@@ -56,11 +54,9 @@ fn make_load<K: Sink, L: Ledger>(
     requires blank { CanOpen blank.name blank.parts L.name L.parts }
     requires count { count ≤ 1000000 }
     requires seed { 1 ≤ seed }
-    requires none { (K.written sink.old).held ≡ [] }
+    requires none { (K.told sink.old).written.held ≡ [] }
     ensures ends { (left : Option (List ℕ)) (reads : ℕ) → EndsBy (soak_due count seed) result.status result.machine
-        (beside left reads (K.written sink.old) (K.faults sink.old))
-        (beside left reads (K.written sink.new) (K.faults sink.new)) }
-    ensures none { result.status ≢ 4 → (K.written sink.new).held ≡ [] }
+        (beside left reads (K.told sink.old)) (beside left reads (K.told sink.new)) }
 {
     let mut steps: Steps<L> = Steps::new(blank);
     let Ok(mut machine) = new_machine(alloc, FRAMES, PROCESSORS, &mut steps) else {
@@ -84,12 +80,12 @@ fn write_load<K: Sink>(
     count: u32,
     sink: &mut K,
 ) -> Result<(), Failed>
-    ensures whole { OnOk result (Appends (K.written sink.old) (K.written sink.new)
-        (load_text counts.now totals.now count)) }
-    ensures part { OnErr result (SendsPart (K.written sink.old) (K.written sink.new)
-        (load_text counts.now totals.now count)) }
-    ensures none { OnOk result ((K.written sink.new).held ≡ []) }
-    ensures cause { HasCause (K.faults sink.old) (K.faults sink.new) result }
+    ensures whole { OnOk result
+        (Appends (K.told sink.old).written (K.told sink.new).written (load_text counts.now totals.now count)) }
+    ensures part { OnErr result
+        (SendsPart (K.told sink.old).written (K.told sink.new).written (load_text counts.now totals.now count)) }
+    ensures none { OnOk result ((K.told sink.new).written.held ≡ []) }
+    ensures cause { HasCause (K.told sink.old).faults (K.told sink.new).faults result }
 {
     load_text(counts, totals, count, sink)?;
     sink.settle()

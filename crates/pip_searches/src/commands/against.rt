@@ -4,20 +4,21 @@ ghost use Rattle.std.specs.Prelude.{◌≡◌, ◌≢◌, ◌≤◌, ℕ, [], Li
 ghost use Rattle.pip_base.specs.Opening.{CanOpen};
 ghost use Rattle.pip_image.specs.Coming.{IsHeader};
 ghost use Rattle.pip_io.specs.Moments.{joined};
-ghost use Rattle.pip_io.specs.Pacing.{MayReadOn};
+ghost use Rattle.pip_io.specs.Pacing.{MayRead};
 ghost use Rattle.pip_model.specs.Booted.{HasBooted};
 ghost use Rattle.pip_searches.specs.SearchDues.{against_due};
 ghost use Rattle.pip_due.specs.EndsBy.{EndsBy};
 ghost use Rattle.pip_due.specs.Loading.{LoadsFront};
 ghost use Rattle.pip_searches.specs.MenuReading.{BeginsMenu};
-ghost use Rattle.pip_due.specs.Pacing.{IsPaced};
-ghost use Rattle.pip_due.specs.Streams.{beside, streams};
+ghost use Rattle.pip_due.specs.Streams.{beside};
+ghost use Rattle.pip_due.specs.Commands.{Fulfils, FulfilsJoined, MayStart, MayStartJoined};
 
 pub(crate) mod again;
 pub(crate) mod menu;
 pub(crate) mod menu_line;
 
-use crate::commands::every::searching::{Start, end_search};
+use crate::Start;
+use crate::commands::every::searching::end_search;
 use crate::text::bad_menu_line;
 use menu::{MenuStop, read_menu};
 use pip_base::Steps;
@@ -41,15 +42,12 @@ pub fn against<S: Source, K: Sink>(
     source: &mut S,
     sink: &mut K,
 ) -> Ended
-    requires none { (K.written sink.old).held ≡ [] }
     requires some { 1 ≤ states }
     requires seed { 1 ≤ start.seed }
-    requires paced { IsPaced (against_due states from depth start) (S.is_open source.old) S.allows
-        (streams S.left S.faults K.written K.faults source.old sink.old) }
-    ensures ends { EndsBy (against_due states from depth start) result.status result.machine
-        (streams S.left S.faults K.written K.faults source.old sink.old)
-        (streams S.left S.faults K.written K.faults source.new sink.new) }
-    ensures none { result.status ≢ 4 → (K.written sink.new).held ≡ [] }
+    requires paced { MayStart (against_due states from depth start) S.is_open S.allows S.told K.told source.old
+        sink.old }
+    ensures ends { Fulfils (against_due states from depth start) result S.told K.told source.old sink.old source.new
+        sink.new }
 {
     against_counted::<S, K, Brand>(
         alloc,
@@ -75,15 +73,12 @@ fn against_counted<S: Source, K: Sink, L: Ledger>(
     blank: Blank,
 ) -> Ended
     requires blank { CanOpen blank.name blank.parts L.name L.parts }
-    requires none { (K.written sink.old).held ≡ [] }
     requires some { 1 ≤ states }
     requires seed { 1 ≤ start.seed }
-    requires paced { IsPaced (against_due states from depth start) (S.is_open source.old) S.allows
-        (streams S.left S.faults K.written K.faults source.old sink.old) }
-    ensures ends { EndsBy (against_due states from depth start) result.status result.machine
-        (streams S.left S.faults K.written K.faults source.old sink.old)
-        (streams S.left S.faults K.written K.faults source.new sink.new) }
-    ensures none { result.status ≢ 4 → (K.written sink.new).held ≡ [] }
+    requires paced { MayStart (against_due states from depth start) S.is_open S.allows S.told K.told source.old
+        sink.old }
+    ensures ends { Fulfils (against_due states from depth start) result S.told K.told source.old sink.old source.new
+        sink.new }
 {
     let mut steps: Steps<L> = Steps::new(blank);
     let mut joint = Joint::new(source, sink);
@@ -100,17 +95,12 @@ fn against_joined<S: Source, K: Sink, L: Ledger>(
     joint: &mut Joint<'_, S, K>,
     steps: &mut Steps<L>,
 ) -> Ended
-    requires none { (K.written joint.old.sink.now).held ≡ [] }
     requires some { 1 ≤ states }
     requires seed { 1 ≤ start.seed }
-    requires paced { IsPaced (against_due states from depth start) (S.is_open joint.old.source.now) S.allows
-        (streams S.left S.faults K.written K.faults joint.old.source.now joint.old.sink.now) }
+    requires paced { MayStartJoined (against_due states from depth start) S.is_open S.allows S.told K.told joint.old }
     ensures same_source { joint.new.source.ghost_name ≡ joint.old.source.ghost_name }
     ensures same_sink { joint.new.sink.ghost_name ≡ joint.old.sink.ghost_name }
-    ensures ends { EndsBy (against_due states from depth start) result.status result.machine
-        (streams S.left S.faults K.written K.faults joint.old.source.now joint.old.sink.now)
-        (streams S.left S.faults K.written K.faults joint.new.source.now joint.new.sink.now) }
-    ensures none { result.status ≢ 4 → (K.written joint.new.sink.now).held ≡ [] }
+    ensures ends { FulfilsJoined (against_due states from depth start) result S.told K.told joint.old joint.new }
 {
     match load_front(alloc, joint, steps) {
         Ok(begun) => after_image(alloc, begun, states, from, depth, start, joint),
@@ -134,16 +124,15 @@ fn after_image<S: Source, K: Sink>(
     requires some { 1 ≤ states }
     requires seed { 1 ≤ start.seed }
     requires is_open { S.is_open joint.old.source.now }
-    requires none { (K.written joint.old.sink.now).held ≡ [] }
-    requires paced { MayReadOn S.allows BeginsMenu (joined S.left S.faults K.written K.faults joint.old) }
+    requires none { (K.told joint.old.sink.now).written.held ≡ [] }
+    requires paced { MayRead S.allows BeginsMenu (joined S.told K.told joint.old) }
     ensures same_source { joint.new.source.ghost_name ≡ joint.old.source.ghost_name }
     ensures same_sink { joint.new.sink.ghost_name ≡ joint.old.sink.ghost_name }
-    ensures ends { (left : Option (List ℕ)) → LoadsFront left (S.left joint.old.source.now) begun.head
+    ensures ends { (left : Option (List ℕ)) → LoadsFront left (S.told joint.old.source.now).left begun.head
         (⟦<RawFrames as Frames>⟧.memory begun.mem) → EndsBy (against_due states from depth start) result.status
-        result.machine
-        (beside left (S.faults joint.old.source.now) (K.written joint.old.sink.now) (K.faults joint.old.sink.now))
-        (streams S.left S.faults K.written K.faults joint.new.source.now joint.new.sink.now) }
-    ensures none { result.status ≢ 4 → (K.written joint.new.sink.now).held ≡ [] }
+        result.machine (beside left (S.told joint.old.source.now).faults (K.told joint.old.sink.now))
+        (joined S.told K.told joint.new) }
+    ensures none { result.status ≢ 4 → (K.told joint.new.sink.now).written.held ≡ [] }
 {
     match read_menu(joint) {
         Ok(menu) => end_search(

@@ -1,10 +1,8 @@
 //! The command `apart`: an image is read, its steps are made, and then each of its guests is searched alone.
-ghost use Rattle.std.specs.Prelude.{◌≡◌, ◌≢◌, ◌≤◌, []};
+ghost use Rattle.std.specs.Prelude.{◌≡◌, ◌≤◌};
 ghost use Rattle.pip_base.specs.Opening.{CanOpen};
-ghost use Rattle.pip_due.specs.EndsBy.{EndsBy};
 ghost use Rattle.pip_searches.specs.SearchDues.{apart_due};
-ghost use Rattle.pip_due.specs.Pacing.{IsPaced};
-ghost use Rattle.pip_due.specs.Streams.{streams};
+ghost use Rattle.pip_due.specs.Commands.{Fulfils, FulfilsJoined, MayStart, MayStartJoined};
 
 mod searching;
 
@@ -28,15 +26,10 @@ pub fn apart<S: Source, K: Sink>(
     source: &mut S,
     sink: &mut K,
 ) -> Ended
-    requires none { (K.written sink.old).held ≡ [] }
     requires some { 1 ≤ states }
     requires seed { 1 ≤ seed }
-    requires paced { IsPaced (apart_due states count seed) (S.is_open source.old) S.allows
-        (streams S.left S.faults K.written K.faults source.old sink.old) }
-    ensures ends { EndsBy (apart_due states count seed) result.status result.machine
-        (streams S.left S.faults K.written K.faults source.old sink.old)
-        (streams S.left S.faults K.written K.faults source.new sink.new) }
-    ensures none { result.status ≢ 4 → (K.written sink.new).held ≡ [] }
+    requires paced { MayStart (apart_due states count seed) S.is_open S.allows S.told K.told source.old sink.old }
+    ensures ends { Fulfils (apart_due states count seed) result S.told K.told source.old sink.old source.new sink.new }
 {
     apart_counted::<S, K, Brand>(alloc, states, count, seed, source, sink, Blank::new(1))
 }
@@ -52,15 +45,10 @@ fn apart_counted<S: Source, K: Sink, L: Ledger>(
     blank: Blank,
 ) -> Ended
     requires blank { CanOpen blank.name blank.parts L.name L.parts }
-    requires none { (K.written sink.old).held ≡ [] }
     requires some { 1 ≤ states }
     requires seed { 1 ≤ seed }
-    requires paced { IsPaced (apart_due states count seed) (S.is_open source.old) S.allows
-        (streams S.left S.faults K.written K.faults source.old sink.old) }
-    ensures ends { EndsBy (apart_due states count seed) result.status result.machine
-        (streams S.left S.faults K.written K.faults source.old sink.old)
-        (streams S.left S.faults K.written K.faults source.new sink.new) }
-    ensures none { result.status ≢ 4 → (K.written sink.new).held ≡ [] }
+    requires paced { MayStart (apart_due states count seed) S.is_open S.allows S.told K.told source.old sink.old }
+    ensures ends { Fulfils (apart_due states count seed) result S.told K.told source.old sink.old source.new sink.new }
 {
     let mut steps: Steps<L> = Steps::new(blank);
     let mut joint = Joint::new(source, sink);
@@ -76,17 +64,12 @@ fn apart_joined<S: Source, K: Sink, L: Ledger>(
     joint: &mut Joint<'_, S, K>,
     steps: &mut Steps<L>,
 ) -> Ended
-    requires none { (K.written joint.old.sink.now).held ≡ [] }
     requires some { 1 ≤ states }
     requires seed { 1 ≤ seed }
-    requires paced { IsPaced (apart_due states count seed) (S.is_open joint.old.source.now) S.allows
-        (streams S.left S.faults K.written K.faults joint.old.source.now joint.old.sink.now) }
+    requires paced { MayStartJoined (apart_due states count seed) S.is_open S.allows S.told K.told joint.old }
     ensures same_source { joint.new.source.ghost_name ≡ joint.old.source.ghost_name }
     ensures same_sink { joint.new.sink.ghost_name ≡ joint.old.sink.ghost_name }
-    ensures ends { EndsBy (apart_due states count seed) result.status result.machine
-        (streams S.left S.faults K.written K.faults joint.old.source.now joint.old.sink.now)
-        (streams S.left S.faults K.written K.faults joint.new.source.now joint.new.sink.now) }
-    ensures none { result.status ≢ 4 → (K.written joint.new.sink.now).held ≡ [] }
+    ensures ends { FulfilsJoined (apart_due states count seed) result S.told K.told joint.old joint.new }
 {
     match load(alloc, joint, steps) {
         Ok(begun) => end_apart(alloc, begun, states, count, seed, &mut *joint.sink),

@@ -1,19 +1,18 @@
 //! The command `every`: an image is read, and all that can happen to it is searched.
-ghost use Rattle.std.specs.Prelude.{◌≡◌, ◌≢◌, ◌≤◌, []};
+ghost use Rattle.std.specs.Prelude.{◌≡◌, ◌≤◌};
 ghost use Rattle.pip_base.specs.Opening.{CanOpen};
-ghost use Rattle.pip_due.specs.EndsBy.{EndsBy};
 ghost use Rattle.pip_searches.specs.SearchDues.{every_due};
-ghost use Rattle.pip_due.specs.Pacing.{IsPaced};
-ghost use Rattle.pip_due.specs.Streams.{streams};
+ghost use Rattle.pip_due.specs.Commands.{Fulfils, FulfilsJoined, MayStart, MayStartJoined};
 
 pub(crate) mod searching;
 
+use crate::Start;
 use pip_base::Steps;
 use pip_due::begun::load;
 use pip_due::loading::LoadError;
 use pip_due::{Ended, end_at_image};
 use pip_io::{Joint, Sink, Source};
-use searching::{Start, end_search};
+use searching::end_search;
 use std::alloc::Global;
 use std::marker::Brand;
 use std::sync::ledger::{Blank, Ledger};
@@ -30,15 +29,11 @@ pub fn every<S: Source, K: Sink>(
     source: &mut S,
     sink: &mut K,
 ) -> Ended
-    requires none { (K.written sink.old).held ≡ [] }
     requires some { 1 ≤ states }
     requires seed { 1 ≤ start.seed }
-    requires paced { IsPaced (every_due states from depth start) (S.is_open source.old) S.allows
-        (streams S.left S.faults K.written K.faults source.old sink.old) }
-    ensures ends { EndsBy (every_due states from depth start) result.status result.machine
-        (streams S.left S.faults K.written K.faults source.old sink.old)
-        (streams S.left S.faults K.written K.faults source.new sink.new) }
-    ensures none { result.status ≢ 4 → (K.written sink.new).held ≡ [] }
+    requires paced { MayStart (every_due states from depth start) S.is_open S.allows S.told K.told source.old sink.old }
+    ensures ends { Fulfils (every_due states from depth start) result S.told K.told source.old sink.old source.new
+        sink.new }
 {
     every_counted::<S, K, Brand>(
         alloc,
@@ -64,15 +59,11 @@ fn every_counted<S: Source, K: Sink, L: Ledger>(
     blank: Blank,
 ) -> Ended
     requires blank { CanOpen blank.name blank.parts L.name L.parts }
-    requires none { (K.written sink.old).held ≡ [] }
     requires some { 1 ≤ states }
     requires seed { 1 ≤ start.seed }
-    requires paced { IsPaced (every_due states from depth start) (S.is_open source.old) S.allows
-        (streams S.left S.faults K.written K.faults source.old sink.old) }
-    ensures ends { EndsBy (every_due states from depth start) result.status result.machine
-        (streams S.left S.faults K.written K.faults source.old sink.old)
-        (streams S.left S.faults K.written K.faults source.new sink.new) }
-    ensures none { result.status ≢ 4 → (K.written sink.new).held ≡ [] }
+    requires paced { MayStart (every_due states from depth start) S.is_open S.allows S.told K.told source.old sink.old }
+    ensures ends { Fulfils (every_due states from depth start) result S.told K.told source.old sink.old source.new
+        sink.new }
 {
     let mut steps: Steps<L> = Steps::new(blank);
     let mut joint = Joint::new(source, sink);
@@ -89,17 +80,12 @@ fn every_joined<S: Source, K: Sink, L: Ledger>(
     joint: &mut Joint<'_, S, K>,
     steps: &mut Steps<L>,
 ) -> Ended
-    requires none { (K.written joint.old.sink.now).held ≡ [] }
     requires some { 1 ≤ states }
     requires seed { 1 ≤ start.seed }
-    requires paced { IsPaced (every_due states from depth start) (S.is_open joint.old.source.now) S.allows
-        (streams S.left S.faults K.written K.faults joint.old.source.now joint.old.sink.now) }
+    requires paced { MayStartJoined (every_due states from depth start) S.is_open S.allows S.told K.told joint.old }
     ensures same_source { joint.new.source.ghost_name ≡ joint.old.source.ghost_name }
     ensures same_sink { joint.new.sink.ghost_name ≡ joint.old.sink.ghost_name }
-    ensures ends { EndsBy (every_due states from depth start) result.status result.machine
-        (streams S.left S.faults K.written K.faults joint.old.source.now joint.old.sink.now)
-        (streams S.left S.faults K.written K.faults joint.new.source.now joint.new.sink.now) }
-    ensures none { result.status ≢ 4 → (K.written joint.new.sink.now).held ≡ [] }
+    ensures ends { FulfilsJoined (every_due states from depth start) result S.told K.told joint.old joint.new }
 {
     match load(alloc, joint, steps) {
         Ok(begun) => end_search(

@@ -32,12 +32,12 @@ returns-in_err-write_turn g c = record {
       let less : c.loop-k.k < length s.search.found.items = omega (arith, c.loop-k-test.true, c.len-k-end.ensures) in
       let vs = s.search.visits.items in
       let fs = s.search.found.items in
-      subst (AppendsPart (g.K.Sink.written c.args.sink.now) (g.K.Sink.written c.write_turn.new.sink))
+      subst (AppendsPart (g.K.Sink.told c.args.sink.now).written (g.K.Sink.told c.write_turn.new.sink).written)
       (found_lines s.cpus.items s.end vs fs)
       (cut_here (found_line s.cpus.items s.end vs) _ _ _ fs c.loop-k.k c.index-found.result.now
       (found_at (λ way. way.items) vs fs s.ways.items c.requires.ways c.loop-k.k less c.index-found.result.now
       c.index-found.ensures c.index.result.now c.index.ensures) c.loop-k.invariant.wrote
-      (subst (AppendsPart (g.K.Sink.written c.loop-k.sink) (g.K.Sink.written c.write_turn.new.sink))
+      (subst (AppendsPart (g.K.Sink.told c.loop-k.sink).written (g.K.Sink.told c.write_turn.new.sink).written)
       (line_here (λ way. way.items) vs fs s.ways.items c.requires.ways c.loop-k.k less c.index-found.result.now
       c.index-found.ensures c.index.result.now c.index.ensures s.end c.if-not-covers.ensures c.requires.traced
       s.cpus.items c.deref.result.now c.deref-in-loop-k.result.now c.deref-in-loop-k-2.result.now
@@ -55,7 +55,7 @@ loop-k-preserved g c =
       wrote = one_more (found_line s.cpus.items s.end vs) _ _ _ fs c.loop-k.k c.index-found.result.now
           (found_at (λ way. way.items) vs fs s.ways.items c.requires.ways c.loop-k.k less c.index-found.result.now
           c.index-found.ensures c.index.result.now c.index.ensures) c.loop-k.invariant.wrote
-          (subst (Appends (g.K.Sink.written c.loop-k.sink) (g.K.Sink.written c.write_turn.new.sink))
+          (subst (Appends (g.K.Sink.told c.loop-k.sink).written (g.K.Sink.told c.write_turn.new.sink).written)
           (line_here (λ way. way.items) vs fs s.ways.items c.requires.ways c.loop-k.k less c.index-found.result.now
           c.index-found.ensures c.index.result.now c.index.ensures s.end c.if-not-covers.ensures c.requires.traced
           s.cpus.items c.deref.result.now c.deref-in-loop-k.result.now c.deref-in-loop-k-2.result.now
@@ -71,7 +71,7 @@ returns g c = record {
       let most : length s.search.found.items ≤ c.loop-k.k = omega (arith, c.loop-k-test.false, c.len-k-end.ensures) in
       let vs = s.search.visits.items in
       let fs = s.search.found.items in
-      subst (Appends (g.K.Sink.written c.args.sink.now) (g.K.Sink.written c.loop-k.sink))
+      subst (Appends (g.K.Sink.told c.args.sink.now).written (g.K.Sink.told c.loop-k.sink).written)
       (ap (flat_map (found_line s.cpus.items s.end vs)) (all_taken fs c.loop-k.k most)
       ∙ found_lines s.cpus.items s.end vs fs) c.loop-k.invariant.wrote;
   cause = search rules;

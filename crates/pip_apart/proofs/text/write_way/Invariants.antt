@@ -6,7 +6,7 @@ use Rattle.pip_apart.proofs.text.write_way.Given as goal
 
 abbrev pub invariant-loop-k : goal.invariant-loop-k
 invariant-loop-k g l = record {
-  wrote : Appends (g.K.Sink.written l.fn.sink) (g.K.Sink.written l.sink)
+  wrote : Appends (g.K.Sink.told l.fn.sink).written (g.K.Sink.told l.sink).written
       (flat_map (turns_text l.fn.cpus) (take l.k l.fn.way));
-  calm : g.K.Sink.faults l.sink ≡ g.K.Sink.faults l.fn.sink;
+  calm : (g.K.Sink.told l.sink).faults ≡ (g.K.Sink.told l.fn.sink).faults;
 }

@@ -67,20 +67,23 @@ audit-requires-clause-most g c =
     (within_as_asked (map string_bytes c.args.words.now) _ _ _ c.read_words.ensures
     c.in-Some-Audit.is c.in-Some-Audit.field-0-is).1
 
-pub script-requires-clause-paced : goal.script-requires-clause-paced
-script-requires-clause-paced g c =
-    paced_as_asked (map string_bytes c.args.words.now) _ _ _ c.read_words.ensures
-    c.in-Some-Script.is c.in-Some-Script.field-0-is _ _ _ c.requires.paced
+pub script-requires : goal.script-requires
+script-requires g c = record {
+  paced = paced_as_asked (map string_bytes c.args.words.now) _ _ _ c.read_words.ensures
+      c.in-Some-Script.is c.in-Some-Script.field-0-is _ _ _ c.requires.paced;
+}
 
-pub asm-requires-clause-paced : goal.asm-requires-clause-paced
-asm-requires-clause-paced g c =
-    paced_as_asked (map string_bytes c.args.words.now) _ _ _ c.read_words.ensures
-    c.in-Some-Assemble.is c.in-Some-Assemble.field-0-is _ _ _ c.requires.paced
+pub asm-requires : goal.asm-requires
+asm-requires g c = record {
+  paced = paced_as_asked (map string_bytes c.args.words.now) _ _ _ c.read_words.ensures
+      c.in-Some-Assemble.is c.in-Some-Assemble.field-0-is _ _ _ c.requires.paced;
+}
 
-pub dis-requires-clause-paced : goal.dis-requires-clause-paced
-dis-requires-clause-paced g c =
-    paced_as_asked (map string_bytes c.args.words.now) _ _ _ c.read_words.ensures
-    c.in-Some-Disassemble.is c.in-Some-Disassemble.field-0-is _ _ _ c.requires.paced
+pub dis-requires : goal.dis-requires
+dis-requires g c = record {
+  paced = paced_as_asked (map string_bytes c.args.words.now) _ _ _ c.read_words.ensures
+      c.in-Some-Disassemble.is c.in-Some-Disassemble.field-0-is _ _ _ c.requires.paced;
+}
 
 pub run-requires-clause-paced : goal.run-requires-clause-paced
 run-requires-clause-paced g c =
@@ -156,3 +159,15 @@ pub apart-requires-clause-paced : goal.apart-requires-clause-paced
 apart-requires-clause-paced g c =
     paced_as_asked (map string_bytes c.args.words.now) _ _ _ c.read_words.ensures
     c.in-Some-Apart.is c.in-Some-Apart.field-0-is _ _ _ c.requires.paced
+
+pub part-requires : goal.part-requires
+part-requires g c = record {
+  paced = paced_as_asked (map string_bytes c.args.words.now) _ _ _ c.read_words.ensures
+      c.in-Some-Part.is c.in-Some-Part.field-0-is _ _ _ c.requires.paced;
+}
+
+pub merge-requires : goal.merge-requires
+merge-requires g c = record {
+  paced = paced_as_asked (map string_bytes c.args.words.now) _ _ _ c.read_words.ensures
+      c.in-Some-Merge.is c.in-Some-Merge.field-0-is _ _ _ c.requires.paced;
+}

@@ -3,7 +3,7 @@ ghost use Rattle.std.specs.Prelude.{◌≡◌, ◌<◌, ◌≤◌, [], IfOk, OnO
 ghost use Rattle.std.specs.List.{AllByRecursion};
 ghost use Rattle.pip_base.specs.declared.types.Plan.{Plan};
 ghost use Rattle.pip_io.specs.Moments.{joined};
-ghost use Rattle.pip_io.specs.Pacing.{MayReadOn};
+ghost use Rattle.pip_io.specs.Pacing.{MayRead};
 ghost use Rattle.pip_lines.specs.Due.{AnswersDue};
 ghost use Rattle.pip_commands.specs.NativeLoading.{LoadsNative, StoppedNative};
 ghost use Rattle.pip_commands.specs.Pacing.{IsFaultlessUnshort};
@@ -40,16 +40,16 @@ pub fn load<S: Source, K: Sink, G: Fn(Plan) -> F, F: Callback + Drop, L: Ledger>
     requires answer { (p : Plan) (f : F) → G.post make p f → AnswersDue (F.may_ask f) (F.answers f) p }
     requires most { n ≤ 8 }
     requires is_open { S.is_open joint.old.source.now }
-    requires settled { (K.written joint.old.sink.now).held ≡ [] }
-    requires paced { MayReadOn S.allows (IsFaultlessUnshort n) (joined S.left S.faults K.written K.faults joint.old) }
+    requires settled { (K.told joint.old.sink.now).written.held ≡ [] }
+    requires paced { MayRead S.allows (IsFaultlessUnshort n) (joined S.told K.told joint.old) }
     ensures same_source { joint.new.source.ghost_name ≡ joint.old.source.ghost_name }
     ensures sink { joint.new.sink ≡ joint.old.sink }
     ensures loads { MatchResult result
-        (λ l. LoadsNative n (S.left joint.old.source.now) (S.left joint.new.source.now) l.frames l.pages l.lines.items
-        l.machine)
-        (λ stop. StoppedNative n stop (S.left joint.old.source.now) (S.left joint.new.source.now)
-        (S.faults joint.old.source.now) (S.faults joint.new.source.now)) }
-    ensures calm { OnOk result (S.faults joint.new.source.now ≡ S.faults joint.old.source.now) }
+        (λ l. LoadsNative n (S.told joint.old.source.now).left (S.told joint.new.source.now).left l.frames l.pages
+        l.lines.items l.machine)
+        (λ stop. StoppedNative n stop (S.told joint.old.source.now).left (S.told joint.new.source.now).left
+        (S.told joint.old.source.now).faults (S.told joint.new.source.now).faults) }
+    ensures calm { OnOk result ((S.told joint.new.source.now).faults ≡ (S.told joint.old.source.now).faults) }
     ensures below { IfOk result (λ l. AllByRecursion (λ p. p.line < 16) l.lines.items) }
 {
     let mut reader = JointReader::new();

@@ -65,9 +65,9 @@ impl Scheduling {
         requires most { length children.items ≤ 8 }
         requires next { AnswersNext (C.may_choose choose) (C.chooses choose) (length children.items) }
         requires bounded { IsBounded self.now (length children.items) }
-        ensures acts { Acts result (StandsAs machine.old) (StandsAs machine.new) (K.written sink.old)
-            (K.written sink.new) (λ w. children_acts self.now lines.now children.items w) }
-        ensures cause { HasCause (K.faults sink.old) (K.faults sink.new) result }
+        ensures acts { Acts result (StandsAs machine.old) (StandsAs machine.new) (K.told sink.old) (K.told sink.new)
+            (λ w. children_acts self.now lines.now children.items w) }
+        ensures cause { HasCause (K.told sink.old).faults (K.told sink.new).faults result }
     {
         match self {
             Scheduling::Monitor { count } => {

@@ -42,9 +42,10 @@ pub fn show<F: Callback, C: Chooser + Drop, K: Sink, L: Ledger>(
     requires most { n ≤ 8 }
     requires bounded { IsBounded scheduling n }
     ensures shows { (i : Image) → Begins i loaded.old.frames loaded.old.pages loaded.old.lines.items loaded.old.machine
-        → ShowsChildrenOut result scheduling i n (K.written sink.old) (K.written sink.new) loaded.new.machine }
-    ensures none { OnOk result ((K.written sink.new).held ≡ []) }
-    ensures cause { HasCause (K.faults sink.old) (K.faults sink.new) result }
+        → ShowsChildrenOut result scheduling i n (K.told sink.old).written (K.told sink.new).written
+        loaded.new.machine }
+    ensures none { OnOk result ((K.told sink.new).written.held ≡ []) }
+    ensures cause { HasCause (K.told sink.old).faults (K.told sink.new).faults result }
 {
     give(loaded, n, scheduling, choose, sink, steps)?;
     sink.settle()
@@ -67,8 +68,8 @@ fn give<F: Callback, C: Chooser + Drop, K: Sink, L: Ledger>(
     requires most { n ≤ 8 }
     requires bounded { IsBounded scheduling n }
     ensures shows { (i : Image) → Begins i loaded.old.frames loaded.old.pages loaded.old.lines.items loaded.old.machine
-        → ShowsChildren result scheduling i n (K.written sink.old) (K.written sink.new) loaded.new.machine }
-    ensures cause { HasCause (K.faults sink.old) (K.faults sink.new) result }
+        → ShowsChildren result scheduling i n (K.told sink.old).written (K.told sink.new).written loaded.new.machine }
+    ensures cause { HasCause (K.told sink.old).faults (K.told sink.new).faults result }
 {
     let machine = &mut loaded.machine;
     let lines = loaded.lines.as_slice();
@@ -98,9 +99,9 @@ pub fn watch<M: Frames, F: Callback, C: Chooser, K: Sink, L: Ledger>(
 ) -> Result<(), Failed>
     requires below { AllByRecursion (λ p. p.line < 16) lines.now }
     requires some { 0 < length machine.old.cpus }
-    ensures acts { Acts result (StandsAs machine.old) (StandsAs machine.new) (K.written sink.old) (K.written sink.new)
+    ensures acts { Acts result (StandsAs machine.old) (StandsAs machine.new) (K.told sink.old) (K.told sink.new)
         (λ w. watched_steps w lines.now monitor.old count 0) }
-    ensures cause { HasCause (K.faults sink.old) (K.faults sink.new) result }
+    ensures cause { HasCause (K.told sink.old).faults (K.told sink.new).faults result }
 {
     for i in 0..count {
         let t = i as u64;

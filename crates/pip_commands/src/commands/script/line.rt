@@ -1,7 +1,7 @@
 //! One line of a script.
-ghost use Rattle.std.specs.Prelude.{◌≡◌, ◌≢◌, ◌≤◌, ℕ, List, Option, Err, IsErrOf, MatchResult, None, OnErr, OnOk, Some};
-ghost use Rattle.pip_io.specs.Causes.{HasCause, RoseByOne};
-ghost use Rattle.pip_io.specs.Taken.{Appends, AppendsPart};
+ghost use Rattle.std.specs.Prelude.{◌≡◌, ◌≢◌, ◌≤◌, ℕ, List, Option, Err, IsErrOf, MatchResult, None, Some};
+ghost use Rattle.pip_io.specs.Causes.{RoseByOne};
+ghost use Rattle.pip_io.specs.Writes.{Writes};
 ghost use Rattle.pip_model.specs.Grammar.{line_meaning};
 ghost use Rattle.pip_model.specs.Text.{line_text, outcome_text, said_text};
 ghost use Rattle.pip_model.specs.Worlds.{World};
@@ -62,12 +62,12 @@ pub fn run_line<K: Sink, L: Ledger>(
     sink: &mut K,
     steps: &mut Steps<L>,
 ) -> Result<(), ScriptLineError>
-    ensures later { K.faults sink.old ≤ K.faults sink.new }
-    ensures write { IsErrOf result ScriptLineError.Write → RoseByOne (K.faults sink.old) (K.faults sink.new) }
-    ensures calm { result ≢ Err ScriptLineError.Write → K.faults sink.new ≡ K.faults sink.old }
+    ensures later { (K.told sink.old).faults ≤ (K.told sink.new).faults }
+    ensures write { IsErrOf result ScriptLineError.Write → RoseByOne (K.told sink.old).faults (K.told sink.new).faults }
+    ensures calm { result ≢ Err ScriptLineError.Write → (K.told sink.new).faults ≡ (K.told sink.old).faults }
     ensures did { (v : Option World) → StandsIfAny machine.old v → MatchResult result
-        (λ _. Runs v line.now (K.written sink.old) (K.written sink.new) machine.new)
-        (λ stop. Stopped stop v line.now (K.written sink.old) (K.written sink.new)) }
+        (λ _. Runs v line.now (K.told sink.old).written (K.told sink.new).written machine.new)
+        (λ stop. Stopped stop v line.now (K.told sink.old).written (K.told sink.new).written) }
 {
     if is_blank(line) {
         return Ok(());
@@ -89,12 +89,12 @@ fn run_first<K: Sink, L: Ledger>(
 ) -> Result<(), ScriptLineError>
     requires none { machine.old ≡ None }
     requires words { HasWords line.now }
-    ensures later { K.faults sink.old ≤ K.faults sink.new }
-    ensures write { IsErrOf result ScriptLineError.Write → RoseByOne (K.faults sink.old) (K.faults sink.new) }
-    ensures calm { result ≢ Err ScriptLineError.Write → K.faults sink.new ≡ K.faults sink.old }
+    ensures later { (K.told sink.old).faults ≤ (K.told sink.new).faults }
+    ensures write { IsErrOf result ScriptLineError.Write → RoseByOne (K.told sink.old).faults (K.told sink.new).faults }
+    ensures calm { result ≢ Err ScriptLineError.Write → (K.told sink.new).faults ≡ (K.told sink.old).faults }
     ensures did { MatchResult result
-        (λ _. Runs None line.now (K.written sink.old) (K.written sink.new) machine.new)
-        (λ stop. Stopped stop None line.now (K.written sink.old) (K.written sink.new)) }
+        (λ _. Runs None line.now (K.told sink.old).written (K.told sink.new).written machine.new)
+        (λ stop. Stopped stop None line.now (K.told sink.old).written (K.told sink.new).written) }
 {
     match read_phrase(line, 0) {
         Some(ScriptLine::Boot { n, c }) => boot(alloc, machine, n, c, sink, steps),
@@ -114,12 +114,12 @@ fn boot<K: Sink, L: Ledger>(
     steps: &mut Steps<L>,
 ) -> Result<(), ScriptLineError>
     requires { IsProper 0 (ScriptLine.Boot n c) }
-    ensures later { K.faults sink.old ≤ K.faults sink.new }
-    ensures write { IsErrOf result ScriptLineError.Write → RoseByOne (K.faults sink.old) (K.faults sink.new) }
-    ensures calm { result ≢ Err ScriptLineError.Write → K.faults sink.new ≡ K.faults sink.old }
+    ensures later { (K.told sink.old).faults ≤ (K.told sink.new).faults }
+    ensures write { IsErrOf result ScriptLineError.Write → RoseByOne (K.told sink.old).faults (K.told sink.new).faults }
+    ensures calm { result ≢ Err ScriptLineError.Write → (K.told sink.new).faults ≡ (K.told sink.old).faults }
     ensures did { (line : List ℕ) → line_meaning 0 line ≡ Some (ScriptLine.Boot n c) → MatchResult result
-        (λ _. Runs None line (K.written sink.old) (K.written sink.new) machine.new)
-        (λ stop. Stopped stop None line (K.written sink.old) (K.written sink.new)) }
+        (λ _. Runs None line (K.told sink.old).written (K.told sink.new).written machine.new)
+        (λ stop. Stopped stop None line (K.told sink.old).written (K.told sink.new).written) }
 {
     *machine = Some(new_machine(alloc, n, c, steps)?);
     write_said(sink, &Said::Booted { n, c })?;
@@ -135,12 +135,12 @@ fn run_event<P: Port, K: Sink, L: Ledger>(
     steps: &mut Steps<L>,
 ) -> Result<(), ScriptLineError>
     requires { HasWords line.now }
-    ensures later { K.faults sink.old ≤ K.faults sink.new }
-    ensures write { IsErrOf result ScriptLineError.Write → RoseByOne (K.faults sink.old) (K.faults sink.new) }
-    ensures calm { result ≢ Err ScriptLineError.Write → K.faults sink.new ≡ K.faults sink.old }
+    ensures later { (K.told sink.old).faults ≤ (K.told sink.new).faults }
+    ensures write { IsErrOf result ScriptLineError.Write → RoseByOne (K.told sink.old).faults (K.told sink.new).faults }
+    ensures calm { result ≢ Err ScriptLineError.Write → (K.told sink.new).faults ≡ (K.told sink.old).faults }
     ensures did { (w : World) → P.stands port.old w → MatchResult result
-        (λ _. RunsIn w line.now (K.written sink.old) (K.written sink.new) (P.stands port.new))
-        (λ stop. Stopped stop (Some w) line.now (K.written sink.old) (K.written sink.new)) }
+        (λ _. RunsIn w line.now (K.told sink.old).written (K.told sink.new).written (P.stands port.new))
+        (λ stop. Stopped stop (Some w) line.now (K.told sink.old).written (K.told sink.new).written) }
 {
     match answer_line(port, line, steps) {
         None => Err(ScriptLineError::Bad),
@@ -155,10 +155,7 @@ fn run_event<P: Port, K: Sink, L: Ledger>(
 // and not at the end of a text first.
 #[inline(always)]
 fn write_said<K: Sink>(sink: &mut K, said: &Said) -> Result<(), Failed>
-    ensures whole { OnOk result (Appends (K.written sink.old) (K.written sink.new) (line_text (said_text said.now))) }
-    ensures prefix { OnErr result (AppendsPart (K.written sink.old) (K.written sink.new)
-        (line_text (said_text said.now))) }
-    ensures cause { HasCause (K.faults sink.old) (K.faults sink.new) result }
+    ensures { Writes K.told sink.old sink.new result (line_text (said_text said.now)) }
 {
     match *said {
         Said::Came(Outcome::Done) => write_all(sink, b"done\n"),
@@ -176,11 +173,7 @@ fn write_said<K: Sink>(sink: &mut K, said: &Said) -> Result<(), Failed>
 // Writes the line of a reply. Most have a status of one digit, and so a line of one length.
 #[inline(never)]
 fn write_reply<K: Sink>(sink: &mut K, status: Status, value: u32) -> Result<(), Failed>
-    ensures whole { OnOk result (Appends (K.written sink.old) (K.written sink.new)
-        (line_text (outcome_text (Outcome.Reply status value)))) }
-    ensures prefix { OnErr result (AppendsPart (K.written sink.old) (K.written sink.new)
-        (line_text (outcome_text (Outcome.Reply status value)))) }
-    ensures cause { HasCause (K.faults sink.old) (K.faults sink.new) result }
+    ensures { Writes K.told sink.old sink.new result (line_text (outcome_text (Outcome.Reply status value))) }
 {
     let number = status.number();
     if number < 10 {
@@ -193,10 +186,7 @@ fn write_reply<K: Sink>(sink: &mut K, status: Status, value: u32) -> Result<(), 
 // Writes a line that is put together in a text.
 #[inline(never)]
 fn write_text<K: Sink>(sink: &mut K, said: &Said) -> Result<(), Failed>
-    ensures whole { OnOk result (Appends (K.written sink.old) (K.written sink.new) (line_text (said_text said.now))) }
-    ensures prefix { OnErr result (AppendsPart (K.written sink.old) (K.written sink.new)
-        (line_text (said_text said.now))) }
-    ensures cause { HasCause (K.faults sink.old) (K.faults sink.new) result }
+    ensures { Writes K.told sink.old sink.new result (line_text (said_text said.now)) }
 {
     let mut text = ArrayString::new();
     push_said(&mut text, said);

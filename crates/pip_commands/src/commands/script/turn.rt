@@ -4,10 +4,10 @@ ghost use Rattle.std.specs.Prelude.{MatchResult};
 ghost use Rattle.std.specs.Io.KnownBytes as IO;
 ghost use Rattle.std.specs.Io.KnownBytes.{prepend_known};
 ghost use Rattle.pip_io.specs.Taken.{Keeps};
+ghost use Rattle.pip_io.specs.Moments.{joined};
 ghost use Rattle.pip_input.specs.Lines.{HoldsLine, HoldsPart, still};
 ghost use Rattle.pip_commands.specs.Pacing.{MayReadLine};
 ghost use Rattle.pip_commands.specs.Progress.{HasNoLine, LineComes, Names, Settles, TurnDoes, status_of};
-ghost use Rattle.pip_due.specs.Streams.{streams};
 
 use super::line::{ScriptLineError, run_line};
 use crate::text::bad_line;
@@ -57,14 +57,12 @@ pub fn take_turn<S: Source, K: Sink, L: Ledger>(
     steps: &mut Steps<L>,
 ) -> Option<End>
     requires is_open { S.is_open joint.old.source.now }
-    requires paced { MayReadLine S.allows input.old
-        (streams S.left S.faults K.written K.faults joint.old.source.now joint.old.sink.now) }
+    requires paced { MayReadLine S.allows input.old (joined S.told K.told joint.old) }
     ensures same_source { joint.new.source.ghost_name ≡ joint.old.source.ghost_name }
     ensures same_sink { joint.new.sink.ghost_name ≡ joint.old.sink.ghost_name }
-    ensures does { TurnDoes result machine.old machine.new number input.old input.new
-        (streams S.left S.faults K.written K.faults joint.old.source.now joint.old.sink.now)
-        (streams S.left S.faults K.written K.faults joint.new.source.now joint.new.sink.now) }
-    ensures none { IfSome result (λ end. end ≢ End.WriteFault → (K.written joint.new.sink.now).held ≡ []) }
+    ensures does { TurnDoes result machine.old machine.new number input.old input.new (joined S.told K.told joint.old)
+        (joined S.told K.told joint.new) }
+    ensures none { IfSome result (λ end. end ≢ End.WriteFault → (K.told joint.new.sink.now).written.held ≡ []) }
     ensures is_open { result ≡ None → S.is_open joint.new.source.now }
 {
     match run_turn(alloc, number, input, joint, machine, steps) {
@@ -83,14 +81,12 @@ fn run_turn<S: Source, K: Sink, L: Ledger>(
     steps: &mut Steps<L>,
 ) -> Option<End>
     requires is_open { S.is_open joint.old.source.now }
-    requires paced { MayReadLine S.allows input.old
-        (streams S.left S.faults K.written K.faults joint.old.source.now joint.old.sink.now) }
+    requires paced { MayReadLine S.allows input.old (joined S.told K.told joint.old) }
     ensures same_source { joint.new.source.ghost_name ≡ joint.old.source.ghost_name }
     ensures same_sink { joint.new.sink.ghost_name ≡ joint.old.sink.ghost_name }
-    ensures does { TurnDoes result machine.old machine.new number input.old input.new
-        (streams S.left S.faults K.written K.faults joint.old.source.now joint.old.sink.now)
-        (streams S.left S.faults K.written K.faults joint.new.source.now joint.new.sink.now) }
-    ensures none { result ≡ Some End.ReadFault → (K.written joint.new.sink.now).held ≡ [] }
+    ensures does { TurnDoes result machine.old machine.new number input.old input.new (joined S.told K.told joint.old)
+        (joined S.told K.told joint.new) }
+    ensures none { result ≡ Some End.ReadFault → (K.told joint.new.sink.now).written.held ≡ [] }
     ensures is_open { result ≡ None → S.is_open joint.new.source.now }
 {
     match whole_line(alloc, number, input, joint, machine, steps) {
@@ -118,14 +114,12 @@ fn whole_line<S: Source, K: Sink, L: Ledger>(
     steps: &mut Steps<L>,
 ) -> Result<usize, End>
     requires is_open { S.is_open joint.old.source.now }
-    requires paced { MayReadLine S.allows input.old
-        (streams S.left S.faults K.written K.faults joint.old.source.now joint.old.sink.now) }
+    requires paced { MayReadLine S.allows input.old (joined S.told K.told joint.old) }
     ensures same_source { joint.new.source.ghost_name ≡ joint.old.source.ghost_name }
     ensures same_sink { joint.new.sink.ghost_name ≡ joint.old.sink.ghost_name }
-    ensures does { LineComes result machine.old machine.new number input.old input.new
-        (streams S.left S.faults K.written K.faults joint.old.source.now joint.old.sink.now)
-        (streams S.left S.faults K.written K.faults joint.new.source.now joint.new.sink.now) }
-    ensures none { result ≡ Err End.ReadFault → (K.written joint.new.sink.now).held ≡ [] }
+    ensures does { LineComes result machine.old machine.new number input.old input.new (joined S.told K.told joint.old)
+        (joined S.told K.told joint.new) }
+    ensures none { result ≡ Err End.ReadFault → (K.told joint.new.sink.now).written.held ≡ [] }
     ensures is_open { OnOk result (S.is_open joint.new.source.now) }
 {
     match input.line_ahead() {
@@ -148,14 +142,12 @@ fn other_line<S: Source, K: Sink, L: Ledger>(
     requires ahead { MatchOption ahead (HoldsPart (still input.old) input.old)
         (λ end. (left : Option (List ℕ)) → HoldsLine (still input.old) input.old left end) }
     requires is_open { S.is_open joint.old.source.now }
-    requires paced { MayReadLine S.allows input.old
-        (streams S.left S.faults K.written K.faults joint.old.source.now joint.old.sink.now) }
+    requires paced { MayReadLine S.allows input.old (joined S.told K.told joint.old) }
     ensures same_source { joint.new.source.ghost_name ≡ joint.old.source.ghost_name }
     ensures same_sink { joint.new.sink.ghost_name ≡ joint.old.sink.ghost_name }
-    ensures does { LineComes result machine.old machine.new number input.old input.new
-        (streams S.left S.faults K.written K.faults joint.old.source.now joint.old.sink.now)
-        (streams S.left S.faults K.written K.faults joint.new.source.now joint.new.sink.now) }
-    ensures none { result ≡ Err End.ReadFault → (K.written joint.new.sink.now).held ≡ [] }
+    ensures does { LineComes result machine.old machine.new number input.old input.new (joined S.told K.told joint.old)
+        (joined S.told K.told joint.new) }
+    ensures none { result ≡ Err End.ReadFault → (K.told joint.new.sink.now).written.held ≡ [] }
     ensures is_open { OnOk result (S.is_open joint.new.source.now) }
 {
     match next_line(ahead, input, joint) {
@@ -180,7 +172,7 @@ fn other_line<S: Source, K: Sink, L: Ledger>(
 // Writes what is held at an end, which is another one where that fails. Nothing more is tried after a failed read or
 // write.
 fn settle_end<K: Sink>(end: End, sink: &mut K) -> End
-    ensures { Settles end result (K.written sink.old) (K.written sink.new) (K.faults sink.old) (K.faults sink.new) }
+    ensures { Settles end result (K.told sink.old) (K.told sink.new) }
 {
     match end {
         End::ReadFault | End::WriteFault => end,
@@ -201,19 +193,17 @@ fn next_line<S: Source, K: Sink>(
     requires ahead { MatchOption ahead (HoldsPart (still input.old) input.old)
         (λ end. (left : Option (List ℕ)) → HoldsLine (still input.old) input.old left end) }
     requires is_open { S.is_open joint.old.source.now }
-    requires paced { MayReadLine S.allows input.old
-        (streams S.left S.faults K.written K.faults joint.old.source.now joint.old.sink.now) }
+    requires paced { MayReadLine S.allows input.old (joined S.told K.told joint.old) }
     ensures same_source { joint.new.source.ghost_name ≡ joint.old.source.ghost_name }
     ensures same_sink { joint.new.sink.ghost_name ≡ joint.old.sink.ghost_name }
-    ensures taken { Keeps (K.written joint.old.sink.now) (K.written joint.new.sink.now) }
-    ensures kept { IO.Keeps (prepend_known input.old.bytes (S.left joint.old.source.now))
-        (prepend_known input.new.bytes (S.left joint.new.source.now)) }
+    ensures taken { Keeps (K.told joint.old.sink.now).written (K.told joint.new.sink.now).written }
+    ensures kept { IO.Keeps (prepend_known input.old.bytes (S.told joint.old.source.now).left)
+        (prepend_known input.new.bytes (S.told joint.new.source.now).left) }
     ensures line { MatchResult result
-        (λ end. HoldsLine (still input.old) input.new (S.left joint.new.source.now) end
-        × (S.faults joint.new.source.now ≡ S.faults joint.old.source.now)
-        × (K.faults joint.new.sink.now ≡ K.faults joint.old.sink.now))
-        (λ end. HasNoLine end input.old input.new (streams S.left S.faults K.written K.faults joint.old.source.now
-        joint.old.sink.now) (streams S.left S.faults K.written K.faults joint.new.source.now joint.new.sink.now)) }
+        (λ end. HoldsLine (still input.old) input.new (S.told joint.new.source.now).left end
+        × ((S.told joint.new.source.now).faults ≡ (S.told joint.old.source.now).faults)
+        × ((K.told joint.new.sink.now).faults ≡ (K.told joint.old.sink.now).faults))
+        (λ end. HasNoLine end input.old input.new (joined S.told K.told joint.old) (joined S.told K.told joint.new)) }
     ensures is_open { (n : ℕ) → result ≡ Ok (LineEnd.Newline n) → S.is_open joint.new.source.now }
 {
     if let Some(end) = ahead {
@@ -230,10 +220,9 @@ fn next_line<S: Source, K: Sink>(
 
 // Names a line that is bad, and answers how the script ends.
 fn end_at<K: Sink>(number: u32, sink: &mut K, stop: ScriptLineError) -> End
-    ensures later { K.faults sink.old ≤ K.faults sink.new }
-    ensures calm { result ≢ End.WriteFault → K.faults sink.new ≡ K.faults sink.old }
-    ensures names { Names stop number result (K.written sink.old) (K.written sink.new) (K.faults sink.old)
-        (K.faults sink.new) }
+    ensures later { (K.told sink.old).faults ≤ (K.told sink.new).faults }
+    ensures calm { result ≢ End.WriteFault → (K.told sink.new).faults ≡ (K.told sink.old).faults }
+    ensures names { Names stop number result (K.told sink.old) (K.told sink.new) }
 {
     match stop {
         ScriptLineError::Bad => match write_all(

@@ -10,7 +10,7 @@ use Rattle.pip_dis.proofs.disassembler.pass_all.Goals as goal
 pub returns-in_err-pass_plans-clause-told : goal.returns-in_err-pass_plans-clause-told
 returns-in_err-pass_plans-clause-told g c =
     let first = c.in_ok-pass_fields.ensures in
-    let seen = joined g.S.Source.left g.S.Source.faults g.K.Sink.written g.K.Sink.faults in
+    let seen = joined g.S.Source.told g.K.Sink.told in
     let h : Stops image_parts (seen c.args.joint.now) (seen c.pass_plans.new.joint) c.in_err-pass_plans.field-0.0 =
     passes_stops image_parts (coming c.pass_fields.new.reader.place) _ _ first.told _ c.in_err-pass_plans.field-0.0
     first.calm c.in_err-pass_plans.ensures.told in
@@ -20,7 +20,7 @@ pub returns-in_err-pass_pages-clause-told : goal.returns-in_err-pass_pages-claus
 returns-in_err-pass_pages-clause-told g c =
     let first = c.in_ok-pass_fields.ensures in
     let second = c.in_ok-pass_plans.ensures in
-    let seen = joined g.S.Source.left g.S.Source.faults g.K.Sink.written g.K.Sink.faults in
+    let seen = joined g.S.Source.told g.K.Sink.told in
     let h : Stops image_parts (seen c.args.joint.now) (seen c.pass_pages.new.joint) c.in_err-pass_pages.field-0.0 =
     passes_stops image_parts (coming c.pass_plans.new.reader.place) _ _
     (passes_then image_parts (coming c.pass_fields.new.reader.place) _ _ first.told

@@ -6,7 +6,7 @@ use Rattle.pip_dis.proofs.output.write_words.Given as goal
 
 abbrev pub invariant-loop-word : goal.invariant-loop-word
 invariant-loop-word g l = record {
-  calm : g.K.Sink.faults l.sink ≡ g.K.Sink.faults l.fn.sink;
-  done : Appends (g.K.Sink.written l.fn.sink) (g.K.Sink.written l.sink)
+  calm : (g.K.Sink.told l.sink).faults ≡ (g.K.Sink.told l.fn.sink).faults;
+  done : Appends (g.K.Sink.told l.fn.sink).written (g.K.Sink.told l.sink).written
       (text_of_lines (map word_said (take l.word-index l.words)));
 }

@@ -57,7 +57,7 @@ header-requires-clause-paced g c = λ bytes left taken is. c.requires.paced byte
 pub load_pages-requires-clause-paced : goal.load_pages-requires-clause-paced
 load_pages-requires-clause-paced g c =
     let head = c.in_ok-head.ensures in
-    pages_paced g.S.Source.allows g.K.Sink.written g.K.Sink.faults (ap (λ s. s.now) head.sink) head.calm head.reads
+    pages_paced g.S.Source.allows g.K.Sink.told (ap (λ s. s.now) head.sink) head.calm head.reads
     (λ bytes is. is) c.requires.paced
 
 pub boot_zeros-requires : goal.boot_zeros-requires

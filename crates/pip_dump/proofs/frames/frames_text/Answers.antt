@@ -10,7 +10,7 @@ pub loop-f-init : goal.loop-f-init
 loop-f-init g c = record {
   calm = refl;
   left = λ t held. left_same _ _ _ _ _ (ap (λ n. flat_map (frame_text t) (numbers_from 0 n)) (omega arith))
-      (left_start (g.K.Sink.written c.args.sink.now) _);
+      (left_start (g.K.Sink.told c.args.sink.now).written _);
 }
 
 pub returns-in_err-frame_text-clause-text : goal.returns-in_err-frame_text-clause-text
@@ -20,8 +20,9 @@ returns-in_err-frame_text-clause-text g c t held =
     let left = left_same _ _ _ _ _ (ap (flat_map (frame_text t))
     (numbers_step c.loop-f.f t.frames (omega (arith, inside, count)))) (c.loop-f.invariant.left t held) in
     wrote_err _ _ _ c.from_residual.result c.from_residual.ensures.0
-    (left_part _ _ _ _ _ _ left (subst (λ k. AppendsPart (g.K.Sink.written c.loop-f.sink) (g.K.Sink.written
-    c.frame_text.new.sink) (frame_text t k)) c.new.ensures (c.in_err-frame_text.ensures.text t held)))
+    (left_part _ _ _ _ _ _ left (subst (λ k. AppendsPart (g.K.Sink.told c.loop-f.sink).written
+    (g.K.Sink.told c.frame_text.new.sink).written (frame_text t k)) c.new.ensures (c.in_err-frame_text.ensures.text t
+    held)))
 
 pub loop-f-preserved : goal.loop-f-preserved
 loop-f-preserved g c = record {
@@ -32,7 +33,7 @@ loop-f-preserved g c = record {
       let left = left_same _ _ _ _ _ (ap (flat_map (frame_text t))
       (numbers_step c.loop-f.f t.frames (omega (arith, inside, count)))) (c.loop-f.invariant.left t held) in
       left_more _ _ _ _ _ _ left
-      (subst (λ k. Appends (g.K.Sink.written c.loop-f.sink) (g.K.Sink.written c.frame_text.new.sink)
+      (subst (λ k. Appends (g.K.Sink.told c.loop-f.sink).written (g.K.Sink.told c.frame_text.new.sink).written
       (frame_text t k)) c.new.ensures (c.in_ok-frame_text.ensures.text t held));
 }
 

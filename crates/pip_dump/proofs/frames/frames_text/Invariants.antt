@@ -9,7 +9,7 @@ use Rattle.pip_dump.proofs.frames.frames_text.Given as goal
 -- the lines of the frames from here on are left
 abbrev pub invariant-loop-f : goal.invariant-loop-f
 invariant-loop-f g l = record {
-  calm : g.K.Sink.faults l.sink ≡ g.K.Sink.faults l.fn.sink;
-  left : (t : Tree) → IsHeld t (g.M.Frames.memory l.mem) → IsLeft (g.K.Sink.written l.fn.sink) (g.K.Sink.written l.sink)
-      (flat_map (frame_text t) (numbers_from l.f (t.frames - l.f))) (frames_text t);
+  calm : (g.K.Sink.told l.sink).faults ≡ (g.K.Sink.told l.fn.sink).faults;
+  left : (t : Tree) → IsHeld t (g.M.Frames.memory l.mem) → IsLeft (g.K.Sink.told l.fn.sink).written
+      (g.K.Sink.told l.sink).written (flat_map (frame_text t) (numbers_from l.f (t.frames - l.f))) (frames_text t);
 }

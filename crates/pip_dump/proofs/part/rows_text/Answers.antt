@@ -13,7 +13,7 @@ loop-i-init g c = record {
   high = omega arith;
   calm = refl;
   left = λ t x s lays found. left_same _ _ _ _ _ (ap (flat_map (row_text t x)) (sym (all_rows t s c.args.part x found)))
-      (left_start (g.K.Sink.written c.args.sink.now) _);
+      (left_start (g.K.Sink.told c.args.sink.now).written _);
 }
 
 pub next_tables-requires-clause-node : goal.next_tables-requires-clause-node
@@ -84,7 +84,8 @@ loop-i-preserved g c =
           let left = left_same _ _ _ _ _ (ap (flat_map (row_text t x)) (rows_skip t s m lays c.args.part x found
           c.loop-i.from c.in-Some.i above next)) (c.loop-i.invariant.left t x s lays found) in
           let next_is : 1024 * c.in-Some.i + 1024 ≡ 1024 * (c.in-Some.i + 1) = omega arith in
-          subst (λ k. RowsLeft t x k (g.K.Sink.written c.args.sink.now) (g.K.Sink.written c.table_text.new.sink)
+          subst (λ k. RowsLeft t x k (g.K.Sink.told c.args.sink.now).written
+          (g.K.Sink.told c.table_text.new.sink).written
           (flat_map (row_text t x) x.rows)) next_is (c.in_ok-table_text.ensures.text t x _ _ leaves given left);
     }
 

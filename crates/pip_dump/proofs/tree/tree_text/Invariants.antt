@@ -7,7 +7,7 @@ use Rattle.pip_dump.proofs.tree.tree_text.Given as goal
 -- the texts of that many partitions were written
 abbrev pub invariant-loop-i : goal.invariant-loop-i
 invariant-loop-i g l = record {
-  calm : g.K.Sink.faults l.sink ≡ g.K.Sink.faults l.fn.sink;
+  calm : (g.K.Sink.told l.sink).faults ≡ (g.K.Sink.told l.fn.sink).faults;
   told : (t : Tree) → IsHeld t (g.M.Frames.memory l.mem)
-      → IsWalkedTo t l._i l.next (g.K.Sink.written l.fn.sink) (g.K.Sink.written l.sink);
+      → IsWalkedTo t l._i l.next (g.K.Sink.told l.fn.sink).written (g.K.Sink.told l.sink).written;
 }

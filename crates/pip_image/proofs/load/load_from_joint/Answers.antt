@@ -1,6 +1,7 @@
 use Rattle.std.proofs.Common.{subst, sym}
 use Rattle.pip_image.specs.Coming.{coming}
 use Rattle.pip_io.specs.Pacing.{MayRead}
+use Rattle.pip_io.specs.Moments.{streams}
 use Rattle.pip_io.proofs.Pacing.{paced_after}
 use Rattle.pip_image.specs.Pacing.{IsFaultless, IsPartless}
 use Rattle.pip_image.proofs.Steps.{faultless_after}
@@ -16,10 +17,9 @@ pub end-requires-clause-paced : goal.end-requires-clause-paced
 end-requires-clause-paced g c =
     let took = c.in-Ok.ensures.loaded.took in
     let paced = paced_after g.S.Source.allows (IsFaultless (coming c.args.reader.now.place))
-    (IsPartless (coming c.load_pages.new.reader.place)) _ _ _ _ (g.K.Sink.written c.args.joint.now.sink.now)
-    (g.K.Sink.faults c.args.joint.now.sink.now) took.bytes c.in-Ok.ensures.calm took.taken
+    (IsPartless (coming c.load_pages.new.reader.place)) _ _ _ _ (g.K.Sink.told c.args.joint.now.sink.now) took.bytes
+    c.in-Ok.ensures.calm took.taken
     (λ bytes is. faultless_after (coming c.args.reader.now.place) (coming c.load_pages.new.reader.place) _ _ _ took
     bytes is.1) c.requires.paced in
     subst (λ s. MayRead g.S.Source.allows (IsPartless (coming c.load_pages.new.reader.place))
-    (g.S.Source.left c.load_pages.new.joint.source.now) (g.S.Source.faults c.load_pages.new.joint.source.now)
-    (g.K.Sink.written s.now) (g.K.Sink.faults s.now)) (sym c.in-Ok.ensures.sink) paced
+    (streams g.S.Source.told g.K.Sink.told c.load_pages.new.joint.source.now s.now)) (sym c.in-Ok.ensures.sink) paced

@@ -3,6 +3,7 @@ use Rattle.pip_model.specs.Images.{has_row}
 use Rattle.pip_image.specs.Coming.{coming}
 use Rattle.pip_image.specs.Loading.{Loads}
 use Rattle.pip_io.specs.Pacing.{MayRead}
+use Rattle.pip_io.specs.Moments.{streams}
 use Rattle.pip_io.proofs.Pacing.{paced_after}
 use Rattle.pip_image.specs.Pacing.{IsFaultless, IsPartless}
 use Rattle.pip_image.proofs.Steps.{faultless_after}
@@ -28,7 +29,7 @@ loop-words-preserved g c =
       kept = c.load_page.ensures.count ∙ was.kept;
       done = subst (λ s. Loads c.args.head.now.frames (coming c.args.reader.now.place) (coming
           c.next_page.new.self.place)
-          (g.S.Source.left c.args.joint.now.source.now) (g.S.Source.left c.next_page.new.joint.source.now) s
+          (g.S.Source.told c.args.joint.now.source.now).left (g.S.Source.told c.next_page.new.joint.source.now).left s
           (g.M.Frames.memory c.load_page.new.mem)) (sym next.seen)
           (loads_page c.args.head.now.frames (coming c.args.reader.now.place) (coming c.loop-words.reader.place) (coming
           c.next_page.new.self.place) _ _ _ c.loop-words.reader.place.seen.items (g.M.Frames.memory c.loop-words.mem)
@@ -49,10 +50,9 @@ next_page-requires-clause-paced g c =
     let was = c.loop-words.invariant in
     let took = was.done.took in
     let paced = paced_after g.S.Source.allows (IsFaultless (coming c.args.reader.now.place))
-    (IsPartless (coming c.loop-words.reader.place)) _ _ _ _ (g.K.Sink.written c.args.joint.now.sink.now)
-    (g.K.Sink.faults c.args.joint.now.sink.now) took.bytes was.calm took.taken
+    (IsPartless (coming c.loop-words.reader.place)) _ _ _ _ (g.K.Sink.told c.args.joint.now.sink.now) took.bytes
+    was.calm took.taken
     (λ bytes is. faultless_after (coming c.args.reader.now.place) (coming c.loop-words.reader.place) _ _ _ took bytes
     is.1) c.requires.paced in
     subst (λ s. MayRead g.S.Source.allows (IsPartless (coming c.loop-words.reader.place))
-    (g.S.Source.left c.loop-words.joint.source.now) (g.S.Source.faults c.loop-words.joint.source.now)
-    (g.K.Sink.written s.now) (g.K.Sink.faults s.now)) (sym was.sink) paced
+    (streams g.S.Source.told g.K.Sink.told c.loop-words.joint.source.now s.now)) (sym was.sink) paced

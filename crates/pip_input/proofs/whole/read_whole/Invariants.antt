@@ -4,11 +4,12 @@ use Rattle.pip_input.proofs.whole.read_whole.Given as goal
 
 abbrev pub invariant-loop-count : goal.invariant-loop-count
 invariant-loop-count g l = record {
-  taken : TakesPart l.bytes.items (g.S.Source.left l.fn.joint.source.now) (g.S.Source.left l.joint.source.now);
+  taken : TakesPart l.bytes.items (g.S.Source.told l.fn.joint.source.now).left
+      (g.S.Source.told l.joint.source.now).left;
   name : l.joint.source.ghost_name ≡ l.fn.joint.source.ghost_name;
   sink : l.joint.sink ≡ l.fn.joint.sink;
   is_open : g.S.Source.is_open l.joint.source.now;
-  calm : g.S.Source.faults l.joint.source.now ≡ g.S.Source.faults l.fn.joint.source.now;
+  calm : (g.S.Source.told l.joint.source.now).faults ≡ (g.S.Source.told l.fn.joint.source.now).faults;
 }
 
 abbrev pub decreases-loop-count : goal.decreases-loop-count

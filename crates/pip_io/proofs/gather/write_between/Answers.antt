@@ -18,7 +18,7 @@ loop-place-preserved g c =
     record {
       least = omega (arith, low);
       most = high;
-      written = subst (Appends (g.K.Sink.written c.args.sink.now) (g.K.Sink.written c.write.new.self))
+      written = subst (Appends (g.K.Sink.told c.args.sink.now).written (g.K.Sink.told c.write.new.self).written)
           (ap (λ l. between xs c.args.start place ++ l) (between_front xs place c.args.end taken few)
           ∙ between_joined xs c.args.start place (place + taken) low (omega arith))
           (Appends-trans _ _ _ _ _ loop.written c.in-Ok.ensures.bytes);

@@ -8,18 +8,11 @@ use Rattle.pip_script.proofs.TextWords.{after_less, drop_word, tail_of, take_wor
 use Rattle.pip_script.proofs.TextWords.{words_from, words_split}
 use Rattle.pip_script.proofs.lines.split_phrase.Goals as goal
 
-pub split_at-requires : goal.split_at-requires
-split_at-requires c =
-    let short = word_short c.args.line.now in
-    let is = c.word_len.ensures in
-    omega (arith, is, short)
-
 pub loop-rest-init : goal.loop-rest-init
 loop-rest-init c cpus =
     let line = c.args.line.now in
-    let name = c.split_at.ensures.front ∙ ap (λ n. take n line) c.word_len.ensures ∙ take_word line in
-    let rest = c.split_at.ensures.back ∙ ap (λ n. drop n line) c.word_len.ensures ∙ drop_word line in
-    reads_first cpus c.requires.none (words_split line ∙ ap₂ (λ w r. w ∷ words_after r) (sym name) (sym rest))
+    reads_first cpus c.requires.none (words_split line ∙ ap₂ (λ w r. w ∷ words_after r) (sym c.split_word.ensures.word)
+    (sym c.split_word.ensures.rest))
 
 pub returns-in_err-number : goal.returns-in_err-number
 returns-in_err-number c =
@@ -49,7 +42,7 @@ pub loop-rest-preserved : goal.loop-rest-preserved
 loop-rest-preserved c cpus =
     let rest = c.loop-rest.rest.now in
     let number = c.in_ok-number.number in
-    let name = c.split_at.result.0.now in
+    let name = c.split_word.result.0.now in
     let all = words_of c.args.line.now in
     let pushed : c.try_push.new.self.items ≡ c.loop-rest.numbers.items ++ number.value ∷ [] = search rules in
     let reads = reads_further (c.loop-rest.invariant cpus) (words_from rest c.in-len1-up.len_at_least) number.value

@@ -1,19 +1,17 @@
 //! The menu after an image, line by line.
-ghost use Rattle.std.specs.Prelude.{◌≡◌, ℕ, ◌≤◌, [], Err, IfOk, MatchResult, Ok, OnErr, length};
-ghost use Rattle.std.specs.Io.KnownBytes.{Keeps, prepend_known};
-ghost use Rattle.pip_input.specs.Lines.{HoldsLine, HoldsPart, IsLineless, still};
-ghost use Rattle.pip_io.specs.Causes.{HasCause};
+ghost use Rattle.std.specs.Prelude.{◌≡◌, ◌≤◌, [], Err, MatchResult, Ok, length};
 ghost use Rattle.pip_io.specs.Moments.{joined};
-ghost use Rattle.pip_io.specs.Pacing.{MayReadOn};
+ghost use Rattle.pip_io.specs.Pacing.{MayRead};
 ghost use Rattle.pip_searches.specs.MenuReading.{BeginsMenu, StopsMenu, TakesMenu, menu_said};
 ghost use Rattle.pip_searches.specs.MenuText.{Asks, line_said, no_menu, one_said, said_of, with_line};
 
-use super::menu_line::{MenuKind, read_label, read_said, split_word};
+use super::menu_line::{MenuKind, read_label, read_said};
 use arrayvec::ArrayVec;
 use pip_base::never;
 use pip_every::{MAX_DEEDS, MAX_LABEL, MAX_LABELS, May};
 use pip_input::{Input, LineEnd};
-use pip_io::{Failed, Joint, Sink, Source};
+use pip_io::{Joint, Sink, Source};
+use pip_script::split_word;
 
 /// What the lines of a menu say: the deeds of partitions, and the labels of which it is asked whether they can come
 /// again.
@@ -60,20 +58,20 @@ const MAX_MENU_BYTES: u32 = 1 << 24;
 /// Reads a menu to the end of its source, or to its first bad line.
 pub fn read_menu<S: Source, K: Sink>(joint: &mut Joint<'_, S, K>) -> Result<ReadMenu, MenuStop>
     requires is_open { S.is_open joint.old.source.now }
-    requires settled { (K.written joint.old.sink.now).held ≡ [] }
-    requires paced { MayReadOn S.allows BeginsMenu (joined S.left S.faults K.written K.faults joint.old) }
+    requires settled { (K.told joint.old.sink.now).written.held ≡ [] }
+    requires paced { MayRead S.allows BeginsMenu (joined S.told K.told joint.old) }
     ensures same_source { joint.new.source.ghost_name ≡ joint.old.source.ghost_name }
     ensures sink { joint.new.sink ≡ joint.old.sink }
     ensures reads { MatchResult result
-        (λ menu. TakesMenu (S.left joint.old.source.now) (S.left joint.new.source.now) (menu_said menu)
-        × (S.faults joint.new.source.now ≡ S.faults joint.old.source.now))
-        (StopsMenu (S.left joint.old.source.now) (S.left joint.new.source.now) (S.faults joint.old.source.now)
-        (S.faults joint.new.source.now)) }
+        (λ menu. TakesMenu (S.told joint.old.source.now).left (S.told joint.new.source.now).left (menu_said menu)
+        × ((S.told joint.new.source.now).faults ≡ (S.told joint.old.source.now).faults))
+        (StopsMenu (S.told joint.old.source.now).left (S.told joint.new.source.now).left
+        (S.told joint.old.source.now).faults (S.told joint.new.source.now).faults) }
 {
     let mut input = Input::with_room(MAX_MENU_BYTES);
     let mut menu = ReadMenu::new();
     for line in 1..MAX_MENU_LINES + 2 {
-        let Ok(end) = next_line(&mut input, joint) else {
+        let Ok(end) = input.next_line(joint) else {
             return Err(MenuStop::Unread);
         };
         match end {
@@ -102,29 +100,6 @@ pub fn read_menu<S: Source, K: Sink>(joint: &mut Joint<'_, S, K>) -> Result<Read
     }
     // The line after the last that a menu may have is bad.
     never!()
-}
-
-// Tells what stands at the head of what is left.
-fn next_line<S: Source, K: Sink>(
-    input: &mut Input,
-    joint: &mut Joint<'_, S, K>,
-) -> Result<LineEnd, Failed>
-    requires is_open { S.is_open joint.old.source.now }
-    requires settled { (K.written joint.old.sink.now).held ≡ [] }
-    requires paced { MayReadOn S.allows (IsLineless input.old) (joined S.left S.faults K.written K.faults joint.old) }
-    ensures same_source { joint.new.source.ghost_name ≡ joint.old.source.ghost_name }
-    ensures sink { joint.new.sink ≡ joint.old.sink }
-    ensures kept { Keeps (prepend_known input.old.bytes (S.left joint.old.source.now))
-        (prepend_known input.new.bytes (S.left joint.new.source.now)) }
-    ensures line { IfOk result (HoldsLine (still input.old) input.new (S.left joint.new.source.now)) }
-    ensures part { OnErr result (HoldsPart (still input.old) input.new) }
-    ensures cause { HasCause (S.faults joint.old.source.now) (S.faults joint.new.source.now) result }
-    ensures is_open { (n : ℕ) → result ≡ Ok (LineEnd.Newline n) → S.is_open joint.new.source.now }
-{
-    match input.line_ahead() {
-        Some(end) => Ok(end),
-        None => input.read_line(joint),
-    }
 }
 
 // Adds what line `number` says, of at most 120 bytes; or answers what is wrong with it.

@@ -2,13 +2,12 @@
 ghost use Rattle.std.specs.Prelude.{◌≡◌, ◌+◌, ◌≤◌, ◌++◌, Err, MatchOption, Ok, length};
 ghost use Rattle.pip_model.specs.Grammar.{words_of};
 ghost use Rattle.pip_script.specs.Proper.{IsProper};
-ghost use Rattle.pip_script.specs.Words.{after_word, first_word};
 ghost use Rattle.pip_searches.specs.MenuText.{Asks, deed_of, label_said, line_deed, said_by, said_of, who_of};
 
 use arrayvec::ArrayVec;
 use pip_base::{MAX_LINE, Size, never};
 use pip_every::{Deed, May};
-use pip_script::{ScriptLine, read_line, read_number};
+use pip_script::{ScriptLine, read_line, read_number, split_word};
 
 /// What is wrong with a line of a menu.
 #[derive(Clone, Copy, Debug, PartialEq, Eq)]
@@ -136,24 +135,4 @@ fn push_all(line: &mut ArrayVec<u8, MAX_LINE>, bytes: &[u8])
     if line.try_extend_from_slice(bytes).is_err() {
         never!()
     }
-}
-
-/// The first word of a text, and what follows it, from its space on.
-pub fn split_word(text: &[u8]) -> (&[u8], &[u8])
-    ensures word { result.0.now ≡ first_word text.now }
-    ensures rest { result.1.now ≡ after_word text.now }
-{
-    text.split_at(word_len(text))
-}
-
-// How many bytes stand before the first space.
-fn word_len(text: &[u8]) -> usize
-    ensures { result ≡ length (first_word text.now) }
-{
-    for (at, byte) in text.iter().enumerate() {
-        if *byte == b' ' {
-            return at;
-        }
-    }
-    text.len()
 }

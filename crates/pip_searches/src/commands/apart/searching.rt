@@ -45,13 +45,12 @@ pub fn end_apart<K: Sink>(
     requires limits { IsHeader begun.head }
     requires some { 1 ≤ states }
     requires seed { 1 ≤ seed }
-    requires none { (K.written sink.old).held ≡ [] }
-    ensures ends { (i : Image) → BeginsFrames i begun.head (⟦<RawFrames as Frames>⟧.memory begun.mem)
-        → EndsWithFound (IsFoundApart states count seed) i result.status (K.written sink.old) (K.written sink.new)
-        (K.faults sink.old) (K.faults sink.new) }
-    ensures calm { result.status ≢ 4 → K.faults sink.new ≡ K.faults sink.old }
+    requires none { (K.told sink.old).written.held ≡ [] }
+    ensures ends { (i : Image) → BeginsFrames i begun.head (⟦<RawFrames as Frames>⟧.memory begun.mem) → EndsWithFound
+        (IsFoundApart states count seed) i result.status (K.told sink.old) (K.told sink.new) }
+    ensures calm { result.status ≢ 4 → (K.told sink.new).faults ≡ (K.told sink.old).faults }
     ensures none { result.machine ≡ None }
-    ensures settled { result.status ≢ 4 → (K.written sink.new).held ≡ [] }
+    ensures settled { result.status ≢ 4 → (K.told sink.new).written.held ≡ [] }
 {
     let Begun { head, mem } = begun;
     match find(alloc, &head, mem, states, count, seed) {
@@ -214,10 +213,10 @@ fn find_from<C: Callback, F: First, L: Ledger>(
 fn show<K: Sink>(head: &Header, known: &Knowledge, sink: &mut K) -> Result<(), Failed>
     requires { AllByRecursion CanBeShown known.now.guests.items }
     ensures wrote { MatchResult result
-        (λ _. Appends (K.written sink.old) (K.written sink.new) (knowledge_text head.now known.now))
-        (λ _. SendsPart (K.written sink.old) (K.written sink.new) (knowledge_text head.now known.now)) }
-    ensures none { OnOk result ((K.written sink.new).held ≡ []) }
-    ensures cause { HasCause (K.faults sink.old) (K.faults sink.new) result }
+        (λ _. Appends (K.told sink.old).written (K.told sink.new).written (knowledge_text head.now known.now))
+        (λ _. SendsPart (K.told sink.old).written (K.told sink.new).written (knowledge_text head.now known.now)) }
+    ensures none { OnOk result ((K.told sink.new).written.held ≡ []) }
+    ensures cause { HasCause (K.told sink.old).faults (K.told sink.new).faults result }
 {
     give(head, known, sink)?;
     sink.settle()
@@ -226,8 +225,9 @@ fn show<K: Sink>(head: &Header, known: &Knowledge, sink: &mut K) -> Result<(), F
 // Writes the text.
 fn give<K: Sink>(head: &Header, known: &Knowledge, sink: &mut K) -> Result<(), Failed>
     requires { AllByRecursion CanBeShown known.now.guests.items }
-    ensures wrote { Wrote result (K.written sink.old) (K.written sink.new) (knowledge_text head.now known.now) }
-    ensures cause { HasCause (K.faults sink.old) (K.faults sink.new) result }
+    ensures wrote { Wrote result (K.told sink.old).written (K.told sink.new).written
+        (knowledge_text head.now known.now) }
+    ensures cause { HasCause (K.told sink.old).faults (K.told sink.new).faults result }
 {
     let plans = head.plans.len() as u64;
     write_image(head.frames, head.cpus, plans, head.pages, sink)?;

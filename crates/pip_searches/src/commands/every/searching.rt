@@ -15,6 +15,7 @@ ghost use Rattle.pip_due.specs.Loading.{BeginsFrames};
 ghost use Rattle.pip_searches.specs.SearchDues.{IsSearchedAgainst};
 ghost use Rattle.pip_searches.specs.Searches.{EndsWithFound, HasWays, IsToldFrom, given_menu, told_text};
 
+use crate::Start;
 use crate::commands::against::again::write_said;
 use arrayvec::ArrayVec;
 use pip_base::{Plan, Steps};
@@ -33,13 +34,6 @@ use pip_ways::{ways_of, write_search};
 use std::alloc::{AllocError, Global};
 use std::marker::Brand;
 use std::sync::ledger::{Blank, Ledger};
-
-/// Where a search begins: after that many steps of a run, by the schedule of a seed, which isn't 0.
-#[derive(Clone, Copy)]
-pub struct Start {
-    pub count: u32,
-    pub seed: u32,
-}
 
 /// What a search found, how far it went, the ways to the labels, and what it says of those that may come again.
 #[derive(Drop)]
@@ -68,13 +62,13 @@ pub fn end_search<K: Sink>(
     requires short { length may.now ≤ 1024 }
     requires some { 1 ≤ states }
     requires seed { 1 ≤ start.seed }
-    requires none { (K.written sink.old).held ≡ [] }
-    ensures ends { (i : Image) → BeginsFrames i begun.head (⟦<RawFrames as Frames>⟧.memory begun.mem)
-        → EndsWithFound (IsSearchedAgainst (given_menu may.now labels.now) states from depth start) i result.status
-        (K.written sink.old) (K.written sink.new) (K.faults sink.old) (K.faults sink.new) }
-    ensures calm { result.status ≢ 4 → K.faults sink.new ≡ K.faults sink.old }
+    requires none { (K.told sink.old).written.held ≡ [] }
+    ensures ends { (i : Image) → BeginsFrames i begun.head (⟦<RawFrames as Frames>⟧.memory begun.mem) → EndsWithFound
+        (IsSearchedAgainst (given_menu may.now labels.now) states from depth start) i result.status (K.told sink.old)
+        (K.told sink.new) }
+    ensures calm { result.status ≢ 4 → (K.told sink.new).faults ≡ (K.told sink.old).faults }
     ensures none { result.machine ≡ None }
-    ensures settled { result.status ≢ 4 → (K.written sink.new).held ≡ [] }
+    ensures settled { result.status ≢ 4 → (K.told sink.new).written.held ≡ [] }
 {
     let Begun { head, mem } = begun;
     match find(alloc, &head, mem, may, labels, states, from, depth, start) {
@@ -316,12 +310,12 @@ fn show<K: Sink>(
     requires count { length told.now.said.items ≡ length labels.now }
     requires some { 1 ≤ head.now.cpus }
     ensures wrote { MatchResult result
-        (λ _. Appends (K.written sink.old) (K.written sink.new)
+        (λ _. Appends (K.told sink.old).written (K.told sink.new).written
         (told_text head.now told.now (label_bytes labels.now)))
-        (λ _. SendsPart (K.written sink.old) (K.written sink.new)
+        (λ _. SendsPart (K.told sink.old).written (K.told sink.new).written
         (told_text head.now told.now (label_bytes labels.now))) }
-    ensures none { OnOk result ((K.written sink.new).held ≡ []) }
-    ensures cause { HasCause (K.faults sink.old) (K.faults sink.new) result }
+    ensures none { OnOk result ((K.told sink.new).written.held ≡ []) }
+    ensures cause { HasCause (K.told sink.old).faults (K.told sink.new).faults result }
 {
     give(head, told, labels, sink)?;
     sink.settle()
@@ -337,9 +331,9 @@ fn give<K: Sink>(
     requires ways { HasWays told.now }
     requires count { length told.now.said.items ≡ length labels.now }
     requires some { 1 ≤ head.now.cpus }
-    ensures wrote { Wrote result (K.written sink.old) (K.written sink.new)
+    ensures wrote { Wrote result (K.told sink.old).written (K.told sink.new).written
         (told_text head.now told.now (label_bytes labels.now)) }
-    ensures cause { HasCause (K.faults sink.old) (K.faults sink.new) result }
+    ensures cause { HasCause (K.told sink.old).faults (K.told sink.new).faults result }
 {
     let lines = planned_lines(head.plans.as_slice());
     write_image(

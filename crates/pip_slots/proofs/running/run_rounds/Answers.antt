@@ -10,7 +10,8 @@ loop-k-init g c = record {
   count = search rules;
   calm = search rules;
   steps = omega arith;
-  progress = λ w h. rounds_begun (StandsAs c.args.machine.now) (g.K.Sink.written c.args.sink.now) w c.args.round.now
+  progress = λ w h. rounds_begun (StandsAs c.args.machine.now) (g.K.Sink.told c.args.sink.now).written w
+      c.args.round.now
       c.args.count h;
 }
 

@@ -40,7 +40,7 @@ loop-i-init g c = record {
   count = search rules;
   calm = search rules;
   left = search rules;
-  progress = λ w h. slots_begun (StandsAs c.args.machine.now) (g.K.Sink.written c.args.sink.now) w c.args.slots.now
+  progress = λ w h. slots_begun (StandsAs c.args.machine.now) (g.K.Sink.told c.args.sink.now).written w c.args.slots.now
       c.args.first h;
 }
 

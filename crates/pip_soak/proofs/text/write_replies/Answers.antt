@@ -9,7 +9,7 @@ abbrev line : List ℕ → ℕ → List ℕ
 line replies s = counted_text (codes "reply " ++ decimal s) (get_or replies s 0)
 
 pub loop-s-init : goal.loop-s-init
-loop-s-init g c = record { calm = refl; left = left_start (g.K.Sink.written c.args.sink.now) _ }
+loop-s-init g c = record { calm = refl; left = left_start (g.K.Sink.told c.args.sink.now).written _ }
 
 pub loop-s-preserved : goal.loop-s-preserved
 loop-s-preserved g c = record {

@@ -9,13 +9,13 @@ pub returns-in-Ok-clause-ends : goal.returns-in-Ok-clause-ends
 returns-in-Ok-clause-ends g c =
     let same : c.as_slice.result.now ≡ c.in-Ok.text.items = search rules in
     let end = c.write_assembly.ensures in
-    ends_same g.K.Sink.written g.K.Sink.faults (ap (λ s. s.now) c.read_whole.ensures.sink) c.requires.none (λ none.
+    ends_same g.K.Sink.told (ap (λ s. s.now) c.read_whole.ensures.sink) c.requires.paced.none (λ none.
     asm_written _ _ _ _ end.none (record { reads = λ n. c.in-Ok.ensures.calm (λ e. cc); writes = end.calm }) end.settled
     none c.in-Ok.text.items c.in-Ok.ensures.read c.as_slice.result.now same end.wrote)
 
 pub read_whole-requires-clause-paced : goal.read_whole-requires-clause-paced
 read_whole-requires-clause-paced g c = λ bytes left taken is.
-    c.requires.paced.1 _ (waits_after _ c.requires.none _ bytes left taken refl is)
+    c.requires.paced.allows _ (waits_after _ c.requires.paced.none _ bytes left taken refl is)
 
 pub read_whole-requires-clause-is_open : goal.read_whole-requires-clause-is_open
-read_whole-requires-clause-is_open g c = c.requires.paced.0 (asm_waits _ c.requires.none)
+read_whole-requires-clause-is_open g c = c.requires.paced.is_open (asm_waits _ c.requires.paced.none)

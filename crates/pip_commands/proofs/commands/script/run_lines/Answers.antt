@@ -2,20 +2,21 @@ use Rattle.std.proofs.Common.{rules, refl, ◌≢◌, Some, ap, sym, subst, ◌�
 use Rattle.pip_due.specs.EndsBy.{EndsBy}
 use Rattle.pip_commands.specs.Progress.{TurnDoes, status_of}
 use Rattle.pip_commands.specs.Dues.{script_due}
-use Rattle.pip_due.specs.Streams.{Streams, streams}
+use Rattle.pip_due.specs.Streams.{Streams}
 use Rattle.pip_commands.specs.declared.commands.script.turn.End.TheVariants.{Finished}
+use Rattle.pip_io.specs.Moments.{joined}
 use Rattle.pip_commands.proofs.Waiting.{script_waits}
 use Rattle.pip_commands.proofs.Whole.{begins_run, lines_wait, runs_on, script_ends, script_finished}
 use Rattle.pip_commands.proofs.commands.script.run_lines.Goals as goal
 
 pub loop-number-init : goal.loop-number-init
 loop-number-init g c = record {
-  run = begins_run c.new-input.result (streams g.S.Source.left g.S.Source.faults g.K.Sink.written g.K.Sink.faults
-      c.args.joint.now.source.now c.args.joint.now.sink.now) c.new-input.ensures.bytes c.new-input.ensures.room;
+  run = begins_run c.new-input.result (joined g.S.Source.told g.K.Sink.told c.args.joint.now) c.new-input.ensures.bytes
+      c.new-input.ensures.room;
   name = refl;
   sink_name = refl;
-  is_open = c.requires.paced.0 (script_waits (streams g.S.Source.left g.S.Source.faults g.K.Sink.written
-      g.K.Sink.faults c.args.joint.now.source.now c.args.joint.now.sink.now) c.requires.none);
+  is_open = c.requires.paced.is_open (script_waits (joined g.S.Source.told g.K.Sink.told c.args.joint.now)
+      c.requires.paced.none);
 }
 
 pub loop-number-preserved : goal.loop-number-preserved
@@ -28,13 +29,9 @@ loop-number-preserved g c = record {
 
 pub returns-in-Some-Finished-clause-ends : goal.returns-in-Some-Finished-clause-ends
 returns-in-Some-Finished-clause-ends g c =
-    let a =
-    streams g.S.Source.left g.S.Source.faults g.K.Sink.written g.K.Sink.faults c.args.joint.now.source.now
-    c.args.joint.now.sink.now in
-    let b = streams g.S.Source.left g.S.Source.faults g.K.Sink.written g.K.Sink.faults c.loop-number.joint.source.now
-    c.loop-number.joint.sink.now in
-    let d = streams g.S.Source.left g.S.Source.faults g.K.Sink.written g.K.Sink.faults c.take_turn.new.joint.source.now
-    c.take_turn.new.joint.sink.now in
+    let a = joined g.S.Source.told g.K.Sink.told c.args.joint.now in
+    let b = joined g.S.Source.told g.K.Sink.told c.loop-number.joint in
+    let d = joined g.S.Source.told g.K.Sink.told c.take_turn.new.joint in
     let turn = subst (λ e. TurnDoes (Some e) c.loop-number.machine c.take_turn.new.machine c.loop-number.number
     c.loop-number.input c.take_turn.new.input b d) c.in-Some-Finished.field-0-is c.in-Some-Finished.ensures.does in
     script_finished a b d c.loop-number.input c.take_turn.new.input c.loop-number.machine c.take_turn.new.machine
@@ -43,31 +40,21 @@ returns-in-Some-Finished-clause-ends g c =
 
 pub returns-in-Some-clause-ends : goal.returns-in-Some-clause-ends
 returns-in-Some-clause-ends g c =
-    let a =
-    streams g.S.Source.left g.S.Source.faults g.K.Sink.written g.K.Sink.faults c.args.joint.now.source.now
-    c.args.joint.now.sink.now in
-    let b = streams g.S.Source.left g.S.Source.faults g.K.Sink.written g.K.Sink.faults c.loop-number.joint.source.now
-    c.loop-number.joint.sink.now in
-    let d = streams g.S.Source.left g.S.Source.faults g.K.Sink.written g.K.Sink.faults c.take_turn.new.joint.source.now
-    c.take_turn.new.joint.sink.now in
+    let a = joined g.S.Source.told g.K.Sink.told c.args.joint.now in
+    let b = joined g.S.Source.told g.K.Sink.told c.loop-number.joint in
+    let d = joined g.S.Source.told g.K.Sink.told c.take_turn.new.joint in
     let other : c.in-Some.end ≢ Finished = search rules in
     subst (λ m. EndsBy script_due c.with_status.result.status m a d) (sym (ap (λ e. e.machine) c.with_status.ensures))
     (script_ends c.in-Some.end a b d c.loop-number.input c.take_turn.new.input c.loop-number.machine
-    c.take_turn.new.machine c.loop-number.number _ c.loop-number.invariant.run c.requires.none
+    c.take_turn.new.machine c.loop-number.number _ c.loop-number.invariant.run c.requires.paced.none
     (λ not. c.in-Some.ensures.none (λ is.
     not (ap (λ e. e.status) c.with_status.ensures ∙ c.status.ensures ∙ ap status_of is))) other
     (ap (λ e. e.status) c.with_status.ensures ∙ c.status.ensures) c.in-Some.ensures.does)
 
-pub returns-in-Some-clause-none : goal.returns-in-Some-clause-none
-returns-in-Some-clause-none g c = λ not.
-    c.in-Some.ensures.none (λ is. not (ap (λ e. e.status) c.with_status.ensures ∙ c.status.ensures ∙ ap status_of is))
-
 pub take_turn-requires-clause-paced : goal.take_turn-requires-clause-paced
 take_turn-requires-clause-paced g c = λ out kept none bytes left taken is.
-    let a = streams g.S.Source.left g.S.Source.faults g.K.Sink.written g.K.Sink.faults c.args.joint.now.source.now
-    c.args.joint.now.sink.now in
-    let b = streams g.S.Source.left g.S.Source.faults g.K.Sink.written g.K.Sink.faults c.loop-number.joint.source.now
-    c.loop-number.joint.sink.now in
+    let a = joined g.S.Source.told g.K.Sink.told c.args.joint.now in
+    let b = joined g.S.Source.told g.K.Sink.told c.loop-number.joint in
     let now : Streams = record { left = left; written = out; reads = b.reads; writes = b.writes } in
-    c.requires.paced.1 now (lines_wait a b now c.loop-number.input c.loop-number.machine c.loop-number.number
+    c.requires.paced.allows now (lines_wait a b now c.loop-number.input c.loop-number.machine c.loop-number.number
     c.loop-number.invariant.run none kept (record { reads = refl; writes = refl }) bytes taken is)

@@ -1,13 +1,12 @@
 use Rattle.std.proofs.Common.{◌≡◌}
 use Rattle.pip_commands.specs.Progress.{HasRun}
-use Rattle.pip_due.specs.Streams.{streams}
+use Rattle.pip_io.specs.Moments.{joined}
 use Rattle.pip_commands.proofs.commands.script.run_lines.Given as goal
 
 abbrev pub invariant-loop-number : goal.invariant-loop-number
 invariant-loop-number g l = record {
-  run : HasRun (streams g.S.Source.left g.S.Source.faults g.K.Sink.written g.K.Sink.faults l.fn.joint.source.now
-      l.fn.joint.sink.now)
-      (streams g.S.Source.left g.S.Source.faults g.K.Sink.written g.K.Sink.faults l.joint.source.now l.joint.sink.now)
+  run : HasRun (joined g.S.Source.told g.K.Sink.told l.fn.joint)
+      (joined g.S.Source.told g.K.Sink.told l.joint)
       l.input l.machine l.number;
   name : l.joint.source.ghost_name ≡ l.fn.joint.source.ghost_name;
   sink_name : l.joint.sink.ghost_name ≡ l.fn.joint.sink.ghost_name;

@@ -14,39 +14,46 @@ totals-totals-requires g c =
     subst (λ m. HasPartition m 1) (sym c.mem.ensures)
     (has_root c.soak_load-counts.new.port (soak_world c.args.count c.args.seed) stands)
 
-pub returns-in_default-clause-ends : goal.returns-in_default-clause-ends
-returns-in_default-clause-ends g c =
-    let written = g.K.Sink.written c.args.sink.now in
-    let faults = g.K.Sink.faults c.args.sink.now in
-    λ left reads. load_lacks c.args.count c.args.seed c.with_status.result.status c.with_status.result.machine written
-    written faults faults
-    c.requires.none (λ not. c.requires.none) left reads (ap (λ e. e.machine) c.with_status.ensures)
-    (ap (λ e. e.status) c.with_status.ensures) (Keeps-refl written) refl
+pub returns-in_default : goal.returns-in_default
+returns-in_default g c =
+    let written = (g.K.Sink.told c.args.sink.now).written in
+    let faults = (g.K.Sink.told c.args.sink.now).faults in
+    record {
+      ends = λ left reads. load_lacks c.args.count c.args.seed c.with_status.result.status
+          c.with_status.result.machine written
+          written faults faults
+          c.requires.none (λ not. c.requires.none) left reads (ap (λ e. e.machine) c.with_status.ensures)
+          (ap (λ e. e.status) c.with_status.ensures) (Keeps-refl written) refl;
+    }
 
-pub returns-in-Ok-write_load-clause-ends : goal.returns-in-Ok-write_load-clause-ends
-returns-in-Ok-write_load-clause-ends g c =
+pub returns-in-Ok-write_load : goal.returns-in-Ok-write_load
+returns-in-Ok-write_load g c =
     let stands = c.soak_load-counts.ensures.worlds (boot_world 64 2) c.in-Ok.ensures.stands in
     let counts = c.soak_load-counts.ensures.counts (boot_world 64 2) c.in-Ok.ensures.stands in
     let text = text_of c.soak_load-counts.new.port c.args.count c.args.seed stands c.soak_load-counts.result counts _
     c.mem.ensures c.totals-totals.result c.totals-totals.ensures in
-    λ left reads. load_done c.args.count c.args.seed 0 _ (g.K.Sink.written c.args.sink.now)
-    (g.K.Sink.written c.write_load.new.sink)
-    (g.K.Sink.faults c.args.sink.now) (g.K.Sink.faults c.write_load.new.sink) c.requires.none
-    (λ not. c.in-Ok-write_load.ensures.none) left reads refl
-    (subst (Appends (g.K.Sink.written c.args.sink.now) (g.K.Sink.written c.write_load.new.sink)) text
-    c.in-Ok-write_load.ensures.whole) stands c.in-Ok-write_load.ensures.cause.calm
+    record {
+      ends = λ left reads. load_done c.args.count c.args.seed 0 _ (g.K.Sink.told c.args.sink.now).written
+          (g.K.Sink.told c.write_load.new.sink).written
+          (g.K.Sink.told c.args.sink.now).faults (g.K.Sink.told c.write_load.new.sink).faults c.requires.none
+          (λ not. c.in-Ok-write_load.ensures.none) left reads refl
+          (subst (Appends (g.K.Sink.told c.args.sink.now).written (g.K.Sink.told c.write_load.new.sink).written) text
+          c.in-Ok-write_load.ensures.whole) stands c.in-Ok-write_load.ensures.cause.calm;
+    }
 
-pub returns-clause-ends : goal.returns-clause-ends
-returns-clause-ends g c =
+pub returns : goal.returns
+returns g c =
     let stands = c.soak_load-counts.ensures.worlds (boot_world 64 2) c.in-Ok.ensures.stands in
     let counts = c.soak_load-counts.ensures.counts (boot_world 64 2) c.in-Ok.ensures.stands in
     let text = text_of c.soak_load-counts.new.port c.args.count c.args.seed stands c.soak_load-counts.result counts _
     c.mem.ensures c.totals-totals.result c.totals-totals.ensures in
-    λ left reads.
-    load_cut c.args.count c.args.seed c.with_status-in-Err.result.status c.with_status-in-Err.result.machine
-    (g.K.Sink.written c.args.sink.now) (g.K.Sink.written c.write_load.new.sink) (g.K.Sink.faults c.args.sink.now)
-    (g.K.Sink.faults c.write_load.new.sink) c.requires.none
-    (λ not. absurd (not (ap (λ e. e.status) c.with_status-in-Err.ensures))) left reads
-    (ap (λ e. e.machine) c.with_status-in-Err.ensures) (ap (λ e. e.status) c.with_status-in-Err.ensures)
-    (subst (SendsPart (g.K.Sink.written c.args.sink.now) (g.K.Sink.written c.write_load.new.sink)) text
-    c.in-Err.ensures.part) c.in-Err.ensures.cause.failed
+    record {
+      ends = λ left reads.
+          load_cut c.args.count c.args.seed c.with_status-in-Err.result.status c.with_status-in-Err.result.machine
+          (g.K.Sink.told c.args.sink.now).written (g.K.Sink.told c.write_load.new.sink).written
+          (g.K.Sink.told c.args.sink.now).faults (g.K.Sink.told c.write_load.new.sink).faults c.requires.none
+          (λ not. absurd (not (ap (λ e. e.status) c.with_status-in-Err.ensures))) left reads
+          (ap (λ e. e.machine) c.with_status-in-Err.ensures) (ap (λ e. e.status) c.with_status-in-Err.ensures)
+          (subst (SendsPart (g.K.Sink.told c.args.sink.now).written (g.K.Sink.told c.write_load.new.sink).written) text
+          c.in-Err.ensures.part) c.in-Err.ensures.cause.failed;
+    }

@@ -2,6 +2,7 @@ use Rattle.std.proofs.Common.{rules, arith, ◌≡◌, ◌+◌, ◌++◌, ◌∷
 use Rattle.pip_model.specs.Images.{Head, Line, image_parts}
 use Rattle.pip_image.specs.Coming.{AreRising, coming}
 use Rattle.pip_io.specs.Pacing.{MayRead}
+use Rattle.pip_io.specs.Moments.{streams}
 use Rattle.pip_io.proofs.Pacing.{paced_after}
 use Rattle.pip_image.specs.Pacing.{IsHeaderless, IsPartless}
 use Rattle.pip_image.specs.Reading.{LacksHeader, TakesParts, RefusesHeader}
@@ -16,9 +17,9 @@ pub returns-in_err-plan-clause-reads : goal.returns-in_err-plan-clause-reads
 returns-in_err-plan-clause-reads g c =
     let was = c.loop-self.invariant in
     let count = was.count in
-    let h : RefusesHeader image_parts (g.S.Source.left c.args.joint.now.source.now)
-    (g.S.Source.left c.plan.new.joint.source.now) (g.S.Source.faults c.args.joint.now.source.now)
-    (g.S.Source.faults c.plan.new.joint.source.now) c.in_err-plan.field-0.0 = (
+    let h : RefusesHeader image_parts (g.S.Source.told c.args.joint.now.source.now).left
+    (g.S.Source.told c.plan.new.joint.source.now).left (g.S.Source.told c.args.joint.now.source.now).faults
+    (g.S.Source.told c.plan.new.joint.source.now).faults c.in_err-plan.field-0.0 = (
       _,
       takes_refused image_parts (coming c.loop-self.self.place) _ [] _ _ _ _ _ _ _ was.calm was.taken
           c.in_err-plan.ensures.reads,
@@ -38,7 +39,7 @@ loop-self-preserved g c =
       calm = now.calm ∙ was.calm;
       taken = subst (λ ps. TakesParts image_parts (coming c.plan.new.self.place)
           (Head (fields_seen c.in_ok-fields.fields)
-          ∷ ps) (g.S.Source.left c.args.joint.now.source.now) (g.S.Source.left c.plan.new.joint.source.now))
+          ∷ ps) (g.S.Source.told c.args.joint.now.source.now).left (g.S.Source.told c.plan.new.joint.source.now).left)
           (sym (ap (map Line) pushed ∙ map-append Line c.loop-self.plans.items (c.in_ok-plan.plan ∷ [])))
           (takes_then image_parts (coming c.loop-self.self.place) (coming c.plan.new.self.place) _ _ _ _ _ was.taken
           now.reads);
@@ -77,7 +78,7 @@ plan-requires-clause-paced g c =
     let few : LacksHeader (parts ++ []) =
     fewer_lines c.loop-self.plans.items c.loop-self.self.place.plans _ count (search rules) in
     let paced = paced_after g.S.Source.allows IsHeaderless (IsPartless (coming c.loop-self.self.place)) _ _ _ _
-    (g.K.Sink.written c.args.joint.now.sink.now) (g.K.Sink.faults c.args.joint.now.sink.now) was.taken.bytes
+    (g.K.Sink.told c.args.joint.now.sink.now) was.taken.bytes
     was.calm was.taken.taken
     (λ bytes is. (
       subst LacksHeader (sym (ap (λ t. t.parts) (was.taken.is bytes) ∙ after_parts parts
@@ -85,5 +86,4 @@ plan-requires-clause-paced g c =
       faultless_after image_parts (coming c.loop-self.self.place) parts _ _ was.taken bytes is.1,
     )) c.requires.paced in
     subst (λ s. MayRead g.S.Source.allows (IsPartless (coming c.loop-self.self.place))
-    (g.S.Source.left c.loop-self.joint.source.now) (g.S.Source.faults c.loop-self.joint.source.now)
-    (g.K.Sink.written s.now) (g.K.Sink.faults s.now)) (sym was.sink) paced
+    (streams g.S.Source.told g.K.Sink.told c.loop-self.joint.source.now s.now)) (sym was.sink) paced

@@ -2,7 +2,8 @@ use Rattle.std.proofs.Common.{◌≡◌, [], ap, inl, inr, refl, subst, sym}
 use Rattle.pip_io.proofs.Taken.{Keeps-refl}
 use Rattle.pip_searches.specs.SearchDues.{against_due}
 use Rattle.pip_due.specs.EndsBy.{EndsBy}
-use Rattle.pip_due.specs.Streams.{beside, streams}
+use Rattle.pip_due.specs.Streams.{beside}
+use Rattle.pip_io.specs.Moments.{joined}
 use Rattle.pip_searches.proofs.AgainstEnds.{after_front, against_faulted, against_lacks, against_waits}
 use Rattle.pip_due.proofs.Endings.{ends_same}
 use Rattle.pip_due.proofs.Waiting.{waits_after}
@@ -11,43 +12,42 @@ use Rattle.pip_searches.proofs.commands.against.against_joined.Goals as goal
 pub returns-in-Ok-clause-ends : goal.returns-in-Ok-clause-ends
 returns-in-Ok-clause-ends g c =
     let end = c.after_image.ensures in
-    ends_same g.K.Sink.written g.K.Sink.faults (ap (λ s. s.now) c.in-Ok.ensures.sink) c.requires.none (λ none.
+    ends_same g.K.Sink.told (ap (λ s. s.now) c.in-Ok.ensures.sink) c.requires.paced.none (λ none.
     subst (λ n. EndsBy (against_due c.args.states c.args.from c.args.depth c.args.start) c.after_image.result.status
     c.after_image.result.machine
-    (beside (g.S.Source.left c.args.joint.now.source.now) n (g.K.Sink.written c.load_front.new.joint.sink.now)
-    (g.K.Sink.faults c.load_front.new.joint.sink.now))
-    (streams g.S.Source.left g.S.Source.faults g.K.Sink.written g.K.Sink.faults c.after_image.new.joint.source.now
-    c.after_image.new.joint.sink.now)) c.in-Ok.ensures.calm (end.ends _ c.in-Ok.ensures.loads))
+    (beside (g.S.Source.told c.args.joint.now.source.now).left n (g.K.Sink.told c.load_front.new.joint.sink.now))
+    (joined g.S.Source.told g.K.Sink.told c.after_image.new.joint)) c.in-Ok.ensures.calm
+    (end.ends _ c.in-Ok.ensures.loads))
 
 pub returns-in-Err-Image-clause-ends : goal.returns-in-Err-Image-clause-ends
 returns-in-Err-Image-clause-ends g c =
     let end = c.end_at_image.ensures in
-    ends_same g.K.Sink.written g.K.Sink.faults (ap (λ s. s.now) c.in-Err-Image.ensures.sink) c.requires.none (λ none.
+    ends_same g.K.Sink.told (ap (λ s. s.now) c.in-Err-Image.ensures.sink) c.requires.paced.none (λ none.
     against_faulted c.args.states c.args.from c.args.depth c.args.start _ _ _ _ end.settled end.none none
     c.in-Err-Image.field-0-is c.in-Err-Image.ensures.inside c.in-Err-Image.ensures.loads end.calm
     c.in-Err-Image.fault-is end.wrote)
 
 pub returns-in-Err-Memory-clause-ends : goal.returns-in-Err-Memory-clause-ends
 returns-in-Err-Memory-clause-ends g c =
-    ends_same g.K.Sink.written g.K.Sink.faults (ap (λ s. s.now) c.in-Err-Memory.ensures.sink) c.requires.none (λ none.
+    ends_same g.K.Sink.told (ap (λ s. s.now) c.in-Err-Memory.ensures.sink) c.requires.paced.none (λ none.
     against_lacks c.args.states c.args.from c.args.depth c.args.start _ _ _ _ (λ not. none)
     (ap (λ e. e.machine) c.with_status.ensures) none (ap (λ e. e.status) c.with_status.ensures)
     c.in-Err-Memory.field-0-is c.in-Err-Memory.ensures.loads (Keeps-refl _) refl)
 
 pub load_front-requires-clause-paced : goal.load_front-requires-clause-paced
 load_front-requires-clause-paced g c = λ bytes left taken is.
-    c.requires.paced.1 _ (waits_after _ c.requires.none _ bytes left taken (inl is, refl) tt)
+    c.requires.paced.allows _ (waits_after _ c.requires.paced.none _ bytes left taken (inl is, refl) tt)
 
 pub load_front-requires-clause-is_open : goal.load_front-requires-clause-is_open
 load_front-requires-clause-is_open g c =
-    c.requires.paced.0 (against_waits _ c.requires.none c.args.states c.args.from c.args.depth c.args.start)
+    c.requires.paced.is_open (against_waits _ c.requires.paced.none c.args.states c.args.from c.args.depth c.args.start)
 
 pub after_image-requires-clause-paced : goal.after_image-requires-clause-paced
 after_image-requires-clause-paced g c =
-    after_front g.S.Source.allows g.K.Sink.written g.K.Sink.faults (ap (λ s. s.now) c.in-Ok.ensures.sink)
+    after_front g.S.Source.allows g.K.Sink.told (ap (λ s. s.now) c.in-Ok.ensures.sink)
     c.in-Ok.ensures.calm c.in-Ok.ensures.loads (λ bytes left taken is.
-    c.requires.paced.1 _ (waits_after _ c.requires.none _ _ left taken (inr is, refl) tt))
+    c.requires.paced.allows _ (waits_after _ c.requires.paced.none _ _ left taken (inr is, refl) tt))
 
 pub after_image-requires-clause-none : goal.after_image-requires-clause-none
 after_image-requires-clause-none g c =
-    subst (λ s. (g.K.Sink.written s.now).held ≡ []) (sym c.in-Ok.ensures.sink) c.requires.none
+    subst (λ s. (g.K.Sink.told s.now).written.held ≡ []) (sym c.in-Ok.ensures.sink) c.requires.paced.none

@@ -11,7 +11,7 @@ pub returns-in-Ok-clause-ends : goal.returns-in-Ok-clause-ends
 returns-in-Ok-clause-ends g c =
     let load = c.in-Ok.ensures.loads in
     let end = c.end_search.ensures in
-    ends_same g.K.Sink.written g.K.Sink.faults (ap (λ s. s.now) c.in-Ok.ensures.sink) c.requires.none (λ none.
+    ends_same g.K.Sink.told (ap (λ s. s.now) c.in-Ok.ensures.sink) c.requires.paced.none (λ none.
     found_ends (IsSearchedAgainst no_menu c.args.states c.args.from c.args.depth c.args.start) _ _ _ _ end.settled
     end.none
     none load (record { reads = λ not. c.in-Ok.ensures.calm; writes = end.calm }) (end.ends load.parsed load.begins))
@@ -19,22 +19,23 @@ returns-in-Ok-clause-ends g c =
 pub returns-in-Err-Image-clause-ends : goal.returns-in-Err-Image-clause-ends
 returns-in-Err-Image-clause-ends g c =
     let end = c.end_at_image.ensures in
-    ends_same g.K.Sink.written g.K.Sink.faults (ap (λ s. s.now) c.in-Err-Image.ensures.sink) c.requires.none (λ none.
+    ends_same g.K.Sink.told (ap (λ s. s.now) c.in-Err-Image.ensures.sink) c.requires.paced.none (λ none.
     found_faulted (IsSearchedAgainst no_menu c.args.states c.args.from c.args.depth c.args.start) _ _ _ _ end.settled
     end.none none c.in-Err-Image.field-0-is c.in-Err-Image.ensures.loads end.calm c.in-Err-Image.fault-is end.wrote)
 
 pub returns-in-Err-Memory-clause-ends : goal.returns-in-Err-Memory-clause-ends
 returns-in-Err-Memory-clause-ends g c =
-    ends_same g.K.Sink.written g.K.Sink.faults (ap (λ s. s.now) c.in-Err-Memory.ensures.sink) c.requires.none (λ none.
+    ends_same g.K.Sink.told (ap (λ s. s.now) c.in-Err-Memory.ensures.sink) c.requires.paced.none (λ none.
     found_lacks (IsSearchedAgainst no_menu c.args.states c.args.from c.args.depth c.args.start) _ _ _ _ (λ not. none)
     (ap (λ e. e.machine) c.with_status.ensures) none (ap (λ e. e.status) c.with_status.ensures)
     c.in-Err-Memory.field-0-is c.in-Err-Memory.ensures.loads (Keeps-refl _) refl)
 
 pub load-requires-clause-paced : goal.load-requires-clause-paced
 load-requires-clause-paced g c = λ bytes left taken is.
-    c.requires.paced.1 _ (waits_after _ c.requires.none _ bytes left taken (is, refl) tt)
+    c.requires.paced.allows _ (waits_after _ c.requires.paced.none _ bytes left taken (is, refl) tt)
 
 pub load-requires-clause-is_open : goal.load-requires-clause-is_open
 load-requires-clause-is_open g c =
-    c.requires.paced.0
-    (found_waits _ c.requires.none (IsSearchedAgainst no_menu c.args.states c.args.from c.args.depth c.args.start))
+    c.requires.paced.is_open
+    (found_waits _ c.requires.paced.none (IsSearchedAgainst no_menu c.args.states c.args.from c.args.depth
+    c.args.start))

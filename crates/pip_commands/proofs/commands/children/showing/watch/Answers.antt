@@ -10,7 +10,7 @@ pub loop-i-init : goal.loop-i-init
 loop-i-init g c = record {
   count = search rules;
   calm = search rules;
-  progress = λ w h. steps_begun (StandsAs c.args.machine.now) (g.K.Sink.written c.args.sink.now) w c.args.lines.now
+  progress = λ w h. steps_begun (StandsAs c.args.machine.now) (g.K.Sink.told c.args.sink.now).written w c.args.lines.now
       c.args.monitor.now c.args.count h;
 }
 
@@ -36,6 +36,6 @@ pub returns-clause-acts : goal.returns-clause-acts
 returns-clause-acts g c = λ w h.
     let past = c.loop-i-test.false in
     let e : c.args.count - c.loop-i.i ≡ 0 = omega (arith, past) in
-    progress_end _ _ _ w _ (subst (λ k. Progress (StandsAs c.loop-i.machine) (g.K.Sink.written c.args.sink.now)
-    (g.K.Sink.written c.loop-i.sink) w (watched_steps w c.args.lines.now c.args.monitor.now c.args.count 0)
+    progress_end _ _ _ w _ (subst (λ k. Progress (StandsAs c.loop-i.machine) (g.K.Sink.told c.args.sink.now).written
+    (g.K.Sink.told c.loop-i.sink).written w (watched_steps w c.args.lines.now c.args.monitor.now c.args.count 0)
     (λ v. watched_steps v c.args.lines.now c.loop-i.monitor k c.loop-i.i)) e (c.loop-i.invariant.progress w h))

@@ -8,9 +8,9 @@ use Rattle.pip_commands.proofs.commands.children.showing.watch.Given as goal
 abbrev pub invariant-loop-i : goal.invariant-loop-i
 invariant-loop-i g l = record {
   count : length l.machine.cpus ≡ length l.fn.machine.cpus;
-  calm : g.K.Sink.faults l.sink ≡ g.K.Sink.faults l.fn.sink;
+  calm : (g.K.Sink.told l.sink).faults ≡ (g.K.Sink.told l.fn.sink).faults;
   progress : (w : World) → StandsAs l.fn.machine w
-      → Progress (StandsAs l.machine) (g.K.Sink.written l.fn.sink) (g.K.Sink.written l.sink) w
+      → Progress (StandsAs l.machine) (g.K.Sink.told l.fn.sink).written (g.K.Sink.told l.sink).written w
       (watched_steps w l.lines l.fn.monitor l.count 0)
       (λ v. watched_steps v l.lines l.monitor (l.count - l.i) l.i);
 }

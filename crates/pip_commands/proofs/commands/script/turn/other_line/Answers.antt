@@ -13,7 +13,7 @@ returns-in-Ok-Newline-clause-does g c =
     let line = c.in-Ok-Newline.ensures.line in
     record {
       holds = subst (HoldsLine (still c.args.input.now) c.next_line.new.input
-          (g.S.Source.left c.next_line.new.joint.source.now))
+          (g.S.Source.told c.next_line.new.joint.source.now).left)
           c.in-Ok-Newline.field-0-is line.0;
       kept = c.next_line.ensures.kept;
       taken = c.next_line.ensures.taken;
@@ -41,7 +41,7 @@ returns-in-Err-run_line-clause-does g c =
     let run = c.in-Err-run_line in
     let names = c.end_at.ensures.names in
     ends_settled _ _ _ _ _ c.end_at.result c.in-Ok-Last.field-0-is c.in-Ok-Last.ensures.line c.next_line.ensures.taken
-    (ended_calm run.stop c.end_at.result c.args.number _ _ _ _ _ names
+    (ended_calm run.stop c.end_at.result c.args.number _ _ _ names
     (λ not. run.ensures.calm (λ is. not (err_same is))) c.end_at.ensures.calm)
     (λ holds v stands. ends_last v _ _ _ _ _ _ c.in-Ok-Last.count c.head.result.now c.head.ensures
     c.next_line.ensures.kept _ _ run.stop c.end_at.result (λ not. run.ensures.calm (λ is. not (err_same is)))
@@ -49,7 +49,7 @@ returns-in-Err-run_line-clause-does g c =
 
 pub returns-in-Err-run_line-clause-none : goal.returns-in-Err-run_line-clause-none
 returns-in-Err-run_line-clause-none g c = λ is. absurd (not_read c.in-Err-run_line.stop c.end_at.result c.args.number _
-    _ _ _ c.end_at.ensures.names (ap Some (err_end is)))
+    _ c.end_at.ensures.names (ap Some (err_end is)))
 
 pub returns-in-Ok-End-clause-does : goal.returns-in-Ok-End-clause-does
 returns-in-Ok-End-clause-does g c =
@@ -60,12 +60,12 @@ pub returns-in-Ok-TooLong-clause-does : goal.returns-in-Ok-TooLong-clause-does
 returns-in-Ok-TooLong-clause-does g c =
     let names = c.end_at-in-Ok-TooLong.ensures.names in
     ends_settled _ _ _ _ _ c.end_at-in-Ok-TooLong.result c.in-Ok-TooLong.field-0-is c.in-Ok-TooLong.ensures.line
-    c.next_line.ensures.taken (ended_calm Bad c.end_at-in-Ok-TooLong.result c.args.number _ _ _ _ _
+    c.next_line.ensures.taken (ended_calm Bad c.end_at-in-Ok-TooLong.result c.args.number _ _ _
     names (λ not. refl) c.end_at-in-Ok-TooLong.ensures.calm)
     (λ holds v stands. ends_long v _ _ _ _ _ _ c.end_at-in-Ok-TooLong.result c.next_line.ensures.kept holds names)
 
 pub returns-in-Ok-TooLong-clause-none : goal.returns-in-Ok-TooLong-clause-none
-returns-in-Ok-TooLong-clause-none g c = λ is. absurd (not_read Bad c.end_at-in-Ok-TooLong.result c.args.number _ _ _ _
+returns-in-Ok-TooLong-clause-none g c = λ is. absurd (not_read Bad c.end_at-in-Ok-TooLong.result c.args.number _ _
     c.end_at-in-Ok-TooLong.ensures.names (ap Some (err_end is)))
 
 pub returns-in-Ok-Over-clause-does : goal.returns-in-Ok-Over-clause-does

@@ -22,8 +22,8 @@ returns-in-Err-ran-clause-does g c =
     did_after _ _ _ line.taken line.calm.writes (Some c.end_at.result) _ _ _ _ c.take.new.self _ (
       record {
         reads = λ not. line.calm.reads;
-        writes = ended_calm run.stop c.end_at.result c.args.number _ _ _ _ _
-            names (λ not. run.ensures.calm (λ is. not (err_same is))) c.end_at.ensures.calm;
+        writes = ended_calm run.stop c.end_at.result c.args.number _ _ _ names
+            (λ not. run.ensures.calm (λ is. not (err_same is))) c.end_at.ensures.calm;
       },
       λ v stands. ends_newline v _ _ _ _ _ _ c.in-Ok.count c.head.result.now c.head.ensures line.kept _ _
           run.stop c.end_at.result (λ not. run.ensures.calm (λ is. not (err_same is)))
@@ -33,4 +33,4 @@ returns-in-Err-ran-clause-does g c =
 
 pub returns-in-Err-ran-clause-none : goal.returns-in-Err-ran-clause-none
 returns-in-Err-ran-clause-none g c =
-    λ is. absurd (not_read c.in-Err-ran.stop c.end_at.result c.args.number _ _ _ _ c.end_at.ensures.names is)
+    λ is. absurd (not_read c.in-Err-ran.stop c.end_at.result c.args.number _ _ c.end_at.ensures.names is)

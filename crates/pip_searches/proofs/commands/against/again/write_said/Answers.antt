@@ -55,7 +55,7 @@ loop-k-preserved g c =
 
 pub returns : goal.returns
 returns g c = record {
-  wrote = subst (Appends (g.K.Sink.written c.args.sink.now) (g.K.Sink.written c.loop-k.sink))
+  wrote = subst (Appends (g.K.Sink.told c.args.sink.now).written (g.K.Sink.told c.loop-k.sink).written)
       (ap (flat_map (λ p. said_line c.args.cpus c.args.lines.now p.0 p.1))
       (all_beside (label_bytes c.args.labels.now) c.args.said.now c.loop-k.k (search (rules, arith))))
       c.loop-k.invariant.wrote;

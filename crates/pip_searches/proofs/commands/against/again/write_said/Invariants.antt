@@ -8,7 +8,7 @@ use Rattle.pip_searches.proofs.commands.against.again.write_said.Given as goal
 -- the lines of the labels before this one were written
 abbrev pub invariant-loop-k : goal.invariant-loop-k
 invariant-loop-k g l = record {
-  wrote : Appends (g.K.Sink.written l.fn.sink) (g.K.Sink.written l.sink)
+  wrote : Appends (g.K.Sink.told l.fn.sink).written (g.K.Sink.told l.sink).written
       (flat_map (λ p. said_line l.fn.cpus l.fn.lines p.0 p.1) (take l.k (zip (label_bytes l.fn.labels) l.fn.said)));
-  calm : g.K.Sink.faults l.sink ≡ g.K.Sink.faults l.fn.sink;
+  calm : (g.K.Sink.told l.sink).faults ≡ (g.K.Sink.told l.fn.sink).faults;
 }

@@ -2,6 +2,7 @@ use Rattle.std.proofs.Common.{◌++◌, Ok, ap, ◌∙◌, refl, subst, sym, ari
 use Rattle.pip_input.specs.Lines.{HoldsLine, IsLineless, still}
 use Rattle.pip_io.specs.Causes.{RoseByOne}
 use Rattle.pip_io.specs.Pacing.{MayRead}
+use Rattle.pip_io.specs.Moments.{streams}
 use Rattle.pip_io.proofs.Pacing.{paced_after}
 use Rattle.pip_searches.specs.MenuReading.{BeginsMenu, menu_said}
 use Rattle.pip_searches.specs.MenuText.{line_said}
@@ -14,45 +15,46 @@ next_line-requires-clause-paced g c =
     let was = c.loop-line.invariant in
     let i = c.loop-line.input in
     let paced = paced_after g.S.Source.allows BeginsMenu (IsLineless i) _ _ _ _
-    (g.K.Sink.written c.args.joint.now.sink.now) (g.K.Sink.faults c.args.joint.now.sink.now)
-    (was.at.lines ++ i.bytes) was.calm
-    (read_held c.loop-line.line (menu_said c.loop-line.menu) i.bytes (g.S.Source.left c.args.joint.now.source.now)
-    (g.S.Source.left c.loop-line.joint.source.now) was.at)
-    (begins_menu c.loop-line.line (menu_said c.loop-line.menu) i.bytes (g.S.Source.left c.args.joint.now.source.now)
-    (g.S.Source.left c.loop-line.joint.source.now) was.at i refl) c.requires.paced in
-    subst (λ s. MayRead g.S.Source.allows (IsLineless i) (g.S.Source.left c.loop-line.joint.source.now)
-    (g.S.Source.faults c.loop-line.joint.source.now) (g.K.Sink.written s.now) (g.K.Sink.faults s.now)) (sym was.sink)
+    (g.K.Sink.told c.args.joint.now.sink.now) (was.at.lines ++ i.bytes) was.calm
+    (read_held c.loop-line.line (menu_said c.loop-line.menu) i.bytes (g.S.Source.told c.args.joint.now.source.now).left
+    (g.S.Source.told c.loop-line.joint.source.now).left was.at)
+    (begins_menu c.loop-line.line (menu_said c.loop-line.menu) i.bytes
+    (g.S.Source.told c.args.joint.now.source.now).left
+    (g.S.Source.told c.loop-line.joint.source.now).left was.at i refl) c.requires.paced in
+    subst (λ s. MayRead g.S.Source.allows (IsLineless i) (streams g.S.Source.told g.K.Sink.told
+    c.loop-line.joint.source.now s.now)) (sym was.sink)
     paced
 
 pub returns-in_default-clause-reads : goal.returns-in_default-clause-reads
 returns-in_default-clause-reads g c = (
-  unread c.loop-line.line (menu_said c.loop-line.menu) c.loop-line.input c.next_line.new.input
-      (g.S.Source.left c.args.joint.now.source.now) (g.S.Source.left c.loop-line.joint.source.now)
-      (g.S.Source.left c.next_line.new.joint.source.now) c.loop-line.invariant.at c.next_line.ensures.kept
+  unread c.loop-line.line (menu_said c.loop-line.menu) c.loop-line.input c.next_line.new.self
+      (g.S.Source.told c.args.joint.now.source.now).left (g.S.Source.told c.loop-line.joint.source.now).left
+      (g.S.Source.told c.next_line.new.joint.source.now).left c.loop-line.invariant.at c.next_line.ensures.kept
       c.in_default.ensures.part,
-  subst (λ k. RoseByOne k (g.S.Source.faults c.next_line.new.joint.source.now)) c.loop-line.invariant.calm
+  subst (λ k. RoseByOne k (g.S.Source.told c.next_line.new.joint.source.now).faults) c.loop-line.invariant.calm
       c.in_default.ensures.cause.failed,
 )
 
 pub returns-in-Err-clause-reads : goal.returns-in-Err-clause-reads
 returns-in-Err-clause-reads g c = (
-  bad_line c.loop-line.line (menu_said c.loop-line.menu) c.loop-line.input c.next_line.new.input
-      (g.S.Source.left c.args.joint.now.source.now) (g.S.Source.left c.loop-line.joint.source.now)
-      (g.S.Source.left c.next_line.new.joint.source.now) c.loop-line.invariant.at c.in-Ok.ensures.kept
+  bad_line c.loop-line.line (menu_said c.loop-line.menu) c.loop-line.input c.next_line.new.self
+      (g.S.Source.told c.args.joint.now.source.now).left (g.S.Source.told c.loop-line.joint.source.now).left
+      (g.S.Source.told c.next_line.new.joint.source.now).left c.loop-line.invariant.at c.in-Ok.ensures.kept
       c.in-Newline.count
-      c.head.result.now c.head.ensures (subst (HoldsLine (still c.loop-line.input) c.next_line.new.input
-      (g.S.Source.left c.next_line.new.joint.source.now)) c.in-Newline.is c.in-Ok.ensures.line) c.in-Err.kind
+      c.head.result.now c.head.ensures (subst (HoldsLine (still c.loop-line.input) c.next_line.new.self
+      (g.S.Source.told c.next_line.new.joint.source.now).left) c.in-Newline.is c.in-Ok.ensures.line) c.in-Err.kind
       c.in-Err.ensures,
   c.in-Ok.ensures.cause.calm ∙ c.loop-line.invariant.calm,
 )
 
 pub returns-in-Ok-add_line-clause-reads : goal.returns-in-Ok-add_line-clause-reads
 returns-in-Ok-add_line-clause-reads g c = (
-  last_menu c.loop-line.line (menu_said c.loop-line.menu) c.loop-line.input c.next_line.new.input
-      (g.S.Source.left c.args.joint.now.source.now) (g.S.Source.left c.loop-line.joint.source.now)
-      (g.S.Source.left c.next_line.new.joint.source.now) c.loop-line.invariant.at c.in-Ok.ensures.kept c.in-Last.count
-      c.head-in-Last.result.now c.head-in-Last.ensures (subst (HoldsLine (still c.loop-line.input) c.next_line.new.input
-      (g.S.Source.left c.next_line.new.joint.source.now)) c.in-Last.is c.in-Ok.ensures.line)
+  last_menu c.loop-line.line (menu_said c.loop-line.menu) c.loop-line.input c.next_line.new.self
+      (g.S.Source.told c.args.joint.now.source.now).left (g.S.Source.told c.loop-line.joint.source.now).left
+      (g.S.Source.told c.next_line.new.joint.source.now).left c.loop-line.invariant.at c.in-Ok.ensures.kept
+      c.in-Last.count
+      c.head-in-Last.result.now c.head-in-Last.ensures (subst (HoldsLine (still c.loop-line.input) c.next_line.new.self
+      (g.S.Source.told c.next_line.new.joint.source.now).left) c.in-Last.is c.in-Ok.ensures.line)
       (menu_said c.add_line-in-Last.new.menu)
       c.in-Ok-add_line.ensures,
   c.in-Ok.ensures.cause.calm ∙ c.loop-line.invariant.calm,
@@ -60,32 +62,33 @@ returns-in-Ok-add_line-clause-reads g c = (
 
 pub returns-in-Err-add_line-clause-reads : goal.returns-in-Err-add_line-clause-reads
 returns-in-Err-add_line-clause-reads g c = (
-  last_bad c.loop-line.line (menu_said c.loop-line.menu) c.loop-line.input c.next_line.new.input
-      (g.S.Source.left c.args.joint.now.source.now) (g.S.Source.left c.loop-line.joint.source.now)
-      (g.S.Source.left c.next_line.new.joint.source.now) c.loop-line.invariant.at c.in-Ok.ensures.kept c.in-Last.count
-      c.head-in-Last.result.now c.head-in-Last.ensures (subst (HoldsLine (still c.loop-line.input) c.next_line.new.input
-      (g.S.Source.left c.next_line.new.joint.source.now)) c.in-Last.is c.in-Ok.ensures.line) c.in-Err-add_line.kind
+  last_bad c.loop-line.line (menu_said c.loop-line.menu) c.loop-line.input c.next_line.new.self
+      (g.S.Source.told c.args.joint.now.source.now).left (g.S.Source.told c.loop-line.joint.source.now).left
+      (g.S.Source.told c.next_line.new.joint.source.now).left c.loop-line.invariant.at c.in-Ok.ensures.kept
+      c.in-Last.count
+      c.head-in-Last.result.now c.head-in-Last.ensures (subst (HoldsLine (still c.loop-line.input) c.next_line.new.self
+      (g.S.Source.told c.next_line.new.joint.source.now).left) c.in-Last.is c.in-Ok.ensures.line) c.in-Err-add_line.kind
       c.in-Err-add_line.ensures,
   c.in-Ok.ensures.cause.calm ∙ c.loop-line.invariant.calm,
 )
 
 pub returns-in-End-clause-reads : goal.returns-in-End-clause-reads
 returns-in-End-clause-reads g c = (
-  ends_menu c.loop-line.line (menu_said c.loop-line.menu) c.loop-line.input c.next_line.new.input
-      (g.S.Source.left c.args.joint.now.source.now) (g.S.Source.left c.loop-line.joint.source.now)
-      (g.S.Source.left c.next_line.new.joint.source.now) c.loop-line.invariant.at c.in-Ok.ensures.kept (subst (HoldsLine
-      (still c.loop-line.input) c.next_line.new.input
-      (g.S.Source.left c.next_line.new.joint.source.now)) c.in-End.is c.in-Ok.ensures.line),
+  ends_menu c.loop-line.line (menu_said c.loop-line.menu) c.loop-line.input c.next_line.new.self
+      (g.S.Source.told c.args.joint.now.source.now).left (g.S.Source.told c.loop-line.joint.source.now).left
+      (g.S.Source.told c.next_line.new.joint.source.now).left c.loop-line.invariant.at c.in-Ok.ensures.kept
+      (subst (HoldsLine (still c.loop-line.input) c.next_line.new.self
+      (g.S.Source.told c.next_line.new.joint.source.now).left) c.in-End.is c.in-Ok.ensures.line),
   c.in-Ok.ensures.cause.calm ∙ c.loop-line.invariant.calm,
 )
 
 pub returns-in-TooLong-clause-reads : goal.returns-in-TooLong-clause-reads
 returns-in-TooLong-clause-reads g c = (
-  too_long c.loop-line.line (menu_said c.loop-line.menu) c.loop-line.input c.next_line.new.input
-      (g.S.Source.left c.args.joint.now.source.now) (g.S.Source.left c.loop-line.joint.source.now)
-      (g.S.Source.left c.next_line.new.joint.source.now) c.loop-line.invariant.at c.in-Ok.ensures.kept (subst (HoldsLine
-      (still c.loop-line.input) c.next_line.new.input
-      (g.S.Source.left c.next_line.new.joint.source.now)) c.in-TooLong.is c.in-Ok.ensures.line),
+  too_long c.loop-line.line (menu_said c.loop-line.menu) c.loop-line.input c.next_line.new.self
+      (g.S.Source.told c.args.joint.now.source.now).left (g.S.Source.told c.loop-line.joint.source.now).left
+      (g.S.Source.told c.next_line.new.joint.source.now).left c.loop-line.invariant.at c.in-Ok.ensures.kept
+      (subst (HoldsLine (still c.loop-line.input) c.next_line.new.self
+      (g.S.Source.told c.next_line.new.joint.source.now).left) c.in-TooLong.is c.in-Ok.ensures.line),
   c.in-Ok.ensures.cause.calm ∙ c.loop-line.invariant.calm,
 )
 
@@ -97,20 +100,20 @@ loop-line-preserved g c =
     let few = few_lines c.loop-line.line (menu_said c.loop-line.menu) (line_said c.head.result.now) (menu_said
     c.add_line.new.menu)
     good in
-    let holds = subst (HoldsLine (still c.loop-line.input) c.next_line.new.input
-    (g.S.Source.left c.next_line.new.joint.source.now)) c.in-Newline.is c.in-Ok.ensures.line in
+    let holds = subst (HoldsLine (still c.loop-line.input) c.next_line.new.self
+    (g.S.Source.told c.next_line.new.joint.source.now).left) c.in-Newline.is c.in-Ok.ensures.line in
     record {
-      at = next_line c.loop-line.line (menu_said c.loop-line.menu) c.loop-line.input c.next_line.new.input
-          (g.S.Source.left c.args.joint.now.source.now) (g.S.Source.left c.loop-line.joint.source.now)
-          (g.S.Source.left c.next_line.new.joint.source.now) c.loop-line.invariant.at c.in-Ok.ensures.kept
+      at = next_line c.loop-line.line (menu_said c.loop-line.menu) c.loop-line.input c.next_line.new.self
+          (g.S.Source.told c.args.joint.now.source.now).left (g.S.Source.told c.loop-line.joint.source.now).left
+          (g.S.Source.told c.next_line.new.joint.source.now).left c.loop-line.invariant.at c.in-Ok.ensures.kept
           c.in-Newline.count c.head.result.now
           c.head.ensures holds (menu_said c.add_line.new.menu) c.take.new.self c.take.ensures.bytes c.take.ensures.room
           good;
       first = omega (arith, first);
       few = omega (arith, few);
-      room = room_left c.loop-line.line (menu_said c.loop-line.menu) c.loop-line.input c.next_line.new.input
-          (g.S.Source.left c.args.joint.now.source.now) (g.S.Source.left c.loop-line.joint.source.now)
-          (g.S.Source.left c.next_line.new.joint.source.now) c.loop-line.invariant.at c.in-Ok.ensures.kept
+      room = room_left c.loop-line.line (menu_said c.loop-line.menu) c.loop-line.input c.next_line.new.self
+          (g.S.Source.told c.args.joint.now.source.now).left (g.S.Source.told c.loop-line.joint.source.now).left
+          (g.S.Source.told c.next_line.new.joint.source.now).left c.loop-line.invariant.at c.in-Ok.ensures.kept
           c.in-Newline.count c.head.result.now
           c.head.ensures holds c.take.new.self c.take.ensures.bytes c.take.ensures.room was.first was.room;
       name = c.in-Ok.ensures.same_source ∙ was.name;

@@ -1,0 +1,69 @@
+-- A part that was checked over the frames of an image is a part of the image.
+use Rattle.std.proofs.Common.{◌≡◌, ℕ, ◌<◌, List, [], ◌∷◌, length, sym, ap, ◌∙◌, subst, arith}
+use Rattle.std.specs.List.{All, AllByRecursion}
+use Rattle.std.proofs.lemmas.List.Elements.{All-cons, All-nil}
+use Rattle.pip_base.specs.Memory.{Memory}
+use Rattle.pip_base.specs.declared.types.Plan.{Plan}
+use Rattle.pip_every.specs.Keys.{IsKeyOf, model_of}
+use Rattle.pip_every.specs.Moments.{Moment, Scope, first_moment}
+use Rattle.pip_every.proofs.OneKey.{one_key}
+use Rattle.pip_due.specs.Loading.{BeginsFrames}
+use Rattle.pip_image.specs.declared.header.Header.{Header}
+use Rattle.pip_model.specs.Images.{Image, image_word}
+use Rattle.pip_search.specs.Certificates.{HasStop, IsClosedPart, IsReachedPart}
+use Rattle.pip_search.specs.Parts.{portion_of, stops}
+use Rattle.pip_search.specs.declared.parts.Part.{Part}
+use Rattle.pip_certificates.specs.PartAbout.{about_numbers, part_sum, raised_lines, words_with}
+use Rattle.pip_certificates.specs.PartDues.{IsPartBooted, image_moment, part_scope}
+use Rattle.pip_certificates.specs.PartShown.{IsNumbered, told_part}
+use Rattle.pip_certificates.specs.declared.checking.Checked.{Checked}
+use Rattle.pip_certificates.specs.declared.reading.BaseWord.{BaseWord}
+use Rattle.pip_certificates.proofs.Bits.{none_of}
+
+-- the lines of plans are below 16 where those of the plans are
+pub raised_below : (plans : List Plan) → AllByRecursion (λ p. p.line < 16) plans
+    → All (λ line. line < 16) (raised_lines plans)
+raised_below [] all = All-nil (λ line. line < 16)
+raised_below (p ∷ plans) all =
+    All-cons (λ line. line < 16) p.line (raised_lines plans) all.0 (raised_below plans all.1)
+
+module _ {i : Image} {h : Header} {m : Memory} (b : BeginsFrames i h m) (from : ℕ) (base : List BaseWord)
+    (words : Memory) (ls : List ℕ) (held : words ≡ words_with m base) (raised : ls ≡ raised_lines h.plans.items) where
+  abbrev given : Scope
+  given = record { cpus = h.cpus; lines = ls; from = from }
+
+  abbrev begun : ℕ → Moment
+  begun n = first_moment (image_word i.frames i.pages) i.frames n
+
+  scope : given ≡ part_scope i from
+  scope = λ j. record { cpus = b.cpus j; lines = (raised ∙ ap raised_lines b.plans) j; from = from }
+
+  -- what is so over the words, the scope and the moment of the program is so over those of the image
+  moved : (P : Memory → Scope → Moment → Type 0) → P words given (begun h.cpus)
+      → P (words_with m base) (part_scope i from) (image_moment i)
+  moved P x = subst (λ w. P w (part_scope i from) (image_moment i)) held
+      (subst (λ s. P words s (image_moment i)) scope (subst (λ n. P words given (begun n)) b.cpus x))
+
+  pub part_of : (p : Part) (text way : List ℕ) (k : Checked) → IsNumbered p text (length way) k
+      → IsClosedPart (model_of words given) (portion_of p)
+      → IsReachedPart (model_of words given) (begun h.cpus) (portion_of p)
+      → (way ≡ [] → (key : List ℕ) × (IsKeyOf words given key (begun h.cpus) × HasStop (stops p.keys.items) key 0))
+      → text ≡ about_numbers h.frames h.cpus (length h.plans.items) h.pages from (part_sum ls words)
+      → IsPartBooted i from base (told_part k) m
+  part_of p text way k is closed reached begins told = record {
+    closed = subst (λ q. IsClosedPart (model_of (words_with m base) (part_scope i from)) (portion_of q)) (sym is.part)
+        (moved (λ w s n. IsClosedPart (model_of w s) (portion_of p)) closed);
+    reached = subst (λ q. IsReachedPart (model_of (words_with m base) (part_scope i from)) (image_moment i)
+        (portion_of q)) (sym is.part) (moved (λ w s n. IsReachedPart (model_of w s) n (portion_of p)) reached);
+    begins = λ start key none.
+        let size = is.way in
+        let few : way ≡ [] = none_of way (omega (arith, size, none)) in
+        let x = begins few in
+        let there = moved (λ w s n. IsKeyOf w s x.0 n) x.1.0 in
+        let same : x.0 ≡ start = one_key (words_with m base) (part_scope i from) x.0 start (image_moment i) there key in
+        subst (λ q. HasStop (stops q.keys.items) start 0) (sym is.part)
+        (subst (λ y. HasStop (stops p.keys.items) y 0) same x.1.1);
+    small = is.small;
+    about = is.about ∙ (told ∙ (λ j. about_numbers (b.frames j) (b.cpus j) (length (b.plans j)) (b.pages j) from
+        (part_sum ((raised ∙ ap raised_lines b.plans) j) (held j))));
+  }

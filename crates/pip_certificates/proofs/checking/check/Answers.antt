@@ -1,0 +1,35 @@
+use Rattle.std.proofs.Common.{rules, ◌<◌, ◌∙◌, ap, ap₂, sym, subst}
+use Rattle.std.specs.List.{All}
+use Rattle.pip_every.proofs.Keying.{if_ok}
+use Rattle.pip_model.specs.Images.{image_word}
+use Rattle.pip_certificates.specs.PartAbout.{about_numbers, part_sum, raised_lines, words_with}
+use Rattle.pip_certificates.specs.PartShown.{IsNumbered}
+use Rattle.pip_certificates.proofs.PartsChecked.{part_of, raised_below}
+use Rattle.pip_certificates.proofs.checking.check.Goals as goal
+
+pub part-requires-clause-below : goal.part-requires-clause-below
+part-requires-clause-below g c =
+    subst (All (λ line. line < 16)) (sym (c.as_slice-4.ensures.value ∙ (c.raised_lines-lines.ensures
+    ∙ ap raised_lines c.as_slice.ensures.value))) (raised_below c.args.head.now.plans.items c.requires.limits.lines)
+
+pub returns-clause-found : goal.returns-clause-found
+returns-clause-found g c = if_ok c.counted.result _ _ (λ k is i b.
+    let h = c.args.head.now in
+    let m = c.args.mem.block.frames in
+    let words = c.in_ok-later.later.block.frames in
+    let lines = c.as_slice-4.ensures.value ∙ (c.raised_lines-lines.ensures
+    ∙ ap raised_lines c.as_slice.ensures.value) in
+    let held = c.in_ok-later.ensures.words ∙ ap (words_with m) c.as_slice-2.ensures.value in (
+      m,
+      b.booted,
+      part_of b c.args.from c.args.read.now.base.items words c.as_slice-4.result.now held lines
+          c.in-Some.part c.about_text-about.result.bytes c.as_slice-5.result.now k
+          (subst (λ n. IsNumbered c.in-Some.part c.about_text-about.result.bytes n k) (search rules) is)
+          (c.in_ok-found.ensures.closed c.in-Some.part c.in-Some.is)
+          (c.in_ok-found.ensures.reached c.in-Some.part i.frames (image_word i.frames i.pages) c.in-Some.is b.booted)
+          (c.in_ok-found.ensures.begins c.in-Some.part i.frames (image_word i.frames i.pages) c.in-Some.is b.booted)
+          (c.about_text-about.ensures ∙ ap₂ (λ n s. about_numbers h.frames h.cpus n h.pages c.args.from s)
+          c.len.ensures.value
+          (c.part_sum-sum.ensures ∙ ap (λ l. part_sum l words)
+          (c.as_slice-3.ensures.value ∙ sym c.as_slice-4.ensures.value))),
+    )) c.counted.ensures

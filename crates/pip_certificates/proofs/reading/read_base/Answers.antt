@@ -1,0 +1,54 @@
+use Rattle.std.proofs.Common.{rules, arith, ◌+◌, ◌-◌, ◌∙◌, sym, subst}
+use Rattle.pip_io.specs.Pacing.{MayRead}
+use Rattle.pip_io.specs.Moments.{streams}
+use Rattle.pip_io.proofs.Pacing.{paced_after}
+use Rattle.pip_certificates.specs.PartReading.{HasNoFault, StopsText, part_seen}
+use Rattle.pip_certificates.specs.PartText.{base_from, base_said}
+use Rattle.pip_certificates.proofs.TextSteps.{open_after, stops_after, takes_then}
+use Rattle.pip_certificates.proofs.reading.read_base.Goals as goal
+
+pub next_base-requires-clause-paced : goal.next_base-requires-clause-paced
+next_base-requires-clause-paced g c =
+    let was = c.loop-left.invariant in
+    let a = c.args in
+    let u = base_from a.limits (part_seen c.loop-left.part) c.loop-left.least c.loop-left.left c.loop-left.place in
+    let t = base_said a.limits (part_seen a.part.now) a.at in
+    let paced = paced_after g.S.Source.allows (HasNoFault t) (HasNoFault u) _ _ _ _
+    (g.K.Sink.told a.joint.now.sink.now) was.taken.bytes
+    was.calm was.taken.taken (open_after t u _ _ was.taken) c.requires.paced in
+    subst (λ s. MayRead g.S.Source.allows (HasNoFault u) (streams g.S.Source.told g.K.Sink.told
+    c.loop-left.joint.source.now s.now)) (sym was.sink)
+    paced
+
+pub returns-in_err-least-clause-reads : goal.returns-in_err-least-clause-reads
+returns-in_err-least-clause-reads g c =
+    let was = c.loop-left.invariant in
+    let a = c.args in
+    let h : StopsText (base_said a.limits (part_seen a.part.now) a.at) (g.S.Source.told a.joint.now.source.now).left
+    (g.S.Source.told c.next_base.new.joint.source.now).left (g.S.Source.told a.joint.now.source.now).faults
+    (g.S.Source.told c.next_base.new.joint.source.now).faults c.in_err-least.field-0.0 =
+    stops_after (base_said a.limits (part_seen a.part.now) a.at)
+    (base_from a.limits (part_seen c.loop-left.part) c.loop-left.least c.loop-left.left c.loop-left.place)
+    _ _ _ _ _ _ _ was.calm was.taken c.in_err-least.ensures.reads in
+    search rules
+
+pub loop-left-preserved : goal.loop-left-preserved
+loop-left-preserved g c =
+    let was = c.loop-left.invariant in
+    let now = c.in_ok-least.ensures in
+    let a = c.args in
+    let room = was.room in
+    record {
+      name = now.same_source ∙ was.name;
+      sink = now.sink ∙ was.sink;
+      is_open = now.is_open;
+      calm = now.reads.1 ∙ was.calm;
+      taken = takes_then (base_said a.limits (part_seen a.part.now) a.at)
+          (base_from a.limits (part_seen c.loop-left.part) c.loop-left.least c.loop-left.left c.loop-left.place)
+          (base_from a.limits (part_seen c.next_base.new.part) c.in_ok-least.least (c.loop-left.left - 1)
+          (c.loop-left.place + 12)) _ _ _ was.taken now.reads.0;
+      base = now.base;
+      way = now.way ∙ was.way;
+      marks = now.marks ∙ was.marks;
+      room = search (rules, arith);
+    }

@@ -1,0 +1,111 @@
+-- What is due of `merge`, which reads the lines of all parts of a certificate, sorted.
+use Rattle.std.specs.Prelude.{◌≡◌, ℕ, ◌+◌, ◌^◌, ◌<◌, ◌⊎◌, false, not, if◌then◌else◌, List, [], ◌∷◌, ◌++◌, length}
+use Rattle.std.specs.Prelude.{None, Result, Ok, Err, codes, decimal, flat_map}
+use Rattle.pip_core_text.specs.CoreRead.{AreWholeLines}
+use Rattle.pip_due.specs.EndsBy.{Due, Response, plainly}
+use Rattle.pip_input.specs.Lines.{HasNoNewline}
+use Rattle.pip_model.specs.Grammar.{lines_of}
+use Rattle.pip_model.specs.Text.{line_text}
+use Rattle.pip_parts.specs.Entries.{entry_of}
+use Rattle.pip_parts.specs.Merges.{Merging, counted, is_whole, merge_entry, merge_lines, no_merging, on_value}
+use Rattle.pip_parts.specs.declared.faults.MergeFault.{MergeFault}
+use Rattle.pip_parts.specs.declared.faults.MergeFault.TheVariants as F
+use Rattle.pip_search.specs.declared.searching.Extent.TheVariants.{Closed}
+use Rattle.pip_ways.specs.Texts.{verdict_line}
+
+-- ---- lines
+
+-- all these lines can be merged, one after another, to this, and one more has a number below 2^64
+pub record MergesTo (lines : List (List ℕ)) (g : Merging) : Type 0 where
+  pub merged : merge_lines no_merging lines ≡ Ok g
+  pub few : length lines + 1 < 2 ^ 64
+
+-- what comes of line n after what was merged; the lines are counted, too
+abbrev pub merge_numbered : ℕ → Merging → List ℕ → Result Merging MergeFault
+merge_numbered n m line = on_value (counted n 1) (λ _. merge_entry m (entry_of line))
+
+-- line n is the first of these that can't be merged: so it reads, and this is wrong with it
+pub record BreaksAt (lines : List (List ℕ)) (n : ℕ) (line : List ℕ) (fault : MergeFault) : Type 0 where
+  pub before : List (List ℕ)
+  pub after : List (List ℕ)
+  pub all : lines ≡ before ++ line ∷ after
+  pub merging : Merging
+  pub good : MergesTo before merging
+  pub number : n ≡ length before + 1
+  pub bad : merge_numbered n merging line ≡ Err fault
+
+-- ---- texts
+
+-- the line that names a bad one by its number, with a word for what is wrong
+abbrev pub bad_numbered : ℕ → List ℕ → List ℕ
+bad_numbered n kind = line_text (codes "bad line " ++ decimal n ++ codes " " ++ kind)
+
+-- what is written where line n can't be merged: its number, or the line itself where that is about a key
+abbrev pub fault_text : ℕ → List ℕ → MergeFault → List ℕ
+fault_text n line F.Form = bad_numbered n (codes "form")
+fault_text n line F.Order = bad_numbered n (codes "order")
+fault_text n line F.Many = bad_numbered n (codes "many")
+fault_text n line F.Open = line_text (codes "open " ++ line)
+fault_text n line F.Twice = line_text (codes "twice " ++ line)
+fault_text n line F.Apart = line_text (codes "apart " ++ decimal n)
+
+-- and the status: what was read are no such lines, or parts that don't fit together
+abbrev pub fault_status : MergeFault → ℕ
+fault_status F.Form = 2
+fault_status F.Order = 2
+fault_status F.Many = 2
+fault_status F.Open = 9
+fault_status F.Twice = 9
+fault_status F.Apart = 9
+
+-- the line of a label: a line of a trace without its step
+abbrev pub label_line : List ℕ → List ℕ
+label_line label = line_text (codes "line" ++ label)
+
+-- what all parts show, each label once, and how many keys they have, up to which depth
+abbrev pub merged_text : Merging → List ℕ
+merged_text g = flat_map label_line g.labels ++ verdict_line g.keys.states (Closed g.keys.deepest)
+
+-- where all lines could be merged: no part has the first key; or all is there; or something is missing or too much
+abbrev pub merge_response : Merging → Response
+merge_response g =
+    if not g.parts.begins then plainly 9 (line_text (codes "no start")) None
+    else if is_whole g then plainly 0 (merged_text g) None
+    else plainly 9 (line_text (codes "apart")) None
+
+-- ---- what is due
+
+-- all these lines can be merged, or one is the first that can't be
+abbrev pub IsMergeAnswer : List (List ℕ) → Response → Type 0
+IsMergeAnswer lines v = ((g : Merging) × MergesTo lines g × (v ≡ merge_response g))
+    ⊎ ((n : ℕ) × ((line : List ℕ) × ((fault : MergeFault) × BreaksAt lines n line fault
+    × (v ≡ plainly (fault_status fault) (fault_text n line fault) None))))
+
+-- these bytes have a line that can't be merged, whatever follows them
+pub record HasBreak (bytes : List ℕ) : Type 0 where
+  pub number : ℕ
+  pub line : List ℕ
+  pub fault : MergeFault
+  pub fixed : (rest : List ℕ) → BreaksAt (lines_of (bytes ++ rest)) number line fault
+
+-- these bytes are whole lines that can be merged, and a rest that is no line yet
+pub record BeginsMerge (bytes : List ℕ) : Type 0 where
+  pub lines : List ℕ
+  pub rest : List ℕ
+  pub all : bytes ≡ lines ++ rest
+  pub whole : AreWholeLines lines
+  pub plain : HasNoNewline rest
+  pub merging : Merging
+  pub good : MergesTo (lines_of lines) merging
+
+-- `merge` stops at the first line that can't be merged, writes nothing before, and takes memory all along
+abbrev pub merge_due : Due
+merge_due = record {
+  answer = λ input v. IsMergeAnswer (lines_of input) v;
+  enough = HasBreak;
+  so_far = λ bytes text. BeginsMerge bytes × (text ≡ []);
+  midway = λ bytes front last. ⊥;
+  asks = λ bytes left. Unit {0};
+  limit = None;
+  unread = λ status. false;
+}

@@ -1,0 +1,158 @@
+//! The check of a part that was read.
+ghost use Rattle.std.specs.Prelude.{◌≡◌, ◌<◌, ◌≤◌, ◌-◌, ◌^◌, ℕ, IfOk, Some, length, slice_get};
+ghost use Rattle.pip_base.specs.Memory.{IsMemory, put_word};
+ghost use Rattle.pip_image.specs.Coming.{IsHeader};
+ghost use Rattle.pip_model.specs.Booted.{HasBooted};
+ghost use Rattle.pip_search.specs.declared.stops.Reached.{Reached};
+ghost use Rattle.pip_certificates.specs.PartAbout.{words_with};
+ghost use Rattle.pip_certificates.specs.BaseWords.{AreBaseWords};
+ghost use Rattle.pip_certificates.specs.PartShown.{CountsStops, IsCheckedOf, IsNumbered};
+
+use crate::about::{MAX_ABOUT, about_text, part_sum, raised_lines};
+use crate::reading::{BaseWord, ReadPart};
+use arrayvec::ArrayString;
+use pip_base::{Frame, Steps};
+use pip_every::part;
+use pip_frames::{Frames, RawFrames};
+use pip_image::Header;
+use pip_journal::copied;
+use pip_search::{Part, Reached};
+use std::alloc::{AllocError, Global};
+use std::sync::ledger::Ledger;
+
+/// A part that was checked: what it has and asks, what it is of, and its numbers.
+#[derive(Drop)]
+pub struct Checked {
+    pub part: Part,
+    pub about: ArrayString<MAX_ABOUT>,
+    pub way: u32,
+    pub keys: u32,
+    pub asked: u32,
+}
+
+// Frames with these words in place of their own.
+fn frames_with<L: Ledger>(
+    alloc: Global,
+    mem: &RawFrames,
+    base: &[BaseWord],
+    steps: &mut Steps<L>,
+) -> Result<RawFrames, AllocError>
+    requires base { AreBaseWords (length (⟦<RawFrames as Frames>⟧.memory mem.now)) base.now }
+    requires shape { IsMemory (⟦<RawFrames as Frames>⟧.memory mem.now) }
+    ensures words { IfOk result (λ r. ⟦<RawFrames as Frames>⟧.memory r
+        ≡ words_with (⟦<RawFrames as Frames>⟧.memory mem.now) base.now) }
+    ensures shape { IfOk result (λ r. IsMemory (⟦<RawFrames as Frames>⟧.memory r)) }
+    ensures count { IfOk result (λ r. length (⟦<RawFrames as Frames>⟧.memory r)
+        ≡ length (⟦<RawFrames as Frames>⟧.memory mem.now)) }
+{
+    let mut later = copied(alloc, mem, steps)?;
+    put_base(&mut later, base);
+    Ok(later)
+}
+
+// Writes words into frames.
+fn put_base(mem: &mut RawFrames, base: &[BaseWord])
+    requires base { AreBaseWords (length (⟦<RawFrames as Frames>⟧.memory mem.old)) base.now }
+    requires shape { IsMemory (⟦<RawFrames as Frames>⟧.memory mem.old) }
+    ensures words { ⟦<RawFrames as Frames>⟧.memory mem.new
+        ≡ words_with (⟦<RawFrames as Frames>⟧.memory mem.old) base.now }
+    ensures shape { IsMemory (⟦<RawFrames as Frames>⟧.memory mem.new) }
+    ensures count { length (⟦<RawFrames as Frames>⟧.memory mem.new)
+        ≡ length (⟦<RawFrames as Frames>⟧.memory mem.old) }
+{
+    for i in 0..base.len() {
+        put_one(mem, &base[i]);
+    }
+}
+
+// Writes a word into its frame.
+fn put_one(mem: &mut RawFrames, word: &BaseWord)
+    requires frame { word.now.frame < length (⟦<RawFrames as Frames>⟧.memory mem.old) }
+    requires index { word.now.index < 1024 }
+    ensures words { ⟦<RawFrames as Frames>⟧.memory mem.new
+        ≡ put_word (⟦<RawFrames as Frames>⟧.memory mem.old) word.now.frame word.now.index word.now.word }
+    ensures count { length (⟦<RawFrames as Frames>⟧.memory mem.new)
+        ≡ length (⟦<RawFrames as Frames>⟧.memory mem.old) }
+{
+    mem.set_word(Frame::new(word.frame), word.index, word.word);
+}
+
+// The greatest depth of keys.
+fn deepest(keys: &[Reached]) -> u32
+    ensures { (j : ℕ) (x : Reached) → slice_get keys.now j ≡ Some x → x.depth ≤ result }
+{
+    let mut depth = 0;
+    for key in keys {
+        depth = key.depth.max(depth);
+    }
+    depth
+}
+
+/// Checks a part of an image that has booted. The only error is that memory is out, as for 2^32 keys that are asked.
+pub fn check<L: Ledger>(
+    alloc: Global,
+    head: &Header,
+    mem: RawFrames,
+    read: &ReadPart,
+    from: u32,
+    steps: &mut Steps<L>,
+) -> Result<Checked, AllocError>
+    requires booted { HasBooted (⟦<RawFrames as Frames>⟧.memory mem) }
+    requires limits { IsHeader head.now }
+    requires base { AreBaseWords (length (⟦<RawFrames as Frames>⟧.memory mem)) read.now.base.items }
+    requires way { length read.now.way.items ≤ 10000000 }
+    requires marks { length read.now.marks.items < 2 ^ 32 - 1 }
+    ensures counts { IfOk result CountsStops }
+    ensures way { IfOk result (λ c. c.way ≡ length read.now.way.items) }
+    ensures found { IfOk result
+        (IsCheckedOf head.now (⟦<RawFrames as Frames>⟧.memory mem) from read.now.base.items) }
+{
+    let lines = raised_lines(head.plans.as_slice());
+    let later = frames_with(alloc, &mem, read.base.as_slice(), steps)?;
+    let sum = part_sum(lines.as_slice(), &later, steps);
+    let about = about_text(
+        head.frames,
+        head.cpus,
+        head.plans.len() as u32,
+        head.pages,
+        from,
+        sum,
+    );
+    let found = part(
+        alloc,
+        mem,
+        later,
+        head.cpus,
+        lines.as_slice(),
+        from,
+        read.way.as_slice(),
+        read.marks.as_slice(),
+    )?;
+    // All choices of the way can be made, so there is a part.
+    let Some(part) = found else {
+        return Err(AllocError);
+    };
+    counted(part, about, read.way.len() as u32)
+}
+
+// A part with its numbers, where these are below 2^32.
+fn counted(part: Part, about: ArrayString<MAX_ABOUT>, way: u32) -> Result<Checked, AllocError>
+    requires { way < 2 ^ 32 }
+    ensures { IfOk result (IsNumbered part about.bytes way) }
+{
+    deepest(part.keys.as_slice());
+    deepest(part.asked.as_slice());
+    let Ok(keys) = u32::try_from(part.keys.len()) else {
+        return Err(AllocError);
+    };
+    let Ok(asked) = u32::try_from(part.asked.len()) else {
+        return Err(AllocError);
+    };
+    Ok(Checked {
+        part,
+        about,
+        way,
+        keys,
+        asked,
+    })
+}

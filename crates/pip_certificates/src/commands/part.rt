@@ -1,0 +1,161 @@
+//! The command `part`: an image is read and a part of a certificate after it, and the part is checked.
+ghost use Rattle.std.specs.Prelude.{◌≡◌, ◌≢◌, ◌<◌, ◌≤◌, ◌-◌, ◌^◌, ℕ, [], List, None, Ok, Option, length};
+ghost use Rattle.pip_base.specs.Opening.{CanOpen};
+ghost use Rattle.pip_due.specs.EndsBy.{EndsBy};
+ghost use Rattle.pip_due.specs.Loading.{BeginsFrames, LoadsFront};
+ghost use Rattle.pip_due.specs.Streams.{beside};
+ghost use Rattle.pip_due.specs.Commands.{Fulfils, FulfilsJoined, MayStart, MayStartJoined};
+ghost use Rattle.pip_image.specs.Coming.{IsHeader};
+ghost use Rattle.pip_io.specs.Moments.{joined};
+ghost use Rattle.pip_io.specs.Pacing.{MayRead};
+ghost use Rattle.pip_model.specs.Booted.{HasBooted};
+ghost use Rattle.pip_model.specs.Images.{Image};
+ghost use Rattle.pip_certificates.specs.BaseWords.{AreBaseWords};
+ghost use Rattle.pip_certificates.specs.PartDues.{IsPartAnswer, part_due};
+ghost use Rattle.pip_certificates.specs.PartReading.{HasNoFault, part_seen};
+ghost use Rattle.pip_certificates.specs.PartShown.{EndsWithPart, header_limits, header_said, header_size};
+
+use crate::checking::check;
+use crate::faults::{PartStop, bad_part};
+use crate::reading::{Limits, ReadPart, read_part};
+use crate::writing::show;
+use pip_base::Steps;
+use pip_due::begun::{Begun, load_front};
+use pip_due::loading::LoadError;
+use pip_due::{Ended, end_at_image, end_with};
+use pip_frames::{Frames, RawFrames};
+use pip_image::Header;
+use pip_io::{Joint, Sink, Source};
+use std::alloc::Global;
+use std::marker::Brand;
+use std::sync::ledger::{Blank, Ledger};
+
+/// Checks the part that comes after an image, and writes its lines in the order in which it found them: its keys, those
+/// that it asks, its labels, and the part itself (docs/CERTIFICATES.md). No line comes before `from` turns were made.
+pub fn part<S: Source, K: Sink>(alloc: Global, from: u32, source: &mut S, sink: &mut K) -> Ended
+    requires paced { MayStart (part_due from) S.is_open S.allows S.told K.told source.old sink.old }
+    ensures ends { Fulfils (part_due from) result S.told K.told source.old sink.old source.new sink.new }
+{
+    part_counted::<S, K, Brand>(alloc, from, source, sink, Blank::new(1))
+}
+
+// With a counter of steps that nobody reads.
+fn part_counted<S: Source, K: Sink, L: Ledger>(
+    alloc: Global,
+    from: u32,
+    source: &mut S,
+    sink: &mut K,
+    blank: Blank,
+) -> Ended
+    requires blank { CanOpen blank.name blank.parts L.name L.parts }
+    requires paced { MayStart (part_due from) S.is_open S.allows S.told K.told source.old sink.old }
+    ensures ends { Fulfils (part_due from) result S.told K.told source.old sink.old source.new sink.new }
+{
+    let mut steps: Steps<L> = Steps::new(blank);
+    let mut joint = Joint::new(source, sink);
+    part_joined(alloc, from, &mut joint, &mut steps)
+}
+
+// Reads the image, then the part.
+fn part_joined<S: Source, K: Sink, L: Ledger>(
+    alloc: Global,
+    from: u32,
+    joint: &mut Joint<'_, S, K>,
+    steps: &mut Steps<L>,
+) -> Ended
+    requires paced { MayStartJoined (part_due from) S.is_open S.allows S.told K.told joint.old }
+    ensures same_source { joint.new.source.ghost_name ≡ joint.old.source.ghost_name }
+    ensures same_sink { joint.new.sink.ghost_name ≡ joint.old.sink.ghost_name }
+    ensures ends { FulfilsJoined (part_due from) result S.told K.told joint.old joint.new }
+{
+    match load_front(alloc, joint, steps) {
+        Ok(begun) => after_image(alloc, begun, from, joint, steps),
+        Err(LoadError::Image(fault)) => end_at_image(&mut *joint.sink, fault),
+        Err(LoadError::Memory) => Ended::with_status(5),
+    }
+}
+
+// How many choices can be made, and how many frames there are.
+fn limits_of(head: &Header) -> Limits
+    requires { IsHeader head.now }
+    ensures { result ≡ header_limits head.now }
+{
+    Limits {
+        frames: head.frames,
+        choices: head.cpus + head.plans.len() as u32,
+    }
+}
+
+// How many bytes an image has.
+fn size_of(head: &Header) -> u64
+    requires { IsHeader head.now }
+    ensures size { result ≡ header_size head.now }
+    ensures small { result ≤ 2 ^ 32 }
+{
+    24 + 12 * head.plans.len() as u64 + 4100 * u64::from(head.pages)
+}
+
+// Reads the part after an image, checks it, and writes what it says.
+fn after_image<S: Source, K: Sink, L: Ledger>(
+    alloc: Global,
+    begun: Begun,
+    from: u32,
+    joint: &mut Joint<'_, S, K>,
+    steps: &mut Steps<L>,
+) -> Ended
+    requires booted { HasBooted (⟦<RawFrames as Frames>⟧.memory begun.mem) }
+    requires limits { IsHeader begun.head }
+    requires count { length (⟦<RawFrames as Frames>⟧.memory begun.mem) ≡ begun.head.frames }
+    requires is_open { S.is_open joint.old.source.now }
+    requires none { (K.told joint.old.sink.now).written.held ≡ [] }
+    requires paced { MayRead S.allows (HasNoFault (header_said begun.head)) (joined S.told K.told joint.old) }
+    ensures same_source { joint.new.source.ghost_name ≡ joint.old.source.ghost_name }
+    ensures same_sink { joint.new.sink.ghost_name ≡ joint.old.sink.ghost_name }
+    ensures ends { (left : Option (List ℕ)) → LoadsFront left (S.told joint.old.source.now).left begun.head
+        (⟦<RawFrames as Frames>⟧.memory begun.mem) → EndsBy (part_due from) result.status result.machine
+        (beside left (S.told joint.old.source.now).faults (K.told joint.old.sink.now))
+        (joined S.told K.told joint.new) }
+    ensures none { result.status ≢ 4 → (K.told joint.new.sink.now).written.held ≡ [] }
+{
+    let limits = limits_of(&begun.head);
+    let size = size_of(&begun.head);
+    match read_part(alloc, joint, limits, size) {
+        Ok(read) => end_checked(alloc, begun, read, from, &mut *joint.sink, steps),
+        Err(PartStop::Bad(fault)) => {
+            end_with(&mut *joint.sink, bad_part(fault).as_str().as_bytes(), 2)
+        }
+        Err(PartStop::Unread) => Ended::with_status(3),
+        Err(PartStop::Memory) => Ended::with_status(5),
+    }
+}
+
+// Checks a part that was read, and writes what it says.
+fn end_checked<K: Sink, L: Ledger>(
+    alloc: Global,
+    begun: Begun,
+    read: ReadPart,
+    from: u32,
+    sink: &mut K,
+    steps: &mut Steps<L>,
+) -> Ended
+    requires booted { HasBooted (⟦<RawFrames as Frames>⟧.memory begun.mem) }
+    requires limits { IsHeader begun.head }
+    requires base { AreBaseWords (length (⟦<RawFrames as Frames>⟧.memory begun.mem)) read.base.items }
+    requires way { length read.way.items ≤ 10000000 }
+    requires marks { length read.marks.items < 2 ^ 32 - 1 }
+    requires none { (K.told sink.old).written.held ≡ [] }
+    ensures ends { (i : Image) → BeginsFrames i begun.head (⟦<RawFrames as Frames>⟧.memory begun.mem) → EndsWithPart
+        (IsPartAnswer from i (Ok (part_seen read))) result.status (K.told sink.old) (K.told sink.new) }
+    ensures calm { result.status ≢ 4 → (K.told sink.new).faults ≡ (K.told sink.old).faults }
+    ensures none { result.machine ≡ None }
+    ensures settled { result.status ≢ 4 → (K.told sink.new).written.held ≡ [] }
+{
+    let Begun { head, mem } = begun;
+    match check(alloc, &head, mem, &read, from, steps) {
+        Ok(checked) => match show(&checked, sink) {
+            Ok(()) => Ended::with_status(0),
+            Err(_) => Ended::with_status(4),
+        },
+        Err(_) => Ended::with_status(5),
+    }
+}

@@ -1,0 +1,7 @@
+//! Tests of the commands of certificates.
+#![tactic(auto)]
+
+#[cfg(test)]
+mod merge;
+#[cfg(test)]
+mod part;
