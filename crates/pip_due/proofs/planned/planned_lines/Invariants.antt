@@ -1,6 +1,6 @@
 use Rattle.std.proofs.Common.{◌≡◌, length, take}
-use Rattle.pip_searches.specs.EveryText.{lines_planned}
-use Rattle.pip_searches.proofs.commands.every.searching.planned_lines.Given as goal
+use Rattle.pip_due.specs.Planned.{lines_planned}
+use Rattle.pip_due.proofs.planned.planned_lines.Given as goal
 
 abbrev pub invariant-loop-plan : goal.invariant-loop-plan
 invariant-loop-plan l = record {
