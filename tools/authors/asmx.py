@@ -31,7 +31,7 @@ NUMBER = re.compile(r"0x[0-9a-f]{1,8}|0|[1-9][0-9]{0,9}")
 TERM = re.compile(r"0x[0-9a-f]{1,8}|[0-9]+|[A-Za-z_][A-Za-z0-9_]*")
 REMARK = re.compile(r"(^|\s)#.*$")
 WORD = re.compile(r"\S+")
-BRANCHES = {"beq": 2, "bne": 2, "blt": 2, "bltu": 2, "jal": 1}     # which operand is branched to
+BRANCHES = {"beq": 3, "bne": 3, "blt": 3, "bltu": 3, "jal": 2}     # operands, the last of which is branched to
 # What is written by other instructions: how many operands it has, and what it becomes
 WRITTEN = {
     "la": (2, ("li {0} <{1}", "lih {0} >{1}")), "j": (1, ("beq r0 r0 {0}",)), "nop": (0, ("mov r0 r0",)),
@@ -63,15 +63,23 @@ class Label(NamedTuple):
 
 
 class Word(str):
-    """A word of a line, and the column at which it begins, from 1 on."""
+    """A word of a line, and where it begins: its line, and its column, from 1 on."""
 
-    column = 1
+    place: Place
+    column: int
 
     @classmethod
-    def at(cls, column: int, text: str) -> Word:
+    def at(cls, place: Place, column: int, text: str) -> Word:
         word = cls(text)
-        word.column = column
+        word.place, word.column = place, column
         return word
+
+    def put(self, text: str, further: int = 0) -> Word:
+        """What comes of it, or of a part of it that is further to the right."""
+        return Word.at(self.place, self.column + further, text)
+
+    def wrong(self, why: str) -> Wrong:
+        return Wrong(self.place, why, self.column)
 
 
 class Line(str):
@@ -143,11 +151,11 @@ class Files:
     def __init__(self) -> None:
         self.count = 0
 
-    def inner(self, place: Place, path: Word) -> str:
+    def inner(self, path: Word) -> str:
         """The file that a line includes."""
-        inner = os.path.join(os.path.dirname(place.file) if place.file != "-" else "", path)
+        inner = os.path.join(os.path.dirname(path.place.file) if path.place.file != "-" else "", path)
         if not os.path.isfile(inner):
-            raise Wrong(place, f"there is no file {inner}", path.column)
+            raise path.wrong(f"there is no file {inner}")
         return inner
 
     def contents(self, path: str) -> bytes:
@@ -167,15 +175,15 @@ def lines_of(path: str, files: Files, above: tuple[str, ...] = ()) -> Iterator[t
     text = data.decode("utf-8", "replace").removeprefix("\ufeff")
     for number, line in enumerate(text.split("\n"), 1):
         place = Place(path, number)
-        words = [Word.at(found.start() + 1, found[0]) for found in WORD.finditer(REMARK.sub("", line))]
+        words = [Word.at(place, found.start() + 1, found[0]) for found in WORD.finditer(REMARK.sub("", line))]
         if words[:1] != [".include"]:
             yield place, words
             continue
         if len(words) != 2:
-            raise Wrong(place, ".include has one path, without spaces", words[0].column)
-        inner = files.inner(place, words[1])
+            raise words[0].wrong(".include has one path, without spaces")
+        inner = files.inner(words[1])
         if os.path.realpath(inner) in [os.path.realpath(file) for file in (*above, path)]:
-            raise Wrong(place, f"{inner} includes itself", words[1].column)
+            raise words[1].wrong(f"{inner} includes itself")
         yield from lines_of(inner, files, above + (path,))
 
 
@@ -231,206 +239,200 @@ class Text:
         self.labels: dict[str, Label] = {}
         self.pages: list[Page] = []
         self.head: Lines = []
-        self.may: list[tuple[Place, list[Word]]] = []       # lines .may and .again
+        self.may: list[list[Word]] = []                     # lines .may and .again
         self.menu: Lines = []                               # what becomes of them
 
-    def take(self, place: Place, words: list[Word]) -> None:
+    def take(self, words: list[Word]) -> None:
         """One line."""
         first = words[0]
         if first.startswith((";", "//")):
-            raise Wrong(place, f"{first!r} begins no line{why.hint(first)}", first.column)
+            raise first.wrong(f"{first!r} begins no line{why.hint(first)}")
         if first == ".equ":
-            self.take_constant(place, words[1:])
+            self.take_constant(words)
         elif first == ".page":
-            self.take_page(place, words[1:])
+            self.take_page(words)
         elif first in (".frames", ".cpus", ".line"):
-            self.head.append((place, Line.of([first] + [self.number_text(place, word) for word in words[1:]])))
+            self.head.append((first.place, Line.of([first, *map(self.number_text, words[1:])])))
         elif first in (".may", ".again"):
-            self.may.append((place, words))
+            self.may.append(words)
         elif not self.pages:
-            self.pages.append(Page(place, 0, 0))            # lest all lines after it be told, too
-            raise Wrong(place, f"{first!r} stands before the first page", first.column)
+            self.pages.append(Page(first.place, 0, 0))      # lest all lines after it be told, too
+            raise first.wrong(f"{first!r} stands before the first page")
         elif first == ".handler":
-            self.take_handler(place, words[1:])
+            self.take_handler(words)
         elif first == ".zero":
-            size = self.number(place, self.one(place, words))
-            if not 0 <= size <= WORDS:
-                raise Wrong(place, ".zero has a number from 0 to 1024", words[1].column)
-            self.pages[-1].add(place, size, lambda: [Line(f".zero {size}")])
+            self.take_zeros(words)
         elif first.endswith(":") and NAME.fullmatch(first[:-1]):
-            self.take_label(place, words)
+            self.take_label(words)
         else:
-            self.take_instruction(place, words)
+            page, at = self.pages[-1], self.pages[-1].here()
+            size = len(WRITTEN[first][1]) if first in WRITTEN else 1
+            page.add(first.place, size, lambda: self.instruction(words, at, page.seen != page.address))
 
-    def one(self, place: Place, words: list[Word]) -> Word:
-        if len(words) != 2:
-            raise Wrong(place, f"{words[0]} has one operand", words[0].column)
-        return words[1]
+    def take_constant(self, words: list[Word]) -> None:
+        if len(words) != 3 or not NAME.fullmatch(words[1]) or REGISTER.fullmatch(words[1]):
+            raise second(words).wrong(".equ has a name and a number, and no register is a name here")
+        _, name, value = words
+        self.new_name(name)
+        self.constants[name] = 0                            # lest each line that uses it be told, too
+        self.constants[name] = self.number(value)
 
-    def take_constant(self, place: Place, words: list[Word]) -> None:
-        if len(words) != 2 or not NAME.fullmatch(words[0]) or REGISTER.fullmatch(words[0]):
-            raise Wrong(place, ".equ has a name and a number, and no register is a name here", first_of(words))
-        self.new_name(place, words[0])
-        self.constants[words[0]] = 0                        # lest each line that uses it be told, too
-        self.constants[words[0]] = self.number(place, words[1])
-
-    def new_name(self, place: Place, name: Word) -> None:
+    def new_name(self, name: Word) -> None:
         if name in self.constants or name in self.labels:
-            raise Wrong(place, f"{name} has a meaning already", name.column)
+            raise name.wrong(f"{name} has a meaning already")
 
-    def take_page(self, place: Place, words: list[Word]) -> None:
-        if len(words) not in (1, 3) or words[1:2] not in ([], ["at"]):
-            raise Wrong(place, ".page has an address, and after it 'at' and the address at which a child has the page",
-                        first_of(words))
-        address, seen = (self.page_number(place, word) for word in (words[0], words[-1]))
+    def take_page(self, words: list[Word]) -> None:
+        if len(words) not in (2, 4) or words[2:3] not in ([], ["at"]):
+            raise second(words).wrong(".page has an address, and after it 'at' and the address at which a child has "
+                                      "the page")
+        address, seen = (self.page_number(word) for word in (words[1], words[-1]))
         if any(page.address == address for page in self.pages):
-            raise Wrong(place, f"the page at 0x{address:08x} was defined before", words[0].column)
-        self.pages.append(Page(place, address, seen))
+            raise words[1].wrong(f"the page at 0x{address:08x} was defined before")
+        self.pages.append(Page(words[0].place, address, seen))
 
-    def page_number(self, place: Place, word: Word) -> int:
-        number = self.number(place, word)
+    def page_number(self, word: Word) -> int:
+        number = self.number(word)
         if number % PAGE or not 0 <= number < 1 << 32:
-            raise Wrong(place, "a page begins at a multiple of 4096 below 2^32", word.column)
+            raise word.wrong("a page begins at a multiple of 4096 below 2^32")
         return number
 
-    def take_label(self, place: Place, words: list[Word]) -> None:
-        name, page = Word.at(words[0].column, words[0][:-1]), self.pages[-1]
-        self.new_name(place, name)
+    def take_zeros(self, words: list[Word]) -> None:
+        if len(words) != 2:
+            raise words[0].wrong(".zero has one operand")
+        size = self.number(words[1])
+        if not 0 <= size <= WORDS:
+            raise words[1].wrong(".zero has a number from 0 to 1024")
+        self.pages[-1].add(words[0].place, size, lambda: [Line(f".zero {size}")])
+
+    def take_label(self, words: list[Word]) -> None:
+        name, page = words[0].put(words[0][:-1]), self.pages[-1]
+        self.new_name(name)
         elsewhere = page.seen != page.address
         self.labels[name] = Label(page.here(), elsewhere, page)
-        page.add(place, 0, lambda: [Line(f"# {name}:" if elsewhere else f"{name}:")])
+        page.add(name.place, 0, lambda: [Line(f"# {name}:" if elsewhere else f"{name}:")])
         if words[1:]:
             if words[1].endswith(":"):
-                raise Wrong(place, "a line has one name", words[1].column)
-            self.take(place, words[1:])
+                raise words[1].wrong("a line has one name")
+            self.take(words[1:])
 
-    def take_handler(self, place: Place, words: list[Word]) -> None:
+    def take_handler(self, words: list[Word]) -> None:
         """`.handler K BLOCK [LABEL [rN=X ..]]`: the entry of vector K, and what stands in its block."""
-        if len(words) < 2:
-            raise Wrong(place, ".handler has a vector, a block, and where it begins", first_of(words))
-        page, vector = self.pages[-1], self.number(place, words[0])
+        if len(words) < 3:
+            raise second(words).wrong(".handler has a vector, a block, and where it begins")
+        page, vector, block, place = self.pages[-1], self.number(words[1]), words[2], words[0].place
         if not 0 <= vector < 256:
-            raise Wrong(place, "a vector is below 256", words[0].column)
-        block = words[1]
+            raise words[1].wrong("a vector is below 256")
         if NAME.fullmatch(block) and block not in self.constants:
-            if words[2:]:
-                raise Wrong(place, "a block with a name is filled where the name stands", words[2].column)
-            page.add(place, 1, functools.partial(self.address_word, place, block), vector)
+            if words[3:]:
+                raise words[3].wrong("a block with a name is filled where the name stands")
+            page.add(place, 1, functools.partial(self.address_word, block), vector)
             return
-        offset = self.number(place, block)
+        offset = self.number(block)
         if offset % 4 or not 0 <= offset <= 4028:
-            raise Wrong(place, "a block is a multiple of 4, at most 4028", block.column)
+            raise block.wrong("a block is a multiple of 4, at most 4028")
         page.add(place, 1, lambda: [Line(f".word 0x{page.seen + offset:08x}")], vector)
-        for at, value in self.block(place, words[2:]):
-            page.add(place, 1, functools.partial(self.address_word, place, value), offset // 4 + at)
+        for at, value in self.block(words[3:]):
+            page.add(place, 1, functools.partial(self.address_word, value), offset // 4 + at)
 
-    def address_word(self, place: Place, word: Word) -> list[Line]:
-        return [Line.of([Word(".word"), self.address_text(place, word, True)])]
+    def address_word(self, word: Word) -> list[Line]:
+        return [Line.of([Word.at(word.place, 1, ".word"), self.address_text(word, True)])]
 
-    def block(self, place: Place, words: list[Word]) -> list[tuple[int, Word]]:
+    def block(self, words: list[Word]) -> list[tuple[int, Word]]:
         """The words of a block that aren't 0, by their places: the pc, and the registers that are named."""
         found = [(0, words[0])] if words else []
         for word in words[1:]:
             register, equals, value = word.partition("=")
             if not REGISTER.fullmatch(register) or not equals or not value:
-                raise Wrong(place, f"{word!r} isn't rN=X", word.column)
-            found.append((1 + int(register[1:]), Word.at(word.column + len(register) + 1, value)))
+                raise word.wrong(f"{word!r} isn't rN=X")
+            found.append((1 + int(register[1:]), word.put(value, len(register) + 1)))
         return found
-
-    def take_instruction(self, place: Place, words: list[Word]) -> None:
-        page = self.pages[-1]
-        at = page.here()
-        size = len(WRITTEN[words[0]][1]) if words[0] in WRITTEN else 1
-        page.add(place, size, lambda: self.instruction(place, words, at, page.seen != page.address))
 
     # What becomes of words, once all names are known
 
-    def instruction(self, place: Place, words: list[Word], at: int, elsewhere: bool) -> list[Line]:
-        name, operands = words[0], words[1:]
+    def instruction(self, words: list[Word], at: int, elsewhere: bool) -> list[Line]:
+        name, *operands = words
         hinted = [word for word in operands if why.hint(word)]
         hints = "".join(dict.fromkeys(why.hint(word) for word in hinted))
         if name not in KNOWN and name != ".word":
-            raise Wrong(place, why.no_instruction(name, KNOWN, LIKE) + hints, name.column)
+            raise name.wrong(why.no_instruction(name, KNOWN, LIKE) + hints)
         if hints:
-            raise Wrong(place, f"{' '.join(words)!r} isn't an instruction here{hints}", hinted[0].column)
+            raise hinted[0].wrong(f"{' '.join(words)!r} isn't an instruction here{hints}")
         count, forms = WRITTEN.get(name, (len(operands), ()))
         if len(operands) != count:
-            raise Wrong(place, f"{name} has {count} operand{'' if count == 1 else 's'}", beyond(words, count))
+            raise beyond(words, count).wrong(f"{name} has {count} operand{'' if count == 1 else 's'}")
         if name in ("neg", "not") and operands[0] == operands[1]:
-            raise Wrong(place, f"{name} has two different registers: it puts 0 into the first, since no register is "
-                               "always 0", operands[1].column)
-        return [self.plain(place, line, at, elsewhere) for line in [in_form(form, words) for form in forms] or [words]]
+            raise operands[1].wrong(f"{name} has two different registers: it puts 0 into the first, since no register "
+                                    "is always 0")
+        return [self.plain(line, at, elsewhere) for line in [in_form(form, words) for form in forms] or [words]]
 
-    def plain(self, place: Place, words: list[Word], at: int, elsewhere: bool) -> Line:
+    def plain(self, words: list[Word], at: int, elsewhere: bool) -> Line:
         """A line with what names become in it."""
-        name, operands = words[0], words[1:]
+        name, *operands = words
         if name in BRANCHES:
-            place_of = BRANCHES[name]
-            if len(operands) != place_of + 1:
-                raise Wrong(place, f"{name} has {place_of + 1} operands", beyond(words, place_of + 1))
-            return Line.of([*words[:-1], self.distance(place, words[-1], at, elsewhere)])
-        return Line.of([name] + [self.operand(place, word, name == ".word") for word in operands])
+            if len(operands) != BRANCHES[name]:
+                raise beyond(words, BRANCHES[name]).wrong(f"{name} has {BRANCHES[name]} operands")
+            return Line.of([*words[:-1], self.distance(words[-1], at, elsewhere)])
+        return Line.of([name, *(self.operand(word, name == ".word") for word in operands)])
 
-    def operand(self, place: Place, word: Word, is_address: bool) -> Word:
+    def operand(self, word: Word, is_address: bool) -> Word:
         if word[:1] in ("<", ">"):
             if self.is_plain(word[1:]):
                 return word
-            number = self.number(place, Word.at(word.column + 1, word[1:]), True) % (1 << 32)
-            return Word.at(word.column, str(number % (1 << 16) if word[0] == "<" else number >> 16))
+            number = self.number(word.put(word[1:], 1), True) % (1 << 32)
+            return word.put(str(number % (1 << 16) if word[0] == "<" else number >> 16))
         if REGISTER.fullmatch(word) or NUMBER.fullmatch(word):
             return word
         if re.fullmatch(r"r[0-9]+", word) and word not in self.labels:
-            raise Wrong(place, f"there is no register {word}: they are r0 to r15", word.column)
-        return self.address_text(place, word, is_address)
+            raise word.wrong(f"there is no register {word}: they are r0 to r15")
+        return self.address_text(word, is_address)
 
-    def address_text(self, place: Place, word: Word, is_address: bool) -> Word:
+    def address_text(self, word: Word, is_address: bool) -> Word:
         """A name of the root's pages stays a name; all else becomes a number."""
         if is_address and self.is_plain(word):
             return word
-        number = self.number(place, word, is_address)
-        return Word.at(word.column, f"0x{number % (1 << 32):08x}" if is_address else str(number))
+        number = self.number(word, is_address)
+        return word.put(f"0x{number % (1 << 32):08x}" if is_address else str(number))
 
     def is_plain(self, word: str) -> bool:
         return word in self.labels and not self.labels[word].elsewhere
 
-    def distance(self, place: Place, word: Word, at: int, elsewhere: bool) -> Word:
+    def distance(self, word: Word, at: int, elsewhere: bool) -> Word:
         """What is branched to: a name of the root's pages stays one, where the branch stands in such a page, too."""
         if re.fullmatch(r"-?[0-9]+|0x[0-9a-f]{1,8}", word):
             return word
         if word in self.constants:
-            return Word.at(word.column, str(self.constants[word]))
+            return word.put(str(self.constants[word]))
         to = self.labels.get(word)
         if to is None:
-            raise Wrong(place, f"no line defines the name {word}", word.column)
+            raise word.wrong(f"no line defines the name {word}")
         number = (to.address - (at + 4) % (1 << 32)) // 4
         if not -32768 <= number <= 32767:
-            raise Wrong(place, f"{word} is {number} words away: a branch reaches from -32768 to 32767", word.column)
-        return Word.at(word.column, str(number)) if elsewhere or to.elsewhere else word
+            raise word.wrong(f"{word} is {number} words away: a branch reaches from -32768 to 32767")
+        return word.put(str(number)) if elsewhere or to.elsewhere else word
 
-    def number_text(self, place: Place, word: Word) -> Word:
-        return word if NUMBER.fullmatch(word) else Word.at(word.column, str(self.number(place, word)))
+    def number_text(self, word: Word) -> Word:
+        return word if NUMBER.fullmatch(word) else word.put(str(self.number(word)))
 
-    def number(self, place: Place, word: Word, with_labels: bool = False) -> int:
+    def number(self, word: Word, with_labels: bool = False) -> int:
         """The value of a sum of products of numbers and names."""
         signs = re.split(r"([+-])", word if word[:1] in ("+", "-") else "+" + word)
         if signs[0] or len(signs) > 64:
-            raise Wrong(place, f"{word!r} is no number", word.column)
-        value, column = 0, word.column + len(word) - sum(map(len, signs))
+            raise word.wrong(f"{word!r} is no number")
+        value, further = 0, len(word) - sum(map(len, signs))
         for sign, part in zip(signs[1::2], signs[2::2]):
-            column += 1
-            value += (1 if sign == "+" else -1) * self.product(place, Word.at(column, part), with_labels)
-            column += len(part)
+            value += (1 if sign == "+" else -1) * self.product(word.put(part, further + 1), with_labels)
+            further += 1 + len(part)
         if abs(value) >= MOST_NUMBER:
-            raise Wrong(place, f"{word!r} has more than 32 bits", word.column)
+            raise word.wrong(f"{word!r} has more than 32 bits")
         return value
 
-    def product(self, place: Place, text: Word, with_labels: bool) -> int:
+    def product(self, text: Word, with_labels: bool) -> int:
         value, terms = 1, text.split("*")
         if len(terms) > 8:
-            raise Wrong(place, "a product has at most eight factors", text.column)
+            raise text.wrong("a product has at most eight factors")
         for term in terms:
             if not TERM.fullmatch(term):
-                raise Wrong(place, f"{text!r} is no number and no name", text.column)
+                raise text.wrong(f"{text!r} is no number and no name")
             if NUMBER.fullmatch(term):
                 value *= int(term, 0)
             elif term in self.constants:
@@ -438,44 +440,48 @@ class Text:
             elif with_labels and term in self.labels:
                 value *= self.labels[term].address
             elif term in self.labels:
-                raise Wrong(place, f"{term} is an address, and here a number stands", text.column)
+                raise text.wrong(f"{term} is an address, and here a number stands")
             else:
-                raise Wrong(place, f"no line defines the name {term}" if NAME.fullmatch(term)
-                            else f"{term!r} is no number", text.column)
+                raise text.wrong(f"no line defines the name {term}" if NAME.fullmatch(term)
+                                 else f"{term!r} is no number")
             if abs(value) >= MOST_NUMBER:
-                raise Wrong(place, f"{text!r} has more than 32 bits", text.column)
+                raise text.wrong(f"{text!r} has more than 32 bits")
         return value
 
-    def deed(self, place: Place, words: list[Word]) -> Line:
+    def deed(self, words: list[Word]) -> Line:
         """The line of a menu that `.may WHO WHAT` is."""
         if len(words) < 3:
-            raise Wrong(place, f".may has 'each' or a partition's name, and a deed: {', '.join(DEEDS)}",
-                        words[0].column)
+            raise words[0].wrong(f".may has 'each' or a partition's name, and a deed: {', '.join(DEEDS)}")
         who, what, *numbers = words[1:]
         if who != against.EACH.decode():
-            who = self.deed_number(place, who, script.WORD)
+            who = self.deed_number(who, script.WORD)
         if what not in DEEDS:
-            raise Wrong(place, f"{what!r} is no deed: they are {', '.join(DEEDS)}", what.column)
+            raise what.wrong(f"{what!r} is no deed: they are {', '.join(DEEDS)}")
         limits = script.FORMS.get(what.encode(), ())[1:] or (script.WORD,) * min(max(len(numbers), 1), 6)
         if len(numbers) != len(limits):
             due = "1 to 6 numbers" if what == "call" else f"{len(limits)} number{'' if len(limits) == 1 else 's'}"
-            raise Wrong(place, f"{what} has {due}: no processor is named here", beyond(words[2:], len(limits)))
-        return Line.of([who, what, *(self.deed_number(place, word, limit or script.WORD)
+            raise beyond(words[2:], len(limits)).wrong(f"{what} has {due}: no processor is named here")
+        return Line.of([who, what, *(self.deed_number(word, limit or script.WORD)
                                      for word, limit in zip(numbers, limits))])
 
-    def deed_number(self, place: Place, word: Word, limit: int) -> Word:
-        number = self.number(place, word, True)
+    def deed_number(self, word: Word, limit: int) -> Word:
+        number = self.number(word, True)
         if not 0 <= number < limit:
-            raise Wrong(place, f"{word!r} isn't from 0 to {limit - 1}", word.column)
-        return word if NUMBER.fullmatch(word) else Word.at(word.column, f"0x{number:08x}")
+            raise word.wrong(f"{word!r} isn't from 0 to {limit - 1}")
+        return word if NUMBER.fullmatch(word) else word.put(f"0x{number:08x}")
+
+    def names_in(self, page: Page) -> list[tuple[int, str]]:
+        """The names of a page, each with the index of its word there, in their order."""
+        return sorted(((label.address - page.seen) % (1 << 32) // 4, name) for name, label in self.labels.items()
+                      if label.page is page)
 
     def written(self, collected: Collected) -> Lines:
         """The lines of the assembly text, each with its place in the source."""
-        for place, words in self.may:
+        for words in self.may:
             with collected:
-                self.menu.append((place, self.deed(place, words) if words[0] == ".may" else asked(place, words)))
+                self.menu.append((words[0].place, self.deed(words) if words[0] == ".may" else asked(words)))
         for first, most, what in ((".may", against.MOST_DEEDS, "deeds"), (".again", against.MOST_LABELS, "labels")):
-            more = [place for place, words in self.may if words[0] == first][most:]
+            more = [words[0].place for words in self.may if words[0] == first][most:]
             collected.wrongs += [Wrong(place, f"a menu has at most {most} {what}") for place in more[:1]]
         lines = list(self.head)
         for page in self.pages:
@@ -499,13 +505,13 @@ class Text:
         return lines
 
 
-def asked(place: Place, words: list[Word]) -> Line:
+def asked(words: list[Word]) -> Line:
     """The line of a menu that `.again LABEL` is."""
     if len(words) < 2:
-        raise Wrong(place, ".again has a line without its step, as 0 out 0x00000005", words[0].column)
-    line = Line.of([Word.at(words[0].column, against.AGAIN.decode()), *words[1:]])
+        raise words[0].wrong(".again has a line without its step, as 0 out 0x00000005")
+    line = Line.of([words[0].put(against.AGAIN.decode()), *words[1:]])
     if len(line.encode()) > script.LONGEST:
-        raise Wrong(place, f"the line has more than {script.LONGEST} bytes in the menu", words[1].column)
+        raise words[1].wrong(f"the line has more than {script.LONGEST} bytes in the menu")
     return line
 
 
@@ -516,7 +522,9 @@ def processed(path: str, files: Files | None = None) -> tuple[Lines, Text]:
     with collected:
         for place, words in lines_of(path, files or Files()):
             places.append(place)
-            take_line(text, collected, place, words)
+            with collected:
+                if words:
+                    text.take(words)
             if len(places) > MOST_LINES:
                 raise Failed(f"{path} has more than {MOST_LINES} lines, with what it includes")
     lines = text.written(collected)
@@ -528,20 +536,14 @@ def processed(path: str, files: Files | None = None) -> tuple[Lines, Text]:
     return lines, text
 
 
-def take_line(text: Text, collected: Collected, place: Place, words: list[Word]) -> None:
-    with collected:
-        if words:
-            text.take(place, words)
+def second(words: list[Word]) -> Word:
+    """The first operand, or the name where there is none."""
+    return words[min(len(words) - 1, 1)]
 
 
-def first_of(words: list[Word]) -> int:
-    """The column of the first word, if there is one."""
-    return words[0].column if words else 1
-
-
-def beyond(words: list[Word], count: int) -> int:
-    """The column of the first operand that is too much, or of the name of an instruction that lacks some."""
-    return words[count + 1].column if len(words) > count + 1 else words[0].column
+def beyond(words: list[Word], count: int) -> Word:
+    """The first operand that is too much, or the name of an instruction that lacks some."""
+    return words[count + 1] if len(words) > count + 1 else words[0]
 
 
 def in_form(form: str, words: list[Word]) -> list[Word]:
@@ -549,8 +551,8 @@ def in_form(form: str, words: list[Word]) -> list[Word]:
     found = []
     for word in form.split():
         of = re.search("{(.)}", word)
-        column = words[int(of[1]) + 1].column - of.start() if of else words[0].column
-        found.append(Word.at(column, word.format(*words[1:])))
+        source = words[int(of[1]) + 1] if of else words[0]
+        found.append(source.put(word.format(*words[1:]), -of.start() if of else 0))
     return found
 
 
@@ -562,7 +564,7 @@ def refused(lines: Lines) -> list[Wrong]:
         try:
             assembly.assemble(b"".join(line + b"\n" for line in texts))
             break
-        except assembly.BadLine as bad:
+        except script.BadLine as bad:
             at = min(bad.line, len(lines)) - 1
             line = lines[at][1] if lines else Line()
             found.append(refusal(lines, texts, bad.line, bad.kind))
@@ -574,7 +576,7 @@ def refused(lines: Lines) -> list[Wrong]:
 
 def assembled(program: str, lines: Lines) -> bytes:
     """The image, by the program."""
-    image, status = calling.output(program, ["asm"], "".join(line + "\n" for _, line in lines).encode())
+    image, status = calling.output(program, ["asm"], text_of(lines))
     if status == 2:
         _, _, number, kind = image.decode().split()
         place, line = lines[min(int(number), len(lines)) - 1]
@@ -584,8 +586,8 @@ def assembled(program: str, lines: Lines) -> bytes:
     return image
 
 
-def menu_of(lines: Lines) -> bytes:
-    """A menu as the program reads it after an image."""
+def text_of(lines: Lines) -> bytes:
+    """The text of an assembly or of a menu, as the program reads it."""
     return "".join(line + "\n" for _, line in lines).encode()
 
 
@@ -639,9 +641,9 @@ def work(given: argparse.Namespace) -> None:
         elif given.image:
             write_image(given.image, assembled(given.program, lines))
         elif given.against:
-            write_image(given.against, assembled(given.program, lines) + menu_of(text.menu))
+            write_image(given.against, assembled(given.program, lines) + text_of(text.menu))
         else:
-            sys.stdout.write("".join(line + "\n" for _, line in lines))
+            sys.stdout.write(text_of(lines).decode())
     except Wrong as wrong:
         raise Failed(wrong) from None
 

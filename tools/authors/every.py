@@ -22,10 +22,9 @@ from typing import NamedTuple
 from ..common import calling, meanings, plans
 from ..common.calling import Failed
 from ..common.progress import Progress
-from ..reference import against, image as images
+from ..reference import against, image as images, script
 from ..reference.every import AT_FIRST, After
 from ..reference.image import Image
-from ..reference.script import WORD
 from ..step import page, states
 from . import asmx, trace, ways
 from .ways import Menu, Way
@@ -250,7 +249,7 @@ def given_of(given: argparse.Namespace) -> Given:
         menu = b""                               # the program says what is bad
     data = data[:len(data) - len(menu)]
     if source:
-        menu = asmx.menu_of(asmx.processed(source)[1].menu)
+        menu = asmx.text_of(asmx.processed(source)[1].menu)
     if given.may:
         menu = calling.contents(given.may)
     return Given(data, b"" if given.alone else menu, source or given.source)
@@ -259,7 +258,7 @@ def given_of(given: argparse.Namespace) -> Given:
 def menu_of(given: argparse.Namespace, menu: bytes) -> against.Menu:
     try:
         return against.menu_of(menu)
-    except against.BadLine as bad:
+    except script.BadLine as bad:
         raise Failed(f"{given.may or given.file}: line {bad.line} of the menu is bad: {BAD[bad.kind]}") from None
 
 
@@ -276,7 +275,7 @@ def after_of(given: argparse.Namespace) -> After:
     if given.after is None:
         return AT_FIRST
     steps, seed = given.after
-    return After(calling.number(steps, 0, MOST, "STEPS"), calling.number(seed, 1, WORD - 1, "SEED"))
+    return After(calling.number(steps, 0, MOST, "STEPS"), calling.number(seed, 1, script.WORD - 1, "SEED"))
 
 
 def work(given: argparse.Namespace) -> int | None:

@@ -10,6 +10,7 @@ import sys
 
 from ..common import calling, meanings
 from ..common.calling import Failed, text_of
+from ..reference import script
 from ..step import states, walk
 from ..step.asking import Asked, BadLine
 from . import why
@@ -84,10 +85,10 @@ class Session:
 
     def on_load(self, path: str) -> list[str]:
         """Begins again with the lines of a file, up to a bad one."""
-        before, lines = list(self.kept), calling.contents(path).split(b"\n")
+        before, lines = list(self.kept), script.lines(calling.contents(path))
         self.again([])
         last: list[str] = []
-        for place, line in enumerate(lines if lines[-1] else lines[:-1], 1):
+        for place, line in enumerate(lines, 1):
             told, count = self.say(line), len(self.kept)
             if count != place:
                 return [f"{path}, line {place} is bad, and the lines before it are kept:", *told]

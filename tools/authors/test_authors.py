@@ -9,7 +9,7 @@ from collections.abc import Callable
 
 from ..common import calling, plans
 from ..exercises import alone
-from ..reference import assembly
+from ..reference import assembly, script
 from . import asmx, explore, why
 
 HEAD = ".frames 64\n.cpus 1\n.page 0x400000\n"
@@ -98,14 +98,14 @@ class Preprocessor(unittest.TestCase):
             os.symlink("inner.s", os.path.join(real, "link.s"))
             os.mkfifo(os.path.join(real, "fifo.s"))
             files, at = alone.OwnFiles(["monitor.s"]), asmx.Place(os.path.join(real, "work.asmx"), 1)
-            self.assertEqual(files.contents(files.inner(at, asmx.Word("inner.s"))), b"li r1 1\n")
-            self.assertIn(b".line 0", files.contents(files.inner(at, asmx.Word("monitor.s"))))
+            self.assertEqual(files.contents(files.inner(asmx.Word.at(at, 1, "inner.s"))), b"li r1 1\n")
+            self.assertIn(b".line 0", files.contents(files.inner(asmx.Word.at(at, 1, "monitor.s"))))
             for path in ("/etc/passwd", "../other/map.pip", "a/../../b"):
                 with self.assertRaisesRegex(asmx.Wrong, "includes files of its own folder"):
-                    files.inner(at, asmx.Word(path))
+                    files.inner(asmx.Word.at(at, 1, path))
             for path in ("link.s", "fifo.s", "nothing.s", "."):
                 with self.assertRaises(calling.Failed):
-                    files.contents(files.inner(at, asmx.Word(path)))
+                    files.contents(files.inner(asmx.Word.at(at, 1, path)))
 
     def test_what_is_refused(self) -> None:
         for text, told in ((".equ r1 3", "no register"), (".equ a 3 4", "a name and a number"),
@@ -130,7 +130,7 @@ class Preprocessor(unittest.TestCase):
                            ".again  0 out   0x00000005  # it comes again\n")
             lines, text = asmx.processed(path)
         self.assertEqual([str(line) for _, line in lines][2:], [".page 0x00400000", "at:", "out r1"])
-        self.assertEqual(asmx.menu_of(text.menu), b"each st 0xfffff0fc 0x00400000\n0x0000000d call 8 0 70\n"
+        self.assertEqual(asmx.text_of(text.menu), b"each st 0xfffff0fc 0x00400000\n0x0000000d call 8 0 70\n"
                                                   b"again 0 out 0x00000005\n")
 
     def test_deeds_that_are_refused(self) -> None:
@@ -240,7 +240,7 @@ class Reasons(unittest.TestCase):
             text = head + line
             try:
                 assembly.assemble(text)
-            except assembly.BadLine as bad:
+            except script.BadLine as bad:
                 self.assertEqual(self.cause(why.judge_assembly, text, bad.kind), due, line)
                 continue
             self.assertIsNone(due)

@@ -18,7 +18,7 @@ MASKED = b".frames 16\n.cpus 2\n.line 0 0 0\n.page 0x400000\nsys 10\nli r1 7\nin
 
 def source(name: str) -> Image:
     lines, _ = asmx.processed(os.path.join(calling.REPOSITORY, "examples", name))
-    return images.read(assembly.assemble("".join(line + "\n" for _, line in lines).encode()))
+    return images.read(assembly.assemble(asmx.text_of(lines)))
 
 
 class Ways(unittest.TestCase):

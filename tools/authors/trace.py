@@ -10,11 +10,11 @@ from __future__ import annotations
 import argparse
 import sys
 from bisect import bisect_right
-from collections.abc import Callable, Iterator
+from collections.abc import Callable, Sequence
 
 from ..common import calling
 from ..common.calling import Failed
-from ..reference import assembly, image as images, instructions, runs
+from ..reference import assembly, image as images, instructions, runs, script
 from ..reference.model import FETCH, PAGE, Fault, World
 from . import asmx
 
@@ -56,15 +56,8 @@ class Names:
         if not is_made_of(image, lines):
             self.warning = f"{source} isn't the source of this image, or was changed since: the names may be wrong"
         rows = images.world(image._replace(pages=[])).tree.nodes[1].rows
-        for page in text.pages:
-            row = rows.get(page.address // PAGE)
-            if row is None:
-                continue
-            for name, label in text.labels.items():
-                if label.page is page:
-                    self.found.setdefault(row.page, []).append(((label.address - page.seen) % (1 << 32) // 4, name))
-        for names in self.found.values():
-            names.sort()
+        self.found = {rows[page.address // PAGE].page: text.names_in(page) for page in text.pages
+                      if page.address // PAGE in rows}
 
     def place(self, world: World, name: int, pc: int) -> str:
         """The nearest name at or before the pc, and how many instructions after it."""
@@ -86,21 +79,17 @@ def nearest(names: list[tuple[int, str]], index: int) -> str:
 def is_made_of(image: images.Image, lines: asmx.Lines) -> bool:
     """Whether these lines of assembly become this image."""
     try:
-        return images.read(assembly.assemble("".join(line + "\n" for _, line in lines).encode())) == image
-    except (assembly.BadLine, images.BadImage):
+        return images.read(assembly.assemble(asmx.text_of(lines))) == image
+    except (script.BadLine, images.BadImage):
         return False
 
 
 def steps(image: images.Image, count: int, seed: int, told: Callable[[Watched, list[int], list[str]], object]) -> World:
     """As runs.steps, but each turn is handed to `told` with its lines; the world at the end."""
     world = images.world(image)
-    generator = runs.Generator(seed)
-    for step in range(count):
-        raised = [plan.line for plan in image.plans if images.is_due(plan, step)]
-        for line in raised:
-            world.raise_line(line)
+    for step, cpu, raised in runs.drawn(image, world, count, seed):
         lines: list[str] = []
-        turn = Watched(world, generator.draw(image.cpus), step, lines.append)
+        turn = Watched(world, cpu, step, lines.append)
         turn.take()
         told(turn, raised, lines)
     return world
@@ -124,15 +113,20 @@ def without_instruction(lines: list[str]) -> str:
     return "a line is taken" if int(lines[0].split()[-1]) in range(32, 48) else "the fetch faults"
 
 
-def registers_of(world: World) -> Iterator[str]:
+def registers_of(world: World) -> list[str]:
     """All registers at the end."""
-    for cpu, at in enumerate(world.processors):
-        if at is None:
-            yield f"processor {cpu} runs nothing"
-            continue
-        yield f"processor {cpu} runs partition {at.name}, pc 0x{at.context.pc:08x}"
-        for first in range(0, 16, 4):
-            yield "  " + "  ".join(f"r{r:<2} 0x{at.context.registers[r]:08x}" for r in range(first, first + 4))
+    return [line for cpu, at in enumerate(world.processors)
+            for line in told_registers(cpu, (at.name, at.context.pc, at.context.registers) if at else None)]
+
+
+def told_registers(cpu: int, at: tuple[int, int, Sequence[int]] | None) -> list[str]:
+    """What runs on a processor, a partition with its pc and its registers."""
+    if at is None:
+        return [f"processor {cpu} runs nothing"]
+    part, pc, registers = at
+    return [f"processor {cpu} runs partition {part}, pc 0x{pc:08x}",
+            *("  " + "  ".join(f"r{r:<2} 0x{registers[r]:08x}" for r in range(first, first + 4))
+              for first in range(0, 16, 4))]
 
 
 def main() -> None:
@@ -179,7 +173,7 @@ def compared(due: list[str], found: list[str]) -> int:
     if due == found:
         print(f"# the program has the same {len(due)} lines")
         return 0
-    at = next((k for k, pair in enumerate(zip(due, found)) if pair[0] != pair[1]), min(len(due), len(found)))
-    ours, theirs = ((lines[at] if at < len(lines) else "nothing") for lines in (found, due))
-    print(f"trace: the reference differs from the program: it has {ours!r}, the program {theirs!r}", file=sys.stderr)
+    _, ours, theirs = calling.first_difference(found, due)
+    print(f"trace: the reference differs from the program: it has {ours or 'nothing'!r}, the program "
+          f"{theirs or 'nothing'!r}", file=sys.stderr)
     return 1

@@ -6,7 +6,6 @@ They are made again by tools/reference, of which nothing is proved.
 from __future__ import annotations
 
 import functools
-import itertools
 import re
 from array import array
 from collections.abc import Callable, Iterator, Sequence
@@ -57,12 +56,9 @@ def read(image: Image, text: str, menu: Menu = ()) -> Way:
 
 def before(image: Image, after: After) -> Way:
     """The choices that the steps before a search are, without the turns that change nothing."""
-    world, drawn, way = images.world(image), runs.Generator(after.seed), list[Choice]()
-    for step in range(after.steps):
-        raised = [plan.line for plan in image.plans if images.is_due(plan, step)]
+    world, way = images.world(image), list[Choice]()
+    for step, cpu, raised in runs.drawn(image, world, after.steps, after.seed):
         way += [Choice(None, line) for line in raised]
-        runs.raise_lines(image, world, step)
-        cpu = drawn.draw(image.cpus)
         if str(cpu) not in idle_of(world):
             way.append(Choice(cpu, None))
             runs.Turn(world, cpu, step, lambda line: None).take()
@@ -71,9 +67,7 @@ def before(image: Image, after: After) -> Way:
 
 def text_of(way: Way) -> str:
     """The text of a way without deeds."""
-    words = (f"raise{choice.line}" if choice.cpu is None else str(choice.cpu) for choice in way)
-    groups = ((word, len(list(same))) for word, same in itertools.groupby(words))
-    return " ".join(word if count == 1 else f"{word}x{count}" for word, count in groups)
+    return searches.grouped(f"raise{choice.line}" if choice.cpu is None else str(choice.cpu) for choice in way)
 
 
 class Waiting(trace.Watched, against.Hostile):

@@ -173,7 +173,7 @@ def wrong_deeds(lines: list[bytes]) -> Iterator[tuple[int, Cause]]:
         try:
             against.menu_of(b"".join(line + b"\n" for line in lines))
             return
-        except against.BadLine as bad:
+        except script.BadLine as bad:
             try:
                 judge_menu(lines, bad.line, bad.kind)
             except Cause as cause:
@@ -310,7 +310,7 @@ def why(program: str, name: str, text: bytes, as_assembly: bool | None = None) -
     """The sentences about a text, and whether it is good."""
     if (what := no_text(name, text)) and (text or as_assembly is None):
         return [what], False
-    lines = list(script.lines(text))
+    lines = script.lines(text)
     assembles = is_assembly(lines) if as_assembly is None else as_assembly
     output, status = calling.output(program, ["asm" if assembles else "script"], text)
     what = "assembly text" if assembles else "script"
@@ -356,7 +356,7 @@ def cause_of(lines: list[bytes], place: int, kind: str | None) -> Cause:
 
 def refused(name: str, text: bytes, place: int, kind: str | None) -> list[str]:
     """The sentences about a text whose first bad line is known; that of an assembly text has a kind."""
-    lines = list(script.lines(text))
+    lines = script.lines(text)
     return told(name, place, lines, cause_of(lines, place, kind))
 
 
@@ -392,11 +392,11 @@ def main() -> None:
 def work(given: argparse.Namespace) -> int | None:
     text = calling.contents(given.file)
     if given.kind == "menu" or given.kind is None and given.file.endswith(".may"):
-        return of_menu(given.file, list(script.lines(text)))
+        return of_menu(given.file, script.lines(text))
     sentences, good = why(given.program, given.file, text, None if given.kind is None else given.kind == "asm")
     print("\n".join(sentences))
     if len(sentences) > 1:
-        lines = list(script.lines(text))
+        lines = script.lines(text)
         assembles = is_assembly(lines) if given.kind is None else given.kind == "asm"
         for place, cause in list(wrong_lines(given.program, lines, assembles))[1:]:
             print("\n" + "\n".join(told(given.file, place, lines, cause)))

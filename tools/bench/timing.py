@@ -58,7 +58,7 @@ def macros(name: str) -> Input:
 def guarded(program: Counted) -> bytes:
     """The image of a monitor, and its menu."""
     lines, text = asmx.processed(os.path.join(REPOSITORY, "examples", "every", "guarded.asmx"))
-    return asmx.assembled(program.path, lines) + asmx.menu_of(text.menu)
+    return asmx.assembled(program.path, lines) + asmx.text_of(text.menu)
 
 
 def full_image(line: str) -> Input:

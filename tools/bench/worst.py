@@ -21,6 +21,7 @@ import sys
 from collections.abc import Callable, Iterator
 
 from ..common import calling
+from ..step import walk
 from . import deletions
 
 LETTERS = "abcdefghijklmnopqrstuvwxyzABCDEFGHIJKLMNOPQRSTUVWXYZ_"
@@ -150,18 +151,8 @@ def put_descriptor(memory: Memory, frame: int, first: int) -> None:
     memory[frame] = {1: frame, 3: 2, 5: 2, 7: 2, 9: first, 11: 1, 12: 1024}
 
 
-def frames_text(memory: Memory) -> Iterator[str]:
-    for frame in sorted(memory):
-        yield f"frame {frame}"
-        for start in range(0, 1024, 8):
-            group = [memory[frame].get(start + k, 0) for k in range(8)]
-            if any(group):
-                yield f"{start:04}: " + " ".join(f"{word:08x}" for word in group)
-    yield "end 0"
-
-
 KINDS: dict[str, Callable[..., Iterator[str]]] = {
-    "names": labels, "chain": chain, "build": built, "audit": lambda: frames_text(slow_memory()),
+    "names": labels, "chain": chain, "build": built, "audit": lambda: iter(walk.core_text(slow_memory()).splitlines()),
     "calls": lambda: text_of("calls.s"), "faults": lambda: iter(FAULTS.split("\n")), "fill": lambda: text_of("fill.s")}
 
 

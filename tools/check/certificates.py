@@ -37,7 +37,10 @@ def certificates(program: str) -> None:
         lines = [checked(program, name, first, image + text) for text in texts]
         merged = together(lines)
         expect(f"{name}: the merge", run([program, "merge"], b"".join(merged)), (said(told), 0))
-        tried += wrong_certificates(program, name, first, image, texts, lines)
+        for tried, (what, wrong) in enumerate(wrong_certificates(program, name, first, image, texts, lines), tried + 1):
+            answer, status = run([program, "merge"], b"".join(wrong))
+            if status not in (2, 9):
+                raise Differs(f"{name}: a wrong certificate ({what}) ends with status {status}: {answer.decode()}")
         if states < 200:
             by_reference(name, first, image, texts, lines)
     goes_on(program, image)
@@ -113,50 +116,30 @@ def choices_of(machine: images.Image) -> int:
 
 
 def wrong_certificates(program: str, name: str, first: int, image: bytes, texts: Sequence[bytes],
-                       lines: Sequence[list[bytes]]) -> int:
-    """Certificates with one thing wrong, each of which is refused; how many."""
-    chance, tried = random.Random(name), 0
+                       lines: Sequence[list[bytes]]) -> Iterator[tuple[str, list[bytes]]]:
+    """The lines of certificates with one thing wrong, and what that is."""
+    chance = random.Random(name)
     plain = [line.rstrip(b"\n") for line in together(lines)]
     for what, wrong in generate_parts.wrong_lines(chance, plain, 100):
-        text, status = run([program, "merge"], b"".join(line + b"\n" for line in wrong))
-        if status not in (2, 9):
-            raise Differs(f"{name}: a merge with a wrong line ({what}) ends with status {status}: {text.decode()}")
-        tried += 1
+        yield what, [line + b"\n" for line in wrong]
+    for place in range(len(lines)):
+        yield "a part is missing", together([*lines[:place], *lines[place + 1:]])
     for what, place, text in wrong_parts(chance, image, texts):
-        own, status = run([program, "part", str(first)], image + text)
-        if status == 0:
-            changed = together([*lines[:place], own.splitlines(keepends=True), *lines[place + 1:]])
-            _, status = run([program, "merge"], b"".join(changed))
-        if status not in (2, 9):
-            raise Differs(f"{name}: a certificate with a wrong part ({what}) ends with status {status}")
-        tried += 1
-    return tried
+        own, _ = run([program, "part", str(first)], image + text)
+        yield what, together([*lines[:place], own.splitlines(keepends=True), *lines[place + 1:]])
 
 
 def wrong_parts(chance: random.Random, image: bytes, texts: Sequence[bytes]) -> Iterator[tuple[str, int, bytes]]:
     """Parts in whose place a certificate has a wrong one, and what is wrong."""
     machine = images.read(image)
-    frames = machine.frames
     for _ in range(MOST_CHECKED):
-        place = chance.randrange(len(texts))
-        part = parts.part_of(image + texts[place], len(image), frames, choices_of(machine))
-        what = chance.choice(["mark", "way", "base", "cut", "another"])
-        if what == "mark":
-            j = chance.randrange(len(part.marks))
-            changed = part._replace(marks=[mark ^ (k == j) for k, mark in enumerate(part.marks)])
-        elif what == "way":
-            changed = part._replace(way=[*part.way, chance.randrange(2)])
-        elif what == "base":
-            changed = part._replace(base=[*part.base, (frames - 1, 1023, 7)])
-            if part.base[-1:] and part.base[-1][:2] >= (frames - 1, 1023):
-                continue
-        elif what == "cut":
-            yield what, place, texts[place][:chance.randrange(len(texts[place]))]
-            continue
-        else:
-            other = chance.randrange(len(texts))
-            if other == place:
-                continue
-            yield what, place, texts[other]
-            continue
-        yield what, place, parts.written(changed)
+        place, other = chance.randrange(len(texts)), chance.randrange(len(texts))
+        part = parts.part_of(image + texts[place], len(image), machine.frames, choices_of(machine))
+        j = chance.randrange(len(part.marks))
+        what, text = chance.choice([
+            ("mark", parts.written(part._replace(marks=[mark ^ (k == j) for k, mark in enumerate(part.marks)]))),
+            ("way", parts.written(part._replace(way=[*part.way, chance.randrange(2)]))),
+            ("base", parts.written(part._replace(base=[*part.base, (machine.frames - 1, 1023, 7)]))),
+            ("cut", texts[place][:chance.randrange(len(texts[place]))]), ("another", texts[other])])
+        if text != texts[place]:
+            yield what, place, text

@@ -24,7 +24,6 @@ from .exporting import need_cargo
 from .running import REPOSITORY, Differs, text_of, write
 
 CHEATS = os.path.join(REPOSITORY, "tools", "exercises", "cheats")
-SOLUTIONS = os.path.join(REPOSITORY, "examples", "solutions")
 LEAST_CHEATS, LEAST_GOOD = 10, 5     # of each exercise
 
 
@@ -53,16 +52,13 @@ def need_judge() -> None:
     building.program()
 
 
-def solution_of(name: str) -> str:
-    return next(os.path.join(SOLUTIONS, file) for file in os.listdir(SOLUTIONS) if file.rsplit(".", 1)[0] == name)
-
-
 def edited(cheat: Cheat) -> tuple[str, str]:
     """The text of a cheat, and the ending of its file."""
     if not cheat.path.endswith(".edit"):
         return text_of(cheat.path), os.path.splitext(cheat.path)[1]
     lines = [line.split(": ", 1) for line in text_of(cheat.path).splitlines() if not line.startswith("#")]
-    source = next((os.path.join(REPOSITORY, rest) for mark, rest in lines if mark == "file"), solution_of(cheat.name))
+    source = next((os.path.join(REPOSITORY, rest) for mark, rest in lines if mark == "file"),
+                  judging.solutions()[cheat.name])
     pairs: list[tuple[str, list[str]]] = []
     for mark, rest in lines:
         if mark == "old":

@@ -18,9 +18,9 @@ from collections.abc import Iterator
 from types import FrameType
 
 from ..common import calling
-from . import (authors, certificates, cheats, corners, counters, counts, documents, ended, endings, examples,
-               exercises, exporting, grading, guests, house, links, meanings, pages, plain, playground, playing,
-               public_calls, releasing, shells, sources, tools, tutorial, wrapper)
+from . import (authors, beside, certificates, cheats, corners, counters, documents, ended, endings, examples,
+               exercises, exporting, grading, guests, house, links, meanings, pages, playground, playing,
+               public_calls, releasing, shells, sources, tools, wrapper)
 from .running import Check, Differs, Skipped
 
 # A name, and its parts: functions that are given the program's path and raise Differs if something is wrong, or Skipped
@@ -29,14 +29,14 @@ CHECKS: dict[str, Check | tuple[Check, ...]] = {
     "endings": endings.endings,
     "refused-memory": endings.refused_memory,
     "answering": (endings.typed_script, endings.gathered_answers),
-    "documents": (documents.readme_sessions, documents.examples_with_arrows, tutorial.blocks, links.links,
+    "documents": (documents.readme_sessions, documents.examples_with_arrows, documents.tutorial_blocks, links.links,
                   meanings.same),
     "step-counters": counters.step_counters,
     "house": (house.house, sources.ghost_imports),
     "public-calls": public_calls.public_calls,
     "edits": sources.edits,
     "types": tools.types,
-    "examples": (examples.examples, examples.programs, examples.retries, examples.monitor, tutorial.sessions),
+    "examples": (examples.examples, examples.programs, examples.retries, examples.monitor, documents.tutorial_sessions),
     "searches": examples.searches,
     "certificates": certificates.certificates,
     "hostile-guests": guests.hostile_guests,
@@ -52,7 +52,7 @@ CHECKS: dict[str, Check | tuple[Check, ...]] = {
     "grade": grading.grades,
     "tools-ended": (ended.full_devices, ended.interrupted),
     "step-pages": (pages.pages, pages.teachers_loop),
-    "step-browser": pages.in_browser,
+    "step-browser": playing.of_steps,
     "export": exporting.text,
     "export-cargo": (exporting.by_cargo, exporting.unproved),
     "export-registry": exporting.of_registry,
@@ -63,8 +63,8 @@ CHECKS: dict[str, Check | tuple[Check, ...]] = {
     "release": releasing.works,
     "commands": (corners.corners, *(tools.compared(command, cases) for command, cases in tools.CASES.items())),
     "audits": (corners.round_trips, corners.each_word),
-    "plain-program": plain.plain,
-    "counts": counts.agree,
+    "plain-program": beside.plain,
+    "counts": beside.counts,
 }
 
 

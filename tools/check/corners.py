@@ -8,6 +8,7 @@ from collections.abc import Iterator
 
 from ..common.blocks import blocks, listed
 from ..reference import against, audit, commands as reference, runs, script
+from ..step import walk
 from .running import REPOSITORY, Differs, contents, expect, run
 
 DATA = blocks("data/corners.txt", __file__)
@@ -121,13 +122,9 @@ def small_text() -> bytes:
 
 def with_word(memory: audit.Memory, frame: int, index: int, word: int) -> bytes:
     """The text of a memory with one word changed."""
-    told = []
-    for f, words in enumerate(memory):
-        words = [word if (f, i) == (frame, index) else old for i, old in enumerate(words)]
-        firsts = [i for i in range(0, len(words), 8) if any(words[i:i + 8])]
-        groups = [f"{i:04d}:" + "".join(f" {w:08x}" for w in words[i:i + 8]) for i in firsts]
-        told += [f"frame {f}"] * bool(groups) + groups
-    return "".join(line + "\n" for line in told + ["end 0"]).encode()
+    changed = [list(words) for words in memory]
+    changed[frame][index] = word
+    return walk.core_text({f: {i: w for i, w in enumerate(words) if w} for f, words in enumerate(changed)}).encode()
 
 
 def each_word(program: str) -> None:

@@ -1,12 +1,17 @@
-"""The sessions and examples of the documents are what the program gives."""
+"""The sessions and examples of the documents are what the program gives, and docs/TUTORIAL.md shows the files of
+examples/tutorial/ as they are."""
 
+import glob
 import os
+import re
+import sys
 import tempfile
 from pathlib import Path
 
 from ..exporter import crates
 from ..reference import script
-from .running import REPOSITORY, Differs, expect, part, run, text_of
+from .examples import script_gives
+from .running import REPOSITORY, Differs, commands_of, expect, part, run, text_of, write_program
 
 MARK = b"-- the next command --\n"
 
@@ -31,19 +36,8 @@ def readme_sessions(program: str) -> None:
 
 def sessions(text: str) -> list[list[tuple[str, bytes]]]:
     """The sessions of a text, each a list of a command and the output shown below it."""
-    found: list[list[tuple[str, bytes]]] = []
-    in_block = False
-    for line in text.split("\n"):
-        if not line.startswith("    "):
-            in_block = False
-        elif line.startswith("    $ "):
-            if not in_block:
-                found.append([])
-            found[-1].append((line[6:], b""))
-            in_block = True
-        elif in_block:
-            command, output = found[-1][-1]
-            found[-1][-1] = command, output + line[4:].encode() + b"\n"
+    blocks = re.findall(r"(?:^    .*\n)+", text, re.M)
+    found = [commands for block in blocks if (commands := commands_of(re.sub("^    ", "", block, flags=re.M)))]
     if not found:
         raise Differs("README.md has no session")
     return found
@@ -78,3 +72,79 @@ def arrow_sessions(text: str) -> list[tuple[list[str], list[str]]]:
             if arrow:
                 found[-1][1].append(answer.strip())
     return found
+
+
+# The tutorial
+
+FOLDER = "examples/tutorial/"
+
+# A block with the link above it that names its file; 'From' says that it is a part of the file, whose lines follow one
+# another there.
+BLOCK = re.compile(r"^(From )?\[([^\]\n]+)\]\(\.\./(examples/[^)\n]+)\):\n\n```\n(.*?)^```$", re.M | re.S)
+
+
+def tutorial_sessions(program: str) -> None:
+    """Each script gives its .out, and each command of a .session what stands below it, by program and reference."""
+    for name in files(".pip"):
+        script_gives(program, os.path.join(REPOSITORY, name))
+    with tempfile.TemporaryDirectory() as place:
+        told = os.path.join(REPOSITORY, "tools", "reference", "program.py")
+        reference = write_program(f'#!/bin/sh\nexec "{sys.executable}" -B "{told}" "$@"\n', place, "reference")
+        for name in files(".session"):
+            for pip, by in (reference, ", by the reference"), (program, ""):
+                commands_give(name, pip, by)
+
+
+def commands_give(name: str, pip: str, by: str) -> None:
+    """Runs the commands of a session in a folder of its own, with examples/, tools/ and ./pip."""
+    with tempfile.TemporaryDirectory() as place:
+        for folder in ("examples", "tools"):
+            os.symlink(os.path.join(REPOSITORY, folder), os.path.join(place, folder))
+        os.symlink(pip, os.path.join(place, "pip"))
+        text = text_of(name)
+        if not text.startswith("$ "):
+            raise Differs(f"{name} doesn't begin with a command")
+        for command, shown in commands_of(text):
+            expect(f"{name}, '$ {command}'{by}", run(["sh", "-c", command], cwd=place), (shown, 0))
+
+
+def tutorial_blocks(program: str) -> None:
+    """Each block of the tutorial is the file that it names, or a part of it, and all files are shown or linked."""
+    tutorial = text_of("docs/TUTORIAL.md")
+    found = BLOCK.findall(tutorial)
+    if 2 * len(found) != len(re.findall("^```", tutorial, re.M)):
+        raise Differs("docs/TUTORIAL.md: a block doesn't name its file in the line above")
+    for part, title, name, shown in found:
+        if title != os.path.basename(name):
+            raise Differs(f"docs/TUTORIAL.md: the link '{title}' leads to {name}")
+        due = with_answers(name)
+        block = in_file(name, shown)
+        if block != due if not part else not any(due[k:k + len(block)] == block for k in range(len(due))):
+            raise Differs(f"docs/TUTORIAL.md, the block of {name}, is {'no part of' if part else 'not'} the file with "
+                          "its answers")
+    linked = {f"{FOLDER}{name}" for name in re.findall(rf"\]\(\.\./{FOLDER}([^)]+)\)", tutorial)}
+    left_out = sorted({*files(".pip"), *files(".s"), *files(".session")} - linked)
+    if left_out:
+        raise Differs(f"docs/TUTORIAL.md doesn't show or link {', '.join(left_out)}")
+
+
+def in_file(name: str, shown: str) -> list[tuple[str, str]]:
+    """The lines of a block, each with the answer after its arrow in a script."""
+    if not name.endswith(".pip"):
+        return [(line, "") for line in shown.splitlines()]
+    lines = [line.partition(" → ") for line in shown.splitlines()]
+    return [(told.rstrip(" ") if arrow else told, answer) for told, arrow, answer in lines]
+
+
+def with_answers(name: str) -> list[tuple[str, str]]:
+    """The lines of a file, each with its answer in a script."""
+    lines = text_of(name).splitlines()
+    if not name.endswith(".pip"):
+        return [(line, "") for line in lines]
+    told = iter(text_of(name[:-len("pip")] + "out").splitlines())
+    return [(line, "" if not line or line.startswith("#") else next(told, "")) for line in lines]
+
+
+def files(ending: str) -> list[str]:
+    paths = glob.glob(os.path.join(REPOSITORY, FOLDER, "*" + ending))
+    return sorted(os.path.relpath(path, REPOSITORY) for path in paths)

@@ -125,7 +125,7 @@ def cases() -> Iterator[tuple[list[str], bytes]]:
     yield ["every", "8"], image
     yield ["against", "8"], image + b"1 trap 64 0 0\n"
     lines, _ = asmx.processed(os.path.join(REPOSITORY, "examples", "apart", "leaves.asmx"))
-    guests, _ = reference.pip(["asm"], "".join(line + "\n" for _, line in lines).encode())
+    guests, _ = reference.pip(["asm"], asmx.text_of(lines))
     yield ["apart", "40", "400", "1"], guests
     part = image + parts.written(parts.Part([(1, 2, 3)], [0], [1, 0]))
     yield ["part", "3"], part

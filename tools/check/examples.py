@@ -98,8 +98,8 @@ def searched(program: str, kind: str) -> Iterator[tuple[str, str, bytes, bytes]]
     for path in paths:
         source = next(filter(os.path.exists, (path[:-len(kind)] + end for end in ("s", "asmx"))))
         lines, text = asmx.processed(source)
-        image, _ = run([program, "asm"], "".join(line + "\n" for _, line in lines).encode())
-        yield path, os.path.relpath(source, REPOSITORY), image, asmx.menu_of(text.menu)
+        image, _ = run([program, "asm"], asmx.text_of(lines))
+        yield path, os.path.relpath(source, REPOSITORY), image, asmx.text_of(text.menu)
 
 
 RETRIES = [(seed, period) for period in (40, 53, 90) for seed in range(1, 21)]

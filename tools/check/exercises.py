@@ -2,13 +2,15 @@
 
 import itertools
 import os
+import re
 import subprocess
 import sys
 import tempfile
 from concurrent.futures import ThreadPoolExecutor
 
+from ..common.blocks import blocks
 from ..exercises import exercise, judging
-from . import cheats, seeded
+from . import cheats
 from .running import REPOSITORY, SECONDS, Differs, contents, run, session, text_of, told_by as tool, write
 
 TIMES = 3                # that each solution is judged, each time with another secret
@@ -19,7 +21,7 @@ INCLUDED = {"monitor": "monitor.s", "no-loss": "timer_and_services.s"}     # wha
 def solutions(program: str) -> None:
     cheats.need_judge()
     names = list(judging.exercises())
-    files = {name.rsplit(".", 1)[0]: os.path.join(cheats.SOLUTIONS, name) for name in os.listdir(cheats.SOLUTIONS)}
+    files = judging.solutions()
     if tool("exercise", "--list")[0].split() != names or sorted(files) != sorted(names) or len(names) < 20:
         raise Differs(f"docs/EXERCISES.md, examples/solutions ({sorted(files)}) and the judge ({names}) differ")
     with ThreadPoolExecutor(os.cpu_count()) as pool:
@@ -59,12 +61,12 @@ def by_seeds(program: str) -> None:
 
 def by_seed(seed: str, name: str, is_program: bool) -> None:
     values = told_by_seed(name, seed)
-    path = cheats.solution_of(name)
+    path = judging.solutions()[name]
     if judging.judged(name, path, contents(path), is_program, seed).is_whole:
         raise Differs(f"tools/exercise {name} --seed {seed}: the solution of the repository is good")
     if name in INCLUDED:
         path = os.path.join(REPOSITORY, "examples", INCLUDED[name])
-    text = seeded.rewritten(name, text_of(path), values)
+    text = rewritten(name, text_of(path), values)
     found = cheats.judged(name, text, os.path.splitext(path)[1], is_program, seed)
     if not found.is_whole:
         raise Differs(f"tools/exercise {name} --seed {seed} of a solution for it: {found.lines(True)}")
@@ -108,3 +110,50 @@ def lesser(files: dict[str, str]) -> None:
             output, messages, status = tool("exercise", name, path)
             if status != 1 or messages or "hint: " not in output:
                 raise Differs(f"tools/exercise {name}: status {status}, where 1 is due; {output[-400:]}{messages}")
+
+
+# The solutions, rewritten for the values of a seed
+
+FIRST, PAGE = 0x400000, 4096     # the root's first page, which is frame 12
+
+
+def made_of(values: dict[str, int]) -> dict[str, int]:
+    """The values, and numbers that come of them."""
+    at, line, place, request, sibling = (values.get(name, 0) for name in ("at", "line", "place", "request", "sibling"))
+    ordinal = (at - FIRST) // PAGE
+    return {**{f"at_{name}": FIRST + (frame - 12) * PAGE for name, frame in values.items()}, **values,
+            "mapped": 0x409000 + at % PAGE, "ordinal": ordinal, "frame": 12 + ordinal, "index": at % PAGE // 4,
+            "entry": 0xFFFFF080 + 4 * line, "back": 4 * line - 896, "less": request - 64, "left": 255 - request,
+            "low": place % 65536, "top": place - place % PAGE, "before": place % PAGE // 4,
+            "sibling_word": sibling + 0x8020, "sibling_page": sibling + 0x8000}
+
+
+def rewritten(name: str, text: str, values: dict[str, int]) -> str:
+    """The solution of an exercise, for these values."""
+    numbers, other = made_of(values), ""
+    for line in blocks("data/seeded.txt", __file__)[name].splitlines():
+        old, _, new = line.replace("\\n", "\n").format_map(numbers).partition(" -> ")
+        if old.startswith("= "):
+            other += old[2:] + "\n"
+        elif old == "swap":
+            text = swapped(text, 0x401000, int(new, 16))
+        else:
+            text = put(text, old, new)
+    return other or text
+
+
+def swapped(text: str, one: int, other: int) -> str:
+    """A script in which two pages of the root have changed places."""
+    def place(found: re.Match[str]) -> str:
+        address = int(found.group(), 16)
+        page = {one: other, other: one}.get(address - address % PAGE, address - address % PAGE)
+        return f"{page + address % PAGE:#x}"
+    return re.sub(r"\b0x4[0-9a-f]{5}\b", place, text)
+
+
+def put(text: str, old: str, new: str) -> str:
+    """A text in which a line, or words of one, are others."""
+    changed = re.sub(rf"(?<!\w){re.escape(old)}(?!\w)", lambda _: new, text)
+    if changed == text:
+        raise ValueError(f"'{old}' isn't in the solution")
+    return changed

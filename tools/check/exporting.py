@@ -16,7 +16,7 @@ from pathlib import Path
 
 from ..exporter import export
 from ..reference import comparison, generate
-from .running import REPOSITORY, Differs, Skipped, contents, expect, finished, part, text_of, write
+from .running import REPOSITORY, Differs, Skipped, contents, copied, expect, finished, part, text_of, write
 
 EXPORT = os.path.join(REPOSITORY, "tools", "export")
 SECONDS = 900            # cargo builds everything
@@ -76,7 +76,8 @@ def unproved(program: str) -> None:
     """./pip --unproved answers an example where nothing is built, and says that nothing is proved of it."""
     need_cargo()
     with tempfile.TemporaryDirectory() as place:
-        copy_sources(place)
+        copied(place, "pip", "crates.txt", "LICENSE", "crates", "tools/export", "tools/launch.py", "tools/__init__.py",
+               "tools/common", "tools/exporter", without=("proofs", "specs", "must-fail", "tried"))
         given = contents("examples/first.pip")
         done = subprocess.run([os.path.join(place, "pip"), "--unproved", "script"], input=given,
                               stdout=subprocess.PIPE, stderr=subprocess.PIPE, timeout=SECONDS)
@@ -84,16 +85,6 @@ def unproved(program: str) -> None:
         told = done.stderr.decode()
         if not told.endswith("cargo built this program of the same text, and nothing is proved of it\n"):
             raise Differs(f"./pip --unproved says {told[-2000:]!r}")
-
-
-def copy_sources(place: str) -> None:
-    """What ./pip --unproved builds of, and nothing that was built."""
-    for name in ("pip", "crates.txt", "LICENSE", "tools/export", "tools/launch.py", "tools/__init__.py"):
-        os.makedirs(os.path.dirname(os.path.join(place, name)), exist_ok=True)
-        shutil.copy(os.path.join(REPOSITORY, name), os.path.join(place, name))
-    built = shutil.ignore_patterns("out", "proofs", "specs", "must-fail", "tried", "__pycache__")
-    for name in ("crates", "tools/common", "tools/exporter"):
-        shutil.copytree(os.path.join(REPOSITORY, name), os.path.join(place, name), ignore=built)
 
 
 def clippy(program: str) -> None:

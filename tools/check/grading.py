@@ -9,11 +9,11 @@ import tempfile
 import time
 
 from ..common.blocks import blocks
-from ..exercises import alone
+from ..exercises import alone, judging
 from ..judge import building
 from . import cheats
-from .checkout import heed_interrupts
-from .running import REPOSITORY, Differs, contents, says, session, text_of, told_by as tool, write, write_program
+from .running import (REPOSITORY, Differs, contents, heed_interrupts, says, session, text_of, told_by as tool, write,
+                      write_program)
 
 HOSTILE = os.path.join(REPOSITORY, "tools", "exercises", "hostile")
 CLASS = blocks("data/class.txt", __file__)
@@ -23,7 +23,7 @@ PROMPT = 5               # seconds in which Ctrl-C ends everything
 def grades(program: str) -> None:
     """A class as a table, with what isn't judged on standard error; as a spreadsheet; and by seeds."""
     cheats.need_judge()
-    script, text = CLASS["map"].encode(), contents(cheats.solution_of("sum"))
+    script, text = CLASS["map"].encode(), contents(judging.solutions()["sum"])
     text = text.replace(b"li r1 0x1000", b"li r1 0x1000\nmov r3 r10\nmov r4 r10")
     with tempfile.TemporaryDirectory() as place:
         for path, content in (("ada/map.pip", script), ("ada/sum.s", text), ("bob/map.s", text),

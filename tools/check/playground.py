@@ -15,7 +15,7 @@ from collections.abc import Iterator
 from concurrent.futures import ThreadPoolExecutor
 from typing import Any
 
-from ..authors import asmx, why
+from ..authors import why
 from ..exercises import exercise, judging
 from ..judge import building
 from ..reference import generate
@@ -330,8 +330,7 @@ def requests() -> Iterator[bytes]:
     for name, text in ODD:
         yield request("judge", name, "", text)
     for name, one in judging.exercises().items():
-        path = cheats.solution_of(name)
-        text = plain(path, one.is_program)
+        text = judging.plain_solution(name, one.is_program)
         yield from (request("judge", name, seed, text) for seed in ("", SEED))
         yield request("values", name, SEED, b"")
         yield request("tell", name, SEED, exercise.told(name).encode())
@@ -343,9 +342,3 @@ def requests() -> Iterator[bytes]:
 
 def request(act: str, name: str, seed: str, text: bytes) -> bytes:
     return "\n".join((act, name, seed, SECRET, "")).encode() + text
-
-
-def plain(path: str, is_program: bool) -> bytes:
-    if not is_program:
-        return contents(path)
-    return "".join(line + "\n" for _, line in asmx.processed(path)[0]).encode()

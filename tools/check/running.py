@@ -4,6 +4,8 @@ from __future__ import annotations
 
 import os
 import re
+import shutil
+import signal
 import subprocess
 import sys
 import tempfile
@@ -11,6 +13,7 @@ from collections.abc import Callable, Mapping, Sequence
 from typing import Any
 
 from ..common.blocks import blocks, escaped, repeated
+from ..common.calling import first_difference
 
 REPOSITORY = os.path.dirname(os.path.dirname(os.path.dirname(os.path.abspath(__file__))))
 Output = tuple[bytes, int]           # what a program writes to standard output, and its status
@@ -73,6 +76,11 @@ def run(command: Sequence[str | bytes], text: bytes = b"", **streams: Any) -> Ou
     return done.stdout, done.returncode
 
 
+def heed_interrupts() -> None:
+    """What a shell put into the background ignores Ctrl-C, and hands that on."""
+    signal.signal(signal.SIGINT, signal.SIG_DFL)
+
+
 def finished(what: str, words: Sequence[str], seconds: float | None = None, **settings: Any) -> str:
     """What a command writes that has to end well."""
     done = subprocess.run(words, stdin=subprocess.DEVNULL, stdout=subprocess.PIPE, stderr=subprocess.STDOUT,
@@ -83,24 +91,52 @@ def finished(what: str, words: Sequence[str], seconds: float | None = None, **se
     return told
 
 
+WITHOUT_PROGRAM = ("exercise", "grade", "certify")
+
+
+def called(name: str, *words: str, program: str | None = None, place: str = REPOSITORY) -> list[str]:
+    """The words that call a tool of a checkout, with a program if there is one and the tool takes it."""
+    takes = program is not None and name not in WITHOUT_PROGRAM and "." not in name
+    return [sys.executable, "-B", os.path.join(place, "tools", name), *words, *(["--program", program or ""] * takes)]
+
+
 def tool(program: str, name: str, *words: str, text: bytes = b"") -> tuple[str, str, int]:
     """Output, messages and status of a tool that needs a program."""
-    return told_by(name, *words, "--program", program, text=text)
+    return told_by(name, *words, text=text, program=program)
 
 
-def told_by(name: str, *words: str, text: bytes = b"") -> tuple[str, str, int]:
-    command = [sys.executable, "-B", os.path.join(REPOSITORY, "tools", name), *words]
-    done = subprocess.run(command, input=text, timeout=SECONDS, cwd=REPOSITORY, stdout=subprocess.PIPE,
-                          stderr=subprocess.PIPE)
+def told_by(name: str, *words: str, text: bytes = b"", program: str | None = None, place: str = REPOSITORY,
+            **settings: Any) -> tuple[str, str, int]:
+    settings = {"stdout": subprocess.PIPE, "cwd": place, **settings}
+    done = subprocess.run(called(name, *words, program=program, place=place), input=text, timeout=SECONDS,
+                          stderr=subprocess.PIPE, **settings)
     messages = done.stderr.decode()
     if "Traceback" in messages:
         raise Differs(f"tools/{name} {' '.join(words)}: {messages[-400:]}")
-    return done.stdout.decode("utf-8", "replace"), messages, done.returncode
+    return (done.stdout or b"").decode("utf-8", "replace"), messages, done.returncode
+
+
+def commands_of(text: str) -> list[tuple[str, bytes]]:
+    """The commands of a session, each after `$ `, with what is shown below it."""
+    parts = (told.rstrip("\n").partition("\n") for told in f"\n{text}".split("\n$ ")[1:])
+    return [(command, (shown + newline).encode()) for command, newline, shown in parts]
+
+
+def copied(place: str, *names: str, without: Sequence[str] = ()) -> None:
+    """Copies files and folders of the repository, without what was built and these."""
+    left_out = shutil.ignore_patterns("out", "__pycache__", *without)
+    for name in names:
+        source, target = os.path.join(REPOSITORY, name), os.path.join(place, name)
+        os.makedirs(os.path.dirname(target), exist_ok=True)
+        if os.path.isdir(source):
+            shutil.copytree(source, target, ignore=left_out)
+        else:
+            shutil.copy(source, target)
 
 
 def says(program: str | None, words: Sequence[str], status: int = 0, *parts: str, text: bytes = b"") -> str:
     """What a tool writes, with a program if it needs one. It has to end with the status, and to say these parts."""
-    output, messages, got = told_by(*words, *(["--program", program] if program else []), text=text)
+    output, messages, got = told_by(*words, text=text, program=program)
     missing = [part for part in parts if part not in output + messages]
     if got != status or missing:
         raise Differs(f"tools/{' '.join(words)}: status {got}, where {status} is due; {missing} is missing in "
@@ -108,7 +144,6 @@ def says(program: str | None, words: Sequence[str], status: int = 0, *parts: str
     return output
 
 
-WITHOUT_PROGRAM = ("exercise", "grade", "certify")
 LINES = re.compile(rb"@(.*?\n)@(\d+)", re.S)      # a line that comes again and again
 SAID = re.compile(r"(\d+)([:>!]) (.*)")
 
@@ -123,8 +158,7 @@ def session(title: str, program: str, **paths: str) -> None:
             text = LINES.sub(lambda found: found[1] * int(found[2]), escaped(given))
             write(text, paths["FILE"])
             words = [word.format_map(paths) for word in told.split(" ")]
-            words += ["--program", program] if words[0] not in WITHOUT_PROGRAM else []
-            output, messages, status = told_by(*words, text=text)
+            output, messages, status = told_by(*words, text=text, program=program)
             said = SAID.fullmatch(lines[0])
             assert said
             named = dict(line[2:].split(" ", 1) for line in lines if line.startswith("= "))
@@ -149,9 +183,8 @@ def expect(what: str, got: tuple[bytes | None, int], wanted: tuple[bytes | None,
     (output, status), (text, due) = got, wanted
     if status != due:
         raise Differs(f"{what}: status {status}, where {due} is due; it wrote {short(output)}")
-    ours, theirs = (text or b"").split(b"\n"), (output or b"").split(b"\n")
-    place = next((k for k, (x, y) in enumerate(zip(ours, theirs)) if x != y), min(len(ours), len(theirs)))
-    raise Differs(f"{what}: line {place + 1} of the output is {line(theirs, place)}, where {line(ours, place)} is due")
+    place, ours, theirs = first_difference((text or b"").split(b"\n"), (output or b"").split(b"\n"))
+    raise Differs(f"{what}: line {place + 1} of the output is {short(theirs)}, where {short(ours)} is due")
 
 
 def part(pattern: str, text: str) -> str:
@@ -162,9 +195,5 @@ def part(pattern: str, text: str) -> str:
     return found[1]
 
 
-def line(lines: list[bytes], place: int) -> str:
-    return short(lines[place]) if place < len(lines) else "missing"
-
-
 def short(text: bytes | None) -> str:
-    return repr(text if text is None or len(text) < 200 else text[:200] + b"..")
+    return "missing" if text is None else repr(text if len(text) < 200 else text[:200] + b"..")

@@ -11,8 +11,7 @@ import tempfile
 import termios
 import time
 
-from .checkout import heed_interrupts
-from .running import REPOSITORY, SECONDS, Differs, contents, run, text_of, tool
+from .running import REPOSITORY, SECONDS, Differs, contents, heed_interrupts, run, text_of, tool
 
 SHELL = os.path.join(REPOSITORY, "tools", "shell")
 

@@ -32,7 +32,7 @@ def unit_tests(program: str) -> None:
 def compared(command: str, cases: int, seed: int = 1) -> Check:
     """A check of that many cases of a command against the reference."""
     def check(program: str) -> None:
-        found = comparison.first_difference(program, command, cases, seed, os.cpu_count())
+        found = comparison.first_case(program, command, cases, seed, os.cpu_count())
         if found:
             raise Differs(comparison.described(command, *found))
     return check

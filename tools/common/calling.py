@@ -4,16 +4,20 @@ from __future__ import annotations
 
 import argparse
 import functools
+import itertools
 import os
 import subprocess
 import sys
 from collections.abc import Callable, Sequence
-from typing import NoReturn
+from typing import NoReturn, TypeVar
 
 REPOSITORY = os.path.dirname(os.path.dirname(os.path.dirname(os.path.abspath(__file__))))
 WRAPPER = os.path.join(REPOSITORY, "pip")
 PROVED, UNPROVED = "proved", "unproved"      # programs by what ./pip calls them
 MOST = 1 << 24           # bytes of a script or of an assembly text
+
+
+T = TypeVar("T")
 
 
 class Failed(Exception):
@@ -105,6 +109,12 @@ def text_of(program: str, words: Sequence[str], text: bytes) -> list[str]:
     if status:
         raise Failed(f"{' '.join(words)} ends with status {status}: {lines[-1] if lines else 'nothing written'}")
     return lines
+
+
+def first_difference(ours: Sequence[T], theirs: Sequence[T]) -> tuple[int, T | None, T | None]:
+    """The first place at which lines differ, and what is there; None where they have ended."""
+    pairs = itertools.zip_longest(ours, theirs)
+    return next((place, *pair) for place, pair in enumerate(pairs) if pair[0] != pair[1])
 
 
 def number(text: str, least: int, most: int, what: str) -> int:

@@ -292,7 +292,3 @@ class Session(unittest.TestCase):
         self.assertEqual(stop["reason"], "entry")
         stop = client.stopped("continue", threadId=1)
         self.assertIn("step 7 is the last one", stop["text"])
-
-
-if __name__ == "__main__":
-    unittest.main()

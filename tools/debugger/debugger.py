@@ -126,10 +126,7 @@ class Debugger:
         return (place[0], place[1]) if place else None
 
     def instruction(self, word: int | None) -> str:
-        if word is None:
-            return "no page to fetch from"
-        found = instructions.decode(word)
-        return instructions.text(found) if found else f".word 0x{word:08x}"
+        return "no page to fetch from" if word is None else instructions.word_text(word)
 
     def name_at(self, part: int, address: int) -> str:
         return self.source.nearest(self.word_at(part, address))
@@ -420,7 +417,7 @@ class Debugger:
 
     def differing_answers(self) -> str:
         last = self.events[self.step - 1].line if self.step else 0
-        text = b"".join(line + b"\n" for line in list(script.lines(self.data))[:last])
+        text = b"".join(line + b"\n" for line in script.lines(self.data)[:last])
         due = calling.text_of(self.program, ["script"], text)[1:]
         found = [line.split(" ", 2)[2] for line in self.states.trace(0, self.step)]
         return "" if due == found else f"the program answers the first {last} lines otherwise"

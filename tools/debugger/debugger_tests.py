@@ -437,7 +437,3 @@ class Typed(unittest.TestCase):
                      "no command of the program has this state",
                      "the program has the same tree and core after step 0, by seed 5"):
             self.assertIn(text, done.stdout)
-
-
-if __name__ == "__main__":
-    unittest.main()

@@ -83,7 +83,7 @@ def of_asmx(path: str, wrong: asmx.Wrong) -> Wrong:
 
 
 def wrong_lines(program: str, text: bytes, is_assembly: bool) -> Iterator[Wrong]:
-    lines = list(script.lines(text))
+    lines = script.lines(text)
     for place, cause in why.wrong_lines(program, lines, is_assembly):
         line = lines[place - 1] if place <= len(lines) else b""
         yield Wrong(place - 1, len(line[:max(cause.column - 1, 0)].decode("utf-8", "replace")), told(cause))

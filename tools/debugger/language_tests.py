@@ -177,7 +177,3 @@ class Session(unittest.TestCase):
         self.assertIn("load the word", client.at("hover", path, 2, 1)["contents"]["value"])
         self.assertIn("poll", [one["label"] for one in client.at("completion", path, 2, 1)])
         self.assertIn("11", [one["label"] for one in client.at("completion", path, 1, 7)])
-
-
-if __name__ == "__main__":
-    unittest.main()

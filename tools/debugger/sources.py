@@ -67,8 +67,6 @@ def read(image: bytes, path: str | None) -> Source:
         row = rows.get(page.address // PAGE)
         if row is not None:
             add_page(found, text, page, row.page)
-    for names in found.by_frame.values():
-        names.sort()
     return found
 
 
@@ -78,8 +76,6 @@ def add_page(found: Source, text: asmx.Text, page: asmx.Page, frame: int) -> Non
             found.starts_of.setdefault(item.place, []).append((frame, item.at))
         for index in range(item.at, item.at + item.size):
             found.line_of[frame, index] = item.place
-    for name, label in text.labels.items():
-        if label.page is page:
-            index = (label.address - page.seen) % (1 << 32) // 4
-            found.names[name] = Named(label.address, (frame, index))
-            found.by_frame.setdefault(frame, []).append((index, name))
+    found.by_frame[frame] = text.names_in(page)
+    found.names.update((name, Named(text.labels[name].address, (frame, index)))
+                       for index, name in found.by_frame[frame])

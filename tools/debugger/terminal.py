@@ -16,11 +16,12 @@ from collections.abc import Callable
 from types import FrameType
 from typing import Any
 
+from ..authors import trace
 from ..common import calling, meanings, plans
 from ..common.calling import Failed
 from ..draw.texts import Partition
 from . import building, sources
-from .client import EVERY, At, States, Stopped
+from .client import EVERY, States, Stopped
 from .debugger import Debugger, ancestors
 from .sources import PAGE
 
@@ -193,7 +194,7 @@ class Terminal(cmd.Cmd):
         """registers [CPU]: the registers of one processor or of all."""
         for cpu, at in enumerate(self.debugger.states.registers()):
             if text in ("", str(cpu)):
-                print("\n".join(registers_of(cpu, at)))
+                print("\n".join(trace.told_registers(cpu, at)))
 
     def do_processors(self, text: str) -> None:
         """processors: what runs on each."""
@@ -352,14 +353,6 @@ def counted(words: list[str]) -> tuple[list[str], int]:
     if words[-2:-1] == ["after"]:
         return words[:-2], int(words[-1], 0)
     return words, 1
-
-
-def registers_of(cpu: int, at: At | None) -> list[str]:
-    if at is None:
-        return [f"processor {cpu} runs nothing"]
-    rows = ["  " + "  ".join(f"r{r:<2} 0x{at.registers[r]:08x}" for r in range(first, first + 4))
-            for first in range(0, 16, 4)]
-    return [f"processor {cpu} runs partition {at.part}, pc 0x{at.pc:08x}", *rows]
 
 
 def part_line(part: Partition, masked: list[int], cpus: list[int]) -> str:

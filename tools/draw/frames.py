@@ -4,21 +4,12 @@ The words are those of docs/FORMATS.md."""
 
 from __future__ import annotations
 
-from typing import NamedTuple
-
 from ..step import walk
-from ..step.walk import LEVELS, PAGE
+from ..step.walk import LEVELS, PAGE, Role
 from .texts import Memory
 
 TABLE_OF_HANDLERS = 0xFFFFF000
 LAST_BLOCK = 4028           # where a block may begin in its page at most
-
-
-class Role(NamedTuple):
-    kind: str            # descriptor, directory, table or list page
-    partition: int
-    level: int = 0       # of a directory or a table
-    place: int = 0       # of a table its directory index, of a list page its number
 
 
 def word(memory: Memory, frame: int, index: int) -> int:
@@ -27,14 +18,7 @@ def word(memory: Memory, frame: int, index: int) -> int:
 
 def roles(memory: Memory) -> dict[int, Role]:
     """The role of each frame that is configuration of a partition."""
-    found: dict[int, Role] = {}
-    for x in walk.partitions(walk.of_memory(memory)):
-        found[x.name] = Role("descriptor", x.name)
-        found.update((frame, Role("directory", x.name, level)) for level, frame in enumerate(x.directories))
-        found.update((frame, Role("list page", x.name, place=number)) for number, frame in enumerate(x.lists))
-        found.update((frame, Role("table", x.name, level, table.index))
-                     for table in x.tables for level, frame in enumerate(table.frames))
-    return found
+    return walk.roles(walk.partitions(walk.of_memory(memory)))
 
 
 def table(memory: Memory, name: int, level: int, index: int) -> int:

@@ -11,7 +11,7 @@ import re
 import sys
 
 from ..common import calling
-from ..step.walk import LEVELS, PAGE
+from ..step.walk import LEVELS, PAGE, Role
 from . import frames, texts, translation
 from .svg import INK, PALE, PAPER, Drawing
 
@@ -128,7 +128,7 @@ def heading(drawing: Drawing, title: str, words: str) -> None:
     drawing.text(16, 50, words, size=11, colour=PALE)
 
 
-def draw_page_table(drawing: Drawing, memory: texts.Memory, frame: int, role: frames.Role) -> None:
+def draw_page_table(drawing: Drawing, memory: texts.Memory, frame: int, role: Role) -> None:
     """One line for each page of a page table, with its words in both shadows."""
     index = role.place
     shadows = [frames.table(memory, role.partition, level, index) for level in (1, 2)]
@@ -167,7 +167,7 @@ def draw_leaf(drawing: Drawing, x: float, y: float, leaf: int) -> None:
         drawing.text(left + 10, y + 15, letter, anchor="middle", mono=True, colour=INK if leaf & bit else "#c5ccd3")
 
 
-def draw_words(drawing: Drawing, memory: texts.Memory, frame: int, role: frames.Role | None) -> None:
+def draw_words(drawing: Drawing, memory: texts.Memory, frame: int, role: Role | None) -> None:
     """One line for each word that isn't 0."""
     kind = "a page that is nobody's configuration" if role is None else title(role)
     heading(drawing, f"Frame {frame}: {kind}", "its words that aren't 0")
@@ -180,7 +180,7 @@ def draw_words(drawing: Drawing, memory: texts.Memory, frame: int, role: frames.
     drawing.reach(560, y)
 
 
-def title(role: frames.Role) -> str:
+def title(role: Role) -> str:
     what = {"descriptor": "the descriptor", "list page": f"list page {role.place}"}.get(role.kind)
     if role.kind == "directory":
         what = "the directory of the " + ("page tables", "first shadow", "second shadow")[role.level]
@@ -189,7 +189,7 @@ def title(role: frames.Role) -> str:
     return f"{what} of partition {role.partition}"
 
 
-def words_of(role: frames.Role | None, index: int, value: int) -> str:
+def words_of(role: Role | None, index: int, value: int) -> str:
     if role is None:
         return ""
     if role.kind != "table":

@@ -57,13 +57,12 @@ class OwnFiles(asmx.Files):
         self.examples = examples
         self.read: list[str] = []
 
-    def inner(self, place: asmx.Place, path: asmx.Word) -> str:
+    def inner(self, path: asmx.Word) -> str:
         if path in self.examples:
             return os.path.join(calling.REPOSITORY, "examples", path)
         if os.path.isabs(path) or os.pardir in path.split("/"):
-            raise asmx.Wrong(place, "a work includes files of its own folder, and examples that are allowed",
-                             path.column)
-        return os.path.join(os.path.dirname(place.file), path)
+            raise path.wrong("a work includes files of its own folder, and examples that are allowed")
+        return os.path.join(os.path.dirname(path.place.file), path)
 
     def contents(self, path: str) -> bytes:
         self.count += 1

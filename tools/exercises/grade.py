@@ -11,14 +11,12 @@ from collections.abc import Iterable
 from concurrent.futures import ThreadPoolExecutor
 from dataclasses import dataclass, field
 
-from ..authors import asmx
 from ..common import calling
 from ..common.calling import Failed
 from ..judge import building
 from . import alone, judging, likeness
 
 SCRIPTS, PROGRAMS = (".pip",), (".s", ".asmx")
-SOLUTIONS = os.path.join(calling.REPOSITORY, "examples", "solutions")
 SOLUTION = "the solution of examples/solutions"
 
 
@@ -172,17 +170,10 @@ def alike(exercises: dict[str, judging.Exercise], works: list[Work],
     for name, exercise in exercises.items():
         texts = {work.student: work.found.essence for work in works if work.exercise == name}
         if texts and not by_seeds:
-            texts[SOLUTION] = of_solution(name, exercise.is_program)
+            plain = judging.plain_solution(name, exercise.is_program)
+            texts[SOLUTION] = likeness.essence(plain, exercise.is_program)
         found += [(name, how, who) for how, who in likeness.alike(texts)]
     return found
-
-
-def of_solution(name: str, is_program: bool) -> list[str]:
-    """What the solution of the repository is like."""
-    path = next(os.path.join(SOLUTIONS, file) for file in os.listdir(SOLUTIONS) if file.rsplit(".", 1)[0] == name)
-    if not is_program:
-        return likeness.essence(calling.contents(path), False)
-    return likeness.essence("".join(line + "\n" for _, line in asmx.processed(path)[0]).encode(), True)
 
 
 def lines(table: Table) -> list[str]:

@@ -8,11 +8,12 @@ import subprocess
 from dataclasses import dataclass, field
 
 from ..authors import asmx, why
-from ..common import meanings
-from ..common.calling import Failed
+from ..common import calling, meanings
+from ..common.calling import REPOSITORY, Failed
 from ..judge import building
 
 SECRET_BYTES = 8
+SOLUTIONS = os.path.join(REPOSITORY, "examples", "solutions")
 
 
 def ask(act: str, name: str = "", seed: str | None = None, secret: str = "", text: bytes = b"") -> str:
@@ -45,6 +46,17 @@ def values(name: str, seed: str | None) -> dict[str, tuple[int, str]]:
     """The values of an exercise, each as a number and as its text has it."""
     lines = [line.split(" ", 3) for line in ask("values", name, seed).splitlines()]
     return {value: (int(number), told) for _, value, number, told in lines}
+
+
+def solutions() -> dict[str, str]:
+    """The path of the solution of each exercise."""
+    return {os.path.splitext(file)[0]: os.path.join(SOLUTIONS, file) for file in os.listdir(SOLUTIONS)}
+
+
+def plain_solution(name: str, is_program: bool) -> bytes:
+    """Its text; of a source of tools/asmx what it becomes."""
+    path = solutions()[name]
+    return asmx.text_of(asmx.processed(path)[0]) if is_program else calling.contents(path)
 
 
 def drawn() -> str:
@@ -104,7 +116,7 @@ def judged(name: str, path: str, text: bytes, is_program: bool, seed: str | None
                 return found
         if source and answer.startswith("refused "):
             used = source[0]
-            found.plain = "".join(line + "\n" for _, line in used).encode()
+            found.plain = asmx.text_of(used)
             answer = ask("judge", name, seed, found.secret, found.plain)
     read(found, answer, path, is_program, Places(source[1]) if source else None, used)
     return found
@@ -158,8 +170,8 @@ class Places:
     def __init__(self, text: asmx.Text) -> None:
         self.lines = {page.address + 4 * word: item.place
                       for page in text.pages for item in page.items for word in range(item.at, item.at + item.size)}
-        self.names = sorted((label.page.address + (label.address - label.page.seen) % (1 << 32), name)
-                            for name, label in text.labels.items())
+        self.names = sorted((page.address + 4 * index, name)
+                            for page in text.pages for index, name in text.names_in(page))
 
     def told(self, address: int) -> str:
         """The line that an instruction is from, and the name at or before it; nothing where it isn't in the source."""

@@ -28,6 +28,10 @@ EACH = re.compile(r"All \(λ (\w+)\. \1 < (\d+)\) (\w+)\.(?:now|old)(?:\.items)?
 FITS = re.compile(r"(\w+) < below_of (\w+)")
 
 
+class Unknown(Exception):
+    """A term that Rust can't make."""
+
+
 class Term(NamedTuple):
     """What is added up in a side of a comparison, and its type, which a literal has not."""
 
@@ -86,8 +90,9 @@ def comparison(part: str, types: dict[str, str], fields: bool) -> str | None:
     pieces = re.split(r" ([≤<≡≢]) ", part)
     if len(pieces) != 3:
         return None
-    left, right = (terms(side, types, fields) for side in (pieces[0], pieces[2]))
-    if left is None or right is None:
+    try:
+        left, right = ([product(text.strip(), types, fields) for text in side.split(" + ")] for side in pieces[::2])
+    except Unknown:
         return None
     kinds: set[str] = {term.type for term in left + right if term.type}
     if not kinds:
@@ -107,24 +112,18 @@ def cast(term: Term) -> str:
     return re.sub(r"[^ ]*[a-z][^ ]*", lambda name: f"({name.group()} as u128)", term.text)
 
 
-def terms(side: str, types: dict[str, str], fields: bool) -> list[Term] | None:
-    found = [product(text.strip(), types, fields) for text in side.split(" + ")]
-    known = [each for each in found if each is not None]
-    return known if len(known) == len(found) else None
-
-
-def product(text: str, types: dict[str, str], fields: bool) -> Term | None:
+def product(text: str, types: dict[str, str], fields: bool) -> Term:
     """A term, or two of which a product or a remainder is made: a wide one, since it may wrap."""
     pieces = re.split(r" ([*%]) ", text)
     if len(pieces) != 3:
         return term(text, types, fields)
-    left, right = (term(piece, types, fields) for piece in (pieces[0], pieces[2]))
-    if left is None or right is None or not (left.type or right.type):
-        return None
+    left, right = (term(piece, types, fields) for piece in pieces[::2])
+    if not (left.type or right.type):
+        raise Unknown(text)
     return Term(f"{left.text} {pieces[1]} {right.text}", "wide")
 
 
-def term(text: str, types: dict[str, str], fields: bool) -> Term | None:
+def term(text: str, types: dict[str, str], fields: bool) -> Term:
     """A literal, an integer, a field of an unsafe body, or what a name stands in."""
     if number := re.fullmatch(r"(\d+)(?: \^ (\d+))?", text):
         return Term(str(int(number[1]) ** int(number[2] or 1)), None)
@@ -136,7 +135,7 @@ def term(text: str, types: dict[str, str], fields: bool) -> Term | None:
         found = pattern.fullmatch(text)
         if found and of_type.fullmatch(types.get(found[1], "")):
             return Term(told.replace("{}", found[1]), kind)
-    return None
+    raise Unknown(text)
 
 
 def untested(text: str) -> dict[str, list[str]]:

@@ -3,18 +3,20 @@ test."""
 
 from __future__ import annotations
 
+import re
 from dataclasses import dataclass
 
-from .edits import Edits
 from .source import Source
-from .stripping import strip
+from .stripping import Edits, strip
 from .tokens import Trouble
 
 # Names of the kit's prelude that Rust's lacks. A file that has one gets a line that brings them in.
 PRELUDE = {"Vec", "String", "Box", "HostRuntime", "AllocGlobal", "Print"}
 PRELUDE_LINE = "use std::prelude::kit::*;"
 HEAD = ["#![no_std]", "", "#[macro_use]", "extern crate rattle_std as std;"]
+OWN_HEAD = re.compile(r"(?:\s*(?://!|#!\[)[^\n]*\n)*")
 RUNTIME = "std::rt::host()"
+RUNTIME_TAKEN = re.compile(r"(?:#\[test\]\s*fn \w+|\bfn main)\(((\w+): HostRuntime,?)\)[^{]*\{")
 
 # What the system starts on Unix: docs/EXPORT.md says why a program has a start of its own.
 NO_MAIN = "#![cfg_attr(unix, no_main)]"
@@ -45,32 +47,16 @@ def exported(text: str, role: Role = Role()) -> str:
     strip(source, edits)
     give_runtime(source, edits)
     new = edits.done()
-    left = Source(new)
-    refuse_rest(left)
+    refuse_rest(Source(new))
     start = START if role.program else ""
-    return with_head(left, head_of(source, role)) + start
+    return with_head(new, head_of(source, role)) + start
 
 
 def give_runtime(source: Source, edits: Edits) -> None:
     """`main` and the tests get their runtime from the library, since Rust hands them none."""
-    for place in range(len(source.tokens)):
-        name = runtime_taken(source, place)
-        if name is None:
-            continue
-        closing = source.closing(place + 2)
-        edits.put(source.at(place + 3).start, source.at(closing).start, "")
-        brace = source.next_punct(closing, "{")
-        edits.put(source.at(brace).end, source.at(brace).end, f"\n    let {name} = {RUNTIME};")
-
-
-def runtime_taken(source: Source, place: int) -> str | None:
-    """What a `main` or a test whose `fn` is there calls its runtime; None where it takes none or is neither."""
-    if not source.at(place).is_word("fn") or not source.at(place + 2).is_punct("("):
-        return None
-    if source.at(place + 1).text != "main" and not source.reads(place - 4, "# [ test ]"):
-        return None
-    taken = source.parameters(place)
-    return next(iter(taken)) if list(taken.values()) == ["HostRuntime"] else None
+    for found in RUNTIME_TAKEN.finditer(source.code()):
+        edits.put(*found.span(1), "")
+        edits.put(found.end(), found.end(), f"\n    let {found[2]} = {RUNTIME};")
 
 
 def refuse_rest(left: Source) -> None:
@@ -91,14 +77,10 @@ def head_of(source: Source, role: Role) -> list[str]:
     return lines
 
 
-def with_head(left: Source, head: list[str]) -> str:
+def with_head(text: str, head: list[str]) -> str:
     """The text with these lines after its own comment and its attributes of the whole file."""
-    if not head:
-        return left.text
-    place, end = 0, 0
-    while left.at(place).text.startswith("//!") or left.reads(place, "# !"):
-        place = place if left.at(place).kind == "comment" else left.closing(place + 2)
-        end = left.text.index("\n", left.at(place).end) + 1
-        place += 1
-    before, after = left.text[:end], left.text[end:]
-    return before + "\n" * bool(before) + "\n".join(head) + "\n" + "\n" * (not after.startswith("\n")) + after
+    own = OWN_HEAD.match(text)
+    if not head or own is None:
+        return text
+    after = text[own.end():]
+    return own[0] + "\n" * bool(own[0]) + "\n".join(head) + "\n" + "\n" * (not after.startswith("\n")) + after

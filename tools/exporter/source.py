@@ -25,10 +25,14 @@ class Source:
         """The texts of the tokens from `first` to before `last`, without comments."""
         return [token.text for token in self.tokens[max(first, 0):last] if token.kind != "comment"]
 
-    def reads(self, place: int, words: str) -> bool:
-        """Whether these tokens, parted by blanks, are there from a place on."""
-        wanted = words.split(" ")
-        return self.words(place, place + len(wanted)) == wanted
+    def code(self) -> str:
+        """The text with blanks in the place of comments, texts, characters, clauses and ghost items."""
+        pieces, at = list[str](), 0
+        for token in self.tokens:
+            if token.kind in ("comment", "text", "char", "clause", "ghost"):
+                pieces += [self.text[at:token.start], "\0" * (token.end - token.start)]
+                at = token.end
+        return "".join(pieces) + self.text[at:]
 
     def closing(self, place: int) -> int:
         """The place of what closes the bracket at `place`."""

@@ -1,34 +1,158 @@
-"""Takes out of a source what is there for proofs alone. A rule looks at one place, and answers the place after what it
-has dealt with, or None where it has nothing to say there."""
+"""Takes out of a source what is there for proofs alone, by patterns of code, and by rules for clauses, ghost items and
+models. A rule is asked at a place, and answers the place after what it has dealt with."""
 
 from __future__ import annotations
 
 import re
 from collections.abc import Callable
-from typing import Optional
+from typing import Union
 
-from .edits import Edits
-from .remarks import keep_clauses, keep_item
 from .requirements import tests_of
 from .source import Source
-from .tokens import Trouble
+from .tokens import Token, Trouble
 
-PROOF_ATTRIBUTES = ("tactic", "cycle")
+GONE = "\0"  # in the place of what was taken out, so that a line that is empty then goes, too
 
-Rule = Callable[[Source, int, Edits], Optional[int]]
+
+class Edits:
+    """What is put in the place of which piece of a text."""
+
+    def __init__(self, text: str) -> None:
+        self.text = text
+        self.all: list[tuple[int, int, str]] = []
+
+    def put(self, start: int, end: int, new: str) -> None:
+        self.all.append((start, end, new))
+
+    def cut(self, start: int, end: int) -> None:
+        self.put(start, end, GONE)
+
+    def done(self) -> str:
+        """The changed text. A change inside of what is taken out counts for nothing."""
+        pieces: list[str] = []
+        at = 0
+        for start, end, new in sorted(self.all):
+            if start >= at:
+                pieces += [self.text[at:start], new]
+                at = end
+            elif end > at:
+                raise Trouble("two changes overlap")
+        return without_gone("".join(pieces) + self.text[at:])
+
+
+def without_gone(text: str) -> str:
+    """The text without lines of which nothing is left. An empty line beside them stays where it parts two others."""
+    lines: list[str] = []
+    beside = False
+    for line in text.split("\n"):
+        if GONE in line and not line.strip(GONE + " \t"):
+            beside = True
+            continue
+        line = line.replace(GONE, "")
+        if beside and not line.strip() and (not lines or not lines[-1].strip() or lines[-1].endswith("{")):
+            continue                                                       # it would part nothing
+        if beside and line.strip() in ("}", "},") and lines and not lines[-1].strip():
+            lines.pop()
+        beside = beside and not line.strip()
+        lines.append(line)
+    return "\n".join(lines)
+
+
+# Clauses and ghost items as comments: beside a function that is documented they are part of its documentation
+
+QUALIFIERS = ("const", "unsafe", "final")
+
+
+def keep_clauses(source: Source, function: int, clauses: list[Token], edits: Edits) -> None:
+    """Writes a function's clauses, and the comments among them, after its comment: as documentation where the function
+    has some or is public."""
+    first = function
+    while source.at(first - 1).kind == "word" and source.at(first - 1).text in QUALIFIERS:
+        first -= 1
+    head = source.head(first)
+    comments = comments_at(source, head, first)
+    public = any(token.is_word("pub") for token in source.tokens[head:first])
+    documented = public or any(token.text.startswith("///") for token in comments)
+    inset = source.inset(source.at(head).start)
+    lines = lines_of(clauses)
+    if documented:
+        lines = ([""] if comments else []) + ["```text", *lines, "```"]
+    mark = "///" if documented else "//"
+    place = source.line_start(source.at(head).start)
+    if comments:
+        place = source.text.index("\n", comments[-1].end) + 1
+    edits.put(place, place, "".join(f"{inset}{mark} {line}".rstrip() + "\n" for line in lines))
+
+
+def comments_at(source: Source, first: int, last: int) -> list[Token]:
+    """The comments with which a head begins."""
+    found: list[Token] = []
+    while first < last and source.at(first).kind == "comment":
+        found.append(source.at(first))
+        first += 1
+    return found
+
+
+def lines_of(clauses: list[Token]) -> list[str]:
+    """The lines of clauses; those that go on are further in."""
+    return [line.strip() if number == 0 else "    " + line.strip()
+            for clause in clauses for number, line in enumerate(clause.text.split("\n"))]
+
+
+def keep_item(source: Source, first: int, last: int, edits: Edits) -> None:
+    """Turns an item, with the comments before it, into comments that no documentation shows."""
+    start = source.line_start(source.at(first).start)
+    end = source.text.index("\n", source.at(last).end) + 1
+    inset = len(source.inset(source.at(first).start))
+    lines = (re.sub(r"^( *)///? ?", r"\1", line[inset:]) for line in source.text[start:end - 1].split("\n"))
+    edits.put(start, end, "".join((" " * inset + "// " + line).rstrip() + "\n" for line in lines))
+
+
+# What goes
+
+Found = re.Match[str]
+
+
+def without_drop(found: Found) -> str:
+    """`Drop` goes out of a list of derives: what Rust drops it drops by itself."""
+    names = [name for name in re.split(r",\s*", found[1]) if name != "Drop"]
+    return f"#[derive({', '.join(names)})]" if names else GONE
+
+
+def drop_by_parts(found: Found) -> str:
+    """`fn drop(self) { let T { a, b } = self; ..` takes the parts. Rust's `drop` is lent the value, so it copies them.
+    """
+    body = re.fullmatch(r"(.*fn drop\()self(\) \{\s*let )\w+ \{([^{}]*)\} = self;", found[0], re.S)
+    if body is None:
+        raise Trouble("a drop of another form")
+    parts = [part.strip() for part in body[3].split(",") if part.strip()]
+    copies = ", ".join(f"std::mem::part_of_dropped(&self.{part})" for part in parts)
+    return f"{body[1]}&mut self{body[2]}({', '.join(parts)}) = unsafe {{ ({copies}) }};"
+
+
+# Patterns of code, and what comes in their place
+PATTERNS: tuple[tuple[str, Union[str, Callable[[Found], str]]], ...] = (
+    (r"#!?\[(?:tactic|cycle)\b[^\]]*\]", GONE),
+    (r"#\[derive\(([^)]*\bDrop\b[^)]*)\)\]", without_drop),
+    (r"\s*\+ Drop\b|\s*: Drop(?=[,>])", GONE),
+    (r"(?<=\.expect\()&?\w+, ", ""),             # Rust's takes the message alone
+    (r"\bimpl\b[^;{]*\bDrop for [^{]*\{[^;]*;", drop_by_parts))
 
 
 def strip(source: Source, edits: Edits) -> None:
     """All that goes, and the tests that come in the place of clauses."""
+    code = source.code()
+    for pattern, new in PATTERNS:
+        for found in re.finditer(pattern, code):
+            edits.put(*found.span(), new if isinstance(new, str) else new(found))
     place = 0
     while place < len(source.tokens):
         token = source.tokens[place]
-        rules = RULES.get(token.kind if token.kind in ("clause", "ghost") else token.text, ())
-        found = (rule(source, place, edits) for rule in rules)
-        place = next((after for after in found if after is not None), place + 1)
+        rule = RULES.get(token.kind if token.kind in RULES else token.text)
+        place = rule(source, place, edits) if rule else place + 1
 
 
-def ghost_item(source: Source, place: int, edits: Edits) -> int | None:
+def ghost_item(source: Source, place: int, edits: Edits) -> int:
     """An import of definitions goes; another ghost item stays as a comment."""
     token = source.at(place)
     head = source.head(place)
@@ -39,7 +163,7 @@ def ghost_item(source: Source, place: int, edits: Edits) -> int | None:
     return place + 1
 
 
-def clauses(source: Source, place: int, edits: Edits) -> int | None:
+def clauses(source: Source, place: int, edits: Edits) -> int:
     """The clauses of a function become comments, with the comments among them, and tests of what it requires; those of
     a closure or a loop go."""
     first, last = place, place
@@ -58,50 +182,11 @@ def clauses(source: Source, place: int, edits: Edits) -> int | None:
     return last + 1
 
 
-def proof_attribute(source: Source, place: int, edits: Edits) -> int | None:
-    """`#[tactic(..)]`, `#![tactic(..)]` and the like go."""
-    bracket = attribute_bracket(source, place)
-    if bracket is None or source.at(bracket + 1).text not in PROOF_ATTRIBUTES:
-        return None
-    closing = source.closing(bracket)
-    edits.cut(source.at(place).start, source.at(closing).end)
-    return closing + 1
-
-
-def derive(source: Source, place: int, edits: Edits) -> int | None:
-    """`Drop` goes out of a list of derives: what Rust drops it drops by itself."""
-    bracket = attribute_bracket(source, place)
-    if bracket is None or source.at(bracket + 1).text != "derive":
-        return None
-    closing = source.closing(bracket)
-    names = ["".join(words) for words in source.list_items(bracket + 2, closing - 1)]
-    start, end = source.at(place).start, source.at(closing).end
-    if names == ["Drop"]:
-        edits.cut(start, end)
-    elif "Drop" in names:
-        names.remove("Drop")
-        edits.put(start, end, f"#[derive({', '.join(names)})]")
-    return closing + 1
-
-
-def attribute_bracket(source: Source, place: int) -> int | None:
-    """The place of the `[` of the attribute that begins there."""
-    bracket = place + (2 if source.at(place + 1).is_punct("!") else 1)
-    return bracket if source.at(bracket).is_punct("[") else None
-
-
-def implementation(source: Source, place: int, edits: Edits) -> int | None:
-    """An `impl Model`, which is for proofs, stays as a comment; an `impl Drop` gets Rust's form."""
+def model(source: Source, place: int, edits: Edits) -> int:
+    """An `impl Model`, which is for proofs, stays as a comment."""
     brace = source.next_punct(place, "{;),")
-    names = source.words(place, brace)
-    if not source.at(brace).is_punct("{") or "for" not in names:
-        return None
-    trait = names[names.index("for") - 1]
-    if trait == "Drop":
-        drop_by_parts(source, brace, edits)
-        return brace + 1
-    if trait != "Model":
-        return None
+    if not re.search(r" Model for ", " ".join(source.words(place, brace))):
+        return place + 1
     closing = source.closing(brace)
     if any(token.kind not in ("ghost", "comment") for token in source.tokens[brace + 1:closing]):
         raise Trouble("a model with code")
@@ -109,42 +194,5 @@ def implementation(source: Source, place: int, edits: Edits) -> int | None:
     return closing + 1
 
 
-def drop_by_parts(source: Source, brace: int, edits: Edits) -> None:
-    """`fn drop(self) { let T { a, b } = self; ..` takes the parts. Rust's `drop` is lent the value, so it copies them.
-    """
-    place = next((at for at in range(brace, source.closing(brace)) if source.at(at).is_word("fn")), brace)
-    if not source.reads(place, "fn drop ( self ) { let") or not source.at(place + 8).is_punct("{"):
-        raise Trouble("a drop of another form")
-    opening = place + 8
-    closing = source.closing(opening)
-    if not source.reads(closing, "} = self ;"):
-        raise Trouble("a drop of another form")
-    parts = ["".join(words) for words in source.list_items(opening, closing)]
-    copies = ", ".join(f"std::mem::part_of_dropped(&self.{part})" for part in parts)
-    edits.put(source.at(place + 3).start, source.at(place + 3).end, "&mut self")
-    edits.put(source.at(place + 7).start, source.at(closing + 2).end, f"({', '.join(parts)}) = unsafe {{ ({copies}) }}")
-
-
-def bound(source: Source, place: int, edits: Edits) -> int | None:
-    """A bound `Drop` goes, with the `+` or the `:` before it."""
-    before, after = source.at(place - 1), source.at(place + 1)
-    if not before.is_punct("+") and not (before.is_punct(":") and after.kind == "punct" and after.text in ",>"):
-        return None
-    edits.cut(source.at(place - 2).end, source.at(place).end)
-    return place + 1
-
-
-def expect_with_runtime(source: Source, place: int, edits: Edits) -> int | None:
-    """`.expect(rt, ..)`: Rust's takes the message alone."""
-    if not source.at(place - 1).is_punct("."):
-        return None
-    closing = source.closing(place + 1)
-    if len(source.list_items(place + 1, closing)) == 2:
-        comma = source.next_punct(place + 2, ",")
-        edits.put(source.at(place + 2).start, source.at(comma + 1).start, "")
-    return place + 1
-
-
 # By the kind or, of other tokens, the text of the token at which they may have something to say.
-RULES: dict[str, list[Rule]] = {"ghost": [ghost_item], "clause": [clauses], "#": [proof_attribute, derive],
-                                "impl": [implementation], "Drop": [bound], "expect": [expect_with_runtime]}
+RULES: dict[str, Callable[[Source, int, Edits], int]] = {"ghost": ghost_item, "clause": clauses, "impl": model}

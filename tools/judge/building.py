@@ -17,7 +17,6 @@ JUDGE = Program(NAME, "the judge", HERE, ("pip_asm", "pip_cpu", "pip_image", "pi
                 ("host",),
                 ", or copy the file that tools/judge/make_judge --to FILE writes on a machine like this, and name it "
                 "by " "the environment's PIP_JUDGE")
-USES, own_files = JUDGE.uses, JUDGE.files
 
 
 def main() -> None:

@@ -1,5 +1,5 @@
 // The state of a machine after a line, read off its frames by `peek` and `reg` lines. It is told as a page of tools/step has it, whose
-// walk.py, states.py and contents.py find the same.
+// walk.py and states.py find the same.
 "use strict";
 const ROOT = 1, WORDS = 1024, FRAME = 4096, SLOTS = 170, REGISTERS = 17;
 const HANDLERS = 0xfffff000, SAVED_IN = 63, NOWHERE = 256, MOST_TOLD = 16;

@@ -14,6 +14,7 @@ from .every import AT_FIRST, After, Label, Moment, Moments, Search, begun, label
 from .image import Image
 from .model import ROOT, Done, Running, World
 from .runs import Turn
+from .script import BadLine
 
 EACH, AGAIN = b"each", b"again"
 WORDS = (b"ld", b"lb", b"st", b"sb", b"trap", b"call")       # the lines of scripts that are deeds
@@ -42,14 +43,6 @@ class Menu(NamedTuple):
 
 
 # The text of a menu
-
-
-class BadLine(Exception):
-    """The first bad line of a menu, counted from 1, and what is wrong with it."""
-
-    def __init__(self, line: int, kind: str) -> None:
-        super().__init__(line, kind)
-        self.line, self.kind = line, kind
 
 
 def menu_of(data: bytes) -> Menu:

@@ -10,7 +10,7 @@ from . import image, instructions
 from .image import Image, Plan
 from .instructions import FORMS, KINDS, OPCODES, SHIFTS, SIGNED, Instruction
 from .model import PAGE, WORDS, Row, boot_tree
-from .script import LONGEST, Bad, lines, number, word_text
+from .script import LONGEST, Bad, BadLine, lines, number, word_text
 
 NAME = re.compile(rb"[A-Za-z_][A-Za-z0-9_]{0,31}")
 REGISTER = re.compile(rb"r([0-9]|1[0-5])")
@@ -22,14 +22,6 @@ DISTANCES = ("beq", "bne", "blt", "bltu", "jal")        # an immediate may be a 
 Finish = Callable[[int, int], int]                      # the address of a name, and that of the word, to the word
 Waiting = tuple[bytes, Finish]
 Act = Callable[[int, bytes, list[bytes]], None]         # by the line's number, its first word and the others
-
-
-class BadLine(Exception):
-    """The first fault of a text: its line, and of which kind it is."""
-
-    def __init__(self, line: int, kind: str) -> None:
-        super().__init__(line, kind)
-        self.line, self.kind = line, kind
 
 
 class Wrong(Exception):
@@ -236,6 +228,5 @@ def disassembled(data: bytes) -> Iterator[str]:
             yield f".page {word_text(PAGE * vpage)}"
             used = max((index + 1 for index, word in enumerate(words) if word), default=0)
             for word in words[:used]:
-                instruction = instructions.decode(word)
-                yield instructions.text(instruction) if instruction else f".word {word_text(word)}"
+                yield instructions.word_text(word)
     image.ended(reader)

@@ -7,7 +7,7 @@ import re
 
 from . import layout, runs, sound
 from .model import PAGE, READ, ROOT, SLOTS, WORDS, Node, Pair, Row, Table, Tree, list_pages
-from .script import word_text
+from .script import BadLine, word_text
 
 Memory = list[list[int]]         # the words of each frame
 LEAST_FRAMES, MOST_FRAMES = 16, 4096
@@ -16,14 +16,6 @@ MOST_END = 10000000      # in the last line of a text
 NUMBER = rb"(0|[1-9][0-9]{0,9})"
 FRAME, END = re.compile(b"frame " + NUMBER), re.compile(b"end " + NUMBER)
 GROUP = re.compile(rb"([0-9]{4}):((?: [0-9a-f]{8}){8})")
-
-
-class BadLine(Exception):
-    """A line outside the grammar."""
-
-    def __init__(self, number: int) -> None:
-        super().__init__(number)
-        self.number = number
 
 
 class Unread(Exception):
@@ -184,9 +176,5 @@ def judged(memory: Memory) -> tuple[list[str], bool]:
 
 def audit(frames: int, text: bytes) -> tuple[list[str], int]:
     """The lines that are written for a text, and the status."""
-    try:
-        memory = read(frames, text)
-    except BadLine as bad:
-        return [f"bad line {bad.number}"], 2
-    told, is_layout = judged(memory)
+    told, is_layout = judged(read(frames, text))
     return told, 0 if is_layout else 9

@@ -14,7 +14,7 @@ import sys
 from collections.abc import Callable, Iterable, Sequence
 from typing import NamedTuple, Optional
 
-from . import against, apart, assembly, audit, every, image, native, parts, runs, script, slots
+from . import against, apart, assembly, audit, every, image, native, parts, runs, script
 from .model import World
 
 USAGE = b"usage: pip script | run STEPS SEED | asm | dis | tree STEPS SEED | core STEPS SEED | soak COUNT SEED" \
@@ -39,22 +39,22 @@ def numbers_of(words: Sequence[str], *limits: tuple[int, int]) -> tuple[int, ...
     return given if inside and len(given) == len(limits) else None
 
 
-def slots_of(words: Sequence[str]) -> tuple[int, slots.Round, int] | None:
+def slots_of(words: Sequence[str]) -> tuple[int, native.Round, int] | None:
     """How many children, the slots of a round, and the rounds, or None where the words don't say it."""
     try:
         if len(words) == 3 and ":" not in words[2]:
             n, turns, rounds = map(script.number, map(str.encode, words))
-            round = slots.in_turn(min(n, native.MOST_CHILDREN + 1), turns)
+            round = native.in_turn(min(n, native.MOST_CHILDREN + 1), turns)
         else:
             n, rounds = map(script.number, map(str.encode, words[:2]))
             round = [given_slot(word) for word in words[2:]]
     except (ValueError, script.Bad):
         return None
-    if not 1 <= n <= native.MOST_CHILDREN or not 1 <= len(round) <= slots.MOST_SLOTS:
+    if not 1 <= n <= native.MOST_CHILDREN or not 1 <= len(round) <= native.MOST_SLOTS:
         return None
     if any(child >= n or turns > MOST_STEPS for child, turns in round):
         return None
-    return (n, round, rounds) if max(rounds, slots.steps_of(round, rounds)) <= MOST_STEPS else None
+    return (n, round, rounds) if max(rounds, native.steps_of(round, rounds)) <= MOST_STEPS else None
 
 
 def given_slot(word: str) -> tuple[int, int]:
@@ -96,6 +96,19 @@ def pip(words: Sequence[str], text: bytes) -> tuple[bytes, int]:
 
 def ended(words: Sequence[str], text: bytes) -> Ended:
     """Output and status, and the world that the command leaves; None where it leaves none, or the status isn't 0."""
+    try:
+        return answered(words, text)
+    except image.BadImage as bad:
+        return in_lines([f"bad image {bad.kind} {bad.at}"]), 2, None
+    except parts.BadPart as bad:
+        return in_lines([f"bad part {bad.kind} {bad.at}"]), 2, None
+    except script.BadLine as bad:
+        return in_lines([f"bad line {bad.line} {bad.kind}".rstrip()]), 2, None
+    except image.TooFew as few:
+        return in_lines([f"short {few.frames - 13} {few.least - 13}"]), 8, None
+
+
+def answered(words: Sequence[str], text: bytes) -> Ended:
     command, *rest = words or [""]
     if command in ON_TEXTS and not rest:
         return ON_TEXTS[command](text)
@@ -110,7 +123,7 @@ def ended(words: Sequence[str], text: bytes) -> Ended:
         return on_image(lambda machine: native.native(machine, n, count), text, n)
     if command == "slots" and (shares := slots_of(rest)):
         n, round, rounds = shares
-        return on_image(lambda machine: slots.slots(machine, n, round, rounds), text, n)
+        return on_image(lambda machine: native.slots(machine, n, round, rounds), text, n)
     if command == "audit" and (given := numbers_of(rest, (audit.LEAST_FRAMES, audit.MOST_FRAMES))):
         frames, = given
         told, status = audit.audit(frames, text)
@@ -124,8 +137,7 @@ def ended(words: Sequence[str], text: bytes) -> Ended:
         room, steps, seed = given
         return on_image(lambda machine: (apart.apart(machine, room, steps, seed), None), text)
     if command == "part" and (given := numbers_of(rest or ["0"], (0, every.MOST))):
-        first, = given
-        return on_part(first, text)
+        return in_lines(parts.part(text, *given)), 0, None
     return USAGE, 1, None
 
 
@@ -140,12 +152,7 @@ def in_lines(told: Iterable[str]) -> bytes:
 
 
 def asm(text: bytes) -> Ended:
-    if len(text) > script.MOST:
-        return b"", 6, None
-    try:
-        return assembly.assemble(text), 0, None
-    except assembly.BadLine as bad:
-        return f"bad line {bad.line} {bad.kind}\n".encode(), 2, None
+    return (b"", 6, None) if len(text) > script.MOST else (assembly.assemble(text), 0, None)
 
 
 def dis(data: bytes) -> Ended:
@@ -167,54 +174,15 @@ ON_TEXTS: dict[str, Callable[[bytes], Ended]] = {"script": script.ended, "asm": 
 
 def on_image(command: OnImage, data: bytes, children: int = 0) -> Ended:
     """What a command says of an image, which has room for that many children."""
-    try:
-        machine = image.read(data, native.frames_needed(children) if children else 0)
-    except image.BadImage as bad:
-        return in_lines([f"bad image {bad.kind} {bad.at}"]), 2, None
-    except image.TooFew as few:
-        return in_lines([native.short_line(few.frames, children)]), 8, None
-    told, world = command(machine)
+    told, world = command(image.read(data, native.frames_needed(children) if children else 0))
     return in_lines(told), 0, world
 
 
 def on_menu(asked: Asked, data: bytes) -> Ended:
     """What `against` says of an image with a menu after it."""
-    try:
-        machine, text = image.parted(data)
-        menu = against.menu_of(text)
-    except image.BadImage as bad:
-        return in_lines([f"bad image {bad.kind} {bad.at}"]), 2, None
-    except against.BadLine as bad:
-        return in_lines([f"bad line {bad.line} {bad.kind}"]), 2, None
-    return in_lines(against.against(machine, asked.states, asked.first, asked.deepest, menu, asked.after)), 0, None
-
-
-def on_part(first: int, data: bytes) -> Ended:
-    """What `part` says of an image with a part after it."""
-    try:
-        return in_lines(parts.part(data, first)), 0, None
-    except image.BadImage as bad:
-        return in_lines([f"bad image {bad.kind} {bad.at}"]), 2, None
-    except parts.BadPart as bad:
-        return in_lines([f"bad part {bad.kind} {bad.at}"]), 2, None
-
-
-def typed(read: Callable[[], bytes], write: Callable[[bytes], object]) -> int:
-    """A script whose lines are answered as they come, as by the program itself; its status."""
-    told, taken, place = script.Script(), 0, 0
-    while line := read():
-        taken, place = taken + len(line), place + 1
-        rest = line[:len(line) - max(taken - script.MOST, 0)]
-        if taken > script.MOST and len(rest) <= script.LONGEST:
-            return 6
-        try:
-            answer = told.line(rest[:-1] if rest.endswith(b"\n") else rest)
-        except script.Bad:
-            write(f"bad line {place}\n".encode())
-            return 2
-        if answer is not None:
-            write(answer.encode() + b"\n")
-    return 0
+    machine, text = image.parted(data)
+    states, first, deepest, after = asked
+    return in_lines(against.against(machine, states, first, deepest, against.menu_of(text), after)), 0, None
 
 
 def shown(text: bytes) -> None:
@@ -224,8 +192,8 @@ def shown(text: bytes) -> None:
 
 def main() -> None:
     if sys.argv[1:] == ["script"]:
-        sys.exit(typed(sys.stdin.buffer.readline, shown))
+        sys.exit(script.answered(sys.stdin.buffer.readline, shown)[0])
     told_of, given = (with_counts, sys.argv[2:]) if sys.argv[1:2] == ["--counts"] else (pip, sys.argv[1:])
     output, status = told_of(given, sys.stdin.buffer.read())
-    sys.stdout.buffer.write(output)
+    shown(output)
     sys.exit(status)

@@ -11,12 +11,12 @@ import multiprocessing
 import os
 import signal
 import subprocess
-import sys
 import tempfile
 
+from ..common import calling
+from ..common.calling import REPOSITORY, Failed, first_difference
 from . import commands, generate
 
-REPOSITORY = os.path.dirname(os.path.dirname(os.path.dirname(os.path.abspath(__file__))))
 BUILT = os.path.join(REPOSITORY, "crates", "pip", "out", "pip")
 Answer = tuple[bytes, int]                                   # output and status
 # words and input; what the reference answers, and the program
@@ -50,7 +50,7 @@ def do_no_more(*_: object) -> None:
     signal.pause()
 
 
-def first_difference(path: str, command: str, cases: int, seed: int, jobs: int | None) -> tuple[int, Difference] | None:
+def first_case(path: str, command: str, cases: int, seed: int, jobs: int | None) -> tuple[int, Difference] | None:
     """The first seed whose case differs, with the difference; None where all agree."""
     work = ((path, command, seed + k) for k in range(cases))
     with multiprocessing.Pool(jobs, signal.signal, (signal.SIGINT, do_no_more)) as pool:
@@ -69,26 +69,18 @@ def described(command: str, seed: int, found: Difference) -> str:
     told = [f"{command}: the case of seed {seed} differs: pip {' '.join(words)} < {file.name}"]
     if status != got:
         told.append(f"  status: the reference has {status}, the program {got}")
-    ours, theirs = expected.split(b"\n"), output.split(b"\n")
-    for place in range(max(len(ours), len(theirs))):
-        mine = ours[place] if place < len(ours) else b"nothing more"
-        other = theirs[place] if place < len(theirs) else b"nothing more"
-        if mine != other:
-            told.append(f"  line {place + 1} of the output: the reference has {mine[:200]!r}, "
-                        f"the program {other[:200]!r}")
-            break
+    if expected != output:
+        place, ours, theirs = first_difference(expected.split(b"\n"), output.split(b"\n"))
+        mine, other = (repr(line[:200]) if line is not None else "nothing more" for line in (ours, theirs))
+        told.append(f"  line {place + 1} of the output: the reference has {mine}, the program {other}")
     return "\n".join(told)
 
 
 def main() -> None:
-    try:
-        compare()
-    except KeyboardInterrupt:
-        print("compare: stopped", file=sys.stderr)
-        sys.exit(130)
+    calling.guarded("compare", compare)
 
 
-def compare() -> None:
+def compare() -> int:
     parser = argparse.ArgumentParser(description="Compares the built program with the reference.")
     parser.add_argument("commands", nargs="+", choices=generate.COMMANDS)
     parser.add_argument("--cases", type=int, default=1000)
@@ -97,10 +89,10 @@ def compare() -> None:
     parser.add_argument("--jobs", type=int, default=os.cpu_count())
     given = parser.parse_args()
     if not os.access(given.program, os.X_OK):
-        sys.exit(f"there is no program at {given.program}: build it by ./pip, or name it by --program")
+        raise Failed(f"there is no program at {given.program}: build it by ./pip, or name it by --program")
     for command in given.commands:
-        found = first_difference(given.program, command, given.cases, given.seed, given.jobs)
-        if found:
+        if found := first_case(given.program, command, given.cases, given.seed, given.jobs):
             print(described(command, *found))
-            sys.exit(1)
+            return 1
         print(f"{command}: {given.cases} cases from seed {given.seed} agree")
+    return 0

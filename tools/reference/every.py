@@ -286,7 +286,12 @@ class Search:
 
 
 def way_text(moments: Moments, way: list[int]) -> str:
-    runs = ((moments.choice_text(choice), len(list(same))) for choice, same in itertools.groupby(way))
+    return grouped(map(moments.choice_text, way))
+
+
+def grouped(choices: Iterable[str]) -> str:
+    """Choices that are the same in a row as one, with their number."""
+    runs = ((name, len(list(same))) for name, same in itertools.groupby(choices))
     return " ".join(name if count == 1 else f"{name}x{count}" for name, count in runs)
 
 

@@ -8,13 +8,11 @@ from __future__ import annotations
 import random
 from collections.abc import Callable
 
-from . import (generate_against, generate_apart, generate_audit, generate_every, generate_native, generate_parts,
-               generate_programs)
+from . import generate_apart, generate_audit, generate_every, generate_native, generate_parts, generate_programs
 from .model import (HANDLERS, LAST_BLOCK, LINES, NOWHERE, PAGE, READ, ROOT, SAVED, SLOTS, WORDS, WRITE, Node, Tree,
                     World, pages_needed)
-from .phrases import Drawing
+from .phrases import LINES as SPOILT, Drawing, spoilt_line
 from .script import LONGEST, Script
-from .spoiling import LINES as SPOILT, spoilt_line
 
 ODD_ADDRESSES = (0, 1, 4, 0x00400001, 0x00401800, 0x00800000, 0x7FFFF000, 0xFFFFFFFF, 0xFFFFF004)
 CHILD_PLACES = (0x10000000, 0x10001000, 0x10002000, 0x103FF000, 0xFFC0A000, 0xFFC0B000, 0x00400000, 0x00401000)
@@ -529,7 +527,7 @@ CASES: dict[str, Callable[[random.Random, int], Case]] = {
     "slots": lambda rng, seed: of_children(rng, seed, True),
     "audit": lambda rng, seed: generate_audit.case(seed, script(seed)),
     "every": lambda rng, seed: generate_every.case(seed),
-    "against": lambda rng, seed: generate_against.case(seed),
+    "against": lambda rng, seed: generate_every.menu_case(seed),
     "apart": lambda rng, seed: generate_apart.case(seed),
     "part": lambda rng, seed: generate_parts.part_case(seed),
     "merge": lambda rng, seed: generate_parts.merge_case(seed)}
@@ -540,8 +538,3 @@ def case(command: str, seed: int) -> Case:
     """The words and the input of a seed's case of a command."""
     words, data = CASES[command](random.Random(seed), seed)
     return [command, *words], data
-
-
-if __name__ == "__main__":
-    import sys
-    sys.stdout.buffer.write(case(sys.argv[1], int(sys.argv[2]))[1])

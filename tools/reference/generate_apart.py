@@ -14,7 +14,7 @@ from . import assembly, image
 from .generate_programs import Text, joined, spoilt_image
 from .image import Image
 from .model import HANDLERS, NOWHERE, PAGE, ROOT, SAVED
-from .runs import Generator, Turn, raise_lines
+from .runs import Turn, drawn
 
 SPACE = 22 * PAGE                        # the root's pages of one guest, in bytes
 PROGRAM, WORDS = HANDLERS - PAGE, HANDLERS - 2 * PAGE    # where a guest has its program and a page of its own
@@ -140,12 +140,11 @@ class Company(Text):
 
 def step_of_company(machine: Image, seed: int, entry: int) -> int | None:
     """The step from which on the root runs nowhere and has no handler at an entry, by the schedule of a seed."""
-    world, drawn = image.world(machine), Generator(seed)
-    for step in range(LONGEST):
+    world = image.world(machine)
+    for step, cpu, _ in drawn(machine, world, LONGEST, seed):
+        Turn(world, cpu, step, lambda line: None).take()
         if ROOT not in world.running() and not world.tree.loaded(world.tree.nodes[ROOT], entry):
-            return step
-        raise_lines(machine, world, step)
-        Turn(world, drawn.draw(machine.cpus), step, lambda line: None).take()
+            return step + 1
     return None
 
 

@@ -7,7 +7,7 @@ from collections.abc import Collection
 from . import image, runs, script
 from .generate_programs import image_bytes
 from .model import PAGE, WORDS, boot_tree, Tree
-from .spoiling import spoilt_line
+from .phrases import spoilt_line
 
 STEPS = 400              # of the run of an image
 

@@ -5,7 +5,7 @@ break their own handler tables, so that the monitor drops them. Some come withou
 
 import random
 
-from . import assembly, phrases
+from . import assembly, phrases, script
 from .generate_programs import Text, joined, spoilt_image
 from .model import HANDLERS, PAGE, SAVED
 from .native import PROGRAM, frames_needed, fresh
@@ -66,7 +66,7 @@ def case(seed: int) -> tuple[int, bytes]:
     lines = Program(seed, n).image(frames(rng, 8 if rng.random() < 0.1 else n))
     try:
         data = assembly.assemble(joined(rng, lines))
-    except assembly.BadLine:
+    except script.BadLine:
         # Too few frames for the pages that have words: an image that names pages is made with enough, and then shrunk.
         few, lines[0] = int(lines[0].split()[1]), f".frames {frames_needed(n)}"
         data = assembly.assemble(joined(rng, lines))

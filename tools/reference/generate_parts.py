@@ -1,6 +1,4 @@
-"""Parts of certificates for tests: a search that is cut, and certificates with something wrong; and inputs made from a
-seed for the commands part and merge.
-"""
+"""Certificates with something wrong, and inputs made from a seed for the commands part and merge."""
 
 from __future__ import annotations
 
@@ -8,44 +6,7 @@ import random
 from collections.abc import Iterator
 
 from . import generate_every, image, parts
-from .every import Search
 from .parts import Part
-
-Base = list[tuple[int, int, int]]
-
-
-def cut(search: Search, size: int, base: Base) -> list[Part]:
-    """A search that ended closed as parts of about `size` states."""
-    visits = search.visits
-    sizes, cuts = [1] * len(visits), [False] * len(visits)
-    for i in range(len(visits) - 1, 0, -1):
-        cuts[i] = sizes[i] >= size
-        if not cuts[i]:
-            sizes[visits[i].parent] += sizes[i]
-    cuts[0] = True
-    found = {(visit.parent, visit.choice): i for i, visit in enumerate(visits) if i}
-    return [Part(base, way_to(search, i), marks(search, found, cuts, i)) for i, first in enumerate(cuts) if first]
-
-
-def way_to(search: Search, at: int) -> list[int]:
-    way = []
-    while at:
-        way.append(search.visits[at].choice)
-        at = search.visits[at].parent
-    return way[::-1]
-
-
-def marks(search: Search, found: dict[tuple[int, int], int], cuts: list[bool], first: int) -> list[int]:
-    own, told = [first], []
-    for at in own:
-        for choice in search.moments.choices:
-            following = found.get((at, choice))
-            keeps = following is not None and not cuts[following]
-            told.append(int(keeps))
-            if following is not None and keeps:
-                own.append(following)
-    return told
-
 
 def wrong_lines(chance: random.Random, lines: list[bytes], count: int) -> Iterator[tuple[str, list[bytes]]]:
     """Lines of all parts, sorted, with one thing wrong that the merge has to find, and what that is."""
@@ -105,7 +66,7 @@ def part_case(seed: int) -> tuple[list[str], bytes]:
 def wrong_text(chance: random.Random, frames: int, choices: int, part: Part) -> bytes:
     """The text of a part with one thing wrong."""
     text = parts.written(part)
-    kind = chance.choice(("short", "long", "frame", "base", "choice", "empty", "marks"))
+    kind = chance.choice(("short", "long", "frame", "base", "choice", "empty", "again", "marks"))
     if kind == "short":
         return text[:chance.randrange(len(text))]
     if kind == "frame":
@@ -114,9 +75,12 @@ def wrong_text(chance: random.Random, frames: int, choices: int, part: Part) -> 
         return parts.written(part._replace(base=[*part.base, part.base[-1]]))
     if kind == "choice":
         return parts.written(part._replace(way=[*part.way, choices]))
+    at = 4 + 12 * len(part.base)                     # how many runs the way has
     if kind == "empty" and part.way:
-        at = 4 + 12 * len(part.base) + 8             # the first COUNT
-        return text[:at] + bytes(4) + text[at + 4:]
+        return text[:at + 8] + bytes(4) + text[at + 12:]
+    if kind == "again" and part.way:
+        runs = int.from_bytes(text[at:at + 4], "little")
+        return text[:at] + (runs + 1).to_bytes(4, "little") + text[at + 4:at + 12] + text[at + 4:]
     if kind == "marks" and len(part.marks) % 8:
         return text[:-1] + bytes([text[-1] | 128])
     return text + b"\0"

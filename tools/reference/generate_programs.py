@@ -8,7 +8,7 @@ import random
 from . import assembly, image, phrases
 from .instructions import FORMS, KINDS, SHIFTS
 from .model import HANDLERS, PAGE, SAVED
-from .spoiling import LINES, spoilt_line
+from .phrases import LINES, spoilt_line
 
 CODE = 0x10000000                                       # where a child has its code
 LEAVES = ("jal", "jr", "sys", "int", "beq", "bne", "blt", "bltu", "out")

@@ -4,6 +4,7 @@ from __future__ import annotations
 
 import struct
 from collections.abc import Iterator, Sequence
+from dataclasses import dataclass
 from typing import NamedTuple
 
 from .model import PAGE, WORDS, World, boot_tree
@@ -40,20 +41,20 @@ class Head(NamedTuple):
     pages: int
 
 
+@dataclass(eq=False)
 class BadImage(Exception):
     """The first fault of an image, with its offset."""
 
-    def __init__(self, kind: str, at: int) -> None:
-        super().__init__(kind, at)
-        self.kind, self.at = kind, at
+    kind: str
+    at: int
 
 
+@dataclass(eq=False)
 class TooFew(Exception):
     """The header and the plans are good, and the header has too few frames for what is asked."""
 
-    def __init__(self, frames: int) -> None:
-        super().__init__(frames)
-        self.frames = frames
+    frames: int
+    least: int
 
 
 class Reader:
@@ -97,7 +98,7 @@ def parts(reader: Reader, least: int = 0) -> Iterator[Head | Plan | Page]:
         line = plan.line
         yield plan
     if head.frames < least:
-        raise TooFew(head.frames)
+        raise TooFew(head.frames, least)
     rows, seen = boot_tree(head.frames).nodes[1].rows, set[int]()
     for _ in range(head.pages):
         field, at = reader.take(4)

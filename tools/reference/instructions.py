@@ -89,6 +89,12 @@ def text(instruction: Instruction) -> str:
     return " ".join([instruction.name] + operands)
 
 
+def word_text(word: int) -> str:
+    """The instruction of a word, or the word where it is none."""
+    found = decode(word)
+    return text(found) if found else f".word 0x{word:08x}"
+
+
 def signed(word: int) -> int:
     return word - WORD if word >= HIGH else word
 

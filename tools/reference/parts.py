@@ -4,6 +4,7 @@ from __future__ import annotations
 
 import struct
 from collections.abc import Iterable, Iterator, Sequence
+from dataclasses import dataclass
 from typing import NamedTuple
 
 from . import layout
@@ -11,6 +12,7 @@ from .every import AT_FIRST, Moment, Moments, begun
 from .image import Image, parted
 from .image import world as image_world
 from .model import WORDS
+from .script import lines
 
 MOST_CHOICES = 10000000         # of a way
 MOST_MARKS = 2 ** 32 - 1
@@ -27,12 +29,12 @@ class Part(NamedTuple):
     marks: list[int]
 
 
+@dataclass(eq=False)
 class BadPart(Exception):
     """The first fault of a part, with its offset in the input."""
 
-    def __init__(self, kind: str, at: int) -> None:
-        super().__init__(kind, at)
-        self.kind, self.at = kind, at
+    kind: str
+    at: int
 
 
 # The text of a part
@@ -213,12 +215,13 @@ def part(data: bytes, first: int) -> list[str]:
 # The merge
 
 
+@dataclass(eq=False)
 class Refused(Exception):
     """Why lines don't merge: a word, and the number of the line, from 1 on, and the line; 0 and none at their end."""
 
-    def __init__(self, why: str, number: int, line: bytes) -> None:
-        super().__init__(why, number, line)
-        self.why, self.number, self.line = why, number, line
+    why: str
+    number: int
+    line: bytes
 
     def told(self) -> tuple[bytes, int]:
         """What `merge` writes then, and its status."""
@@ -236,11 +239,9 @@ class Merged(NamedTuple):
     states: int
     depth: int
 
-    def last_line(self) -> str:
-        return f"states {self.states} depth {self.depth} closed"
-
     def text(self) -> bytes:
-        return b"".join(b"line" + label + b"\n" for label in self.labels) + f"{self.last_line()}\n".encode()
+        told = b"".join(b"line" + label + b"\n" for label in self.labels)
+        return told + b"states %d depth %d closed\n" % (self.states, self.depth)
 
 
 def depth_of(text: bytes) -> int | None:
@@ -250,14 +251,14 @@ def depth_of(text: bytes) -> int | None:
     return int(text[1:], 16)
 
 
-def merge(lines: Iterable[bytes]) -> Merged:
+def merge(told: Iterable[bytes]) -> Merged:
     """What the lines of all parts say together, in the order of bytes; Refused where they don't."""
     keys: list[tuple[bytes, int]] = []
     labels: list[bytes] = []
     about: bytes | None = None
     asked = said_keys = said_asked = deepest = 0
     begins = False
-    for number, line in enumerate(lines, 1):
+    for number, line in enumerate(told, 1):
         if line.startswith(b"line"):
             if labels and line[4:] < labels[-1]:
                 raise Refused("order", number, line)
@@ -292,15 +293,9 @@ def merge(lines: Iterable[bytes]) -> Merged:
     return Merged(labels, len(keys), deepest)
 
 
-def lines_in(data: bytes) -> list[bytes]:
-    """The lines of an input; a rest without a newline is a line, too, if it isn't empty."""
-    *lines, rest = data.split(b"\n")
-    return [*lines, rest] if rest else lines
-
-
 def merged(data: bytes) -> tuple[bytes, int]:
     """What `merge` writes of an input, and its status."""
     try:
-        return merge(lines_in(data)).text(), 0
+        return merge(lines(data)).text(), 0
     except Refused as refused:
         return refused.told()

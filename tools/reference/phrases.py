@@ -1,11 +1,11 @@
-"""Assembly texts made of the phrases of phrases.txt, by a seed."""
+"""Assembly texts made of the phrases of phrases.txt, and lines that are bad or nearly so, by a seed."""
 
 import random
 import re
 from collections.abc import Mapping
 from typing import TypeVar
 
-from ..common.blocks import blocks
+from ..common.blocks import blocks, listed
 
 T = TypeVar("T")
 Names = Mapping[str, object]
@@ -13,6 +13,8 @@ Names = Mapping[str, object]
 PHRASES = {name: text.splitlines() for name, text in blocks("phrases.txt", __file__).items() if name[0] != "="}
 WORDS = dict(name[2:].split(" ", 1) for name in blocks("phrases.txt", __file__) if name[0] == "=")
 LINE = re.compile(r"(?:(\w+)% )?(?:(\S+) \* )?(.*)")
+LINES = {title: listed(text) for title, text in blocks("lines.txt", __file__).items()}
+LAST_WORDS = (b"0%s", b"4294967296", b"0x000000000", b"0xABC", b"-1")      # in the place of the last word, `%s`
 RANGE = re.compile(r"(r?)(\d+)\.\.(\w+)")
 
 
@@ -106,3 +108,13 @@ class Text(Drawing):
             return found[1] + str(self.random.randint(int(found[2]), int(found[3], 0)))
         other = str(names.get(word, WORDS.get(word, word)))
         return other if other == word else self.word(other, names)
+
+
+def spoilt_line(rng: random.Random, line: bytes) -> bytes:
+    """A line that is bad, or nearly so, made of a good one."""
+    words = line.split(b" ")
+    last = rng.choice(LAST_WORDS).replace(b"%s", words[-1])
+    return rng.choice((
+        line + b" ", b" " + line, line + b"\r", line + b" 0", line + bytes([rng.randrange(128, 256)]), line.upper(),
+        line.replace(b" ", b"  ", 1), line.replace(b" ", b"\t", 1), b" ".join(words[:-1]),
+        b" ".join(words[:1] + [b"4"] + words[2:]), *4 * [b" ".join([*words[:-1], last])]))

@@ -1,6 +1,6 @@
 """Runs of an image: turns of processors, and the texts of the commands run, tree, core and soak."""
 
-from collections.abc import Callable, Sequence
+from collections.abc import Callable, Iterator, Sequence
 
 from . import layout
 from .image import Image, is_due, world as image_world
@@ -115,11 +115,20 @@ class Turn:
         return [registers[operand] for operand in operands[1:]]
 
 
-def raise_lines(image: Image, world: World, step: int) -> None:
-    """What an image's plans raise before a step."""
-    for plan in image.plans:
-        if is_due(plan, step):
-            world.raise_line(plan.line)
+def raise_lines(image: Image, world: World, step: int) -> list[int]:
+    """Raises what an image's plans raise before a step."""
+    raised = [plan.line for plan in image.plans if is_due(plan, step)]
+    for line in raised:
+        world.raise_line(line)
+    return raised
+
+
+def drawn(image: Image, world: World, count: int, seed: int) -> Iterator[tuple[int, int, list[int]]]:
+    """The steps of a run of a world: each with the processor whose turn it is, and the lines that were raised."""
+    generator = Generator(seed)
+    for step in range(count):
+        raised = raise_lines(image, world, step)
+        yield step, generator.draw(image.cpus), raised
 
 
 def first_line(image: Image) -> str:
@@ -129,10 +138,8 @@ def first_line(image: Image) -> str:
 def steps(image: Image, count: int, seed: int, told: Callable[[str], object]) -> World:
     """The world after that many steps of an image."""
     world = image_world(image)
-    generator = Generator(seed)
-    for step in range(count):
-        raise_lines(image, world, step)
-        Turn(world, generator.draw(image.cpus), step, told).take()
+    for step, cpu, _ in drawn(image, world, count, seed):
+        Turn(world, cpu, step, told).take()
     return world
 
 

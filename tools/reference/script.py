@@ -2,8 +2,10 @@
 
 from __future__ import annotations
 
+import io
 import re
-from collections.abc import Callable, Iterator
+from collections.abc import Callable
+from dataclasses import dataclass
 
 from . import layout
 from .model import WORDS, Done, Idle, Outcome, Parked, Reply, Switched, Word, World
@@ -26,6 +28,14 @@ FORMS: dict[bytes, tuple[int | None, ...]] = {
 
 class Bad(Exception):
     """A line is outside the grammar."""
+
+
+@dataclass(eq=False)
+class BadLine(Exception):
+    """The first bad line of a text, counted from 1, and of which kind its fault is, where faults have kinds."""
+
+    line: int
+    kind: str = ""
 
 
 def number(text: bytes) -> int:
@@ -119,23 +129,10 @@ def register(world: World, cpu: int, number: int) -> str:
     return word_text((*at.context.registers, at.context.pc)[number]) if at else "idle"
 
 
-def lines(text: bytes) -> Iterator[bytes]:
+def lines(text: bytes) -> list[bytes]:
     """The lines of an input: what stands between newlines, and a rest that isn't empty."""
-    start = 0
-    while (end := text.find(b"\n", start)) >= 0:
-        yield text[start:end]
-        start = end + 1
-    if start < len(text):
-        yield text[start:]
-
-
-def judged(text: bytes) -> Iterator[bytes]:
-    """The lines that are judged of an input: of one beyond the limit, those that are whole or too long before it."""
-    if len(text) <= MOST:
-        return lines(text)
-    taken = text[:MOST]
-    rest = taken[taken.rfind(b"\n") + 1:]
-    return lines(taken if len(rest) > LONGEST else taken[:len(taken) - len(rest)])
+    found = text.split(b"\n")
+    return found if found[-1] else found[:-1]
 
 
 def run(text: bytes) -> tuple[bytes, int]:
@@ -145,16 +142,25 @@ def run(text: bytes) -> tuple[bytes, int]:
 
 def ended(text: bytes) -> tuple[bytes, int, World | None]:
     """The same, and the world that the script leaves; None where the status isn't 0 or no line made one."""
-    script = Script()
-    written = []
-    for place, line in enumerate(judged(text), 1):
+    written: list[bytes] = []
+    status, world = answered(io.BytesIO(text).readline, written.append)
+    return b"".join(written), status, world
+
+
+def answered(read: Callable[[], bytes], write: Callable[[bytes], object]) -> tuple[int, World | None]:
+    """Answers lines as they come. Of an input beyond the limit those are judged that are whole, or too long, before it.
+    """
+    script, taken = Script(), 0
+    for place, line in enumerate(iter(read, b""), 1):
+        taken += len(line)
+        inside = line[:len(line) - max(taken - MOST, 0)]
+        if taken > MOST and len(inside) <= LONGEST:
+            return 6, None
         try:
-            answer = script.line(line)
+            answer = script.line(inside.removesuffix(b"\n"))
         except Bad:
-            written.append(f"bad line {place}\n")
-            return "".join(written).encode(), 2, None
+            write(b"bad line %d\n" % place)
+            return 2, None
         if answer is not None:
-            written.append(answer + "\n")
-    if len(text) > MOST:
-        return "".join(written).encode(), 6, None
-    return "".join(written).encode(), 0, script.world
+            write(answer.encode() + b"\n")
+    return 0, script.world

@@ -2,12 +2,11 @@
 runs these tests."""
 
 import copy
-import io
 import unittest
 
 from ..common import forms
-from . import caches, commands, generate, script, sound
-from .model import World, boot_tree, list_pages
+from . import apart, caches, commands, generate, generate_apart, image, runs, script, sound
+from .model import ROOT, World, boot_tree, list_pages
 
 
 def of_script(text: bytes) -> World:
@@ -46,6 +45,26 @@ class Worlds(unittest.TestCase):
         self.assertTrue(caches.takes_pages(3, 1))
 
 
+class Guests(unittest.TestCase):
+    def test_each_answer_of_apart_comes_with_its_reason(self) -> None:
+        answers = dict.fromkeys(("yes", "leaves", "stopped", "root", "line"), 0)
+        for seed in range(1, 31):
+            (_, count, start), data = generate_apart.case(seed)
+            try:
+                machine = image.read(data)
+            except image.BadImage:
+                continue
+            told = apart.apart(machine, 300, int(count), int(start))
+            reasons = [line.split()[0] for line in told if line.startswith(("leaves ", "root ", "line "))]
+            reasons += [line.split()[-1] for line in told if line.endswith(" stopped")]
+            self.assertEqual(told[-1], "apart no" if reasons else "apart yes")
+            world = runs.steps(machine, int(count), int(start), lambda line: None)
+            self.assertEqual("root" in reasons, ROOT in world.running())
+            for reason in set(reasons or ["yes"]):
+                answers[reason] += 1
+        self.assertTrue(all(answers.values()), answers)
+
+
 class Texts(unittest.TestCase):
     def test_the_limit_of_bytes(self) -> None:
         rest = b"\n" * ((script.MOST - 9) % 121 - 2) + b"#\n" + (b"#" * 120 + b"\n") * ((script.MOST - 9) // 121)
@@ -53,15 +72,6 @@ class Texts(unittest.TestCase):
         for text, due in ((rest + b"boot 32 1", (b"boot 32 1\n", 0)), (rest + b"boot 32 1\n", (b"", 6)),
                           (b"x\n" + rest + b"boot 32 1\n", (b"bad line 1\n", 2)), (rest[1:] + b"x" * 11, (b"", 6))):
             self.assertEqual(script.run(text), due)
-
-    def test_a_typed_script_is_answered_as_a_whole_one(self) -> None:
-        full = (b"#" * 119 + b"\n") * (script.MOST // 120)
-        texts = [b"", b"boot 16 1\nld 0 0x400000", b"boot 16 1\nld 0 00\nld 0 0\n", b"#" * 121, full + b"#" * 60,
-                 b"boot 16 1\n#" + b"#" * script.MOST, full + b"#" * (script.MOST % 120)]
-        for text in texts + [generate.case("script", seed)[1] for seed in range(1, 20)]:
-            written: list[bytes] = []
-            status = commands.typed(io.BytesIO(text).readline, written.append)
-            self.assertEqual((b"".join(written), status), script.run(text), text[:40])
 
     def test_words_that_are_no_form_and_words_that_are_one(self) -> None:
         for line in ("--help", *forms.WRONG):

@@ -78,7 +78,3 @@ class Documents(unittest.TestCase):
                 target = Path(os.path.normpath(path.parent / name)) if name else path
                 self.assertTrue(target in pages or target.exists(), f"{path}: {link}")
                 self.assertTrue(not anchor or anchor in pages[target].anchors, f"{path}: {link}")
-
-
-if __name__ == "__main__":
-    unittest.main()

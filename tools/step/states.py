@@ -3,14 +3,18 @@
 from __future__ import annotations
 
 import os
-from collections.abc import Sequence
+import sys
+from collections.abc import Callable, Iterable, Sequence
 from concurrent.futures import ThreadPoolExecutor
 from dataclasses import dataclass, field
 from typing import NamedTuple, Optional
 
+from ..authors import trace
 from ..common.calling import Failed, text_of
 from ..draw import texts
-from . import contents, walk, watching
+from ..reference import image as images, script
+from ..reference.model import World
+from . import walk
 from .asking import Asked, BadLine
 
 # place: a line's number, or a step. told: the line, or the step. cpus: of each processor what runs, and its registers.
@@ -56,8 +60,7 @@ def script_states(asked: Asked, text: bytes, last: int | None) -> list[State]:
     remarks: list[str] = []
     cpus: list[int] = []
     frames, looked = 0, 0
-    lines = text.split(b"\n")
-    for place, line in enumerate(lines if lines[-1] else lines[:-1], 1):
+    for place, line in enumerate(script.lines(text), 1):
         told = line.decode("utf-8", "replace")
         if last is not None and place > last:
             break
@@ -80,7 +83,7 @@ def script_states(asked: Asked, text: bytes, last: int | None) -> list[State]:
         last_one = states[-1] if states else None
         before = None if may_change(line, answer) else last_one
         state = script_state(asked, State(place, told, remarks, answer, frames, [], [], {}), cpus, before)
-        words, again = contents.after(asked, line, answer, ran, last_one, state.tree, state.words)
+        words, again = words_after(asked, line, answer, ran, last_one, state.tree, state.words)
         states.append(state._replace(words=words))
         if not before:
             check_audit(asked.program, states[-1])
@@ -141,10 +144,10 @@ def of_image(program: str, image: bytes, first: int, steps: int, seed: int, jobs
     """A state at step `first`, and after each step from then on. `steps` is the last one."""
     if steps - first + 1 > MOST_STATES:
         raise Failed(f"{MANY}: begin later, with --from {steps - MOST_STATES + 1}")
-    trace = text_of(program, ["run", str(steps), str(seed)], image)
-    frames, cpus = (int(word) for word in trace[0].split()[1:3])
-    told = dict(line.split(" ", 1) for line in trace[1:-1])
-    seen = watching.watched(image, first, steps, seed, source, trace[1:-1]) if steps <= watching.MOST_STEPS else None
+    lines = text_of(program, ["run", str(steps), str(seed)], image)
+    frames, cpus = (int(word) for word in lines[0].split()[1:3])
+    told = dict(line.split(" ", 1) for line in lines[1:-1])
+    seen = watched(image, first, steps, seed, source, lines[1:-1]) if steps <= trace.MOST_STEPS else None
     running = [1] + [0] * (cpus - 1)
     for step in range(first):
         runs_after_step(running, told.get(str(step)))
@@ -196,6 +199,50 @@ def kept_state(kept: Kept, frames: int, step: int, tree: str, core: str) -> tupl
     return kept.tree, kept.words
 
 
+# Who made which instruction where, and all registers, by the reference, of which nothing is proved; its lines have to
+# be those of the program
+
+@dataclass(frozen=True)
+class Seen:
+    """What a step did, and the registers after it: of each processor r0 to r15 and the pc, or None where it is idle."""
+
+    did: str
+    registers: tuple[tuple[int, ...] | None, ...]
+
+
+def registers_of(world: World) -> tuple[tuple[int, ...] | None, ...]:
+    return tuple((*at.context.registers, at.context.pc) if at else None for at in world.processors)
+
+
+def did(turn: trace.Watched, names: trace.Names, lines: list[str]) -> str:
+    """A turn in words."""
+    if turn.did is None or turn.where is None:
+        return f"processor {turn.cpu}: {trace.without_instruction(lines)}"
+    name, pc = turn.where
+    label = names.place(turn.world, name, pc)
+    return f"processor {turn.cpu}, partition {name}, 0x{pc:08x}{label and f' {label}'}: {turn.did}"
+
+
+def watched(data: bytes, first: int, count: int, seed: int, source: str | None, due: list[str]) -> list[Seen]:
+    """What is seen at step `first`, and after each step from then on. `due` are the program's lines."""
+    image = images.read(data)
+    names = trace.Names(image, source)
+    lines: list[str] = []
+    if names.warning:
+        print(f"step: {names.warning}", file=sys.stderr)
+    found = [Seen("", registers_of(images.world(image)))] if first == 0 else []
+
+    def told(turn: trace.Watched, raised: list[int], shown: list[str]) -> None:
+        lines.extend(shown)
+        if turn.step + 1 >= first:
+            found.append(Seen(did(turn, names, [line.split(" ", 2)[2] for line in shown]), registers_of(turn.world)))
+
+    trace.steps(image, count, seed, told)
+    if lines != due:
+        raise Failed("the reference, which the registers come from, has other lines than the program")
+    return found
+
+
 # What changed between two states
 
 MOST_TOLD = 16
@@ -204,7 +251,7 @@ MOST_TOLD = 16
 def changes(before: State, after: State) -> list[str]:
     """What changed, in short sentences."""
     told = partition_changes(before.tree, after.tree) + processor_changes(before.cpus, after.cpus)
-    words = contents.changes(before, after)
+    words = word_changes(before, after)
     more = [f"and {len(words) - MOST_TOLD} words more"] if len(words) > MOST_TOLD else []
     return told + words[:MOST_TOLD] + more
 
@@ -251,3 +298,83 @@ def processor_changes(before: Cpus, after: Cpus) -> list[str]:
         if changed:
             told.append(f"processor {cpu}: {', '.join(changed[:6])}{' ..' if len(changed) > 6 else ''}")
     return told
+
+
+# The words of frames that are no configuration: which a line of a script can have changed, and what changed
+
+HANDLERS = 0xFFFFF000
+SAVED_IN = 63                    # the vector in whose block faults, traps and interrupt lines save
+NOWHERE = 256                    # the vector of a yield that saves nothing
+
+Words = dict[int, int]           # of a frame, those that aren't 0, by index
+
+
+def configuration(tree: Iterable[walk.Partition]) -> set[int]:
+    """The frames in which the kernel keeps its partitions."""
+    return set(walk.roles(tree))
+
+
+def frame_at(tree: Iterable[walk.Partition], name: int, address: int) -> int | None:
+    """The frame that a partition has at an address."""
+    rows = (row for x in tree if x.name == name for row in x.rows)
+    return next((row.word // walk.PAGE for row in rows if row.vpage == address // walk.PAGE), None)
+
+
+def touched(line: bytes, answer: str, ran: int, tree: Sequence[walk.Partition], words: dict[int, Words]) -> set[int]:
+    """The frames to which a line can have written without a call: by a store, and by saving what ran."""
+    name, *rest = line.decode().split(" ")
+    numbers = [int(word, 0) for word in rest]
+    if name in ("st", "sb") and answer == "done":
+        return only(frame_at(tree, ran, numbers[1]))
+    vector = (numbers[4] if len(numbers) > 4 else 0) if name == "call" else SAVED_IN
+    if not ran or not answer.startswith(("switch", "park")) or vector >= NOWHERE:
+        return set()
+    entries = frame_at(tree, ran, HANDLERS)
+    block = 0 if entries is None else words.get(entries, {}).get(vector, 0)
+    return only(frame_at(tree, ran, block))
+
+
+def only(frame: int | None) -> set[int]:
+    """A frame alone, or nothing."""
+    return set() if frame is None else {frame}
+
+
+def words_after(asked: Asked, line: bytes, answer: str, ran: int, before: State | None, tree: list[walk.Partition],
+          words: dict[int, Words]) -> tuple[dict[int, Words], int]:
+    """The words after a line: those of the configuration as they were seen, all others as they were before but where a
+    line can have changed them; and how many frames were looked at for that."""
+    hidden = configuration(tree)
+    if before is None:
+        return words, 0
+    again = touched(line, answer, ran, before.tree, before.words)
+    if tree is not before.tree:
+        again |= configuration(before.tree)
+    kept = {frame: told for frame, told in before.words.items() if frame not in hidden}
+    for frame in again - hidden:
+        kept[frame] = {index: word for index, word in enumerate(asked.words(frame, range(walk.WORDS))) if word}
+    return {**{frame: told for frame, told in words.items() if frame in hidden},
+            **{frame: told for frame, told in kept.items() if told}}, len(again)
+
+
+def word_changes(before: State, now: State) -> list[str]:
+    """The words that differ, but for frames that became configuration or are none any more."""
+    old_hidden, hidden = configuration(before.tree), configuration(now.tree)
+    told = []
+    for frame in sorted(set(before.words) | set(now.words)):
+        old, new = before.words.get(frame, {}), now.words.get(frame, {})
+        if old is not new and old != new and (frame in old_hidden) == (frame in hidden):
+            where = None if frame in hidden else owner(now.tree, frame)
+            told += [f"frame {frame}, word {index}{f' ({where(index)})' if where else ''}: 0x{old.get(index, 0):08x} "
+                     f"\u2192 0x{new.get(index, 0):08x}"
+                     for index in sorted(set(old) | set(new)) if old.get(index, 0) != new.get(index, 0)]
+    return told
+
+
+def owner(tree: Iterable[walk.Partition], frame: int) -> Callable[[int], str] | None:
+    """The address of a word of a frame, as the first partition has it that has the frame; None where none has it."""
+    for x in tree:
+        for row in x.rows:
+            if row.word // walk.PAGE == frame:
+                name, address = x.name, row.vpage * walk.PAGE
+                return lambda index: f"0x{address + 4 * index:08x} of partition {name}"
+    return None

@@ -7,7 +7,7 @@ import unittest
 from collections.abc import Sequence
 
 from ..draw import test_draw, texts
-from . import contents, page, states, walk
+from . import page, states, walk
 
 
 def tree_of(core: str) -> list[walk.Partition]:
@@ -52,7 +52,7 @@ class Contents(unittest.TestCase):
 
     def test_frames_that_become_configuration_are_no_change_of_words(self) -> None:
         before, now = state(self.tree[:1], {13: {0: 5}}), state(self.tree, {13: {0: 6}, 21: {1: 7}})
-        self.assertEqual(contents.changes(before, now),
+        self.assertEqual(states.word_changes(before, now),
                          ["frame 21, word 1 (0x00409004 of partition 1): 0x00000000 \u2192 0x00000007"])
 
 

@@ -1,6 +1,6 @@
 """The tree of partitions, read off frames: from the root's descriptor on, by the words of docs/FORMATS.md."""
 
-from collections.abc import Callable, Sequence
+from collections.abc import Callable, Iterable, Sequence
 from dataclasses import dataclass
 from typing import NamedTuple
 
@@ -114,21 +114,34 @@ def list_pages(looker: Looker, page: int, tables: int) -> list[int]:
 
 # What each frame is for
 
+class Role(NamedTuple):
+    kind: str            # descriptor, directory, table or list page
+    partition: int
+    level: int = 0       # of a directory or a table
+    place: int = 0       # of a table its directory index, of a list page its number
+
+
+def roles(tree: Iterable[Partition]) -> dict[int, Role]:
+    """The role of each frame that is configuration of a partition."""
+    found: dict[int, Role] = {}
+    for x in tree:
+        found[x.name] = Role("descriptor", x.name)
+        found.update((frame, Role("directory", x.name, level)) for level, frame in enumerate(x.directories))
+        found.update((frame, Role("list page", x.name, place=number)) for number, frame in enumerate(x.lists))
+        found.update((frame, Role("table", x.name, level, table.index))
+                     for table in x.tables for level, frame in enumerate(table.frames))
+    return found
+
+
 def grid(frames: int, tree: list[Partition]) -> list[tuple[str, int]]:
     """What each frame is: a kind, and the partition that it belongs to."""
     kinds = [("none", 0)] * frames
-    for partition in tree:
-        for row in partition.rows:
-            kinds[row.word // PAGE] = "user", partition.name
-    for partition in tree:
-        kinds[partition.name] = "descriptor", partition.name
-        for frame in partition.directories:
-            kinds[frame] = "directory", partition.name
-        for frame in partition.lists:
-            kinds[frame] = "list", partition.name
-        for table in partition.tables:
-            for frame, kind in zip(table.frames, ("table", "first", "second")):
-                kinds[frame] = kind, partition.name
+    for x in tree:
+        for row in x.rows:
+            kinds[row.word // PAGE] = "user", x.name
+    for frame, role in roles(tree).items():
+        kind = ("table", "first", "second")[role.level] if role.kind == "table" else role.kind.split()[0]
+        kinds[frame] = kind, role.partition
     return kinds
 
 

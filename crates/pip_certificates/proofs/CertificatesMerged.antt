@@ -1,11 +1,13 @@
 -- Parts of one image whose lines could be merged.
 use Rattle.std.proofs.Common.{◌≡◌, ℕ, zero, suc, ◌≤◌, List, [], ◌∷◌, length, Some, refl, sym, ap, ◌∙◌}
 use Rattle.std.proofs.Common.{subst, slice_get}
+use Rattle.std.specs.List.Sorted.{IsPermutation}
 use Rattle.pip_base.specs.Memory.{Memory, put_word}
 use Rattle.pip_base.proofs.Memory.{length-put_word}
 use Rattle.pip_every.specs.Keys.{IsKeyOf, key_words}
 use Rattle.pip_every.proofs.OneKey.{one_key, one_memory}
 use Rattle.pip_model.specs.Booted.{IsBooted}
+use Rattle.pip_model.specs.Grammar.{lines_of}
 use Rattle.pip_model.specs.Images.{Image, image_word}
 use Rattle.pip_model.specs.Worlds.{boot_cpus, idle_cpus}
 use Rattle.pip_parts.specs.MergeLaw.{AreChecked, ToldPart}
@@ -17,6 +19,7 @@ use Rattle.pip_certificates.specs.CertificateLaw.{AreParts, CertificatesSay}
 use Rattle.pip_certificates.specs.PartAbout.{words_with}
 use Rattle.pip_certificates.specs.PartDues.{IsPartBooted, image_moment, part_model, part_scope}
 use Rattle.pip_certificates.specs.declared.reading.BaseWord.{BaseWord}
+use Rattle.pip_certificates.proofs.PlainLines.{texts_back}
 
 pub length-words_with : (m : Memory) (base : List BaseWord) → length (words_with m base) ≡ length m
 length-words_with m [] = refl
@@ -67,7 +70,8 @@ module _ (i : Image) (from : ℕ) (base : List BaseWord) (first : Memory) (least
   }
 
 pub certificates_say : CertificatesSay
-certificates_say i from base first ts lines g least most booted are shuffled run whole =
+certificates_say i from base first ts text g least most booted are shuffled run whole =
     lines_merge (part_model i from (words_with first base)) (one_key (words_with first base) (part_scope i from))
-    (start i from base first least most booted) (image_moment i) ts lines g (starts i from base first least most booted)
-    (checked i from base first least most booted ts are) shuffled run whole
+    (start i from base first least most booted) (image_moment i) ts (lines_of text) g
+    (starts i from base first least most booted) (checked i from base first least most booted ts are)
+    (subst (λ lines. IsPermutation lines (lines_of text)) (texts_back i from base ts are) shuffled) run whole

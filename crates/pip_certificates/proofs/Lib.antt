@@ -12,6 +12,8 @@ pub mod SmallStops
 pub mod PartsChecked
 pub mod PartEnds
 -- the law
+pub mod OneLine
+pub mod PlainLines
 pub mod CertificatesMerged
 -- `merge`
 pub mod LineReads

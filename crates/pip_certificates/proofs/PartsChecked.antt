@@ -1,9 +1,6 @@
 -- A part that was checked over the frames of an image is a part of the image.
-use Rattle.std.proofs.Common.{◌≡◌, ℕ, ◌<◌, List, [], ◌∷◌, length, sym, ap, ◌∙◌, subst, arith}
-use Rattle.std.specs.List.{All, AllByRecursion}
-use Rattle.std.proofs.lemmas.List.Elements.{All-cons, All-nil}
+use Rattle.std.proofs.Common.{◌≡◌, ℕ, List, [], length, sym, ap, ◌∙◌, subst, arith}
 use Rattle.pip_base.specs.Memory.{Memory}
-use Rattle.pip_base.specs.declared.types.Plan.{Plan}
 use Rattle.pip_every.specs.Keys.{IsKeyOf, model_of}
 use Rattle.pip_every.specs.Moments.{Moment, Scope, first_moment}
 use Rattle.pip_every.proofs.OneKey.{one_key}
@@ -13,22 +10,16 @@ use Rattle.pip_model.specs.Images.{Image, image_word}
 use Rattle.pip_search.specs.Certificates.{HasStop, IsClosedPart, IsReachedPart}
 use Rattle.pip_search.specs.Parts.{portion_of, stops}
 use Rattle.pip_search.specs.declared.parts.Part.{Part}
-use Rattle.pip_certificates.specs.PartAbout.{about_numbers, part_sum, raised_lines, words_with}
+use Rattle.pip_due.specs.Planned.{lines_planned}
+use Rattle.pip_certificates.specs.PartAbout.{about_numbers, part_sum, words_with}
 use Rattle.pip_certificates.specs.PartDues.{IsPartBooted, image_moment, part_scope}
 use Rattle.pip_certificates.specs.PartShown.{IsNumbered, told_part}
 use Rattle.pip_certificates.specs.declared.checking.Checked.{Checked}
 use Rattle.pip_certificates.specs.declared.reading.BaseWord.{BaseWord}
 use Rattle.pip_certificates.proofs.Bits.{none_of}
 
--- the lines of plans are below 16 where those of the plans are
-pub raised_below : (plans : List Plan) → AllByRecursion (λ p. p.line < 16) plans
-    → All (λ line. line < 16) (raised_lines plans)
-raised_below [] all = All-nil (λ line. line < 16)
-raised_below (p ∷ plans) all =
-    All-cons (λ line. line < 16) p.line (raised_lines plans) all.0 (raised_below plans all.1)
-
 module _ {i : Image} {h : Header} {m : Memory} (b : BeginsFrames i h m) (from : ℕ) (base : List BaseWord)
-    (words : Memory) (ls : List ℕ) (held : words ≡ words_with m base) (raised : ls ≡ raised_lines h.plans.items) where
+    (words : Memory) (ls : List ℕ) (held : words ≡ words_with m base) (raised : ls ≡ lines_planned h.plans.items) where
   abbrev given : Scope
   given = record { cpus = h.cpus; lines = ls; from = from }
 
@@ -36,7 +27,7 @@ module _ {i : Image} {h : Header} {m : Memory} (b : BeginsFrames i h m) (from : 
   begun n = first_moment (image_word i.frames i.pages) i.frames n
 
   scope : given ≡ part_scope i from
-  scope = λ j. record { cpus = b.cpus j; lines = (raised ∙ ap raised_lines b.plans) j; from = from }
+  scope = λ j. record { cpus = b.cpus j; lines = (raised ∙ ap lines_planned b.plans) j; from = from }
 
   -- what is so over the words, the scope and the moment of the program is so over those of the image
   moved : (P : Memory → Scope → Moment → Type 0) → P words given (begun h.cpus)
@@ -65,5 +56,5 @@ module _ {i : Image} {h : Header} {m : Memory} (b : BeginsFrames i h m) (from : 
         (subst (λ y. HasStop (stops p.keys.items) y 0) same x.1.1);
     small = is.small;
     about = is.about ∙ (told ∙ (λ j. about_numbers (b.frames j) (b.cpus j) (length (b.plans j)) (b.pages j) from
-        (part_sum ((raised ∙ ap raised_lines b.plans) j) (held j))));
+        (part_sum ((raised ∙ ap lines_planned b.plans) j) (held j))));
   }

@@ -1,14 +1,10 @@
 -- What a part is of: the numbers of its image, and a sum over what it compares keys with.
-use Rattle.std.specs.Prelude.{ℕ, ◌*◌, ◌/◌, ◌%◌, ◌^◌, List, [], ◌∷◌, ◌++◌, bit_xor, codes, decimal, length, map}
+use Rattle.std.specs.Prelude.{ℕ, ◌*◌, ◌/◌, ◌%◌, ◌^◌, List, [], ◌∷◌, ◌++◌, bit_xor, codes, decimal, length}
 use Rattle.pip_base.specs.Memory.{Memory, put_word}
-use Rattle.pip_base.specs.declared.types.Plan.{Plan}
+use Rattle.pip_due.specs.Planned.{lines_planned}
 use Rattle.pip_model.specs.Images.{Image}
 use Rattle.pip_model.specs.Text.{word_digits}
 use Rattle.pip_certificates.specs.declared.reading.BaseWord.{BaseWord}
-
--- the interrupt lines that can be raised
-abbrev pub raised_lines : List Plan → List ℕ
-raised_lines plans = map (λ p. p.line) plans
 
 -- frames with these words in place of their own
 abbrev pub words_with : Memory → List BaseWord → Memory
@@ -49,4 +45,4 @@ about_numbers frames cpus plans pages from sum = decimal frames ++ after_space c
 -- what a part of an image is of, whose keys are compared with these words
 abbrev pub about_part : Image → ℕ → Memory → List ℕ
 about_part i from words = about_numbers i.frames i.cpus (length i.plans) (length i.pages) from
-    (part_sum (raised_lines i.plans) words)
+    (part_sum (lines_planned i.plans) words)

@@ -14,7 +14,8 @@ use Rattle.pip_model.specs.Text.{line_text}
 use Rattle.pip_parts.specs.MergeLaw.{BeginsAtStart, IsSmallPart, ToldPart, lines_of_part}
 use Rattle.pip_search.specs.Certificates.{IsClosedPart, IsReachedPart}
 use Rattle.pip_search.specs.Systems.{Model}
-use Rattle.pip_certificates.specs.PartAbout.{about_part, raised_lines, words_with}
+use Rattle.pip_due.specs.Planned.{lines_planned}
+use Rattle.pip_certificates.specs.PartAbout.{about_part, words_with}
 use Rattle.pip_certificates.specs.PartReading.{HasNoFault}
 use Rattle.pip_certificates.specs.PartText.{PartSaid, bad_part_line, part_said}
 use Rattle.pip_certificates.specs.declared.faults.PartFault.{PartFault}
@@ -25,7 +26,7 @@ use Rattle.pip_certificates.specs.declared.reading.Limits.{Limits}
 
 -- what can happen to an image: no line comes before that many turns
 abbrev pub part_scope : Image → ℕ → Scope
-part_scope i from = record { cpus = i.cpus; lines = raised_lines i.plans; from = from }
+part_scope i from = record { cpus = i.cpus; lines = lines_planned i.plans; from = from }
 
 -- the first moment of an image
 abbrev pub image_moment : Image → Moment

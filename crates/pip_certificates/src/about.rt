@@ -1,10 +1,10 @@
 //! What a part is of.
-ghost use Rattle.std.specs.Prelude.{◌≡◌, ◌≤◌, length};
-ghost use Rattle.pip_certificates.specs.PartAbout.{about_numbers, frames_summed, part_sum, raised_lines};
+ghost use Rattle.std.specs.Prelude.{◌≡◌};
+ghost use Rattle.pip_certificates.specs.PartAbout.{about_numbers, frames_summed, part_sum};
 ghost use Rattle.pip_certificates.specs.PartAbout.{sum_with, summed};
 
-use arrayvec::{ArrayString, ArrayVec};
-use pip_base::{Frame, Plan, Steps};
+use arrayvec::ArrayString;
+use pip_base::{Frame, Steps};
 use pip_frames::{Frames, RawFrames};
 use pip_script::{push_decimal, push_digits};
 use std::sync::ledger::Ledger;
@@ -46,18 +46,6 @@ pub fn part_sum<L: Ledger>(lines: &[u32], mem: &RawFrames, steps: &mut Steps<L>)
     ensures { result ≡ part_sum lines.now (⟦<RawFrames as Frames>⟧.memory mem.now) }
 {
     sum_frames(sum_words(0xcbf29ce484222325, lines), mem, steps)
-}
-
-/// The interrupt lines of plans.
-pub fn raised_lines(plans: &[Plan]) -> ArrayVec<u32, 16>
-    requires { length plans.now ≤ 16 }
-    ensures { result.items ≡ raised_lines plans.now }
-{
-    let mut lines = ArrayVec::new();
-    for plan in plans {
-        lines.push(plan.line);
-    }
-    lines
 }
 
 /// What a part is of: the numbers of its image, from how many turns on lines come, and the sum.

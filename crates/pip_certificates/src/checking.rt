@@ -1,5 +1,5 @@
 //! The check of a part that was read.
-ghost use Rattle.std.specs.Prelude.{◌≡◌, ◌<◌, ◌≤◌, ◌-◌, ◌^◌, ℕ, IfOk, Some, length, slice_get};
+ghost use Rattle.std.specs.Prelude.{◌≡◌, ◌+◌, ◌<◌, ◌≤◌, ◌-◌, ◌^◌, ℕ, All, IfOk, Some, length, slice_get};
 ghost use Rattle.pip_base.specs.Memory.{IsMemory, put_word};
 ghost use Rattle.pip_image.specs.Coming.{IsHeader};
 ghost use Rattle.pip_model.specs.Booted.{HasBooted};
@@ -8,10 +8,11 @@ ghost use Rattle.pip_certificates.specs.PartAbout.{words_with};
 ghost use Rattle.pip_certificates.specs.BaseWords.{AreBaseWords};
 ghost use Rattle.pip_certificates.specs.PartShown.{CountsStops, IsCheckedOf, IsNumbered};
 
-use crate::about::{MAX_ABOUT, about_text, part_sum, raised_lines};
+use crate::about::{MAX_ABOUT, about_text, part_sum};
 use crate::reading::{BaseWord, ReadPart};
 use arrayvec::ArrayString;
-use pip_base::{Frame, Steps};
+use pip_base::{Frame, Steps, never};
+use pip_due::planned_lines;
 use pip_every::part;
 use pip_frames::{Frames, RawFrames};
 use pip_image::Header;
@@ -101,13 +102,14 @@ pub fn check<L: Ledger>(
     requires limits { IsHeader head.now }
     requires base { AreBaseWords (length (⟦<RawFrames as Frames>⟧.memory mem)) read.now.base.items }
     requires way { length read.now.way.items ≤ 10000000 }
+    requires can { All (λ k. k < head.now.cpus + length head.now.plans.items) read.now.way.items }
     requires marks { length read.now.marks.items < 2 ^ 32 - 1 }
     ensures counts { IfOk result CountsStops }
     ensures way { IfOk result (λ c. c.way ≡ length read.now.way.items) }
     ensures found { IfOk result
         (IsCheckedOf head.now (⟦<RawFrames as Frames>⟧.memory mem) from read.now.base.items) }
 {
-    let lines = raised_lines(head.plans.as_slice());
+    let lines = planned_lines(head.plans.as_slice());
     let later = frames_with(alloc, &mem, read.base.as_slice(), steps)?;
     let sum = part_sum(lines.as_slice(), &later, steps);
     let about = about_text(
@@ -128,10 +130,7 @@ pub fn check<L: Ledger>(
         read.way.as_slice(),
         read.marks.as_slice(),
     )?;
-    // All choices of the way can be made, so there is a part.
-    let Some(part) = found else {
-        return Err(AllocError);
-    };
+    let Some(part) = found else { never!() };
     counted(part, about, read.way.len() as u32)
 }
 

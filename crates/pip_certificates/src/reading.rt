@@ -1,5 +1,5 @@
 //! The part after an image, read from a source that is joined with a sink.
-ghost use Rattle.std.specs.Prelude.{◌≡◌, ◌+◌, ◌-◌, ◌*◌, ◌<◌, ◌≤◌, ◌^◌, [], ℕ, List, Option, Err, IfOk, OnOk};
+ghost use Rattle.std.specs.Prelude.{◌≡◌, ◌+◌, ◌-◌, ◌*◌, ◌<◌, ◌≤◌, ◌^◌, [], ℕ, All, List, Option, Err, IfOk, OnOk};
 ghost use Rattle.std.specs.Prelude.{◌++◌, ◌⊎◌, IsTrue, MatchResult, false, length, min, true};
 ghost use Rattle.std.specs.Io.KnownBytes.{Consumes};
 ghost use Rattle.pip_io.specs.Causes.{HasCause};
@@ -80,6 +80,7 @@ pub fn read_part<S: Source, K: Sink>(
         (S.told joint.old.source.now).faults (S.told joint.new.source.now).faults) }
     ensures base { IfOk result (λ part. AreBaseWords limits.frames part.base.items) }
     ensures way { IfOk result (λ part. length part.way.items ≤ 10000000) }
+    ensures can { IfOk result (λ part. All (λ k. k < limits.choices) part.way.items) }
     ensures marks { IfOk result (λ part. length part.marks.items < 2 ^ 32 - 1) }
 {
     let mut part = ReadPart::new(alloc);
@@ -260,6 +261,7 @@ fn read_way<S: Source, K: Sink>(
 ) -> Result<u64, PartStop>
     requires place { at ≤ 2 ^ 36 }
     requires short { length part.old.way.items ≤ 10000000 }
+    requires can { All (λ k. k < limits.choices) part.old.way.items }
     requires is_open { S.is_open joint.old.source.now }
     requires settled { (K.told joint.old.sink.now).written.held ≡ [] }
     requires paced { MayRead S.allows (HasNoFault (runs_said limits (part_seen part.old) at))
@@ -274,6 +276,7 @@ fn read_way<S: Source, K: Sink>(
         (S.told joint.new.source.now).left (S.told joint.old.source.now).faults (S.told joint.new.source.now).faults) }
     ensures place { IfOk result (λ next. next ≤ 2 ^ 41) }
     ensures short { IfOk result (λ _. length part.new.way.items ≤ 10000000) }
+    ensures can { IfOk result (λ _. All (λ k. k < limits.choices) part.new.way.items) }
     ensures base { IfOk result (λ _. part.new.base ≡ part.old.base) }
     ensures marks { IfOk result (λ _. part.new.marks ≡ part.old.marks) }
     ensures is_open { OnOk result (S.is_open joint.new.source.now) }
@@ -304,6 +307,7 @@ fn next_run<S: Source, K: Sink>(
     requires left { 0 < left }
     requires place { at ≤ 2 ^ 41 }
     requires short { length part.old.way.items ≤ 10000000 }
+    requires can { All (λ k. k < limits.choices) part.old.way.items }
     requires is_open { S.is_open joint.old.source.now }
     requires settled { (K.told joint.old.sink.now).written.held ≡ [] }
     requires paced { MayRead S.allows (HasNoFault (runs_from limits (part_seen part.old) last left at))
@@ -318,6 +322,7 @@ fn next_run<S: Source, K: Sink>(
         (StopsText (runs_from limits (part_seen part.old) last left at) (S.told joint.old.source.now).left
         (S.told joint.new.source.now).left (S.told joint.old.source.now).faults (S.told joint.new.source.now).faults) }
     ensures short { IfOk result (λ _. length part.new.way.items ≤ 10000000) }
+    ensures can { IfOk result (λ _. All (λ k. k < limits.choices) part.new.way.items) }
     ensures base { IfOk result (λ _. part.new.base ≡ part.old.base) }
     ensures marks { IfOk result (λ _. part.new.marks ≡ part.old.marks) }
     ensures is_open { OnOk result (S.is_open joint.new.source.now) }
@@ -339,7 +344,8 @@ fn next_run<S: Source, K: Sink>(
 // Whether a run may come next in a way of that many choices.
 fn is_run(limits: Limits, length: usize, last: Option<u32>, choice: u32, count: u32) -> bool
     requires { length ≤ 10000000 }
-    ensures { result ≡ fits_way limits length last choice count }
+    ensures fits { result ≡ fits_way limits length last choice count }
+    ensures can { IsTrue result → choice < limits.choices }
 {
     choice < limits.choices
         && last != Some(choice)

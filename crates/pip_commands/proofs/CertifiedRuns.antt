@@ -14,9 +14,9 @@ use Rattle.pip_commands.specs.CertifiedRuns.{CertificatesNameRuns, IsMergedLabel
 use Rattle.pip_commands.specs.Words.{from_first}
 
 pub certificates_name_runs : CertificatesNameRuns
-certificates_name_runs input i from base first ts lines g bytes is booted are same merged whole plans seed n quiet =
+certificates_name_runs input i from base first ts text g bytes is booted are same merged whole plans seed n quiet =
     let a = accepted input i bytes is in
-    let says = certificates_say i from base first ts lines g a.cpus_least a.cpus_most booted are same merged whole in
+    let says = certificates_say i from base first ts text g a.cpus_least a.cpus_most booted are same merged whole in
     let words = words_with first base in
     let run = runs_are_choices input i from from_first plans seed n words bytes is quiet in
     lines_known (CanComeBy words (image_scope i from) (begun_moment i from_first) (choices_in plans 0 n))

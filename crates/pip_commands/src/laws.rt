@@ -19,8 +19,8 @@ pub fn law_slots_apart()
     ensures { ChildrenAreSeparate }
 {}
 
-/// Where the lines of parts of an image could be merged, and the merge is whole, each line of any run is one of the
-/// labels that were merged.
+/// Where a text has the lines of the texts of parts of an image, in any order, and these could be merged to a whole,
+/// each line of any run is one of the labels that were merged.
 pub fn law_certified_runs()
     ensures { CertificatesNameRuns }
 {}

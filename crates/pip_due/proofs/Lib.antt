@@ -8,3 +8,4 @@ pub mod Refused
 pub mod OneImage
 -- images that are read
 pub mod Begins
+pub mod LinesBelow

@@ -6,3 +6,4 @@ pub mod ImageDues
 pub mod Loading
 pub mod Pacing
 pub mod Commands
+pub mod Planned

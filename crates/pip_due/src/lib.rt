@@ -9,16 +9,18 @@
 //! to end.
 //!
 //! Most commands read an image first (specs/ImageDues): [`loading`] reads one into a new machine (`LoadsImage`) and
-//! makes a callback of each plan, [`begun`] reads one into frames (`LoadsFrames`), and [`pass`] makes steps and shows
-//! nothing.
+//! makes a callback of each plan, [`begun`] reads one into frames (`LoadsFrames`), [`planned_lines`] are the interrupt
+//! lines of its plans, and [`pass`] makes steps and shows nothing.
 #![tactic(auto)]
 
 pub mod begun;
 mod ended;
 pub mod loading;
 mod passing;
+mod planned;
 mod text;
 
 pub use ended::{Ended, end_at_image, end_with};
 pub use passing::pass;
+pub use planned::planned_lines;
 pub use text::push_decimal;

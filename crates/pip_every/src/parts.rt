@@ -1,5 +1,5 @@
 //! Parts of certificates for images.
-ghost use Rattle.std.specs.Prelude.{◌≡◌, ℕ, List, ◌^◌, ◌-◌, ◌<◌, ◌≤◌, [], All, IfOk, Some, length};
+ghost use Rattle.std.specs.Prelude.{◌≡◌, ℕ, List, ◌+◌, ◌^◌, ◌-◌, ◌<◌, ◌≤◌, [], All, IfOk, IsSome, Some, length};
 ghost use Rattle.pip_base.specs.Memory.{IsMemory};
 ghost use Rattle.pip_base.specs.Opening.{CanOpen};
 ghost use Rattle.pip_model.specs.Booted.{HasBooted, IsBooted};
@@ -43,6 +43,7 @@ fn part_from<F: First, L: Ledger>(
     requires few { length lines.now ≤ 16 }
     requires way { length way.now < 2 ^ 32 }
     requires marks { length marks.now < 2 ^ 32 - 1 }
+    ensures can { IfOk result (λ r. All (λ k. k < cpus + length lines.now) way.now → IsSome r) }
     ensures closed { IfOk result (λ r. (p : Part) → r ≡ Some p → IsClosedPart (model_of F.words
         (record { cpus = cpus; lines = lines.now; from = from })) (portion_of p)) }
     ensures reached { IfOk result (λ r. (p : Part) (n : ℕ) (words : ℕ → ℕ → ℕ) → r ≡ Some p
@@ -66,8 +67,8 @@ fn part_from<F: First, L: Ledger>(
 
 /// Checks a part of all that can happen to a machine over these frames, as `search` goes through it. Keys compare with
 /// the words of the frames `later`, as many as those of the machine. The part begins at the moment to which a way
-/// leads, and marks say which moments after it are its own. `None` where the way has a choice that can't be made. The
-/// only error is that memory is out.
+/// leads, and marks say which moments after it are its own. `None` only where the way has a choice that can't be made.
+/// The only error is that memory is out.
 pub fn part(
     alloc: Global,
     mem: RawFrames,
@@ -87,6 +88,7 @@ pub fn part(
     requires few { length lines.now ≤ 16 }
     requires way { length way.now < 2 ^ 32 }
     requires marks { length marks.now < 2 ^ 32 - 1 }
+    ensures can { IfOk result (λ r. All (λ k. k < cpus + length lines.now) way.now → IsSome r) }
     ensures closed { IfOk result (λ r. (p : Part) → r ≡ Some p
         → IsClosedPart (model_of (⟦<RawFrames as Frames>⟧.memory later)
         (record { cpus = cpus; lines = lines.now; from = from })) (portion_of p)) }

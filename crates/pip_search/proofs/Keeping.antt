@@ -2,10 +2,9 @@
 use Rattle.std.proofs.Common.{◌≡◌, ℕ, List, [], ◌∷◌, inl, inr, Some, None, slice_get, ap, sym, subst, ◌∙◌}
 use Rattle.std.specs.Prelude.{Option, MatchOption, is_some, true, false}
 use Rattle.pip_search.specs.Growing.{Grew, HasKey, HasLabel}
-use Rattle.pip_search.specs.Keys.{AreKept, key_bytes, key_of, keys, labels}
+use Rattle.pip_search.specs.Keys.{AreKept, Keyed, key_bytes, key_of, keys, labels}
 use Rattle.pip_search.specs.Naming.{AreDistinct, IsAbsent}
 use Rattle.pip_search.specs.Packing.{packed_key, unpacked_key}
-use Rattle.pip_search.specs.declared.visits.Visit.{Visit}
 use Rattle.pip_search.specs.declared.found.Found.{Found}
 use Rattle.pip_search.proofs.Places.{get-back}
 use Rattle.pip_search.proofs.Walking.{at_named, named_at}
@@ -23,8 +22,8 @@ module _ (names : List (List ℕ)) (name : List ℕ) where
   is_absent None h e = h
   is_absent (Some j) h e = absurd (cc)
 
-pub has_key : (vs : List Visit) (key : List ℕ) → (j : ℕ) × (slice_get (key_bytes vs) j ≡ Some key) → HasKey vs key
-has_key vs key (j, e) = let (v, (at, same)) = at_named (λ (v : Visit). v.key.items) vs j key e in
+pub has_key : (vs : List Keyed) (key : List ℕ) → (j : ℕ) × (slice_get (key_bytes vs) j ≡ Some key) → HasKey vs key
+has_key vs key (j, e) = let (v, (at, same)) = at_named (λ (v : Keyed). v.key) vs j key e in
     record { place = j; at = record { visit = v; at = at; same = same } }
 
 pub has_label : (fs : List Found) (label : List ℕ) → (j : ℕ) × (slice_get (labels fs) j ≡ Some label)
@@ -39,37 +38,37 @@ pub kept_bytes : (key bytes : List ℕ) → bytes ≡ packed_key key → unpacke
     → packed_key (unpacked_key bytes) ≡ bytes
 kept_bytes key bytes packed words = ap packed_key words ∙ sym packed
 
-pub kept_more : (vs ws : List Visit) (bytes : List ℕ) (parent choice depth run : ℕ) → AreKept vs
+pub kept_more : (vs ws : List Keyed) (bytes : List ℕ) (parent choice depth run : ℕ) → AreKept vs
     → packed_key (unpacked_key bytes) ≡ bytes → Grew vs ws bytes parent choice depth run → AreKept ws
 kept_more vs ws bytes parent choice depth run h is (inl keeps) = subst AreKept (sym keeps.same) h
 kept_more vs ws bytes parent choice depth run h is (inr adds) = subst AreKept (sym adds.whole)
     (λ j v e. elim (get-back vs adds.visit j v e) [
       | inl old ↦ h j v old
-      | inr new ↦ subst (λ y. packed_key (key_of y) ≡ y.key.items) (sym new.1)
+      | inr new ↦ subst (λ y. packed_key (key_of y) ≡ y.key) (sym new.1)
           (subst (λ k. packed_key (unpacked_key k) ≡ k) (sym adds.key_is) is)
     ])
 
-pub kept_one : (v : Visit) → packed_key (key_of v) ≡ v.key.items → AreKept (v ∷ [])
+pub kept_one : (v : Keyed) → packed_key (key_of v) ≡ v.key → AreKept (v ∷ [])
 kept_one v is j u e = elim (get-back [] v j u e) [
   | inl old ↦ absurd (cc)
-  | inr new ↦ subst (λ y. packed_key (key_of y) ≡ y.key.items) (sym new.1) is
+  | inr new ↦ subst (λ y. packed_key (key_of y) ≡ y.key) (sym new.1) is
 ]
 
 -- visits with distinct bytes have distinct keys
-pub distinct_keys : (vs : List Visit) → AreKept vs → AreDistinct (key_bytes vs) → AreDistinct (keys vs)
+pub distinct_keys : (vs : List Keyed) → AreKept vs → AreDistinct (key_bytes vs) → AreDistinct (keys vs)
 distinct_keys vs kept distinct i j key e f =
     let (u, (at, is)) = at_named key_of vs i key e in
     let (v, (bt, js)) = at_named key_of vs j key f in
-    let first : slice_get (key_bytes vs) i ≡ Some (packed_key key) = named_at (λ (w : Visit). w.key.items) vs i u at
+    let first : slice_get (key_bytes vs) i ≡ Some (packed_key key) = named_at (λ (w : Keyed). w.key) vs i u at
     ∙ ap (λ x. Some x) (sym (kept i u at) ∙ ap packed_key is) in
-    let other : slice_get (key_bytes vs) j ≡ Some (packed_key key) = named_at (λ (w : Visit). w.key.items) vs j v bt
+    let other : slice_get (key_bytes vs) j ≡ Some (packed_key key) = named_at (λ (w : Keyed). w.key) vs j v bt
     ∙ ap (λ x. Some x) (sym (kept j v bt) ∙ ap packed_key js) in
     distinct i j (packed_key key) first other
 
 -- a key whose bytes are absent is absent
-pub absent_key : (vs : List Visit) (bytes key : List ℕ) → AreKept vs → bytes ≡ packed_key key
+pub absent_key : (vs : List Keyed) (bytes key : List ℕ) → AreKept vs → bytes ≡ packed_key key
     → IsAbsent (key_bytes vs) bytes → IsAbsent (keys vs) key
 absent_key vs bytes key kept is absent j e =
     let (u, (at, same)) = at_named key_of vs j key e in
-    absent j (named_at (λ (w : Visit). w.key.items) vs j u at
+    absent j (named_at (λ (w : Keyed). w.key) vs j u at
     ∙ ap (λ x. Some x) (sym (kept j u at) ∙ ap packed_key same ∙ sym is))

@@ -1,4 +1,7 @@
 pub mod Places
+pub mod Picking
+pub mod Stored
+pub mod Steps
 pub mod Making
 pub mod Telling
 pub mod Tracing
@@ -11,7 +14,6 @@ pub mod Keeping
 pub mod Ranking
 pub mod Ending
 pub mod Traced
-pub mod Picking
 pub mod Summing
 pub mod Done
 pub mod Once

@@ -6,31 +6,33 @@ use Rattle.std.proofs.Math.Seq.{get_or-append_seam}
 use Rattle.std.proofs.lemmas.Bool.{cases_lt}
 use Rattle.std.proofs.lemmas.Nat.{div-mul-add, mod-mul-add}
 use Rattle.pip_search.specs.Again.{AreEdges, AreFlags, HasClosed, IsEdge, IsShownAmong, ShowsAt, ShowsOther}
-use Rattle.pip_search.specs.Keys.{key_bytes, key_of}
+use Rattle.pip_search.specs.Keys.{Keyed, key_of, visits_of}
 use Rattle.pip_search.specs.Packing.{packed_key, unpacked_key}
 use Rattle.pip_search.specs.Summary.{HasOneKey}
 use Rattle.pip_search.specs.Systems.{IsKey, LeadsOn, Model}
+use Rattle.pip_search.specs.Storing.{listed}
 use Rattle.pip_search.specs.declared.searching.Search.{Search}
-use Rattle.pip_search.specs.declared.visits.Visit.{Visit}
 use Rattle.pip_search.proofs.Making.{at-same}
 use Rattle.pip_search.proofs.Places.{get-back, get-below}
 use Rattle.pip_search.proofs.Telling.{visit_key}
 use Rattle.pip_search.proofs.Walking.{at_named, named_at}
+use Rattle.pip_search.proofs.Steps.{all_bytes, visit_count}
 
 module _ (m : Model) (start : List ℕ) (s : Search) (h : HasClosed m start s) where
-  abbrev vs : List Visit
-  vs = s.visits.items
+  abbrev vs : List Keyed
+  vs = visits_of s
 
   -- a visit's key stands for a state
-  pub key_at : IsKey m start → (j : ℕ) (u : Visit) → slice_get vs j ≡ Some u → IsKey m (key_of u)
+  pub key_at : IsKey m start → (j : ℕ) (u : Keyed) → slice_get vs j ≡ Some u → IsKey m (key_of u)
   key_at key j u at = visit_key m start vs s.found.items h.end 0 h.searching.exploring key j u at
 
   -- whatever key a choice of a visit leads to, some visit keeps its bytes
-  pub is_there : IsKey m start → HasOneKey m → (i c : ℕ) (u : Visit) (next shown : List ℕ)
+  pub is_there : IsKey m start → HasOneKey m → (i c : ℕ) (u : Keyed) (next shown : List ℕ)
       → slice_get vs i ≡ Some u → c < m.choices → LeadsOn m (key_of u) c next shown
-      → (j : ℕ) × (slice_get (key_bytes vs) j ≡ Some (packed_key next))
+      → (j : ℕ) × (slice_get (listed s.store) j ≡ Some (packed_key next))
   is_there key one i c u next shown at low leads =
       let all = h.all in
+      let count = visit_count s h.searching.keyed in
       let inside : i < length vs = get-below vs i u at in
       let w = h.searching.exploring.before i c (omega arith) low in
       let same : w.from ≡ u = at-same vs i w.from u w.at at in
@@ -38,15 +40,17 @@ module _ (m : Model) (start : List ℕ) (s : Search) (h : HasClosed m start s) w
       let there = (w.leads x (subst (λ v. m.stands (key_of v) x) (sym same) stands)).0 in
       let is : key_of w.to ≡ next = one (key_of w.to) next (m.act x c) there (leads x stands).0 in (
         w.place,
-        named_at (λ v. v.key.items) vs w.place w.to w.there
+        ap (λ ks. slice_get ks w.place) (sym (all_bytes s h.searching.keyed))
+            ∙ named_at (λ (v : Keyed). v.key) vs w.place w.to w.there
             ∙ ap Some (sym (h.searching.kept w.place w.to w.there) ∙ ap packed_key is),
       )
 
   -- and that is where it leads
-  pub edge_to : (c j : ℕ) (key bytes next shown : List ℕ) → slice_get (key_bytes vs) j ≡ Some bytes
+  pub edge_to : (c j : ℕ) (key bytes next shown : List ℕ) → slice_get (listed s.store) j ≡ Some bytes
       → unpacked_key bytes ≡ next → LeadsOn m key c next shown → IsEdge m vs key c j
   edge_to c j key bytes next shown at words leads =
-      let (v, (there, own)) = at_named (λ v. v.key.items) vs j bytes at in
+      let (v, (there, own)) = at_named (λ (v : Keyed). v.key) vs j bytes
+      (ap (λ ks. slice_get ks j) (all_bytes s h.searching.keyed) ∙ at) in
       record {
         to = v;
         there = there;
@@ -56,8 +60,8 @@ module _ (m : Model) (start : List ℕ) (s : Search) (h : HasClosed m start s) w
 
 -- ---- one edge more, and one flag
 
-module _ (m : Model) (vs : List Visit) (width : ℕ) where
-  pub edges_more : (targets : List ℕ) (i c to : ℕ) (u : Visit) → AreEdges m vs width targets
+module _ (m : Model) (vs : List Keyed) (width : ℕ) where
+  pub edges_more : (targets : List ℕ) (i c to : ℕ) (u : Keyed) → AreEdges m vs width targets
       → length targets ≡ i * width + c → c < width → slice_get vs i ≡ Some u → IsEdge m vs (key_of u) c to
       → AreEdges m vs width (targets ++ to ∷ [])
   edges_more targets i c to u all count low at edge e v within there = elim (cases_lt e (length targets)) [
@@ -91,9 +95,9 @@ module _ (m : Model) (key label : List ℕ) where
     | inr most ↦ let is : c ≡ n = omega arith in subst (λ k. ShowsOther m key k label) (sym is) now
   ]
 
-pub flags_more : (m : Model) (vs : List Visit) (label : List ℕ) (width : ℕ) (flags : List Bool) (i : ℕ) (b : Bool)
+pub flags_more : (m : Model) (vs : List Keyed) (label : List ℕ) (width : ℕ) (flags : List Bool) (i : ℕ) (b : Bool)
     → AreFlags m vs label width flags → length flags ≡ i
-    → ((u : Visit) → slice_get vs i ≡ Some u → IsShownAmong m (key_of u) label width b)
+    → ((u : Keyed) → slice_get vs i ≡ Some u → IsShownAmong m (key_of u) label width b)
     → AreFlags m vs label width (flags ++ b ∷ [])
 flags_more m vs label width flags i b all count own j u d at is = elim (get-back flags b j d is) [
   | inl old ↦ all j u d at old

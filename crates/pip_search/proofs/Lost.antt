@@ -6,19 +6,21 @@ use Rattle.std.proofs.lemmas.Nat.{div-mul-add, mod-mul-add, mul-add-lt}
 use Rattle.std.specs.List.{AllByRecursion}
 use Rattle.pip_search.specs.Again.{AreEdges, AreFlags, CanComeAgain, CanStillCome, HasClosed, IsEdge, IsLost}
 use Rattle.pip_search.specs.Graphs.{AreFollowed, IsMarked, LeadsToMarked, place_after}
-use Rattle.pip_search.specs.Keys.{key_of}
+use Rattle.pip_search.specs.Keys.{Keyed, key_of, step_of, steps_of, visits_of}
 use Rattle.pip_search.specs.Orders.{IsBefore, IsNoLater, IsTrail}
-use Rattle.pip_search.specs.Reached.{AreChoices}
+use Rattle.pip_search.specs.Reached.{AreChoices, Tells}
 use Rattle.pip_search.specs.Summary.{IsShownOn}
 use Rattle.pip_search.specs.Systems.{Model, after_choices}
 use Rattle.pip_search.specs.Ways.{way_to}
 use Rattle.pip_search.specs.declared.searching.Search.{Search}
-use Rattle.pip_search.specs.declared.visits.Visit.{Visit}
+use Rattle.pip_search.specs.declared.searching.Extent.TheVariants.{Closed}
 use Rattle.pip_search.proofs.Places.{get-below, get-some}
 use Rattle.pip_search.proofs.Ranking.{before_trans, trail_before, trail_same}
 use Rattle.pip_search.proofs.Telling.{closed_tells}
 use Rattle.pip_search.proofs.Traced.{are_traced}
 use Rattle.pip_search.proofs.Tracing.{way_trail}
+use Rattle.pip_search.proofs.Picking.{map_at}
+use Rattle.pip_search.proofs.Steps.{visit_count}
 
 -- ---- a choice before others
 
@@ -31,7 +33,7 @@ with_first : (P : ℕ → Type 0) (cs : List ℕ) (c : ℕ) → AllByRecursion P
 with_first P [] c h k = (k, tt)
 with_first P (d ∷ cs) c h k = (h.0, with_first P cs c h.1 k)
 
-module _ (m : Model) (vs : List Visit) (label : List ℕ) (width : ℕ) (can : width ≤ m.choices) (targets : List ℕ)
+module _ (m : Model) (vs : List Keyed) (label : List ℕ) (width : ℕ) (can : width ≤ m.choices) (targets : List ℕ)
     (flags marks : List Bool) (edges : AreEdges m vs width targets) (own : AreFlags m vs label width flags)
     (count : length targets ≡ length vs * width) (places : length flags ≡ length vs)
     (rows : length marks ≡ length vs)
@@ -39,7 +41,7 @@ module _ (m : Model) (vs : List Visit) (label : List ℕ) (width : ℕ) (can : w
     (keeps : (j : ℕ) → IsMarked flags j → IsMarked marks j)
     (closed : (k : ℕ) → IsMarked marks k → AreFollowed targets width marks k) where
   -- where a choice of a visit leads
-  edge_of : (j c : ℕ) (u : Visit) → slice_get vs j ≡ Some u → c < width
+  edge_of : (j c : ℕ) (u : Keyed) → slice_get vs j ≡ Some u → c < width
       → IsEdge m vs (key_of u) c (slice_index targets (j * width + c))
   edge_of j c u at low =
       let inside : j < length vs = get-below vs j u at in
@@ -51,7 +53,7 @@ module _ (m : Model) (vs : List Visit) (label : List ℕ) (width : ℕ) (can : w
       (edges (j * width + c) u few (ap (slice_get vs) row ∙ at))
 
   -- from the states of a marked visit the label can come
-  comes : (cs : List ℕ) (j : ℕ) (u : Visit) (s : m.State) → slice_get vs j ≡ Some u → m.stands (key_of u) s
+  comes : (cs : List ℕ) (j : ℕ) (u : Keyed) (s : m.State) → slice_get vs j ≡ Some u → m.stands (key_of u) s
       → AllByRecursion (λ c. c < width) cs → IsMarked flags (place_after targets width j cs)
       → CanStillCome m width s label
   comes [] j u s at stands all marked =
@@ -70,7 +72,7 @@ module _ (m : Model) (vs : List Visit) (label : List ℕ) (width : ℕ) (can : w
         shown.1 ∙ ap (λ x. m.label x d) (sym (after_first m s ds c)),
       )
 
-  pub marked_comes : (j : ℕ) (u : Visit) (s : m.State) → slice_get vs j ≡ Some u → m.stands (key_of u) s
+  pub marked_comes : (j : ℕ) (u : Keyed) (s : m.State) → slice_get vs j ≡ Some u → m.stands (key_of u) s
       → IsMarked marks j → CanStillCome m width s label
   marked_comes j u s at stands marked =
       let p = sound j marked in
@@ -79,7 +81,7 @@ module _ (m : Model) (vs : List Visit) (label : List ℕ) (width : ℕ) (can : w
   -- a state is that of a visit without a mark
   record IsStuck (s : m.State) : Type 0 where
     place : ℕ
-    visit : Visit
+    visit : Keyed
     at : slice_get vs place ≡ Some visit
     stands : m.stands (key_of visit) s
     unmarked : slice_get marks place ≡ Some false
@@ -90,7 +92,7 @@ module _ (m : Model) (vs : List Visit) (label : List ℕ) (width : ℕ) (can : w
       different : Some true ≡ Some false → ⊥
       different d = cc
 
-  has_mark : (k : ℕ) (v : Visit) → slice_get vs k ≡ Some v → (IsMarked marks k → ⊥) → slice_get marks k ≡ Some false
+  has_mark : (k : ℕ) (v : Keyed) → slice_get vs k ≡ Some v → (IsMarked marks k → ⊥) → slice_get marks k ≡ Some false
   has_mark k v at none =
       let inside : k < length vs = get-below vs k v at in
       let (b, is) = get-some marks k (omega (arith, inside, rows)) in
@@ -128,7 +130,7 @@ module _ (m : Model) (vs : List Visit) (label : List ℕ) (width : ℕ) (can : w
   stuck_after s [] h all = h
   stuck_after s (c ∷ cs) h all = stuck_on (after_choices m s cs) c (stuck_after s cs h all.1) all.0
 
-  pub unmarked_lost : (j : ℕ) (u : Visit) (s : m.State) → slice_get vs j ≡ Some u → m.stands (key_of u) s
+  pub unmarked_lost : (j : ℕ) (u : Keyed) (s : m.State) → slice_get vs j ≡ Some u → m.stands (key_of u) s
       → slice_get marks j ≡ Some false → CanStillCome m width s label → ⊥
   unmarked_lost j u s at stands none ([], all, shown) = shown
   unmarked_lost j u s at stands none (c ∷ cs, all, shown) =
@@ -145,34 +147,40 @@ module _ (m : Model) (vs : List Visit) (label : List ℕ) (width : ℕ) (can : w
 -- ---- what is said of a search
 
 module _ (m : Model) (start : List ℕ) (z : Search) (h : HasClosed m start z) (label : List ℕ) (width : ℕ)
-    (marks : List Bool) (rows : length marks ≡ length z.visits.items)
-    (lasts : (j : ℕ) (u : Visit) (s : m.State) → slice_get z.visits.items j ≡ Some u → m.stands (key_of u) s
+    (marks : List Bool) (rows : length marks ≡ length (visits_of z))
+    (lasts : (j : ℕ) (u : Keyed) (s : m.State) → slice_get (visits_of z) j ≡ Some u → m.stands (key_of u) s
     → IsMarked marks j → CanStillCome m width s label)
-    (ends : (j : ℕ) (u : Visit) (s : m.State) → slice_get z.visits.items j ≡ Some u → m.stands (key_of u) s
+    (ends : (j : ℕ) (u : Keyed) (s : m.State) → slice_get (visits_of z) j ≡ Some u → m.stands (key_of u) s
     → slice_get marks j ≡ Some false → CanStillCome m width s label → ⊥)
     (x : m.State) (stands : m.stands start x) where
-  abbrev vs : List Visit
-  vs = z.visits.items
+  abbrev vs : List Keyed
+  vs = visits_of z
+
+  tells_all : Tells m x vs z.found.items (Closed 0)
+  tells_all = closed_tells m start vs z.found.items h.end 0 h.searching.exploring h.searching.ranked
+      (let n = visit_count z h.searching.keyed in let all = h.all in omega arith) 0 x stands
 
   -- all are marked
   pub comes_again : ((j : ℕ) → j < length marks → IsMarked marks j) → CanComeAgain m width x label
   comes_again all cs can =
-      let t = closed_tells m start vs z.found.items h.end 0 h.searching.exploring h.searching.ranked h.all 0 x stands in
+      let t = tells_all in
       let v = t.all cs can tt in
       let inside : v.place < length vs = get-below vs v.place v.visit v.at in
       lasts v.place v.visit (after_choices m x cs) v.at v.stands (all v.place (omega (arith, inside, rows)))
 
   -- this one isn't, and all before it are
   pub is_lost : (j : ℕ) → slice_get marks j ≡ Some false → ((k : ℕ) → k < j → IsMarked marks k)
-      → IsLost m width x label (way_to vs j)
+      → IsLost m width x label (way_to (steps_of vs) j)
   is_lost j none before =
-      let t = closed_tells m start vs z.found.items h.end 0 h.searching.exploring h.searching.ranked h.all 0 x stands in
+      let t = tells_all in
       let low : j < length marks = get-below marks j false none in
       let (u, at) = get-some vs j (omega (arith, low, rows)) in
       let r = t.reached j u at in
       let traced = are_traced m start vs z.found.items h.end 0 h.searching.exploring in
-      let trail = (way_trail vs z.found.items traced (suc j) j u (omega arith) at).0 in
-      let same : r.choices ≡ way_to vs j = trail_same vs r.choices (way_to vs j) j r.trail trail in
+      let trail = (way_trail (steps_of vs) z.found.items traced (suc j) j (step_of u) (omega arith)
+      (map_at step_of vs j u at)).0 in
+      let same : r.choices ≡ way_to (steps_of vs) j = trail_same (steps_of vs) r.choices (way_to (steps_of vs) j) j
+      r.trail trail in
       record {
         can = subst (AreChoices m) same r.can;
         lost = subst (λ cs. CanStillCome m width (after_choices m x cs) label → ⊥) same
@@ -186,16 +194,17 @@ module _ (m : Model) (start : List ℕ) (z : Search) (h : HasClosed m start z) (
             ]);
       }
     where
-      later : (k : ℕ) (way cs : List ℕ) → IsTrail vs j (way_to vs j) → IsTrail vs k way → IsNoLater way cs → j ≤ k
-          → IsNoLater (way_to vs j) cs
+      later : (k : ℕ) (way cs : List ℕ) → IsTrail (steps_of vs) j (way_to (steps_of vs) j)
+          → IsTrail (steps_of vs) k way → IsNoLater way cs → j ≤ k → IsNoLater (way_to (steps_of vs) j) cs
       later k way cs own other first le = elim (cases_eq j k) [
         | inl same ↦ subst (λ ds. IsNoLater ds cs)
-            (trail_same vs way (way_to vs j) j (subst (λ i. IsTrail vs i way) (sym same) other) own) first
+            (trail_same (steps_of vs) way (way_to (steps_of vs) j) j
+            (subst (λ i. IsTrail (steps_of vs) i way) (sym same) other) own) first
         | inr far ↦
-            let b = trail_before vs z.found.items h.end 0 h.searching.ranked (way_to vs j) way j k (omega arith) own
-            other in
+            let b = trail_before (steps_of vs) z.found.items h.end 0 h.searching.ranked (way_to (steps_of vs) j) way j
+            k (omega arith) own other in
             elim first [
-              | inl e ↦ inr (subst (λ ds. IsBefore (way_to vs j) ds) e b)
-              | inr f ↦ inr (before_trans (way_to vs j) way cs b f)
+              | inl e ↦ inr (subst (λ ds. IsBefore (way_to (steps_of vs) j) ds) e b)
+              | inr f ↦ inr (before_trans (way_to (steps_of vs) j) way cs b f)
             ]
       ]

@@ -6,11 +6,11 @@ use Rattle.pip_search.specs.Systems.{Model, LeadsOn}
 use Rattle.pip_search.specs.Growing.{Grew, HasLabel, Told}
 use Rattle.pip_search.specs.Orders.{IsRanked}
 use Rattle.pip_search.specs.Packing.{unpacked_key}
-use Rattle.pip_search.specs.Keys.{key_of}
+use Rattle.pip_search.specs.Keys.{Keyed, key_of, step_of, steps_of}
 use Rattle.pip_search.specs.Exploring.{IsExploring, IsShown, IsKnown, IsVisit, StartsRun, WasMade}
-use Rattle.pip_search.specs.declared.visits.Visit.{Visit}
 use Rattle.pip_search.specs.declared.found.Found.{Found}
 use Rattle.pip_search.proofs.Places.{get-back, get-below, get-more, get-new}
+use Rattle.pip_search.proofs.Picking.{map_at}
 
 pub some-same : {X : Type 0} {x y : X} → Some x ≡ Some y → x ≡ y
 some-same e = cc
@@ -20,7 +20,7 @@ at-same xs i x y e f = some-same (sym e ∙ f)
 
 -- ---- one visit more
 
-module _ (m : Model) (start : List ℕ) (vs : List Visit) (x : Visit) where
+module _ (m : Model) (start : List ℕ) (vs : List Keyed) (x : Keyed) where
   made_more : (fs : List Found) (j d : ℕ) → WasMade m vs fs j d → WasMade m (vs ++ x ∷ []) fs j d
   made_more fs j d h = record {
     from = h.from;
@@ -35,7 +35,7 @@ module _ (m : Model) (start : List ℕ) (vs : List Visit) (x : Visit) where
     told = h.told;
   }
 
-  visit_more : (j : ℕ) (u : Visit) → IsVisit m start vs j u → IsVisit m start (vs ++ x ∷ []) j u
+  visit_more : (j : ℕ) (u : Keyed) → IsVisit m start vs j u → IsVisit m start (vs ++ x ∷ []) j u
   visit_more j u (inl first) = inl first
   visit_more j u (inr h) = inr (record {
     from = h.from;
@@ -60,19 +60,19 @@ module _ (m : Model) (start : List ℕ) (vs : List Visit) (x : Visit) where
   }
 
 -- a new visit, found from visit i by the choice c
-pub record IsNew (m : Model) (vs : List Visit) (i c : ℕ) (v x : Visit) : Type 0 where
+pub record IsNew (m : Model) (vs : List Keyed) (i c : ℕ) (v x : Keyed) : Type 0 where
   pub at : slice_get vs i ≡ Some v
   pub parent : x.parent ≡ i
   pub choice : x.choice ≡ c
   pub can : c < m.choices
   pub depth : x.depth ≡ v.depth + 1
-  pub run : StartsRun i v c x.run
+  pub run : StartsRun i (step_of v) c x.run
   pub shown : List ℕ
   pub leads : LeadsOn m (key_of v) c (key_of x) shown
 
-module _ (m : Model) (start : List ℕ) (vs : List Visit) (fs : List Found) (i c : ℕ)
-    (h : IsExploring m start vs fs i c) (v x : Visit) (n : IsNew m vs i c v x) where
-  abbrev vs2 : List Visit
+module _ (m : Model) (start : List ℕ) (vs : List Keyed) (fs : List Found) (i c : ℕ)
+    (h : IsExploring m start vs fs i c) (v x : Keyed) (n : IsNew m vs i c v x) where
+  abbrev vs2 : List Keyed
   vs2 = vs ++ x ∷ []
 
   grown : length vs2 ≡ length vs + 1
@@ -88,13 +88,13 @@ module _ (m : Model) (start : List ℕ) (vs : List Visit) (fs : List Found) (i c
     earlier = let e = n.parent in let b : i < length vs = get-below vs i v n.at in omega arith;
     choice = let e = n.choice in let b = n.can in omega arith;
     depth = n.depth;
-    run = subst (λ p. StartsRun p v x.choice x.run) (sym n.parent)
-        (subst (λ d. StartsRun i v d x.run) (sym n.choice) n.run);
+    run = subst (λ p. StartsRun p (step_of v) x.choice x.run) (sym n.parent)
+        (subst (λ d. StartsRun i (step_of v) d x.run) (sym n.choice) n.run);
     shown = n.shown;
     leads = subst (λ d. LeadsOn m (key_of v) d (key_of x) n.shown) (sym n.choice) n.leads;
   })
 
-  visits_then : (j : ℕ) (u : Visit) → slice_get vs2 j ≡ Some u → IsVisit m start vs2 j u
+  visits_then : (j : ℕ) (u : Keyed) → slice_get vs2 j ≡ Some u → IsVisit m start vs2 j u
   visits_then j u e = elim (get-back vs x j u e) [
     | inl old ↦ visit_more m start vs x j u (h.visits j u old)
     | inr new ↦ subst (λ k. IsVisit m start vs2 k u) (sym new.0)
@@ -104,19 +104,19 @@ module _ (m : Model) (start : List ℕ) (vs : List Visit) (fs : List Found) (i c
   x_low : x.depth ≤ length vs
   x_low = let a = h.low i v n.at in let b : i < length vs = get-below vs i v n.at in let d = n.depth in omega arith
 
-  low_then : (j : ℕ) (u : Visit) → slice_get vs2 j ≡ Some u → u.depth ≤ j
+  low_then : (j : ℕ) (u : Keyed) → slice_get vs2 j ≡ Some u → u.depth ≤ j
   low_then j u e = elim (get-back vs x j u e) [
     | inl old ↦ h.low j u old
     | inr new ↦ let d : u.depth ≡ x.depth = ap (λ y. y.depth) new.1 in let a = new.0 in let b = x_low in omega arith
   ]
 
-  near_x : (j : ℕ) (u : Visit) → slice_get vs2 j ≡ Some u → u.depth ≤ v.depth + 1
+  near_x : (j : ℕ) (u : Keyed) → slice_get vs2 j ≡ Some u → u.depth ≤ v.depth + 1
   near_x j u e = elim (get-back vs x j u e) [
     | inl old ↦ h.near v j u n.at old
     | inr new ↦ let d : u.depth ≡ x.depth = ap (λ y. y.depth) new.1 in let b = n.depth in omega arith
   ]
 
-  order_then : (j k : ℕ) (u w : Visit) → j ≤ k → slice_get vs2 j ≡ Some u → slice_get vs2 k ≡ Some w → u.depth ≤ w.depth
+  order_then : (j k : ℕ) (u w : Keyed) → j ≤ k → slice_get vs2 j ≡ Some u → slice_get vs2 k ≡ Some w → u.depth ≤ w.depth
   order_then j k u w le e f = elim (get-back vs x k w f) [
     | inr new ↦ let d : w.depth ≡ x.depth = ap (λ y. y.depth) new.1 in let a = near_x j u e in let b = n.depth in
         omega arith
@@ -126,7 +126,7 @@ module _ (m : Model) (start : List ℕ) (vs : List Visit) (fs : List Found) (i c
     ]
   ]
 
-  is_v : (w : Visit) → slice_get vs2 i ≡ Some w → w ≡ v
+  is_v : (w : Keyed) → slice_get vs2 i ≡ Some w → w ≡ v
   is_v w e = at-same vs2 i w v e at_i
 
   pub with_visit : IsExploring m start (vs ++ x ∷ []) fs i c
@@ -156,7 +156,7 @@ told_more fs f label d i c h = record {
   early = h.early;
 }
 
-made_told : (m : Model) (vs : List Visit) (fs : List Found) (f : Found) (j d : ℕ) → WasMade m vs fs j d
+made_told : (m : Model) (vs : List Keyed) (fs : List Found) (f : Found) (j d : ℕ) → WasMade m vs fs j d
     → WasMade m vs (fs ++ f ∷ []) j d
 made_told m vs fs f j d h = record {
   from = h.from;
@@ -171,8 +171,8 @@ made_told m vs fs f j d h = record {
   told = λ some. told_more fs f h.shown (h.from.depth + 1) j d (h.told some);
 }
 
-module _ (m : Model) (start : List ℕ) (vs : List Visit) (fs : List Found) (i c : ℕ)
-    (h : IsExploring m start vs fs i c) (v : Visit) (at : slice_get vs i ≡ Some v) (f : Found) (s : IsShown m vs f)
+module _ (m : Model) (start : List ℕ) (vs : List Keyed) (fs : List Found) (i c : ℕ)
+    (h : IsExploring m start vs fs i c) (v : Keyed) (at : slice_get vs i ≡ Some v) (f : Found) (s : IsShown m vs f)
     (d : f.depth ≡ v.depth + 1) where
   pub with_label : IsExploring m start vs (fs ++ f ∷ []) i c
   with_label = record {
@@ -194,7 +194,7 @@ module _ (m : Model) (start : List ℕ) (vs : List Visit) (fs : List Found) (i c
 
 -- ---- the choice was made
 
-pub with_made : (m : Model) (start : List ℕ) (vs : List Visit) (fs : List Found) (i c : ℕ)
+pub with_made : (m : Model) (start : List ℕ) (vs : List Keyed) (fs : List Found) (i c : ℕ)
     → IsExploring m start vs fs i c → WasMade m vs fs i c → IsExploring m start vs fs i (c + 1)
 with_made m start vs fs i c h w = record {
   some = h.some;
@@ -215,27 +215,27 @@ with_made m start vs fs i c h w = record {
     below d a = elim (cases_lt d c) [ inl less ↦ inl less | inr most ↦ inr (omega arith) ]
 
 -- all in one, with the next key as bytes
-pub record Makes (m : Model) (vs : List Visit) (i c : ℕ) (v : Visit) (key shown : List ℕ) (d r : ℕ) : Type 0 where
+pub record Makes (m : Model) (vs : List Keyed) (i c : ℕ) (v : Keyed) (key shown : List ℕ) (d r : ℕ) : Type 0 where
   pub at : slice_get vs i ≡ Some v
   pub can : c < m.choices
   pub leads : LeadsOn m (key_of v) c (unpacked_key key) shown
   pub depth : d ≡ v.depth + 1
-  pub run : StartsRun i v c r
+  pub run : StartsRun i (step_of v) c r
 
-module _ (m : Model) (start : List ℕ) (vs : List Visit) (fs : List Found) (i c : ℕ)
-    (h : IsExploring m start vs fs i c) (v : Visit) (key shown : List ℕ) (d r : ℕ)
+module _ (m : Model) (start : List ℕ) (vs : List Keyed) (fs : List Found) (i c : ℕ)
+    (h : IsExploring m start vs fs i c) (v : Keyed) (key shown : List ℕ) (d r : ℕ)
     (k : Makes m vs i c v key shown d r) where
   -- the next state is among the visits
-  record Standing (ws : List Visit) : Type 0 where
+  record Standing (ws : List Keyed) : Type 0 where
     exploring : IsExploring m start ws fs i c
     from : slice_get ws i ≡ Some v
     place : ℕ
-    to : Visit
+    to : Keyed
     there : slice_get ws place ≡ Some to
-    same : to.key.items ≡ key
+    same : to.key ≡ key
     near : to.depth ≤ v.depth + 1
 
-  reached : (ws : List Visit) → Grew vs ws key i c d r → Standing ws
+  reached : (ws : List Keyed) → Grew vs ws key i c d r → Standing ws
   reached ws (inl keeps) = subst Standing (sym keeps.same) (record {
     exploring = h;
     from = k.at;
@@ -252,7 +252,7 @@ module _ (m : Model) (start : List ℕ) (vs : List Visit) (fs : List Found) (i c
       choice = adds.choice_is;
       can = k.can;
       depth = adds.depth_is ∙ k.depth;
-      run = subst (λ y. StartsRun i v c y) (sym adds.run_is) k.run;
+      run = subst (λ y. StartsRun i (step_of v) c y) (sym adds.run_is) k.run;
       shown = shown;
       leads = subst (λ y. LeadsOn m (key_of v) c (unpacked_key y) shown) (sym adds.key_is) k.leads;
     });
@@ -264,7 +264,7 @@ module _ (m : Model) (start : List ℕ) (vs : List Visit) (fs : List Found) (i c
     near = let a = adds.depth_is in let b = k.depth in omega arith;
   })
 
-  made : (ws : List Visit) (gs : List Found) (s : Standing ws) → IsRanked ws gs i (c + 1)
+  made : (ws : List Keyed) (gs : List Found) (s : Standing ws) → IsRanked (steps_of ws) gs i (c + 1)
       → IsExploring m start ws gs i c → (shown ≢ [] → IsKnown gs shown (v.depth + 1) i c)
       → IsExploring m start ws gs i (c + 1)
   made ws gs s rank e told = with_made m start ws gs i c e (record {
@@ -277,15 +277,15 @@ module _ (m : Model) (start : List ℕ) (vs : List Visit) (fs : List Found) (i c
     early = elim (cases_eq s.place 0) [
       | inl zero_th ↦ inl zero_th
       | inr some ↦ inr
-          (rank.visits s.place s.to (omega arith) s.there)
+          (rank.visits s.place (step_of s.to) (omega arith) (map_at step_of ws s.place s.to s.there))
     ];
     shown = shown;
     leads = subst (λ y. LeadsOn m (key_of v) c (unpacked_key y) shown) (sym s.same) k.leads;
     told = told;
   })
 
-  told_kept : (ws : List Visit) (s : Standing ws) → IsRanked ws fs i (c + 1) → (shown ≡ []) ⊎ HasLabel fs shown
-      → shown ≢ [] → IsKnown fs shown (v.depth + 1) i c
+  told_kept : (ws : List Keyed) (s : Standing ws) → IsRanked (steps_of ws) fs i (c + 1)
+      → (shown ≡ []) ⊎ HasLabel fs shown → shown ≢ [] → IsKnown fs shown (v.depth + 1) i c
   told_kept ws s rank (inl none) some = absurd (some none)
   told_kept ws s rank (inr has) some = record {
     early = rank.labels has.place has.at.found has.at.at;
@@ -296,15 +296,16 @@ module _ (m : Model) (start : List ℕ) (vs : List Visit) (fs : List Found) (i c
     soon = s.exploring.soon v has.place has.at.found s.from has.at.at;
   }
 
-  told_then : (ws : List Visit) (gs : List Found) (s : Standing ws) → IsRanked ws gs i (c + 1)
+  told_then : (ws : List Keyed) (gs : List Found) (s : Standing ws) → IsRanked (steps_of ws) gs i (c + 1)
       → Told fs gs shown i c d → IsExploring m start ws gs i (c + 1)
   told_then ws gs s rank (inl keeps) =
-      let q : IsRanked ws fs i (c + 1) = subst (λ y. IsRanked ws y i (c + 1)) keeps.same rank in
+      let q : IsRanked (steps_of ws) fs i (c + 1) = subst (λ y. IsRanked (steps_of ws) y i (c + 1)) keeps.same rank in
       subst (λ y. IsExploring m start ws y i (c + 1)) (sym keeps.same)
       (made ws fs s q s.exploring (told_kept ws s q keeps.has))
   told_then ws gs s rank (inr adds) =
       let f = adds.found in
-      let q : IsRanked ws (fs ++ f ∷ []) i (c + 1) = subst (λ y. IsRanked ws y i (c + 1)) adds.whole rank in
+      let q : IsRanked (steps_of ws) (fs ++ f ∷ []) i (c + 1) = subst (λ y. IsRanked (steps_of ws) y i (c + 1))
+      adds.whole rank in
       let depth : f.depth ≡ v.depth + 1 = adds.depth_is ∙ k.depth in
       subst (λ y. IsExploring m start ws y i (c + 1)) (sym adds.whole)
       (made ws (fs ++ f ∷ []) s q
@@ -329,16 +330,16 @@ module _ (m : Model) (start : List ℕ) (vs : List Visit) (fs : List Found) (i c
         early = q.labels (length fs) f (get-new fs f);
       }))
 
-  pub grown_and_told : (ws : List Visit) (gs : List Found) → IsRanked ws gs i (c + 1) → Grew vs ws key i c d r
-      → Told fs gs shown i c d → IsExploring m start ws gs i (c + 1)
+  pub grown_and_told : (ws : List Keyed) (gs : List Found) → IsRanked (steps_of ws) gs i (c + 1)
+      → Grew vs ws key i c d r → Told fs gs shown i c d → IsExploring m start ws gs i (c + 1)
   grown_and_told ws gs q g t = told_then ws gs (reached ws g) q t
 
   -- where there was no room nothing changed
-  pub not_made : (ws : List Visit) → ws ≡ vs → IsExploring m start ws fs i c
+  pub not_made : (ws : List Keyed) → ws ≡ vs → IsExploring m start ws fs i c
   not_made ws e = subst (λ y. IsExploring m start y fs i c) (sym e) h
 
 -- a visit stays where it stands
-pub grew_same : (vs ws : List Visit) (key : List ℕ) (parent choice depth run i : ℕ) (v : Visit)
+pub grew_same : (vs ws : List Keyed) (key : List ℕ) (parent choice depth run i : ℕ) (v : Keyed)
     → slice_get vs i ≡ Some v → Grew vs ws key parent choice depth run → slice_get ws i ≡ slice_get vs i
 grew_same vs ws key parent choice depth run i v at (inl keeps) = ap (λ y. slice_get y i) keeps.same
 grew_same vs ws key parent choice depth run i v at (inr adds) = ap (λ y. slice_get y i) adds.whole

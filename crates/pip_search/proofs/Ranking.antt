@@ -4,10 +4,12 @@ use Rattle.std.proofs.lemmas.Bool.{cases_eq}
 use Rattle.pip_search.specs.Began.{HasBegun}
 use Rattle.pip_search.specs.Growing.{Grew, Told}
 use Rattle.pip_search.specs.Orders.{IsBefore, IsEarlier, IsNoLater, IsRanked, IsTrail}
+use Rattle.pip_search.specs.Keys.{Keyed, step_of, steps_of}
 use Rattle.pip_search.specs.declared.visits.Visit.{Visit}
 use Rattle.pip_search.specs.declared.found.Found.{Found}
 use Rattle.pip_search.proofs.Places.{get-back, get-below}
 use Rattle.pip_search.proofs.Making.{at-same}
+use Rattle.pip_search.proofs.Steps.{steps_more}
 
 -- ---- ways
 
@@ -70,11 +72,12 @@ module _ (vs : List Visit) (fs : List Found) (i c : ℕ) (r : IsRanked vs fs i c
 
 -- ---- ranks in a search
 
-pub ranked_begun : (start : List ℕ) (vs : List Visit) (fs : List Found) → HasBegun start vs fs → IsRanked vs fs 0 0
-ranked_begun start vs fs b = subst (λ y. IsRanked y fs 0 0) (sym b.one)
-    (subst (λ y. IsRanked (b.first ∷ []) y 0 0) (sym b.none) (record {
-      rising = λ j k u v a l e f. absurd (let m = get-below (b.first ∷ []) k v f in omega arith);
-      visits = λ j u a e. absurd (let m = get-below (b.first ∷ []) j u e in omega arith);
+pub ranked_begun : (start : List ℕ) (vs : List Keyed) (fs : List Found) → HasBegun start vs fs
+    → IsRanked (steps_of vs) fs 0 0
+ranked_begun start vs fs b = subst (λ y. IsRanked (steps_of y) fs 0 0) (sym b.one)
+    (subst (λ y. IsRanked (step_of b.first ∷ []) y 0 0) (sym b.none) (record {
+      rising = λ j k u v a l e f. absurd (let m = get-below (step_of b.first ∷ []) k v f in omega arith);
+      visits = λ j u a e. absurd (let m = get-below (step_of b.first ∷ []) j u e in omega arith);
       labels = λ k f e. absurd (cc);
       told = λ j k f g a d e. absurd (cc);
     }))
@@ -127,20 +130,22 @@ with_rank vs fs i c x r parent choice = record {
   told = r.told;
 }
 
-ranked_grew : (vs ws : List Visit) (fs : List Found) (key : List ℕ) (i c d n : ℕ) → IsRanked vs fs i c
-    → Grew vs ws key i c d n → IsRanked ws fs i (c + 1)
-ranked_grew vs ws fs key i c d n r (inl keeps) = subst (λ y. IsRanked y fs i (c + 1)) (sym keeps.same)
-    (ranked_step vs fs i c r)
-ranked_grew vs ws fs key i c d n r (inr adds) = subst (λ y. IsRanked y fs i (c + 1)) (sym adds.whole)
-    (with_rank vs fs i c adds.visit r adds.parent_is adds.choice_is)
+ranked_grew : (vs ws : List Keyed) (fs : List Found) (key : List ℕ) (i c d n : ℕ) → IsRanked (steps_of vs) fs i c
+    → Grew vs ws key i c d n → IsRanked (steps_of ws) fs i (c + 1)
+ranked_grew vs ws fs key i c d n r (inl keeps) = subst (λ y. IsRanked (steps_of y) fs i (c + 1)) (sym keeps.same)
+    (ranked_step (steps_of vs) fs i c r)
+ranked_grew vs ws fs key i c d n r (inr adds) = subst (λ y. IsRanked y fs i (c + 1))
+    (sym (ap steps_of adds.whole ∙ steps_more vs adds.visit))
+    (with_rank (steps_of vs) fs i c (step_of adds.visit) r adds.parent_is adds.choice_is)
 
 -- and a new label
-pub ranked_more : (vs ws : List Visit) (fs gs : List Found) (key label : List ℕ) (i c d n : ℕ) → IsRanked vs fs i c
-    → Grew vs ws key i c d n → Told fs gs label i c d → IsRanked ws gs i (c + 1)
-ranked_more vs ws fs gs key label i c d n r g (inl keeps) = subst (λ y. IsRanked ws y i (c + 1)) (sym keeps.same)
-    (ranked_grew vs ws fs key i c d n r g)
+pub ranked_more : (vs ws : List Keyed) (fs gs : List Found) (key label : List ℕ) (i c d n : ℕ)
+    → IsRanked (steps_of vs) fs i c → Grew vs ws key i c d n → Told fs gs label i c d
+    → IsRanked (steps_of ws) gs i (c + 1)
+ranked_more vs ws fs gs key label i c d n r g (inl keeps) = subst (λ y. IsRanked (steps_of ws) y i (c + 1))
+    (sym keeps.same) (ranked_grew vs ws fs key i c d n r g)
 ranked_more vs ws fs gs key label i c d n r g (inr adds) = let s = ranked_grew vs ws fs key i c d n r g in
-    subst (λ y. IsRanked ws y i (c + 1)) (sym adds.whole) (record {
+    subst (λ y. IsRanked (steps_of ws) y i (c + 1)) (sym adds.whole) (record {
       rising = s.rising;
       visits = s.visits;
       labels = λ k f e. elim (get-back fs adds.found k f e) [

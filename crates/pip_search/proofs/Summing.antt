@@ -6,7 +6,7 @@ use Rattle.std.proofs.lemmas.Bool.{cases_eq, cases_lt}
 use Rattle.std.proofs.lemmas.Bool.Decides.{nat_tests}
 use Rattle.std.proofs.lemmas.List.{length-map}
 use Rattle.pip_search.specs.Ending.{AreWithin, Ends, HasDepth, HasMore}
-use Rattle.pip_search.specs.Keys.{key_of, keys, labels}
+use Rattle.pip_search.specs.Keys.{Keyed, key_of, keys, labels, steps_of}
 use Rattle.pip_search.specs.Naming.{AreDistinct}
 use Rattle.pip_search.specs.Orders.{IsBefore, IsNoLater, IsRanked, IsTrail}
 use Rattle.pip_search.specs.Reached.{AreChoices, IsCovered, Tells}
@@ -15,7 +15,6 @@ use Rattle.pip_search.specs.Summary.{IsShownOn}
 use Rattle.pip_search.specs.Summary.{IsTold, Witness, farthest}
 use Rattle.pip_search.specs.Systems.{Model, after_choices}
 use Rattle.pip_search.specs.Ways.{AreTraced, found_way, is_covered, way_to, witness_of, witnesses_of}
-use Rattle.pip_search.specs.declared.visits.Visit.{Visit}
 use Rattle.pip_search.specs.declared.found.Found.{Found}
 use Rattle.pip_search.specs.declared.searching.Extent.{Extent}
 use Rattle.pip_search.specs.declared.searching.Extent.TheVariants.{Closed, Stopped, Within}
@@ -46,24 +45,25 @@ covered_or (Closed depth) n = inl tt
 covered_or (Within depth) n = elim (cases_lt depth n) [ inl more ↦ inr (omega arith) | inr less ↦ inl less ]
 covered_or (Stopped depth) n = elim (cases_lt depth n) [ inl more ↦ inr (omega arith) | inr less ↦ inl less ]
 
-all_within : (m : Model) (vs : List Visit) (most limit : ℕ) (v : Extent) → Ends m vs most limit v
+all_within : (m : Model) (vs : List Keyed) (most limit : ℕ) (v : Extent) → Ends m vs most limit v
     → AreWithin vs (farthest v)
 all_within m vs most limit (Closed depth) e = e.1.1
 all_within m vs most limit (Within depth) e = e.1.1
 all_within m vs most limit (Stopped depth) e = e.1.1
 
-module _ (m : Model) (s : m.State) (vs : List Visit) (fs : List Found) (v : Extent) (t : Tells m s vs fs v)
-    (back : AreTraced vs fs) where
+module _ (m : Model) (s : m.State) (vs : List Keyed) (fs : List Found) (v : Extent) (t : Tells m s vs fs v)
+    (back : AreTraced (steps_of vs) fs) where
   -- ---- labels
 
   -- the way of a label can be made, and shows it, and is as long as it says
-  way_shows : (k : ℕ) (f : Found) → slice_get fs k ≡ Some f → (IsShownOn m s f.label.items (found_way vs f))
-      × ((length (found_way vs f) ≡ f.depth) × IsTrail vs f.at (way_to vs f.at))
+  way_shows : (k : ℕ) (f : Found) → slice_get fs k ≡ Some f → (IsShownOn m s f.label.items (found_way (steps_of vs) f))
+      × ((length (found_way (steps_of vs) f) ≡ f.depth) × IsTrail (steps_of vs) f.at (way_to (steps_of vs) f.at))
   way_shows k f e =
       let h = t.shown k f e in
       let from = back.labels k f e in
-      let way = (way_trail vs fs back (f.at + 1) f.at from.from (omega arith) from.at).0 in
-      let same : h.choices ≡ way_to vs f.at = trail_same vs h.choices (way_to vs f.at) f.at h.trail way in (
+      let way = (way_trail (steps_of vs) fs back (f.at + 1) f.at from.from (omega arith) from.at).0 in
+      let same : h.choices ≡ way_to (steps_of vs) f.at = trail_same (steps_of vs) h.choices (way_to (steps_of vs) f.at)
+      f.at h.trail way in (
         subst (λ cs. AreChoices m (f.choice ∷ cs) × (f.label.items ≡ m.label (after_choices m s cs) f.choice)) same
             (h.can, h.shown),
         ((let n = h.count in let l = ap (λ (cs : List ℕ). length cs) same in omega arith), way),
@@ -74,12 +74,12 @@ module _ (m : Model) (s : m.State) (vs : List Visit) (fs : List Found) (v : Exte
   covered = filter (λ f. is_covered v f.depth) fs
 
   -- a witness is that of a label that was covered
-  found_of : (k : ℕ) (w : Witness) → slice_get (witnesses_of v vs fs) k ≡ Some w → (f : Found)
-      × ((slice_get covered k ≡ Some f) × (witness_of vs f ≡ w))
-  found_of k w e = at_map (witness_of vs) covered k w e
+  found_of : (k : ℕ) (w : Witness) → slice_get (witnesses_of v (steps_of vs) fs) k ≡ Some w → (f : Found)
+      × ((slice_get covered k ≡ Some f) × (witness_of (steps_of vs) f ≡ w))
+  found_of k w e = at_map (witness_of (steps_of vs)) covered k w e
 
   was_shown : (some : (k : ℕ) (f : Found) → slice_get fs k ≡ Some f → f.label.items ≢ []) (k : ℕ) (w : Witness)
-      → slice_get (witnesses_of v vs fs) k ≡ Some w
+      → slice_get (witnesses_of v (steps_of vs) fs) k ≡ Some w
       → IsShownOn m s w.label w.way × ((w.label ≢ []) × IsCovered v (length w.way))
   was_shown some k w e =
       let (f, (at, is)) = found_of k w e in
@@ -89,7 +89,7 @@ module _ (m : Model) (s : m.State) (vs : List Visit) (fs : List Found) (v : Exte
       (h.0, (some j f there, subst (IsCovered v) (sym h.1.0) (covered_true v f.depth good)))
 
   all_shown : (label cs : List ℕ) → IsShownOn m s label cs → label ≢ [] → IsCovered v (length cs)
-      → HasWitness (witnesses_of v vs fs) label cs
+      → HasWitness (witnesses_of v (steps_of vs) fs) label cs
   all_shown label [] h some cover = absurd h
   all_shown label (c ∷ cs) (can, is) some cover =
       let far : IsCovered v (length cs + 1) = subst (IsCovered v) (omega arith) cover in
@@ -101,34 +101,35 @@ module _ (m : Model) (s : m.State) (vs : List Visit) (fs : List Found) (v : Exte
       let h = way_shows x.place f x.at in
       record {
         place = k;
-        witness = witness_of vs f;
-        at = map_at (witness_of vs) covered k f at;
+        witness = witness_of (steps_of vs) f;
+        at = map_at (witness_of (steps_of vs)) covered k f at;
         same = x.same ∙ sym is;
         first = subst (λ ds. IsNoLater (f.choice ∷ ds) (c ∷ cs))
-            (trail_same vs x.way (way_to vs f.at) f.at x.trail h.1.1) x.first;
+            (trail_same (steps_of vs) x.way (way_to (steps_of vs) f.at) f.at x.trail h.1.1) x.first;
       }
 
-  module _ (i c : ℕ) (ranked : IsRanked vs fs i c) where
+  module _ (i c : ℕ) (ranked : IsRanked (steps_of vs) fs i c) where
     way_before : (j k : ℕ) (f g : Found) → j < k → slice_get fs j ≡ Some f → slice_get fs k ≡ Some g
-        → IsBefore (found_way vs f) (found_way vs g)
+        → IsBefore (found_way (steps_of vs) f) (found_way (steps_of vs) g)
     way_before j k f g a e b = elim (ranked.told j k f g a e b) [
-      | inl less ↦ inl (trail_before vs fs i c ranked (way_to vs f.at) (way_to vs g.at) f.at g.at less
-          (way_shows j f e).1.1 (way_shows k g b).1.1)
-      | inr same ↦ inr (ap (way_to vs) same.0, same.1)
+      | inl less ↦ inl (trail_before (steps_of vs) fs i c ranked (way_to (steps_of vs) f.at)
+          (way_to (steps_of vs) g.at) f.at g.at less (way_shows j f e).1.1 (way_shows k g b).1.1)
+      | inr same ↦ inr (ap (way_to (steps_of vs)) same.0, same.1)
     ]
 
-    in_order : (j k : ℕ) (w x : Witness) → j < k → slice_get (witnesses_of v vs fs) j ≡ Some w
-        → slice_get (witnesses_of v vs fs) k ≡ Some x → IsBefore w.way x.way
+    in_order : (j k : ℕ) (w x : Witness) → j < k → slice_get (witnesses_of v (steps_of vs) fs) j ≡ Some w
+        → slice_get (witnesses_of v (steps_of vs) fs) k ≡ Some x → IsBefore w.way x.way
     in_order j k w x a e b =
         let (f, (at, is)) = found_of j w e in
         let (g, (bt, js)) = found_of k x b in
         let (p, (q, (less, (there, then)))) = filter_rises (λ (f : Found). is_covered v f.depth) fs j k f g a at bt in
         subst (λ (y : Witness). IsBefore w.way y.way) js
-        (subst (λ (y : Witness). IsBefore y.way (found_way vs g)) is (way_before p q f g less there then))
+        (subst (λ (y : Witness). IsBefore y.way (found_way (steps_of vs) g)) is (way_before p q f g less there then))
 
   -- two witnesses with one label stand at one place
-  not_less : AreDistinct (labels fs) → (j k : ℕ) (w x : Witness) → j < k → slice_get (witnesses_of v vs fs) j ≡ Some w
-      → slice_get (witnesses_of v vs fs) k ≡ Some x → w.label ≢ x.label
+  not_less : AreDistinct (labels fs) → (j k : ℕ) (w x : Witness) → j < k
+      → slice_get (witnesses_of v (steps_of vs) fs) j ≡ Some w → slice_get (witnesses_of v (steps_of vs) fs) k ≡ Some x
+      → w.label ≢ x.label
   not_less distinct j k w x a e b same =
       let (f, (at, is)) = found_of j w e in
       let (g, (bt, js)) = found_of k x b in
@@ -140,10 +141,10 @@ module _ (m : Model) (s : m.State) (vs : List Visit) (fs : List Found) (v : Exte
       (map_at (λ (f : Found). f.label.items) fs q g then) in
       absurd (omega arith)
 
-  distinct_labels : AreDistinct (labels fs) → AreDistinct (map (λ w. w.label) (witnesses_of v vs fs))
+  distinct_labels : AreDistinct (labels fs) → AreDistinct (map (λ w. w.label) (witnesses_of v (steps_of vs) fs))
   distinct_labels distinct j k name e b =
-      let (w, (at, is)) = at_map (λ (w : Witness). w.label) (witnesses_of v vs fs) j name e in
-      let (x, (bt, js)) = at_map (λ (w : Witness). w.label) (witnesses_of v vs fs) k name b in
+      let (w, (at, is)) = at_map (λ (w : Witness). w.label) (witnesses_of v (steps_of vs) fs) j name e in
+      let (x, (bt, js)) = at_map (λ (w : Witness). w.label) (witnesses_of v (steps_of vs) fs) k name b in
       elim (cases_lt j k) [
         | inl less ↦ absurd (not_less distinct j k w x less at bt (is ∙ sym js))
         | inr late ↦ elim (cases_eq j k) [
@@ -154,7 +155,7 @@ module _ (m : Model) (s : m.State) (vs : List Visit) (fs : List Found) (v : Exte
 
   -- ---- states
 
-  among : (x : m.State) (cs : List ℕ) → (place : ℕ) (u : Visit) → slice_get vs place ≡ Some u → m.stands (key_of u) x
+  among : (x : m.State) (cs : List ℕ) → (place : ℕ) (u : Keyed) → slice_get vs place ≡ Some u → m.stands (key_of u) x
       → IsAmong m (keys vs) x
   among x cs place u at stands = record {
     place = place;
@@ -165,7 +166,7 @@ module _ (m : Model) (s : m.State) (vs : List Visit) (fs : List Found) (v : Exte
 
   module _ (one : HasOneKey m) (distinct : AreDistinct (keys vs)) (most limit : ℕ) (ends : Ends m vs most limit v)
       (room : length vs ≤ limit) where
-    away : (j : ℕ) (u : Visit) → slice_get vs j ≡ Some u → IsAway m s (key_of u) u.depth
+    away : (j : ℕ) (u : Keyed) → slice_get vs j ≡ Some u → IsAway m s (key_of u) u.depth
     away j u e =
         let h = t.reached j u e in
         record {
@@ -218,11 +219,11 @@ module _ (m : Model) (s : m.State) (vs : List Visit) (fs : List Found) (v : Exte
               (one x.key b.key (m.act (after_choices m s r.choices) b.choice) x.stands next.0));
         }
 
-count_is : (vs : List Visit) → length (keys vs) ≡ length vs
+count_is : (vs : List Keyed) → length (keys vs) ≡ length vs
 count_is vs = length-map vs key_of
 
-module _ (m : Model) (s : m.State) (vs : List Visit) (fs : List Found) (back : AreTraced vs fs) (one : HasOneKey m)
-    (distinct : AreDistinct (keys vs)) (most limit : ℕ) (room : length vs ≤ limit) where
+module _ (m : Model) (s : m.State) (vs : List Keyed) (fs : List Found) (back : AreTraced (steps_of vs) fs)
+    (one : HasOneKey m) (distinct : AreDistinct (keys vs)) (most limit : ℕ) (room : length vs ≤ limit) where
   end_is : (v : Extent) → Tells m s vs fs v → Ends m vs most limit v → IsEnd m s (keys vs) most limit v
   end_is (Closed depth) t ends =
       let n = count_is vs in
@@ -236,9 +237,9 @@ module _ (m : Model) (s : m.State) (vs : List Visit) (fs : List Found) (back : A
       let more = one_more m s vs fs (Stopped depth) t back one distinct most limit ends room depth ends.1.0 in
       (ends.0, (omega arith, more))
 
-  pub says : (v : Extent) (i c : ℕ) → IsRanked vs fs i c → Tells m s vs fs v → Ends m vs most limit v
+  pub says : (v : Extent) (i c : ℕ) → IsRanked (steps_of vs) fs i c → Tells m s vs fs v → Ends m vs most limit v
       → AreDistinct (labels fs) → ((k : ℕ) (f : Found) → slice_get fs k ≡ Some f → f.label.items ≢ [])
-      → IsTold m s most limit (witnesses_of v vs fs) (length vs) v
+      → IsTold m s most limit (witnesses_of v (steps_of vs) fs) (length vs) v
   says v i c ranked t ends names some = record {
     shown = was_shown m s vs fs v t back some;
     all = all_shown m s vs fs v t back;

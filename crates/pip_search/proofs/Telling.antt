@@ -4,21 +4,22 @@ use Rattle.std.proofs.Common.{slice_get, refl, ap, sym, subst, ◌∙◌, arith}
 use Rattle.std.proofs.lemmas.Bool.{cases_lt}
 use Rattle.pip_search.specs.Systems.{IsKey, Model, after_choices}
 use Rattle.pip_search.specs.Began.{HasBegun, IsRoot}
-use Rattle.pip_search.specs.Keys.{key_of}
+use Rattle.pip_search.specs.Keys.{Keyed, key_of, step_of, steps_of}
 use Rattle.pip_search.specs.Orders.{IsEarlier, IsNoLater, IsRanked, IsTrail}
 use Rattle.pip_search.specs.Exploring.{IsExploring, IsVisit, WasMade}
 use Rattle.pip_search.specs.Reached.{AreChoices, IsCovered, Explains, IsFoundBy, IsReached, IsShownBy, IsVisited, Tells}
-use Rattle.pip_search.specs.declared.visits.Visit.{Visit}
 use Rattle.pip_search.specs.declared.found.Found.{Found}
 use Rattle.pip_search.specs.declared.searching.Extent.{Extent}
 use Rattle.pip_search.specs.declared.searching.Extent.TheVariants.{Closed, Stopped, Within}
+use Rattle.pip_search.specs.declared.visits.Visit.{Visit}
 use Rattle.pip_search.proofs.Places.{get-below, get-some}
 use Rattle.pip_search.proofs.Making.{at-same}
 use Rattle.pip_search.proofs.Ranking.{earlier_no_later}
+use Rattle.pip_search.proofs.Picking.{map_at}
 
 -- ---- the beginning
 
-begun_one : (m : Model) (start : List ℕ) (first : Visit) → (key_of first) ≡ start → IsRoot first
+begun_one : (m : Model) (start : List ℕ) (first : Keyed) → (key_of first) ≡ start → IsRoot (step_of first)
     → IsExploring m start (first ∷ []) [] 0 0
 begun_one m start first key root = record {
   some = omega arith;
@@ -32,23 +33,27 @@ begun_one m start first key root = record {
   soon = λ v k f e g. absurd (cc);
 }
   where
-    one : (j : ℕ) (u : Visit) → slice_get (first ∷ []) j ≡ Some u → IsVisit m start (first ∷ []) j u
+    one : (j : ℕ) (u : Keyed) → slice_get (first ∷ []) j ≡ Some u → IsVisit m start (first ∷ []) j u
     one zero u e = let same : u ≡ first = cc in
-        inl (record { zero_th = refl; key = ap (λ y. key_of y) same ∙ key; root = subst IsRoot (sym same) root })
+        inl (record {
+          zero_th = refl;
+          key = ap (λ y. key_of y) same ∙ key;
+          root = subst (λ y. IsRoot (step_of y)) (sym same) root;
+        })
     one (suc j) u e = absurd (cc)
 
-    zero_depth : (j : ℕ) (u : Visit) → slice_get (first ∷ []) j ≡ Some u → u.depth ≡ 0
+    zero_depth : (j : ℕ) (u : Keyed) → slice_get (first ∷ []) j ≡ Some u → u.depth ≡ 0
     zero_depth zero u e = let same : u ≡ first = cc in ap (λ y. y.depth) same ∙ root.depth
     zero_depth (suc j) u e = absurd (cc)
 
-pub begun : (m : Model) (start : List ℕ) (vs : List Visit) (fs : List Found) → HasBegun start vs fs
+pub begun : (m : Model) (start : List ℕ) (vs : List Keyed) (fs : List Found) → HasBegun start vs fs
     → IsExploring m start vs fs 0 0
 begun m start vs fs b = subst (λ y. IsExploring m start y fs 0 0) (sym b.one)
     (subst (λ y. IsExploring m start (b.first ∷ []) y 0 0) (sym b.none) (begun_one m start b.first b.key b.root))
 
 -- ---- from one visit to the next
 
-pub next_visit : (m : Model) (start : List ℕ) (vs : List Visit) (fs : List Found) (i c : ℕ)
+pub next_visit : (m : Model) (start : List ℕ) (vs : List Keyed) (fs : List Found) (i c : ℕ)
     → IsExploring m start vs fs i c → c ≡ m.choices → i < length vs → IsExploring m start vs fs (i + 1) 0
 next_visit m start vs fs i c h e inside =
     let (v, at) = get-some vs i inside in
@@ -75,11 +80,11 @@ next_visit m start vs fs i c h e inside =
 
 -- ---- what choices lead to each visit
 
-module _ (m : Model) (start : List ℕ) (vs : List Visit) (fs : List Found) (i c : ℕ)
+module _ (m : Model) (start : List ℕ) (vs : List Keyed) (fs : List Found) (i c : ℕ)
     (h : IsExploring m start vs fs i c) (s : m.State) (stands : m.stands start s) where
-  reach_step : (j : ℕ) (u : Visit) → IsVisit m start vs j u
-      → ((k : ℕ) (w : Visit) → k < j → slice_get vs k ≡ Some w → IsReached m s vs k (key_of w) w.depth)
-      → slice_get vs j ≡ Some u → IsReached m s vs j (key_of u) u.depth
+  reach_step : (j : ℕ) (u : Keyed) → IsVisit m start vs j u
+      → ((k : ℕ) (w : Keyed) → k < j → slice_get vs k ≡ Some w → IsReached m s (steps_of vs) k (key_of w) w.depth)
+      → slice_get vs j ≡ Some u → IsReached m s (steps_of vs) j (key_of u) u.depth
   reach_step j u (inl first) before e = record {
     choices = [];
     trail = first.zero_th;
@@ -92,20 +97,22 @@ module _ (m : Model) (start : List ℕ) (vs : List Visit) (fs : List Found) (i c
       let l = child.leads (after_choices m s r.choices) r.stands in
       record {
         choices = u.choice ∷ r.choices;
-        trail = (let b = child.earlier in omega arith, (u, (e, (refl, r.trail))));
+        trail = (let b = child.earlier in omega arith, (step_of u, (map_at step_of vs j u e, (refl, r.trail))));
         can = (child.choice, r.can);
         count = let a = r.count in let b = child.depth in omega arith;
         stands = l.0;
       }
 
-  reach_from : (n j : ℕ) (u : Visit) → j < n → slice_get vs j ≡ Some u → IsReached m s vs j (key_of u) u.depth
+  reach_from : (n j : ℕ) (u : Keyed) → j < n → slice_get vs j ≡ Some u
+      → IsReached m s (steps_of vs) j (key_of u) u.depth
   reach_from zero j u a e = absurd (omega arith)
   reach_from (suc n) j u a e = reach_step j u (h.visits j u e) (λ k w b f. reach_from n k w (omega arith) f) e
 
-  pub all_reached : (j : ℕ) (u : Visit) → slice_get vs j ≡ Some u → IsReached m s vs j (key_of u) u.depth
+  pub all_reached : (j : ℕ) (u : Keyed) → slice_get vs j ≡ Some u → IsReached m s (steps_of vs) j (key_of u) u.depth
   all_reached j u e = reach_from (suc j) j u (omega arith) e
 
-  pub all_shown : (k : ℕ) (f : Found) → slice_get fs k ≡ Some f → IsShownBy m s vs f.at f.choice f.label.items f.depth
+  pub all_shown : (k : ℕ) (f : Found) → slice_get fs k ≡ Some f
+      → IsShownBy m s (steps_of vs) f.at f.choice f.label.items f.depth
   all_shown k f e =
       let x = h.labels k f e in
       let r = all_reached f.at x.from x.at in
@@ -120,27 +127,28 @@ module _ (m : Model) (start : List ℕ) (vs : List Visit) (fs : List Found) (i c
       }
 
 -- each visit's key stands for a state
-pub visit_key : (m : Model) (start : List ℕ) (vs : List Visit) (fs : List Found) (i c : ℕ)
+pub visit_key : (m : Model) (start : List ℕ) (vs : List Keyed) (fs : List Found) (i c : ℕ)
     → IsExploring m start vs fs i c → IsKey m start
-    → (j : ℕ) (u : Visit) → slice_get vs j ≡ Some u → IsKey m (key_of u)
+    → (j : ℕ) (u : Keyed) → slice_get vs j ≡ Some u → IsKey m (key_of u)
 visit_key m start vs fs i c h (s, stands) j u e = let r = all_reached m start vs fs i c h s stands j u e in
     (after_choices m s r.choices, r.stands)
 
 -- ---- where all choices lead
 
 -- that many choices lead to no visit that is still to be gone through
-pub record Reaches (vs : List Visit) (e : ℕ) (verdict : Extent) : Type 0 where
-  pub within : (n j : ℕ) (u : Visit) → slice_get vs j ≡ Some u → u.depth ≤ n → IsCovered verdict (n + 1) → j < e
+pub record Reaches (vs : List Keyed) (e : ℕ) (verdict : Extent) : Type 0 where
+  pub within : (n j : ℕ) (u : Keyed) → slice_get vs j ≡ Some u → u.depth ≤ n → IsCovered verdict (n + 1) → j < e
 
-module _ (m : Model) (start : List ℕ) (vs : List Visit) (fs : List Found) (i c : ℕ)
-    (h : IsExploring m start vs fs i c) (ranked : IsRanked vs fs i c) (verdict : Extent) (ends : Reaches vs i verdict)
-    (down : (n : ℕ) → IsCovered verdict (n + 1) → IsCovered verdict n) (s : m.State) (stands : m.stands start s) where
+module _ (m : Model) (start : List ℕ) (vs : List Keyed) (fs : List Found) (i c : ℕ)
+    (h : IsExploring m start vs fs i c) (ranked : IsRanked (steps_of vs) fs i c) (verdict : Extent)
+    (ends : Reaches vs i verdict) (down : (n : ℕ) → IsCovered verdict (n + 1) → IsCovered verdict n) (s : m.State)
+    (stands : m.stands start s) where
   record Step (d : ℕ) (cs : List ℕ) : Type 0 where
     made : (j : ℕ) × WasMade m vs fs j d
     near : made.1.from.depth ≤ length cs
     here : m.stands (key_of made.1.from) (after_choices m s cs)
     way : List ℕ
-    trail : IsTrail vs made.0 way
+    trail : IsTrail (steps_of vs) made.0 way
     first : IsNoLater way cs
 
   step : (d : ℕ) (cs : List ℕ) → d < m.choices → IsCovered verdict (length cs + 1)
@@ -175,16 +183,18 @@ module _ (m : Model) (start : List ℕ) (vs : List Visit) (fs : List Found) (i c
       ]
 
   -- the way of a visit to which a choice leads is no later than the choices that lead there
-  way_first : (d : ℕ) (cs : List ℕ) (x : Step d cs) (ws : List ℕ) → IsTrail vs x.made.1.place ws → IsNoLater ws (d ∷ cs)
+  way_first : (d : ℕ) (cs : List ℕ) (x : Step d cs) (ws : List ℕ) → IsTrail (steps_of vs) x.made.1.place ws
+      → IsNoLater ws (d ∷ cs)
   way_first d cs x [] t = inr tt
   way_first d cs x (b ∷ ws) (some, (u, (at, (is, rest)))) =
       let w = x.made.1 in
-      let same : w.to ≡ u = at-same vs w.place w.to u w.there at in
+      let same : step_of w.to ≡ u = at-same (steps_of vs) w.place (step_of w.to) u
+      (map_at step_of vs w.place w.to w.there) at in
       elim w.early [
         | inl none ↦ absurd (omega arith)
-        | inr early ↦ earlier_no_later vs fs i c ranked ws x.way cs u.parent b x.made.0 d
+        | inr early ↦ earlier_no_later (steps_of vs) fs i c ranked ws x.way cs u.parent b x.made.0 d
             (subst (λ k. IsEarlier u.parent k x.made.0 (d + 1)) is
-            (subst (λ y. IsEarlier y.parent y.choice x.made.0 (d + 1)) same early)) rest x.trail x.first
+            (subst (λ (y : Visit). IsEarlier y.parent y.choice x.made.0 (d + 1)) same early)) rest x.trail x.first
       ]
 
   pub all_visited : (cs : List ℕ) → AreChoices m cs → IsCovered verdict (length cs)
@@ -207,7 +217,7 @@ module _ (m : Model) (start : List ℕ) (vs : List Visit) (fs : List Found) (i c
       }
 
   pub all_told : (d : ℕ) (cs : List ℕ) → AreChoices m (d ∷ cs) → IsCovered verdict (length cs + 1)
-      → m.label (after_choices m s cs) d ≢ [] → IsFoundBy vs fs (m.label (after_choices m s cs) d) (d ∷ cs)
+      → m.label (after_choices m s cs) d ≢ [] → IsFoundBy (steps_of vs) fs (m.label (after_choices m s cs) d) (d ∷ cs)
   all_told d cs (a, can) far some =
       let x = step d cs a far (all_visited cs can (down (length cs) far)) in
       let w = x.made.1 in
@@ -218,7 +228,7 @@ module _ (m : Model) (start : List ℕ) (vs : List Visit) (fs : List Found) (i c
       record {
         way = r.choices;
         trail = r.trail;
-        first = earlier_no_later vs fs i c ranked r.choices x.way cs
+        first = earlier_no_later (steps_of vs) fs i c ranked r.choices x.way cs
             t.found.at t.found.choice x.made.0 d t.early r.trail x.trail x.first;
         place = t.place;
         found = t.found;
@@ -237,18 +247,18 @@ module _ (m : Model) (start : List ℕ) (vs : List Visit) (fs : List Found) (i c
 
 -- ---- the ends
 
-pub closed_tells : (m : Model) (start : List ℕ) (vs : List Visit) (fs : List Found) (i c : ℕ)
-    → IsExploring m start vs fs i c → IsRanked vs fs i c → length vs ≤ i → (depth : ℕ)
+pub closed_tells : (m : Model) (start : List ℕ) (vs : List Keyed) (fs : List Found) (i c : ℕ)
+    → IsExploring m start vs fs i c → IsRanked (steps_of vs) fs i c → length vs ≤ i → (depth : ℕ)
     → Explains m start vs fs (Closed depth)
 closed_tells m start vs fs i c h ranked all depth s stands =
     tells m start vs fs i c h ranked (Closed depth)
     (record { within = λ n j u e a b. let k : j < length vs = get-below vs j u e in omega arith }) (λ n a. tt) s
     stands
 
-module _ (m : Model) (start : List ℕ) (vs : List Visit) (fs : List Found) (i c : ℕ)
-    (h : IsExploring m start vs fs i c) (ranked : IsRanked vs fs i c) (v : Visit) (at : slice_get vs i ≡ Some v)
-    (depth : ℕ) (is : depth ≡ v.depth) where
-  inside : (n j : ℕ) (u : Visit) → slice_get vs j ≡ Some u → u.depth ≤ n → n + 1 ≤ depth → j < i
+module _ (m : Model) (start : List ℕ) (vs : List Keyed) (fs : List Found) (i c : ℕ)
+    (h : IsExploring m start vs fs i c) (ranked : IsRanked (steps_of vs) fs i c) (v : Keyed)
+    (at : slice_get vs i ≡ Some v) (depth : ℕ) (is : depth ≡ v.depth) where
+  inside : (n j : ℕ) (u : Keyed) → slice_get vs j ≡ Some u → u.depth ≤ n → n + 1 ≤ depth → j < i
   inside n j u e a b = elim (cases_lt j i)
       [ inl less ↦ less | inr late ↦ let o : v.depth ≤ u.depth = h.order i j v u late at e in absurd (omega arith) ]
 

@@ -2,14 +2,13 @@
 use Rattle.std.specs.Prelude.{◌≡◌, ◌≢◌, ℕ, ◌/◌, ◌%◌, ◌<◌, ◌≤◌, Bool, true, false, List, length, Some, slice_get}
 use Rattle.std.specs.Prelude.{slice_index}
 use Rattle.std.specs.List.{AllByRecursion}
-use Rattle.pip_search.specs.Keys.{key_of}
+use Rattle.pip_search.specs.Keys.{Keyed, key_of}
 use Rattle.pip_search.specs.Orders.{IsNoLater}
 use Rattle.pip_search.specs.Reached.{AreChoices}
 use Rattle.pip_search.specs.Searching.{IsSearching}
 use Rattle.pip_search.specs.Summary.{IsShownOn}
 use Rattle.pip_search.specs.Systems.{LeadsOn, Model, after_choices}
 use Rattle.pip_search.specs.declared.searching.Search.{Search}
-use Rattle.pip_search.specs.declared.visits.Visit.{Visit}
 
 -- ---- what is said
 
@@ -36,8 +35,8 @@ pub record HasClosed (m : Model) (start : List ℕ) (s : Search) : Type 0 where
   pub searching : IsSearching m start s end 0
 
 -- a choice in the states of a key leads to the states of visit j
-pub record IsEdge (m : Model) (vs : List Visit) (key : List ℕ) (c j : ℕ) : Type 0 where
-  pub to : Visit
+pub record IsEdge (m : Model) (vs : List Keyed) (key : List ℕ) (c j : ℕ) : Type 0 where
+  pub to : Keyed
   pub there : slice_get vs j ≡ Some to
   pub shown : List ℕ
   pub leads : LeadsOn m key c (key_of to) shown
@@ -56,11 +55,11 @@ IsShownAmong m key label n true = (c : ℕ) × ((c < n) × ShowsAt m key c label
 IsShownAmong m key label n false = (c : ℕ) → c < n → ShowsOther m key c label
 
 -- these are edges of visits, `width` of each
-abbrev pub AreEdges : Model → List Visit → ℕ → List ℕ → Type 0
-AreEdges m vs width targets = (e : ℕ) (u : Visit) → e < length targets → slice_get vs (e / width) ≡ Some u
+abbrev pub AreEdges : Model → List Keyed → ℕ → List ℕ → Type 0
+AreEdges m vs width targets = (e : ℕ) (u : Keyed) → e < length targets → slice_get vs (e / width) ≡ Some u
     → IsEdge m vs (key_of u) (e % width) (slice_index targets e)
 
 -- and these say of visits whether one of their first choices shows the label
-abbrev pub AreFlags : Model → List Visit → List ℕ → ℕ → List Bool → Type 0
-AreFlags m vs label width shows = (j : ℕ) (u : Visit) (b : Bool) → slice_get vs j ≡ Some u → slice_get shows j ≡ Some b
+abbrev pub AreFlags : Model → List Keyed → List ℕ → ℕ → List Bool → Type 0
+AreFlags m vs label width shows = (j : ℕ) (u : Keyed) (b : Bool) → slice_get vs j ≡ Some u → slice_get shows j ≡ Some b
     → IsShownAmong m (key_of u) label width b

@@ -1,42 +1,41 @@
 -- Visits and labels, one more at a time.
 use Rattle.std.specs.Prelude.{◌≡◌, ℕ, ◌≤◌, List, [], ◌∷◌, ◌++◌, ◌⊎◌, ◌≢◌, length, Some, slice_get}
-use Rattle.pip_search.specs.Keys.{key_bytes}
+use Rattle.pip_search.specs.Keys.{Keyed, key_bytes}
 use Rattle.pip_search.specs.Naming.{IsAbsent}
-use Rattle.pip_search.specs.declared.visits.Visit.{Visit}
 use Rattle.pip_search.specs.declared.found.Found.{Found}
 
 -- the visit at a place has this key, as bytes
-pub record HasKeyAt (vs : List Visit) (j : ℕ) (key : List ℕ) : Type 0 where
-  pub visit : Visit
+pub record HasKeyAt (vs : List Keyed) (j : ℕ) (key : List ℕ) : Type 0 where
+  pub visit : Keyed
   pub at : slice_get vs j ≡ Some visit
-  pub same : visit.key.items ≡ key
+  pub same : visit.key ≡ key
 
 -- some visit has this key
-pub record HasKey (vs : List Visit) (key : List ℕ) : Type 0 where
+pub record HasKey (vs : List Keyed) (key : List ℕ) : Type 0 where
   pub place : ℕ
   pub at : HasKeyAt vs place key
 
 -- a new visit, after the others
-pub record AddsVisit (vs ws : List Visit) (key : List ℕ) (parent choice depth run : ℕ) : Type 0 where
-  pub visit : Visit
+pub record AddsVisit (vs ws : List Keyed) (key : List ℕ) (parent choice depth run : ℕ) : Type 0 where
+  pub visit : Keyed
   pub whole : ws ≡ vs ++ visit ∷ []
-  pub key_is : visit.key.items ≡ key
+  pub key_is : visit.key ≡ key
   pub parent_is : visit.parent ≡ parent
   pub choice_is : visit.choice ≡ choice
   pub depth_is : visit.depth ≡ depth
   pub run_is : visit.run ≡ run
 
 -- the visits stay, and one has this key
-pub record HasKeyAlready (vs ws : List Visit) (key : List ℕ) : Type 0 where
+pub record HasKeyAlready (vs ws : List Keyed) (key : List ℕ) : Type 0 where
   pub same : ws ≡ vs
   pub has : HasKey vs key
 
 -- a state was visited: before, or now, and then after the others
-abbrev pub Grew : List Visit → List Visit → List ℕ → ℕ → ℕ → ℕ → ℕ → Type 0
+abbrev pub Grew : List Keyed → List Keyed → List ℕ → ℕ → ℕ → ℕ → ℕ → Type 0
 Grew vs ws key parent choice depth run = HasKeyAlready vs ws key ⊎ AddsVisit vs ws key parent choice depth run
 
 -- there is no room: there are that many visits, and none has this key
-pub record IsFull (vs : List Visit) (key : List ℕ) (limit : ℕ) : Type 0 where
+pub record IsFull (vs : List Keyed) (key : List ℕ) (limit : ℕ) : Type 0 where
   pub count : limit ≤ length vs
   pub absent : IsAbsent (key_bytes vs) key
 

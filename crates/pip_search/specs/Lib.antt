@@ -2,6 +2,7 @@ pub mod Systems
 pub mod Filing
 pub mod Naming
 pub mod Packing
+pub mod Storing
 pub mod Keys
 pub mod Growing
 pub mod Began

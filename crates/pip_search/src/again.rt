@@ -5,16 +5,15 @@ ghost use Rattle.pip_search.specs.Again as again;
 ghost use Rattle.pip_search.specs.Again.{AreEdges, AreFlags, CanComeAgain, HasClosed, IsEdge, IsLost, IsShownAmong};
 ghost use Rattle.pip_search.specs.Again.{ShowsAt, ShowsOther};
 ghost use Rattle.pip_search.specs.Filing.{IsFiled};
-ghost use Rattle.pip_search.specs.Keys.{IsAtHand, key_of};
+ghost use Rattle.pip_search.specs.Keys.{IsAtHand, Keyed, key_of, visits_of};
 ghost use Rattle.pip_search.specs.Summary.{HasOneKey};
 ghost use Rattle.pip_search.specs.Systems.{IsKey};
 ghost use Rattle.pip_search.specs.Ways.{way_to};
-ghost use Rattle.pip_search.specs.declared.visits.Visit.{Visit};
 
 use crate::graph::spread;
 use crate::hashes::hash_bytes;
 use crate::index::Index;
-use crate::names::{find, is_same};
+use crate::names::{Names, find, is_same};
 use crate::packing::{pack, unpack};
 use crate::searching::{Buffers, Search};
 use crate::system::System;
@@ -36,8 +35,8 @@ fn look<S: System>(
     requires place { i < length search.now.visits.items }
     requires few { length search.now.visits.items ≤ 2 ^ 32 }
     requires choice { choice < (S.model (S.base system.old)).choices }
-    requires hand { IsAtHand search.now.visits.items i buffers.old.from.items }
-    ensures edge { IfOk result (λ r. IsEdge (S.model (S.base system.old)) search.now.visits.items
+    requires hand { IsAtHand (visits_of search.now) i buffers.old.from.items }
+    ensures edge { IfOk result (λ r. IsEdge (S.model (S.base system.old)) (visits_of search.now)
         buffers.old.from.items choice r.0) }
     ensures shows { IfOk result (λ r. IsTrue r.1
         → ShowsAt (S.model (S.base system.old)) buffers.old.from.items choice label.now) }
@@ -56,7 +55,7 @@ fn look<S: System>(
     )?;
     pack(&buffers.to, &mut buffers.bytes)?;
     let hash = hash_bytes(&buffers.bytes);
-    match find(&search.visits, &search.keys, &buffers.bytes, hash) {
+    match find(&search.store, &search.keys, &buffers.bytes, hash) {
         Some(to) => Ok((to as u32, is_same(&buffers.shown, label))),
         None => unreachable!(),
     }
@@ -81,17 +80,17 @@ fn look_around<S: System>(
     requires few { length search.now.visits.items ≤ 2 ^ 32 }
     requires width { width ≤ (S.model (S.base system.old)).choices }
     requires filed { IsFiled edges.old }
-    requires edges { AreEdges (S.model (S.base system.old)) search.now.visits.items width edges.old.hashes.items }
+    requires edges { AreEdges (S.model (S.base system.old)) (visits_of search.now) width edges.old.hashes.items }
     requires count { length edges.old.hashes.items ≡ i * width }
-    ensures flag { IfOk result (λ shows. (u : Visit) → slice_get search.now.visits.items i ≡ Some u
+    ensures flag { IfOk result (λ shows. (u : Keyed) → slice_get (visits_of search.now) i ≡ Some u
         → IsShownAmong (S.model (S.base system.old)) (key_of u) label.now width shows) }
     ensures filed { IfOk result (λ _. IsFiled edges.new) }
-    ensures edges { IfOk result (λ _. AreEdges (S.model (S.base system.old)) search.now.visits.items width
+    ensures edges { IfOk result (λ _. AreEdges (S.model (S.base system.old)) (visits_of search.now) width
         edges.new.hashes.items) }
     ensures count { IfOk result (λ _. length edges.new.hashes.items ≡ (i + 1) * width) }
     ensures base { S.base system.new ≡ S.base system.old }
 {
-    unpack(&search.visits[i].key, &mut buffers.from)?;
+    unpack(search.store.name_at(i), &mut buffers.from)?;
     let mut shows = false;
     for choice in 0..width {
         let (to, shown) = look(search, system, start, buffers, label, i, choice)?;
@@ -118,9 +117,9 @@ fn look_everywhere<S: System>(
     requires few { length search.now.visits.items ≤ 2 ^ 32 }
     requires width { width ≤ (S.model (S.base system.old)).choices }
     ensures filed { IfOk result (λ r. IsFiled r.0) }
-    ensures edges { IfOk result (λ r. AreEdges (S.model (S.base system.old)) search.now.visits.items width
+    ensures edges { IfOk result (λ r. AreEdges (S.model (S.base system.old)) (visits_of search.now) width
         r.0.hashes.items) }
-    ensures flags { IfOk result (λ r. AreFlags (S.model (S.base system.old)) search.now.visits.items label.now width
+    ensures flags { IfOk result (λ r. AreFlags (S.model (S.base system.old)) (visits_of search.now) label.now width
         r.1.items) }
     ensures count { IfOk result (λ r. length r.0.hashes.items ≡ length search.now.visits.items * width) }
     ensures places { IfOk result (λ r. length r.1.items ≡ length search.now.visits.items) }

@@ -6,8 +6,8 @@ ghost use Rattle.pip_search.specs.Naming.{AreNamed};
 
 use crate::hashes::hash_bytes;
 use crate::index::Index;
-use crate::names::{Named, find};
-use crate::visits::{MadeChoice, kept};
+use crate::names::{Names, find, kept};
+use crate::visits::MadeChoice;
 use std::alloc::{AllocError, Global};
 
 /// A label, and where it was found first: the visit from which the choice was made, and how many choices that took,
@@ -20,11 +20,13 @@ pub struct Found {
     pub depth: u32,
 }
 
-impl Named for Found {
-    ghost name_of = { λ f. f.label.items };
+impl Names for Vec<Found> {
+    ghost names_of = { λ fs. labels fs.items };
 
-    fn name(&self) -> &[u8] {
-        &self.label
+    ghost can_name = { λ fs. Unit {0} };
+
+    fn name_at(&self, place: usize) -> &[u8] {
+        &self[place].label
     }
 }
 

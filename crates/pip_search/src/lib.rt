@@ -6,9 +6,9 @@
 //! and [`runs`] gives the runs of equal choices on the way to each label that it found. What an answer says about a
 //! state is `IsTold` of specs/Summary: a way is a list of choices, the last one first, and comes before another by
 //! `IsBefore` of specs/Orders. This requires that no state has two keys; without that, `Tells` (specs/Reached) explains
-//! what was found, and `Ends` (specs/Ending) why the search ended. A visit keeps its key as bytes, one to five a word
-//! (specs/Packing). Keys and labels are found by their hashes (specs/Filing); it is proved that the table has none
-//! twice, whatever the hash is.
+//! what was found, and `Ends` (specs/Ending) why the search ended. Keys are kept as bytes, one to five a word
+//! (specs/Packing), one key after another (specs/Storing). Keys and labels are found by their hashes (specs/Filing); it
+//! is proved that the table has none twice, whatever the hash is.
 //!
 //! Of a search that closed [`come_again`] says whether a label can come again wherever choices lead, by some of the
 //! choices alone (`CanComeAgain` of specs/Again), or after which state it can't. It spreads marks against the choices,
@@ -26,6 +26,7 @@ mod found;
 mod graph;
 mod hashes;
 mod index;
+mod key_store;
 mod laws;
 mod merging;
 mod names;

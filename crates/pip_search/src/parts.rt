@@ -1,6 +1,6 @@
 //! Parts of certificates: states whose choices are made by themselves.
 ghost use Rattle.std.specs.Prelude.{◌≡◌, ℕ, List, ◌<◌, ◌≤◌, ◌+◌, ◌-◌, ◌^◌, ◌∷◌, ◌++◌, ◌⊎◌, [], false};
-ghost use Rattle.std.specs.Prelude.{IfOk, IsTrue, Some, length, slice_get, vec_len};
+ghost use Rattle.std.specs.Prelude.{All, IfOk, IsSome, IsTrue, Some, length, slice_get, vec_len};
 ghost use Rattle.pip_search.specs.Certificates.{HasStop, IsClosedPart, IsReachedPart, Stop};
 ghost use Rattle.pip_search.specs.Naming.{AreNamed};
 ghost use Rattle.pip_search.specs.Packing.{packed_key, unpacked_key};
@@ -11,12 +11,12 @@ ghost use Rattle.pip_search.specs.declared.parts.Part.{Part};
 
 use crate::found::{Found, tell};
 use crate::index::Index;
-use crate::names::is_same;
+use crate::names::{is_same, kept};
 use crate::packing::{pack, unpack};
 use crate::searching::Buffers;
 use crate::stops::Reached;
 use crate::system::System;
-use crate::visits::{MadeChoice, kept};
+use crate::visits::MadeChoice;
 use std::alloc::{AllocError, Global};
 
 /// A part whose choices were made: its keys, the keys that it asks of other parts, and the labels that it shows, each
@@ -198,6 +198,7 @@ fn walk<S: System>(
     ensures reached { IfOk result (λ can. IsTrue can → IsReachedFrom (S.model (S.base system.old)) start.now
         (stop_at buffers.new.from.items (length way.now))) }
     ensures stays { IfOk result (λ _. way.now ≡ [] → buffers.new.from.items ≡ start.now) }
+    ensures can { IfOk result (λ can. All (λ c. c < (S.model (S.base system.old)).choices) way.now → IsTrue can) }
     ensures base { S.base system.new ≡ S.base system.old }
 {
     buffers.from.clear();
@@ -242,8 +243,8 @@ fn first_part(alloc: Global, buffers: &mut Buffers, depth: u32) -> Result<Part, 
 /// Checks a part. Its first key is the one to which a way leads from the first state. All choices are made at each key
 /// of the part, in their order; for each of these there is a mark, which isn't 0 where the next key is to be one of the
 /// part, after those that it has, and is 0 where the part asks it of others. Where there are no more marks it asks.
-/// `None` where the way has a choice that can't be made. The only error is that memory is out, as for keys to which
-/// 2^32 choices lead.
+/// `None` only where the way has a choice that can't be made. The only error is that memory is out, as for keys to
+/// which 2^32 choices lead.
 pub fn check_part<S: System>(
     system: &mut S,
     alloc: Global,
@@ -254,6 +255,7 @@ pub fn check_part<S: System>(
     requires key { IsKey (S.model (S.base system.old)) start.now }
     requires way { length way.now < 2 ^ 32 }
     requires marks { length marks.now < 2 ^ 32 - 1 }
+    ensures can { IfOk result (λ r. All (λ c. c < (S.model (S.base system.old)).choices) way.now → IsSome r) }
     ensures closed { IfOk result (λ r. (p : Part) → r ≡ Some p
         → IsClosedPart (S.model (S.base system.old)) (portion_of p)) }
     ensures reached { IfOk result (λ r. (p : Part) (s : (S.model (S.base system.old)).State) → r ≡ Some p

@@ -3,7 +3,7 @@ ghost use Rattle.std.specs.Prelude.{◌≡◌, ◌<◌, ◌≤◌, ◌+◌, ℕ,
 ghost use Rattle.pip_search.specs.Again.{HasClosed};
 ghost use Rattle.pip_search.specs.Began.{HasBegun};
 ghost use Rattle.pip_search.specs.Ending.{Ends, IsBeyond};
-ghost use Rattle.pip_search.specs.Keys.{AreKept, IsAtHand, key_bytes, keys, labels};
+ghost use Rattle.pip_search.specs.Keys.{AreKept, HaveKeys, IsAtHand, keys, labels, steps_of, visits_of};
 ghost use Rattle.pip_search.specs.Naming.{AreDistinct, AreNamed};
 ghost use Rattle.pip_search.specs.Reached.{Explains};
 ghost use Rattle.pip_search.specs.Searching.{IsSearching};
@@ -15,9 +15,11 @@ ghost use Rattle.pip_search.specs.declared.searching.Extent.TheVariants.{Closed}
 use crate::found::{Found, tell};
 use crate::hashes::hash_bytes;
 use crate::index::Index;
+use crate::key_store::KeyStore;
+use crate::names::Names;
 use crate::packing::{pack, unpack};
 use crate::system::System;
-use crate::visits::{MadeChoice, Visit, kept, reach, run_from};
+use crate::visits::{MadeChoice, Visit, reach, run_from};
 use std::alloc::{AllocError, Global};
 
 /// How far a search came.
@@ -49,6 +51,8 @@ impl Extent {
 pub struct Search {
     pub visits: Vec<Visit>,
     pub found: Vec<Found>,
+    // Per visit: its key.
+    pub(crate) store: KeyStore,
     pub(crate) keys: Index,
     pub(crate) labels: Index,
 }
@@ -77,18 +81,18 @@ impl Buffers {
 
 // A search that has visited the first state.
 fn begin(alloc: Global, start: &[u32], buffers: &mut Buffers) -> Result<Search, AllocError>
-    ensures begun { IfOk result (λ s. HasBegun start.now s.visits.items s.found.items) }
-    ensures keys { IfOk result (λ s. AreNamed (key_bytes s.visits.items) s.keys) }
+    ensures begun { IfOk result (λ s. HasBegun start.now (visits_of s) s.found.items) }
+    ensures keys { IfOk result (λ s. HaveKeys s.visits.items s.store s.keys) }
     ensures labels { IfOk result (λ s. AreNamed (labels s.found.items) s.labels) }
-    ensures kept { IfOk result (λ s. AreKept s.visits.items) }
+    ensures kept { IfOk result (λ s. AreKept (visits_of s)) }
 {
     pack(start, &mut buffers.bytes)?;
-    let key = kept(alloc, &buffers.bytes)?;
+    let mut store = KeyStore::new(alloc);
+    store.push(&buffers.bytes)?;
     let mut keys = Index::new(alloc)?;
-    keys.add(alloc, hash_bytes(&key))?;
+    keys.add(alloc, hash_bytes(&buffers.bytes))?;
     let mut visits = Vec::new(alloc);
     visits.push(Visit {
-        key,
         parent: 0,
         choice: 0,
         depth: 0,
@@ -99,6 +103,7 @@ fn begin(alloc: Global, start: &[u32], buffers: &mut Buffers) -> Result<Search, 
     Ok(Search {
         visits,
         found,
+        store,
         keys,
         labels,
     })
@@ -120,14 +125,14 @@ fn make<S: System>(
     requires place { i < vec_len search.old.visits }
     requires room { vec_len search.old.visits ≤ limit }
     requires searching { IsSearching (S.model (S.base system.old)) start.now search.old i choice }
-    requires hand { IsAtHand search.old.visits.items i buffers.old.from.items }
+    requires hand { IsAtHand (visits_of search.old) i buffers.old.from.items }
     ensures made { IfOk result (λ room. IsTrue room
         → IsSearching (S.model (S.base system.old)) start.now search.new i (choice + 1)) }
     ensures left { IfOk result (λ room. room ≡ false
         → IsSearching (S.model (S.base system.old)) start.now search.new i choice) }
     ensures beyond { IfOk result (λ room. room ≡ false
-        → IsBeyond (S.model (S.base system.old)) search.new.visits.items limit i) }
-    ensures same { IfOk result (λ x. slice_get search.new.visits.items i ≡ slice_get search.old.visits.items i) }
+        → IsBeyond (S.model (S.base system.old)) (visits_of search.new) limit i) }
+    ensures same { IfOk result (λ x. slice_get (visits_of search.new) i ≡ slice_get (visits_of search.old) i) }
     ensures hand { buffers.new.from.items ≡ buffers.old.from.items }
     ensures grows { vec_len search.old.visits ≤ vec_len search.new.visits }
     ensures room { IfOk result (λ x. vec_len search.new.visits ≤ limit) }
@@ -151,6 +156,7 @@ fn make<S: System>(
     };
     let room = reach(
         &mut search.visits,
+        &mut search.store,
         &mut search.keys,
         alloc,
         &buffers.bytes,
@@ -189,12 +195,12 @@ fn expand<S: System>(
     ensures left { IfOk result (λ room. room ≡ false
         → ((c : ℕ) × IsSearching (S.model (S.base system.old)) start.now search.new i c)) }
     ensures beyond { IfOk result (λ room. room ≡ false
-        → IsBeyond (S.model (S.base system.old)) search.new.visits.items limit i) }
-    ensures same { IfOk result (λ x. slice_get search.new.visits.items i ≡ slice_get search.old.visits.items i) }
+        → IsBeyond (S.model (S.base system.old)) (visits_of search.new) limit i) }
+    ensures same { IfOk result (λ x. slice_get (visits_of search.new) i ≡ slice_get (visits_of search.old) i) }
     ensures room { IfOk result (λ x. vec_len search.new.visits ≤ limit) }
     ensures base { S.base system.new ≡ S.base system.old }
 {
-    unpack(&search.visits[i as usize].key, &mut buffers.from)?;
+    unpack(search.store.name_at(i as usize), &mut buffers.from)?;
     let count = system.count();
     for choice in 0..count {
         let room = make(search, system, alloc, start, buffers, i, choice, limit)?;
@@ -220,11 +226,12 @@ pub fn explore<S: System>(
         → (x : (S.model (S.base system.old)).State) → (S.model (S.base system.old)).stands start.now x
         → IsTold (S.model (S.base system.old)) x most limit (witnesses_of r.1 r.0.visits.items r.0.found.items)
         (length r.0.visits.items) r.1) }
-    ensures explains { IfOk result (λ r. Explains (S.model (S.base system.old)) start.now r.0.visits.items
+    ensures keyed { IfOk result (λ r. steps_of (visits_of r.0) ≡ r.0.visits.items) }
+    ensures explains { IfOk result (λ r. Explains (S.model (S.base system.old)) start.now (visits_of r.0)
         r.0.found.items r.1) }
-    ensures ends { IfOk result (λ r. Ends (S.model (S.base system.old)) r.0.visits.items most limit r.1) }
+    ensures ends { IfOk result (λ r. Ends (S.model (S.base system.old)) (visits_of r.0) most limit r.1) }
     ensures room { IfOk result (λ r. vec_len r.0.visits ≤ limit) }
-    ensures distinct { IfOk result (λ r. AreDistinct (keys r.0.visits.items)) }
+    ensures distinct { IfOk result (λ r. AreDistinct (keys (visits_of r.0))) }
     ensures labels { IfOk result (λ r. AreDistinct (labels r.0.found.items)) }
     ensures traced { IfOk result (λ r. AreTraced r.0.visits.items r.0.found.items) }
     ensures closed { IfOk result (λ r. (depth : ℕ) → r.1 ≡ Closed depth

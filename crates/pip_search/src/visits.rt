@@ -2,32 +2,24 @@
 ghost use Rattle.std.specs.Prelude.{◌≡◌, ◌≤◌, IfOk, IsTrue, false, vec_len};
 ghost use Rattle.pip_search.specs.Growing.{Grew, IsFull};
 ghost use Rattle.pip_search.specs.Exploring.{StartsRun};
-ghost use Rattle.pip_search.specs.Keys.{key_bytes};
-ghost use Rattle.pip_search.specs.Naming.{AreNamed};
+ghost use Rattle.pip_search.specs.Keys.{HaveKeys, keyed_visits};
+ghost use Rattle.pip_search.specs.Storing.{listed};
 
 use crate::hashes::hash_bytes;
 use crate::index::Index;
-use crate::names::{Named, find};
+use crate::key_store::KeyStore;
+use crate::names::find;
 use std::alloc::{AllocError, Global};
 
-/// A state that was visited: its key as bytes, the visit from which it was found first and by which choice, and how
-/// many choices lead there from the first state, 0 for that one.
+/// A state that was visited: the visit from which it was found first and by which choice, and how many choices lead
+/// there from the first state, 0 for that one.
 #[derive(Drop)]
 pub struct Visit {
-    pub(crate) key: Vec<u8>,
     pub parent: u32,
     pub choice: u32,
     pub depth: u32,
     /// The visit before the run of equal choices that ends with this one.
     pub run: u32,
-}
-
-impl Named for Visit {
-    ghost name_of = { λ v. v.key.items };
-
-    fn name(&self) -> &[u8] {
-        &self.key
-    }
 }
 
 /// A choice that is made: from which visit, how many choices lead to its end, and the visit before the run of equal
@@ -51,43 +43,36 @@ pub(crate) fn run_from(from: &Visit, at: u32, choice: u32) -> u32
     }
 }
 
-/// A copy of bytes, with no room for more. The only error is that memory is out.
-pub(crate) fn kept(alloc: Global, bytes: &[u8]) -> Result<Vec<u8>, AllocError>
-    ensures { IfOk result (λ v. v.items ≡ bytes.now) }
-{
-    let mut own = Vec::with_capacity(alloc, bytes.len())?;
-    own.extend_from_slice(bytes)?;
-    Ok(own)
-}
-
 /// Adds a visit, unless its key was visited. False if there would be more than `limit`; then nothing is added.
 pub(crate) fn reach(
     visits: &mut Vec<Visit>,
+    store: &mut KeyStore,
     index: &mut Index,
     alloc: Global,
     key: &[u8],
     step: MadeChoice,
     limit: u32,
 ) -> Result<bool, AllocError>
-    requires named { AreNamed (key_bytes visits.old.items) index.old }
-    ensures named { IfOk result (λ x. AreNamed (key_bytes visits.new.items) index.new) }
-    ensures grew { IfOk result (λ room. IsTrue room → Grew visits.old.items visits.new.items key.now step.at step.choice
-        step.depth step.run) }
-    ensures stays { IfOk result (λ room. room ≡ false → visits.new.items ≡ visits.old.items) }
-    ensures full { IfOk result (λ room. room ≡ false → IsFull visits.old.items key.now limit) }
+    requires keyed { HaveKeys visits.old.items store.old index.old }
+    ensures keyed { IfOk result (λ x. HaveKeys visits.new.items store.new index.new) }
+    ensures grew { IfOk result (λ room. IsTrue room → Grew (keyed_visits (listed store.old) visits.old.items)
+        (keyed_visits (listed store.new) visits.new.items) key.now step.at step.choice step.depth step.run) }
+    ensures stays { IfOk result (λ room. room ≡ false → keyed_visits (listed store.new) visits.new.items
+        ≡ keyed_visits (listed store.old) visits.old.items) }
+    ensures full { IfOk result (λ room. room ≡ false → IsFull (keyed_visits (listed store.old) visits.old.items) key.now
+        limit) }
     ensures grows { vec_len visits.old ≤ vec_len visits.new }
     ensures room { IfOk result (λ x. vec_len visits.old ≤ limit → vec_len visits.new ≤ limit) }
 {
     let hash = hash_bytes(key);
-    if find(visits, index, key, hash).is_some() {
+    if find(store, index, key, hash).is_some() {
         return Ok(true);
     }
     if visits.len() >= limit as usize {
         return Ok(false);
     }
-    let key = kept(alloc, key)?;
+    store.push(key)?;
     visits.push(Visit {
-        key,
         parent: step.at,
         choice: step.choice,
         depth: step.depth,

@@ -1,10 +1,8 @@
 -- The lines of `every` are those of runs: a turn's line at another step differs in the step alone.
-use Rattle.std.proofs.Common.{◌≡◌, ◌≢◌, ℕ, ◌+◌, ◌-◌, List, [], ◌∷◌, ◌++◌, length, take, inl, inr, Option, None, Some}
-use Rattle.std.proofs.Common.{refl, sym, ap, ◌∙◌, subst, arith, append-nil, append_assoc, length-append, decimal}
+use Rattle.std.proofs.Common.{◌≡◌, ◌≢◌, ℕ, List, [], ◌∷◌, ◌++◌, inl, inr, Option, None, Some}
+use Rattle.std.proofs.Common.{refl, sym, ap, ◌∙◌, subst, arith, append-nil, append_assoc, decimal}
 use Rattle.std.specs.Prelude.{codes}
-use Rattle.std.proofs.Math.Seq.{take-length}
 use Rattle.std.proofs.lemmas.Fmt.{decimal_digit}
-use Rattle.std.proofs.lemmas.List.{take-append-le}
 use Rattle.pip_base.specs.Status.{status_number}
 use Rattle.pip_base.specs.declared.types.Ctx.{Ctx}
 use Rattle.pip_base.specs.declared.outcome.Outcome.{Outcome}
@@ -20,15 +18,9 @@ use Rattle.pip_model.specs.Worlds.{World, runs_on}
 use Rattle.pip_model.specs.declared.effect.Effect.{Effect}
 use Rattle.pip_model.specs.declared.effect.Effect.TheVariants as F
 use Rattle.pip_model.specs.declared.processors.Occupant.{Occupant}
+use Rattle.pip_ways.proofs.LabelLines.{inner_of}
 use Rattle.pip_ways.specs.Texts.{inner}
 use Rattle.pip_searches.specs.EveryLaw.{IsLineAt, LinesAreOfRuns}
-
-inner_of : (x y : ℕ) (body : List ℕ) → inner (x ∷ (body ++ y ∷ [])) ≡ body
-inner_of x y body =
-    let long : length (body ++ y ∷ []) ≡ length body + 1 = length-append body (y ∷ []) in
-    let count : length (x ∷ (body ++ y ∷ [])) - 2 ≡ length body = omega (arith, long) in
-    ap (λ n. take n (body ++ y ∷ [])) count
-    ∙ (take-append-le (length body) body (y ∷ []) (omega arith) ∙ take-length body)
 
 at_step : (t : ℕ) (rest : List ℕ) → IsLineAt t (decimal 0 ++ (rest ++ 10 ∷ [])) (decimal t ++ (rest ++ 10 ∷ []))
 at_step t rest =

@@ -26,7 +26,8 @@ use Rattle.pip_searches.specs.declared.start.Start.{Start}
 use Rattle.pip_ways.specs.Texts.{spaced_run}
 use Rattle.pip_due.specs.EndsBy.{Response, plainly}
 use Rattle.pip_searches.specs.EveryLaw.{SearchesSayOnce}
-use Rattle.pip_searches.specs.EveryText.{against_text, every_text, lines_planned, again_text, said_words}
+use Rattle.pip_due.specs.Planned.{lines_planned}
+use Rattle.pip_searches.specs.EveryText.{against_text, every_text, again_text, said_words}
 use Rattle.pip_searches.specs.MenuText.{MenuSaid, no_menu}
 
 -- one memory boots with these words

@@ -40,7 +40,7 @@ use Rattle.pip_searches.specs.declared.start.Start.{Start}
 use Rattle.pip_searches.specs.RunLaw.{AreChosen, AreLinesOf, ArePlansFrom, CanComeBy, ClosedNamesRuns}
 use Rattle.pip_searches.specs.RunLaw.{CoveredNamesRuns, IsNamedBy, IsQuietIn, RunsAreChoices, TracesGoOn}
 use Rattle.pip_searches.specs.RunLaw.{acts_chosen, choices_in, lines_raised, steps_from}
-use Rattle.pip_searches.specs.EveryText.{lines_planned}
+use Rattle.pip_due.specs.Planned.{lines_planned}
 use Rattle.pip_due.proofs.Accepted.{accepted}
 use Rattle.pip_searches.proofs.EveryLines.{lines_are_of_runs}
 use Rattle.pip_searches.proofs.EveryOnce.{told_every}

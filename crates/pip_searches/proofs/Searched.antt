@@ -1,9 +1,7 @@
 -- What a search of an image comes to.
-use Rattle.std.proofs.Common.{◌≡◌, ◌≢◌, ℕ, ◌<◌, Option, None, List, [], ◌∷◌, ◌++◌, length}
+use Rattle.std.proofs.Common.{◌≡◌, ◌≢◌, ℕ, Option, None, List, [], ◌++◌, length}
 use Rattle.std.proofs.Common.{ap, ◌∙◌, subst, Ok, Err}
 use Rattle.std.specs.Prelude.{MatchResult, Result, IsErr, OnErr}
-use Rattle.std.specs.List.{All, AllByRecursion}
-use Rattle.std.proofs.lemmas.List.Elements.{All-cons, All-nil}
 use Rattle.pip_base.specs.Memory.{Memory}
 use Rattle.pip_base.specs.declared.types.Plan.{Plan}
 use Rattle.pip_every.specs.Again.{AreSaid}
@@ -18,7 +16,8 @@ use Rattle.pip_search.specs.Summary.{IsTold, Witness}
 use Rattle.pip_search.specs.Ways.{witnesses_of}
 use Rattle.pip_ways.specs.Texts.{search_text}
 use Rattle.pip_due.specs.EndsBy.{plainly}
-use Rattle.pip_searches.specs.EveryText.{again_text, against_text, every_text, lines_planned}
+use Rattle.pip_due.specs.Planned.{lines_planned}
+use Rattle.pip_searches.specs.EveryText.{again_text, against_text, every_text}
 use Rattle.pip_searches.specs.MenuText.{MenuSaid}
 use Rattle.pip_searches.specs.SearchDues.{IsSearchedAgainst}
 use Rattle.pip_searches.specs.SearchDues.{most_choices}
@@ -26,15 +25,6 @@ use Rattle.pip_due.specs.Loading.{BeginsFrames}
 use Rattle.pip_searches.specs.Searches.{IsToldFrom, told_text, world_after}
 use Rattle.pip_searches.specs.declared.start.Start.{Start}
 use Rattle.pip_searches.specs.declared.commands.every.searching.Told.{Told}
-
--- ---- lines and choices
-
--- the lines of plans are below 16 where those of the plans are
-pub lines_below : (plans : List Plan) → AllByRecursion (λ p. p.line < 16) plans
-    → All (λ line. line < 16) (lines_planned plans)
-lines_below [] all = All-nil (λ line. line < 16)
-lines_below (p ∷ plans) all =
-    All-cons (λ line. line < 16) p.line (lines_planned plans) all.0 (lines_below plans all.1)
 
 -- ---- how it is written
 

@@ -13,7 +13,7 @@ use Rattle.pip_model.specs.Worlds.{IsSoundWorld, World, runs_on}
 use Rattle.pip_model.specs.declared.processors.Occupant.{Occupant}
 use Rattle.pip_search.specs.declared.searching.Extent.TheVariants.{Closed}
 use Rattle.pip_due.specs.EndsBy.{Response}
-use Rattle.pip_searches.specs.EveryText.{lines_planned}
+use Rattle.pip_due.specs.Planned.{lines_planned}
 use Rattle.pip_searches.specs.MenuText.{MenuSaid}
 use Rattle.pip_searches.specs.RunLaw.{AreLinesOf, ArePlansFrom, IsNamedBy, steps_from}
 use Rattle.pip_searches.specs.SearchDues.{IsSearchedAgainst, begun_world, image_menu}

@@ -2,7 +2,7 @@
 use Rattle.std.specs.Prelude.{ℕ, List, ◌++◌, length, map, flat_map, codes}
 use Rattle.std.specs.List.{zip}
 use Rattle.arrayvec.specs.ArrayVec.{ArrayVec}
-use Rattle.pip_base.specs.declared.types.Plan.{Plan}
+use Rattle.pip_due.specs.Planned.{lines_planned}
 use Rattle.pip_every.specs.declared.again.Again.{Again}
 use Rattle.pip_every.specs.declared.again.Again.TheVariants.{Can, Lost, Unknown}
 use Rattle.pip_model.specs.Images.{Image}
@@ -10,10 +10,6 @@ use Rattle.pip_model.specs.Run.{trace_image_line}
 use Rattle.pip_search.specs.Summary.{Witness}
 use Rattle.pip_search.specs.declared.searching.Extent.{Extent}
 use Rattle.pip_ways.specs.Texts.{search_text, spaced_run}
-
--- the interrupt lines of plans
-abbrev pub lines_planned : List Plan → List ℕ
-lines_planned plans = map (λ p. p.line) plans
 
 -- the first line of a trace, then a line for each label that can come, with its way, then how the search ended
 abbrev pub every_text : Image → List Witness → ℕ → Extent → List ℕ

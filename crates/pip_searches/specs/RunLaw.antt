@@ -24,7 +24,7 @@ use Rattle.pip_searches.specs.MenuText.{no_menu}
 use Rattle.pip_searches.specs.SearchDues.{IsSearchedAgainst, begun_moment, begun_world, image_scope}
 use Rattle.pip_due.specs.EndsBy.{Response}
 use Rattle.pip_searches.specs.EveryLaw.{IsLineAt}
-use Rattle.pip_searches.specs.EveryText.{lines_planned}
+use Rattle.pip_due.specs.Planned.{lines_planned}
 use Rattle.pip_searches.specs.declared.start.Start.{Start}
 
 -- ---- acts as choices

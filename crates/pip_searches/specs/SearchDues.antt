@@ -18,7 +18,8 @@ use Rattle.pip_search.specs.Summary.{IsTold, Witness}
 use Rattle.pip_search.specs.declared.searching.Extent.{Extent}
 use Rattle.pip_searches.specs.ApartText.{apart_text}
 use Rattle.pip_due.specs.EndsBy.{Due, Response, plainly}
-use Rattle.pip_searches.specs.EveryText.{against_text, lines_planned}
+use Rattle.pip_due.specs.Planned.{lines_planned}
+use Rattle.pip_searches.specs.EveryText.{against_text}
 use Rattle.pip_searches.specs.MenuReading.{BeginsMenu}
 use Rattle.pip_searches.specs.MenuText.{MenuSaid, bad_menu_line, menu_of, no_menu}
 use Rattle.pip_searches.specs.declared.commands.against.menu.MenuFault.{MenuFault}

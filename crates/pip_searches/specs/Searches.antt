@@ -21,7 +21,8 @@ use Rattle.pip_ways.specs.Texts.{search_text}
 use Rattle.pip_ways.specs.Told.{runs_to}
 use Rattle.pip_searches.specs.SearchDues.{most_choices}
 use Rattle.pip_due.specs.EndsBy.{Response, plainly}
-use Rattle.pip_searches.specs.EveryText.{again_text, label_bytes, lines_planned}
+use Rattle.pip_due.specs.Planned.{lines_planned}
+use Rattle.pip_searches.specs.EveryText.{again_text, label_bytes}
 use Rattle.pip_searches.specs.MenuText.{MenuSaid}
 use Rattle.pip_due.specs.Streams.{EndsLine}
 use Rattle.pip_searches.specs.declared.start.Start.{Start}

@@ -1,3 +1,4 @@
+use crate::compare::same;
 use pip_certificates::merge;
 use pip_io::{MemSink, MemSource};
 use std::process::Abort;
@@ -53,17 +54,29 @@ static ROWS: [(&str, u8, &str); 14] = [
     ),
 ];
 
+// Merges the lines of all parts, where a read fails, 0 for none, into a sink of that many bytes, and compares the
+// status and what is written.
+fn check(
+    rt: &(impl Abort + AllocGlobal),
+    lines: &[u8],
+    failing: u32,
+    room: u32,
+    status: u8,
+    text: &[u8],
+) -> Result<(), Fail> {
+    let reads = [failing];
+    let mut source = MemSource::new(lines, &reads);
+    let mut sink = MemSink::new(rt.alloc(), room, &[])?;
+    let ended = merge(rt.alloc(), &mut source, &mut sink);
+    same(rt, ended.status, status, "the status");
+    same(rt, sink.bytes(), text, "the text");
+    Ok(())
+}
+
 #[test]
 fn lines_say_what_they_say_together(rt: HostRuntime) -> Result<(), Fail> {
-    for (lines, status, text) in ROWS {
-        let mut sink = MemSink::new(rt.alloc(), 4096, &[])?;
-        let ended = merge(
-            rt.alloc(),
-            &mut MemSource::new(lines.as_bytes(), &[]),
-            &mut sink,
-        );
-        assert_eq!(rt; ended.status, status, "of {lines}");
-        assert_eq!(rt; sink.bytes(), text.as_bytes(), "of {lines}");
+    for (lines, status, text) in &ROWS {
+        check(&rt, lines.as_bytes(), 0, 4096, *status, text.as_bytes())?;
     }
     Ok(())
 }
@@ -83,23 +96,17 @@ fn long_line(rt: &(impl Abort + AllocGlobal), kind: &[u8]) -> Result<Vec<u8>, Fa
 fn a_line_may_be_long(rt: HostRuntime) -> Result<(), Fail> {
     let mut lines = long_line(&rt, b" +")?;
     lines.extend_from_slice(b"part x 00000000 00000001 00000000\n")?;
-    let mut sink = MemSink::new(rt.alloc(), 64, &[])?;
-    let ended = merge(rt.alloc(), &mut MemSource::new(&lines, &[]), &mut sink);
-    assert_eq!(rt; ended.status, 0);
-    assert_eq!(rt; sink.bytes(), b"states 1 depth 0 closed\n".as_slice());
+    check(&rt, &lines, 0, 64, 0, b"states 1 depth 0 closed\n")
+}
 
+#[test]
+fn a_long_line_may_be_open(rt: HostRuntime) -> Result<(), Fail> {
     // Asked by none that has it; then in the way of a read that fails, and of a write.
     let asked = long_line(&rt, b" ?")?;
-    let mut sink = MemSink::new(rt.alloc(), 65536, &[])?;
-    let ended = merge(rt.alloc(), &mut MemSource::new(&asked, &[]), &mut sink);
-    assert_eq!(rt; ended.status, 9);
-    assert_eq!(rt; sink.bytes().len(), asked.len() + 5);
-    let ended = merge(rt.alloc(), &mut MemSource::new(&asked, &[3]), &mut sink);
-    assert_eq!(rt; ended.status, 3);
-    assert_eq!(rt; sink.bytes().len(), asked.len() + 5);
-    let mut sink = MemSink::new(rt.alloc(), 100, &[])?;
-    let ended = merge(rt.alloc(), &mut MemSource::new(&asked, &[]), &mut sink);
-    assert_eq!(rt; ended.status, 4);
-    assert_eq!(rt; sink.bytes(), b"open ".as_slice());
-    Ok(())
+    let mut open = Vec::new(rt.alloc());
+    open.extend_from_slice(b"open ")?;
+    open.extend_from_slice(&asked)?;
+    check(&rt, &asked, 0, 65536, 9, &open)?;
+    check(&rt, &asked, 3, 65536, 3, b"")?;
+    check(&rt, &asked, 0, 100, 4, b"open ")
 }

@@ -1,3 +1,4 @@
+use crate::compare::{holds, same};
 use pip_certificates::part;
 use pip_commands::asm;
 use pip_io::{MemSink, MemSource};
@@ -35,9 +36,9 @@ fn check(
     let mut source = MemSource::new(input.as_slice(), &[]);
     let mut sink = MemSink::new(rt.alloc(), 16384, &[])?;
     let ended = part(rt.alloc(), from, &mut source, &mut sink);
-    assert_eq!(rt; sink.bytes(), lines.as_bytes());
-    assert_eq!(rt; ended.status, status, "of {lines}");
-    assert!(rt; ended.machine.is_none());
+    same(rt, sink.bytes(), lines.as_bytes(), lines);
+    same(rt, ended.status, status, lines);
+    holds(rt, ended.machine.is_none(), lines);
     Ok(())
 }
 
@@ -82,39 +83,41 @@ part 16 2 1 1 0 e16815c9de6d4b93 00000000 00000001 00000002
     check(&rt, text, 0, 0, lines)
 }
 
+static FAULTS: [(&[u8], &str); 11] = [
+    (b"\0\0\0", "bad part short 4139\n"),
+    (
+        b"\x01\0\0\0\0\0\0\0\0\x04\0\0\0\0\0\0",
+        "bad part base 4140\n",
+    ),
+    (
+        b"\x01\0\0\0\x10\0\0\0\0\0\0\0\0\0\0\0",
+        "bad part base 4140\n",
+    ),
+    (b"\x01\0\0\0\0\0\0\0\0\0\0\0\0\0", "bad part short 4150\n"),
+    (b"\0\0\0\0\x01\0\0\0\0\0\0\0\0\0\0\0", "bad part way 4144\n"),
+    (
+        b"\0\0\0\0\x01\0\0\0\x03\0\0\0\x01\0\0\0",
+        "bad part way 4144\n",
+    ),
+    (
+        b"\0\0\0\0\x02\0\0\0\x01\0\0\0\x01\0\0\0\x01\0\0\0\x01\0\0\0",
+        "bad part way 4152\n",
+    ),
+    (b"\0\0\0\0\0\0\0\0\xff\xff\xff\xff", "bad part marks 4144\n"),
+    (b"\0\0\0\0\0\0\0\0\x09\0\0\0\xff", "bad part short 4149\n"),
+    (
+        b"\0\0\0\0\0\0\0\0\x09\0\0\0\xff\x02",
+        "bad part marks 4149\n",
+    ),
+    (
+        b"\0\0\0\0\0\0\0\0\x09\0\0\0\xff\x01\0",
+        "bad part long 4150\n",
+    ),
+];
+
 #[test]
 fn the_first_fault_is_named(rt: HostRuntime) -> Result<(), Fail> {
-    for (text, line) in [
-        (b"\0\0\0".as_slice(), "bad part short 4139\n"),
-        (
-            b"\x01\0\0\0\0\0\0\0\0\x04\0\0\0\0\0\0",
-            "bad part base 4140\n",
-        ),
-        (
-            b"\x01\0\0\0\x10\0\0\0\0\0\0\0\0\0\0\0",
-            "bad part base 4140\n",
-        ),
-        (b"\x01\0\0\0\0\0\0\0\0\0\0\0\0\0", "bad part short 4150\n"),
-        (b"\0\0\0\0\x01\0\0\0\0\0\0\0\0\0\0\0", "bad part way 4144\n"),
-        (
-            b"\0\0\0\0\x01\0\0\0\x03\0\0\0\x01\0\0\0",
-            "bad part way 4144\n",
-        ),
-        (
-            b"\0\0\0\0\x02\0\0\0\x01\0\0\0\x01\0\0\0\x01\0\0\0\x01\0\0\0",
-            "bad part way 4152\n",
-        ),
-        (b"\0\0\0\0\0\0\0\0\xff\xff\xff\xff", "bad part marks 4144\n"),
-        (b"\0\0\0\0\0\0\0\0\x09\0\0\0\xff", "bad part short 4149\n"),
-        (
-            b"\0\0\0\0\0\0\0\0\x09\0\0\0\xff\x02",
-            "bad part marks 4149\n",
-        ),
-        (
-            b"\0\0\0\0\0\0\0\0\x09\0\0\0\xff\x01\0",
-            "bad part long 4150\n",
-        ),
-    ] {
+    for (text, line) in &FAULTS {
         check(&rt, text, 0, 2, line)?;
     }
     Ok(())

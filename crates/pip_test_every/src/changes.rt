@@ -1,6 +1,7 @@
 ghost use Rattle.std.specs.Prelude.{◌≡◌, length};
 ghost use Rattle.pip_base.specs.Opening.{CanOpen};
 
+use crate::compare::same;
 use pip_base::{Frame, Steps};
 use pip_frames::{Frames, RawFrames};
 use pip_journal::{First, Journal, copied};
@@ -30,7 +31,7 @@ fn check<F: First, L: Ledger>(
     steps: &mut Steps<L>,
 ) -> Result<(), Fail> {
     let changes = changes_of(rt.alloc(), journal, steps)?;
-    assert_eq!(rt; changes.as_slice(), list);
+    same(rt, changes.as_slice(), list, "the changes");
     Ok(())
 }
 

@@ -1,8 +1,11 @@
-use crate::native::image_of;
+use crate::ends::{check_end, image_of};
 use pip_commands::apart;
 use pip_io::{MemSink, MemSource};
 use std::process::Abort;
 use std::test::Fail;
+
+// The child's program, the words of the command, and what is written.
+type Row = (&'static str, (u32, u32, u32), &'static str);
 
 // A root that makes a child of the pages from 0x00401000 on, and gives its processor to it after 35 steps. The child's
 // program, which comes last, is at 0xffffe000 there.
@@ -19,18 +22,16 @@ const GIVES: &str = ".frames 32\n.cpus 1\n.page 0x00400000\n\
 // A child that shows a word over and over.
 const SHOWS: &str = "li r1 5\nout r1\nbeq r0 r0 -2\n";
 
-// Makes that many steps of an image of an assembly text, searches its guests with room for so many states, and compares
-// the status and the text.
+// Makes that many steps of the image of the root and a child's program, searches its guests with room for that many
+// states, and compares the text.
 fn check(
     rt: &(impl Abort + AllocGlobal),
-    lines: (&str, &str),
+    program: &str,
     words: (u32, u32, u32),
-    status: u8,
     text: &str,
 ) -> Result<(), Fail> {
     assert!(rt; 1 <= words.0 && 1 <= words.2);
-    let (root, rest) = lines;
-    let image = format!(in rt.alloc(); "{root}{rest}")?;
+    let image = format!(in rt.alloc(); "{GIVES}{program}")?;
     let image = image_of(rt, image.as_str())?;
     let mut source = MemSource::new(image.bytes(), &[]);
     let mut sink = MemSink::new(rt.alloc(), 16384, &[])?;
@@ -42,37 +43,61 @@ fn check(
         &mut source,
         &mut sink,
     );
-    assert_eq!(rt; sink.bytes(), text.as_bytes());
-    assert_eq!(rt; ended.status, status, "of {text}");
-    assert!(rt; ended.machine.is_none());
+    check_end(rt, program, &ended, sink.bytes(), 0, text.as_bytes(), false);
     Ok(())
 }
 
+// Does that for each row.
+fn check_rows(rt: &(impl Abort + AllocGlobal), rows: &[Row]) -> Result<(), Fail> {
+    for (program, words, text) in rows {
+        check(rt, program, *words, text)?;
+    }
+    Ok(())
+}
+
+static STAYS: [Row; 1] = [(
+    SHOWS,
+    (100, 35, 1),
+    "image 32 1 0 5\nguest 13 on 0\n1 0 out 0x00000005: 0x2\nstates 3 depth 2 closed\napart yes\n",
+)];
+
 #[test]
 fn a_guest_that_stays_inside_holds(rt: HostRuntime) -> Result<(), Fail> {
-    let text =
-        "image 32 1 0 5\nguest 13 on 0\n1 0 out 0x00000005: 0x2\nstates 3 depth 2 closed\napart yes\n";
-    check(&rt, (GIVES, SHOWS), (100, 35, 1), 0, text)
+    check_rows(&rt, &STAYS)
 }
+
+static LEAVES: [Row; 1] = [(
+    "int 71\n",
+    (100, 35, 1),
+    "image 32 1 0 5\nguest 13 on 0\nleaves 0 0 park 13 71: 0\nstates 1 depth 0 closed\napart no\n",
+)];
 
 #[test]
 fn a_guest_that_leaves_does_not(rt: HostRuntime) -> Result<(), Fail> {
-    let text =
-        "image 32 1 0 5\nguest 13 on 0\nleaves 0 0 park 13 71: 0\nstates 1 depth 0 closed\napart no\n";
-    check(&rt, (GIVES, "int 71\n"), (100, 35, 1), 0, text)
+    check_rows(&rt, &LEAVES)
 }
+
+static STOPPED: [Row; 1] = [(
+    SHOWS,
+    (2, 35, 1),
+    "image 32 1 0 5\nguest 13 on 0\nstates 2 depth 1 stopped\napart no\n",
+)];
 
 #[test]
 fn a_search_that_stopped_says_nothing(rt: HostRuntime) -> Result<(), Fail> {
-    let text = "image 32 1 0 5\nguest 13 on 0\nstates 2 depth 1 stopped\napart no\n";
-    check(&rt, (GIVES, SHOWS), (2, 35, 1), 0, text)
+    check_rows(&rt, &STOPPED)
 }
+
+static ROOTS: [Row; 2] = [
+    (SHOWS, (1, 34, 1), "image 32 1 0 5\nroot on 0\napart no\n"),
+    (
+        "int 71\n.page 0xfffff000\n.zero 35\n.word 0xfffff400\n",
+        (1, 0, 1),
+        "image 32 1 0 6\nroot on 0\nline 3\napart no\n",
+    ),
+];
 
 #[test]
 fn a_root_that_runs_or_takes_a_line_is_named(rt: HostRuntime) -> Result<(), Fail> {
-    let text = "image 32 1 0 5\nroot on 0\napart no\n";
-    check(&rt, (GIVES, SHOWS), (1, 34, 1), 0, text)?;
-    let lines = "int 71\n.page 0xfffff000\n.zero 35\n.word 0xfffff400\n";
-    let text = "image 32 1 0 6\nroot on 0\nline 3\napart no\n";
-    check(&rt, (GIVES, lines), (1, 0, 1), 0, text)
+    check_rows(&rt, &ROOTS)
 }

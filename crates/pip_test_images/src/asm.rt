@@ -1,3 +1,4 @@
+use crate::ends::check_end;
 use pip_base::MAX_INPUT;
 use pip_commands::asm;
 use pip_io::{MemSink, MemSource};
@@ -14,79 +15,115 @@ const HEAD: [u8; 56] = [
     0, 0, 33,
 ];
 
-// Assembles a text, where these calls of the source and the sink fail, and compares the status and what was written.
+// Assembles a text, where a read and a write fail, 0 for none, and compares the status and what was written.
 fn check(
     rt: &(impl Abort + AllocGlobal),
+    of: &str,
     text: &[u8],
-    reads: &[u32],
-    writes: &[u32],
+    failing: (u32, u32),
     status: u8,
     written: &[u8],
 ) -> Result<(), Fail> {
-    let mut source = MemSource::new(text, reads);
-    let mut sink = MemSink::new(rt.alloc(), 8192, writes)?;
+    let (reads, writes) = ([failing.0], [failing.1]);
+    let mut source = MemSource::new(text, &reads);
+    let mut sink = MemSink::new(rt.alloc(), 8192, &writes)?;
     let ended = asm(rt.alloc(), &mut source, &mut sink);
-    assert_eq!(rt; ended.status, status, "before {written:?}");
-    assert!(rt; ended.machine.is_none());
-    assert_eq!(rt; sink.bytes(), written);
+    check_end(rt, of, &ended, sink.bytes(), status, written, false);
     Ok(())
 }
 
-#[test]
-fn a_text_has_its_image(rt: HostRuntime) -> Result<(), Fail> {
+// Does that for each row: a text, what fails, the status and what is written.
+fn check_rows(
+    rt: &(impl Abort + AllocGlobal),
+    rows: &[(&str, (u32, u32), u8, &str)],
+) -> Result<(), Fail> {
+    for (text, failing, status, written) in rows {
+        check(
+            rt,
+            text,
+            text.as_bytes(),
+            *failing,
+            *status,
+            written.as_bytes(),
+        )?;
+    }
+    Ok(())
+}
+
+// The image of `TEXT`.
+fn image() -> [u8; 4136] {
     let mut image = [0; 4136];
     for (byte, head) in image.iter_mut().zip(&HEAD) {
         *byte = *head;
     }
-    check(&rt, TEXT.as_bytes(), &[], &[], 0, &image)?;
-    check(&rt, TEXT.as_bytes(), &[3], &[2], 0, &image)
+    image
 }
+
+#[test]
+fn a_text_has_its_image(rt: HostRuntime) -> Result<(), Fail> {
+    let image = image();
+    check(&rt, TEXT, TEXT.as_bytes(), (0, 0), 0, &image)?;
+    check(&rt, TEXT, TEXT.as_bytes(), (3, 2), 0, &image)
+}
+
+static FAULTS: [(&str, (u32, u32), u8, &str); 8] = [
+    ("", (0, 0), 2, "bad line 1 unknown\n"),
+    (".frames 16", (0, 0), 2, "bad line 2 unknown\n"),
+    (
+        ".frames 16\n.cpus 1\n.page 0x400000\njump r1\n",
+        (0, 0),
+        2,
+        "bad line 4 unknown\n",
+    ),
+    (
+        ".frames 16\n.cpus 1\n.page 0x400000\nout\n",
+        (0, 0),
+        2,
+        "bad line 4 operand\n",
+    ),
+    (".frames 15\n.cpus 1\n", (0, 0), 2, "bad line 1 range\n"),
+    (
+        ".frames 16\n.cpus 1\n.page 0x400000\nbeq r1 r2 away\n",
+        (0, 0),
+        2,
+        "bad line 4 label\n",
+    ),
+    (
+        ".frames 16\n.cpus 1\n.page 0x400000\nx:\nx:\n",
+        (0, 0),
+        2,
+        "bad line 5 twice\n",
+    ),
+    (
+        ".frames 16\n.cpus 1\n.page 0x400000\n.zero 1025\n",
+        (0, 0),
+        2,
+        "bad line 4 size\n",
+    ),
+];
 
 #[test]
 fn the_first_fault_is_named(rt: HostRuntime) -> Result<(), Fail> {
-    for (text, line) in [
-        ("", "bad line 1 unknown\n"),
-        (".frames 16", "bad line 2 unknown\n"),
-        (
-            ".frames 16\n.cpus 1\n.page 0x400000\njump r1\n",
-            "bad line 4 unknown\n",
-        ),
-        (
-            ".frames 16\n.cpus 1\n.page 0x400000\nout\n",
-            "bad line 4 operand\n",
-        ),
-        (".frames 15\n.cpus 1\n", "bad line 1 range\n"),
-        (
-            ".frames 16\n.cpus 1\n.page 0x400000\nbeq r1 r2 away\n",
-            "bad line 4 label\n",
-        ),
-        (
-            ".frames 16\n.cpus 1\n.page 0x400000\nx:\nx:\n",
-            "bad line 5 twice\n",
-        ),
-        (
-            ".frames 16\n.cpus 1\n.page 0x400000\n.zero 1025\n",
-            "bad line 4 size\n",
-        ),
-    ] {
-        check(&rt, text.as_bytes(), &[], &[], 2, line.as_bytes())?;
-    }
-    Ok(())
+    check_rows(&rt, &FAULTS)
 }
+
+static FAILS: [(&str, (u32, u32), u8, &str); 4] = [
+    (TEXT, (1, 0), 3, ""),
+    (TEXT, (2, 0), 3, ""),
+    (TEXT, (0, 1), 4, ""),
+    ("", (0, 1), 4, ""),
+];
 
 #[test]
 fn each_read_and_each_write_fails_in_turn(rt: HostRuntime) -> Result<(), Fail> {
-    for call in [1, 2] {
-        check(&rt, TEXT.as_bytes(), &[call], &[], 3, b"")?;
-    }
-    check(&rt, TEXT.as_bytes(), &[], &[1], 4, b"")?;
-    check(&rt, b"", &[], &[1], 4, b"")
+    check_rows(&rt, &FAILS)
 }
 
 #[test]
 fn one_byte_more_than_the_limit_is_judged_by_no_line(rt: HostRuntime) -> Result<(), Fail> {
     let text = vec![in rt.alloc(); b'\n'; MAX_INPUT as usize + 1]?;
-    check(&rt, &text, &[], &[], 6, b"")?;
+    check(&rt, "all lines", &text, (0, 0), 6, b"")?;
     let whole = &text[1..];
-    check(&rt, whole, &[], &[], 2, b"bad line 16777217 unknown\n")
+    let line = b"bad line 16777217 unknown\n";
+    check(&rt, "all lines but one", whole, (0, 0), 2, line)
 }

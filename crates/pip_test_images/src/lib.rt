@@ -12,6 +12,8 @@ mod audit;
 #[cfg(test)]
 mod dis;
 #[cfg(test)]
+mod ends;
+#[cfg(test)]
 mod every;
 #[cfg(test)]
 mod native;

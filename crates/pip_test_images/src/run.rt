@@ -4,8 +4,9 @@ ghost use Rattle.pip_io.specs.Memory.{source_faults};
 ghost use Rattle.pip_io.specs.Told.{remaining};
 ghost use Rattle.pip_lines.specs.Due.{AnswersDue};
 
+use crate::ends::{check_end, holds, image_of};
 use pip_base::{Plan, Steps};
-use pip_commands::{MONITOR, asm, core_dump, dis, new_machine, run, tree};
+use pip_commands::{MONITOR, core_dump, dis, new_machine, run, tree};
 use pip_io::{Discard, Failed, Gatherer, MemSink, MemSource, Source};
 use pip_lines::{Callback, Line, due, raise_due, run_lines};
 use std::cell::Cell;
@@ -61,54 +62,62 @@ end 0
 const TRACE: &str =
     "image 16 1 1 1\n1 0 out 0x00000007\n2 0 call 12 reply 1 0x00000000\n3 0 park 1 64\nend 6\n";
 
-// The image of an assembly text, in a sink.
-fn image_of(rt: &(impl Abort + AllocGlobal), text: &str) -> Result<MemSink<'static>, Fail> {
-    let mut image = MemSink::new(rt.alloc(), 32768, &[])?;
-    let ended = asm(
-        rt.alloc(),
-        &mut MemSource::new(text.as_bytes(), &[]),
-        &mut image,
-    );
-    assert_eq!(rt; ended.status, 0, "of {text}");
-    Ok(image)
-}
-
-// Makes that many steps of an image by the schedule of seed 1, where these calls of the source and the sink fail, and
-// compares the status and the text.
+// Makes that many steps of an image by the schedule of seed 1, where a read and a write fail, 0 for none, and compares
+// the status and the text.
 fn check_report(
     rt: &(impl Abort + AllocGlobal),
     report: Report,
     image: &[u8],
     count: u32,
-    fails: (&[u32], &[u32]),
+    failing: (u32, u32),
     status: u8,
     text: &str,
 ) -> Result<(), Fail> {
-    let mut source = MemSource::new(image, fails.0);
-    let mut sink = MemSink::new(rt.alloc(), 16384, fails.1)?;
+    let (reads, writes) = ([failing.0], [failing.1]);
+    let mut source = MemSource::new(image, &reads);
+    let mut sink = MemSink::new(rt.alloc(), 16384, &writes)?;
     let ended = match report {
         Report::Trace => run(rt.alloc(), count, 1, &mut source, &mut sink),
         Report::Tree => tree(rt.alloc(), count, 1, &mut source, &mut sink),
         Report::Frames => core_dump(rt.alloc(), count, 1, &mut source, &mut sink),
     };
-    assert_eq!(rt; sink.bytes(), text.as_bytes());
-    assert_eq!(rt; ended.status, status, "of {text}");
-    assert_eq!(rt; ended.machine.is_some(), status == 0);
+    let written = sink.bytes();
+    check_end(
+        rt,
+        "an image",
+        &ended,
+        written,
+        status,
+        text.as_bytes(),
+        status == 0,
+    );
+    Ok(())
+}
+
+// Does that with one image for each row: what is shown, the number of steps, what fails, the status and the text.
+fn check_reports(
+    rt: &(impl Abort + AllocGlobal),
+    image: &[u8],
+    rows: &[(Report, u32, (u32, u32), u8, &str)],
+) -> Result<(), Fail> {
+    for (report, count, failing, status, text) in rows {
+        check_report(rt, *report, image, *count, *failing, *status, text)?;
+    }
     Ok(())
 }
 
 // Compares the trace of an assembly text.
 fn check(rt: &(impl Abort + AllocGlobal), text: &str, count: u32, trace: &str) -> Result<(), Fail> {
     let image = image_of(rt, text)?;
-    check_report(
-        rt,
-        Report::Trace,
-        image.bytes(),
-        count,
-        (&[], &[]),
-        0,
-        trace,
-    )
+    check_report(rt, Report::Trace, image.bytes(), count, (0, 0), 0, trace)
+}
+
+// Does that for each row: the text, the number of steps and the trace.
+fn check_traces(rt: &(impl Abort + AllocGlobal), rows: &[(&str, u32, &str)]) -> Result<(), Fail> {
+    for (text, count, trace) in rows {
+        check(rt, text, *count, trace)?;
+    }
+    Ok(())
 }
 
 // The lines of a program, and those of its trace.
@@ -192,56 +201,76 @@ static EFFECTS: [(&str, &str); 19] = [
     ),
 ];
 
+// Compares the trace of 40 steps of a program.
+fn check_effect(rt: &(impl Abort + AllocGlobal), lines: &str, trace: &str) -> Result<(), Fail> {
+    let text = format!(in rt.alloc(); ".frames 16\n.cpus 1\n.page 0x00400000\n{lines}\n")?;
+    let trace = format!(in rt.alloc(); "image 16 1 0 1\n{trace}\nend 40\n")?;
+    check(rt, text.as_str(), 40, trace.as_str())
+}
+
 #[test]
 fn each_instruction_has_its_effect(rt: HostRuntime) -> Result<(), Fail> {
-    for (lines, trace) in EFFECTS {
-        let text = format!(in rt.alloc(); ".frames 16\n.cpus 1\n.page 0x00400000\n{lines}\n")?;
-        let trace = format!(in rt.alloc(); "image 16 1 0 1\n{trace}\nend 40\n")?;
-        check(&rt, text.as_str(), 40, trace.as_str())?;
+    for (lines, trace) in &EFFECTS {
+        check_effect(&rt, lines, trace)?;
     }
     Ok(())
 }
+
+static ADDRESSES: [(&str, u32, &str); 2] = [
+    // After the last address stands 0, where the root has no page.
+    (
+        ".frames 16\n.cpus 1\n.page 0x00400000\nlih r1 65535\nori r1 r1 65524\njr r1\n.page 0xfffff000\n.zero 1021\nli r2 3\nout r2\nbeq r0 r0 0\n",
+        8,
+        "image 16 1 0 2\n4 0 out 0x00000003\n6 0 park 1 14\nend 8\n",
+    ),
+    // A jump back from there leads to a word of 0, which is no instruction.
+    (
+        ".frames 16\n.cpus 1\n.page 0x00400000\nlih r1 65535\nori r1 r1 65532\njr r1\n.page 0xfffff000\n.zero 1023\njal r2 -5\n",
+        8,
+        "image 16 1 0 2\n4 0 park 1 6\nend 8\n",
+    ),
+];
 
 #[test]
 fn addresses_have_two_ends(rt: HostRuntime) -> Result<(), Fail> {
-    let head = ".frames 16\n.cpus 1\n.page 0x00400000\nlih r1 65535\nori r1 r1";
-    let rows = [
-        // After the last address stands 0, where the root has no page.
-        (
-            "65524\njr r1\n.page 0xfffff000\n.zero 1021\nli r2 3\nout r2\nbeq r0 r0 0\n",
-            "4 0 out 0x00000003\n6 0 park 1 14",
-        ),
-        // A jump back from there leads to a word of 0, which is no instruction.
-        (
-            "65532\njr r1\n.page 0xfffff000\n.zero 1023\njal r2 -5\n",
-            "4 0 park 1 6",
-        ),
-    ];
-    for (lines, trace) in rows {
-        let text = format!(in rt.alloc(); "{head} {lines}")?;
-        let trace = format!(in rt.alloc(); "image 16 1 0 2\n{trace}\nend 8\n")?;
-        check(&rt, text.as_str(), 8, trace.as_str())?;
-    }
-    Ok(())
+    check_traces(&rt, &ADDRESSES)
 }
+
+static TRACES: [(&str, u32, &str); 4] = [
+    (TEXT, 6, TRACE),
+    (TEXT, 0, "image 16 1 1 1\nend 0\n"),
+    (
+        ".frames 16\n.cpus 1\n.page 0x00400000\nli r1 7\nout r1\nsys 12\nint 64\n",
+        6,
+        "image 16 1 0 1\n1 0 out 0x00000007\n2 0 call 12 reply 1 0x00000000\n3 0 park 1 64\nend 6\n",
+    ),
+    (".frames 4096\n.cpus 4\n", 3, "image 4096 4 0 0\nend 3\n"),
+];
 
 #[test]
 fn an_image_has_its_trace(rt: HostRuntime) -> Result<(), Fail> {
-    check(&rt, TEXT, 6, TRACE)?;
-    check(&rt, TEXT, 0, "image 16 1 1 1\nend 0\n")?;
-    let plain = ".frames 16\n.cpus 1\n.page 0x00400000\nli r1 7\nout r1\nsys 12\nint 64\n";
-    check(
-        &rt,
-        plain,
-        6,
-        "image 16 1 0 1\n1 0 out 0x00000007\n2 0 call 12 reply 1 0x00000000\n3 0 park 1 64\nend 6\n",
-    )?;
-    check(
-        &rt,
-        ".frames 4096\n.cpus 4\n",
-        3,
-        "image 4096 4 0 0\nend 3\n",
-    )
+    check_traces(&rt, &TRACES)
+}
+
+static PENDING: [(Report, u32, (u32, u32), u8, &str); 1] = [(
+    Report::Trace,
+    9,
+    (0, 0),
+    0,
+    "image 16 1 1 1\n1 0 out 0x00000007\n2 0 call 12 reply 1 0x00000000\n3 0 park 1 64\nend 9\n",
+)];
+
+// The frames of a machine after that many steps of an image.
+fn frames_of(
+    rt: &(impl Abort + AllocGlobal),
+    image: &[u8],
+    count: u32,
+) -> Result<MemSink<'static>, Fail> {
+    let mut source = MemSource::new(image, &[]);
+    let mut sink = MemSink::new(rt.alloc(), 32768, &[])?;
+    let ended = core_dump(rt.alloc(), count, 1, &mut source, &mut sink);
+    assert_eq!(rt; ended.status, 0);
+    Ok(sink)
 }
 
 #[test]
@@ -250,16 +279,11 @@ fn a_line_is_pending_where_nobody_takes_it(rt: HostRuntime) -> Result<(), Fail> 
         &rt,
         ".frames 16\n.cpus 1\n.line 0 2 3\n.page 0x00400000\nli r1 7\nout r1\nsys 12\nint 64\n",
     )?;
-    let trace =
-        "image 16 1 1 1\n1 0 out 0x00000007\n2 0 call 12 reply 1 0x00000000\n3 0 park 1 64\nend 9\n";
-    check_report(&rt, Report::Trace, image.bytes(), 9, (&[], &[]), 0, trace)?;
-    let mut source = MemSource::new(image.bytes(), &[]);
-    let mut sink = MemSink::new(rt.alloc(), 32768, &[])?;
-    let ended = core_dump(rt.alloc(), 8, 1, &mut source, &mut sink);
-    assert_eq!(rt; ended.status, 0);
+    check_reports(&rt, image.bytes(), &PENDING)?;
+    let frames = frames_of(&rt, image.bytes(), 8)?;
     // Word 15 of frame 1 has the lines that are pending.
     assert!(rt;
-        sink.bytes().starts_with(
+        frames.bytes().starts_with(
             b"frame 1\n\
          0000: 00000000 00000001 00000000 00000002 00000000 00000003 00000000 00000004\n\
          0008: 00000000 00000005 00000000 00000001 00000002 00000000 00000000 00000001\n"
@@ -268,11 +292,15 @@ fn a_line_is_pending_where_nobody_takes_it(rt: HostRuntime) -> Result<(), Fail> 
     Ok(())
 }
 
+static SHOWN: [(Report, u32, (u32, u32), u8, &str); 2] = [
+    (Report::Tree, 0, (0, 0), 0, TREE),
+    (Report::Frames, 0, (0, 0), 0, FRAMES),
+];
+
 #[test]
 fn a_tree_and_its_frames_are_shown(rt: HostRuntime) -> Result<(), Fail> {
     let image = image_of(&rt, TEXT)?;
-    check_report(&rt, Report::Tree, image.bytes(), 0, (&[], &[]), 0, TREE)?;
-    check_report(&rt, Report::Frames, image.bytes(), 0, (&[], &[]), 0, FRAMES)
+    check_reports(&rt, image.bytes(), &SHOWN)
 }
 
 // Names the fault of an image of 4136 bytes in which one byte is another.
@@ -282,100 +310,161 @@ fn check_byte(
     at: usize,
     byte: u8,
     line: &str,
-) -> Result<(), Fail>
-    requires { at < 4136 }
-{
-    let mut bytes = [0; 4136];
-    for (byte, from) in bytes.iter_mut().zip(image) {
-        *byte = *from;
-    }
-    bytes[at] = byte;
-    check_report(rt, Report::Trace, &bytes, 6, (&[], &[]), 2, line)
+) -> Result<(), Fail> {
+    let mut bytes = Vec::new(rt.alloc());
+    bytes.extend_from_slice(image)?;
+    *bytes.get_mut(at).ok_or("a byte of the image")? = byte;
+    check_report(rt, Report::Trace, bytes.as_slice(), 6, (0, 0), 2, line)
 }
+
+// The place of a byte, the byte and the line of the fault.
+static FAULTS: [(usize, u8, &str); 9] = [
+    (0, 0x51, "bad image magic 0\n"),
+    (6, 0x31, "bad image oldversion 0\n"),
+    (8, 15, "bad image frames 8\n"),
+    (9, 16, "bad image frames 8\n"),
+    (12, 5, "bad image cpus 12\n"),
+    (16, 17, "bad image plan 16\n"),
+    (21, 17, "bad image page 20\n"),
+    (24, 16, "bad image plan 24\n"),
+    (36, 3, "bad image page 36\n"),
+];
 
 #[test]
 fn the_first_fault_of_an_image_is_named(rt: HostRuntime) -> Result<(), Fail> {
     let image = image_of(&rt, TEXT)?;
-    for (at, byte, line) in [
-        (0, 0x51, "bad image magic 0\n"),
-        (6, 0x31, "bad image oldversion 0\n"),
-        (8, 15, "bad image frames 8\n"),
-        (9, 16, "bad image frames 8\n"),
-        (12, 5, "bad image cpus 12\n"),
-        (16, 17, "bad image plan 16\n"),
-        (21, 17, "bad image page 20\n"),
-        (24, 16, "bad image plan 24\n"),
-        (36, 3, "bad image page 36\n"),
-    ] {
-        check_byte(&rt, image.bytes(), at, byte, line)?;
+    for (at, byte, line) in &FAULTS {
+        check_byte(&rt, image.bytes(), *at, *byte, line)?;
     }
     Ok(())
+}
+
+// The number of the first bytes of an image, and the line of the fault, whatever is shown.
+static LENGTHS: [(usize, &str); 5] = [
+    (0, "bad image short 0\n"),
+    (7, "bad image short 7\n"),
+    (38, "bad image short 38\n"),
+    (4135, "bad image short 4135\n"),
+    (4137, "bad image long 4136\n"),
+];
+
+// Names the fault of an image, whatever is shown.
+fn check_fault(rt: &(impl Abort + AllocGlobal), image: &[u8], line: &str) -> Result<(), Fail> {
+    for report in [Report::Trace, Report::Tree, Report::Frames] {
+        check_report(rt, report, image, 6, (0, 0), 2, line)?;
+    }
+    Ok(())
+}
+
+// The image, and 64 zeros after it.
+fn longer(rt: &(impl Abort + AllocGlobal), image: &[u8]) -> Result<Vec<u8>, Fail> {
+    let mut bytes = Vec::new(rt.alloc());
+    bytes.extend_from_slice(image)?;
+    bytes.extend_from_slice(&[0; 64])?;
+    Ok(bytes)
 }
 
 #[test]
 fn an_image_has_its_length(rt: HostRuntime) -> Result<(), Fail> {
     let image = image_of(&rt, TEXT)?;
-    let mut bytes = [0; 4200];
-    for (byte, from) in bytes.iter_mut().zip(image.bytes()) {
-        *byte = *from;
-    }
-    for (count, line) in [
-        (0, "bad image short 0\n"),
-        (7, "bad image short 7\n"),
-        (38, "bad image short 38\n"),
-        (4135, "bad image short 4135\n"),
-        (4137, "bad image long 4136\n"),
-    ] {
-        for report in [Report::Trace, Report::Tree, Report::Frames] {
-            check_report(&rt, report, &bytes[..count], 6, (&[], &[]), 2, line)?;
-        }
-    }
-    // Two pages, both at 0x00400000.
-    bytes[20] = 2;
-    bytes[4137] = 4;
-    let line = "bad image twice 4136\n";
-    check_report(&rt, Report::Trace, &bytes, 6, (&[], &[]), 2, line)
-}
-
-#[test]
-fn each_read_fails_in_turn(rt: HostRuntime) -> Result<(), Fail> {
-    let image = image_of(&rt, TEXT)?;
-    for call in 1..5 {
-        for report in [Report::Trace, Report::Tree, Report::Frames] {
-            check_report(&rt, report, image.bytes(), 6, (&[call], &[]), 3, "")?;
-        }
-    }
-    check_report(&rt, Report::Trace, image.bytes(), 6, (&[5], &[]), 0, TRACE)
-}
-
-#[test]
-fn the_write_fails(rt: HostRuntime) -> Result<(), Fail> {
-    let image = image_of(&rt, TEXT)?;
-    check_report(&rt, Report::Trace, image.bytes(), 6, (&[], &[1]), 4, "")?;
-    for report in [Report::Trace, Report::Tree, Report::Frames] {
-        check_report(&rt, report, image.bytes(), 0, (&[], &[1]), 4, "")?;
-        // The line of a fault can't be written.
-        check_report(&rt, report, b"PIP", 0, (&[], &[1]), 4, "")?;
-    }
-    // A text that fits into what is gathered is one write.
-    for (call, status, text) in [(1, 4, ""), (2, 0, TREE)] {
-        let failing = [call];
-        let mut source = MemSource::new(image.bytes(), &[]);
-        let mut sink = Gatherer::new(MemSink::new(rt.alloc(), 16384, &failing)?);
-        let ended = tree(rt.alloc(), 0, 1, &mut source, &mut sink);
-        assert_eq!(rt; ended.status, status);
-        assert_eq!(rt; sink.sink().bytes(), text.as_bytes());
+    let bytes = longer(&rt, image.bytes())?;
+    for (count, line) in &LENGTHS {
+        let front = bytes.as_slice().get(..*count).ok_or("bytes of the image")?;
+        check_fault(&rt, front, line)?;
     }
     Ok(())
 }
 
 #[test]
-fn the_monitor_shares_a_processor_out(rt: HostRuntime) -> Result<(), Fail> {
-    check(
-        &rt,
-        MONITOR,
-        760,
-        "image 256 1 1 7\n\
+fn an_image_has_each_page_once(rt: HostRuntime) -> Result<(), Fail> {
+    let image = image_of(&rt, TEXT)?;
+    let mut bytes = longer(&rt, image.bytes())?;
+    // Two pages, both at 0x00400000.
+    *bytes.get_mut(20).ok_or("the number of pages")? = 2;
+    *bytes.get_mut(4137).ok_or("a page's number")? = 4;
+    let line = "bad image twice 4136\n";
+    check_report(&rt, Report::Trace, bytes.as_slice(), 6, (0, 0), 2, line)
+}
+
+static READS: [(Report, u32, (u32, u32), u8, &str); 13] = [
+    (Report::Trace, 6, (1, 0), 3, ""),
+    (Report::Tree, 6, (1, 0), 3, ""),
+    (Report::Frames, 6, (1, 0), 3, ""),
+    (Report::Trace, 6, (2, 0), 3, ""),
+    (Report::Tree, 6, (2, 0), 3, ""),
+    (Report::Frames, 6, (2, 0), 3, ""),
+    (Report::Trace, 6, (3, 0), 3, ""),
+    (Report::Tree, 6, (3, 0), 3, ""),
+    (Report::Frames, 6, (3, 0), 3, ""),
+    (Report::Trace, 6, (4, 0), 3, ""),
+    (Report::Tree, 6, (4, 0), 3, ""),
+    (Report::Frames, 6, (4, 0), 3, ""),
+    (Report::Trace, 6, (5, 0), 0, TRACE),
+];
+
+#[test]
+fn each_read_fails_in_turn(rt: HostRuntime) -> Result<(), Fail> {
+    let image = image_of(&rt, TEXT)?;
+    check_reports(&rt, image.bytes(), &READS)
+}
+
+static WRITES: [(Report, u32, (u32, u32), u8, &str); 4] = [
+    (Report::Trace, 6, (0, 1), 4, ""),
+    (Report::Trace, 0, (0, 1), 4, ""),
+    (Report::Tree, 0, (0, 1), 4, ""),
+    (Report::Frames, 0, (0, 1), 4, ""),
+];
+
+// The line of a fault can't be written.
+static FAULT_WRITES: [(Report, u32, (u32, u32), u8, &str); 3] = [
+    (Report::Trace, 0, (0, 1), 4, ""),
+    (Report::Tree, 0, (0, 1), 4, ""),
+    (Report::Frames, 0, (0, 1), 4, ""),
+];
+
+#[test]
+fn the_write_fails(rt: HostRuntime) -> Result<(), Fail> {
+    let image = image_of(&rt, TEXT)?;
+    check_reports(&rt, image.bytes(), &WRITES)?;
+    check_reports(&rt, b"PIP", &FAULT_WRITES)
+}
+
+// Shows the tree by a gatherer, where a write fails, and compares the status and the text.
+fn check_gathered(
+    rt: &(impl Abort + AllocGlobal),
+    image: &[u8],
+    failing: u32,
+    status: u8,
+    text: &str,
+) -> Result<(), Fail> {
+    let writes = [failing];
+    let mut source = MemSource::new(image, &[]);
+    let mut sink = Gatherer::new(MemSink::new(rt.alloc(), 16384, &writes)?);
+    let ended = tree(rt.alloc(), 0, 1, &mut source, &mut sink);
+    let written = sink.sink().bytes();
+    check_end(
+        rt,
+        TEXT,
+        &ended,
+        written,
+        status,
+        text.as_bytes(),
+        status == 0,
+    );
+    Ok(())
+}
+
+#[test]
+fn a_text_that_is_gathered_is_one_write(rt: HostRuntime) -> Result<(), Fail> {
+    let image = image_of(&rt, TEXT)?;
+    check_gathered(&rt, image.bytes(), 1, 4, "")?;
+    check_gathered(&rt, image.bytes(), 2, 0, TREE)
+}
+
+static MONITORED: [(&str, u32, &str); 1] = [(
+    MONITOR,
+    760,
+    "image 256 1 1 7\n\
          0 0 call 10 reply 0 0x00000000\n\
          11 0 call 0 reply 0 0x00000000\n\
          23 0 call 3 reply 0 0x00000003\n\
@@ -415,7 +504,11 @@ fn the_monitor_shares_a_processor_out(rt: HostRuntime) -> Result<(), Fail> {
          750 0 out 0x20000020\n\
          end 760\n\
 ",
-    )
+)];
+
+#[test]
+fn the_monitor_shares_a_processor_out(rt: HostRuntime) -> Result<(), Fail> {
+    check_traces(&rt, &MONITORED)
 }
 
 // Raises a plan at step 2 and makes three steps, with a callback that counts in `asked` how often it is asked: once,
@@ -491,24 +584,34 @@ impl Source for Ending<'_> {
     }
 }
 
+// Gives a command an image, and asserts that it asks once for its end.
+fn check_asks_once(
+    rt: &(impl Abort + AllocGlobal),
+    command: &str,
+    image: &[u8],
+) -> Result<(), Fail> {
+    let mut source = Ending {
+        source: MemSource::new(image, &[]),
+        ends: 0,
+    };
+    let mut sink = MemSink::new(rt.alloc(), 16384, &[])?;
+    let ended = match command {
+        "run" => run(rt.alloc(), 6, 1, &mut source, &mut sink),
+        "tree" => tree(rt.alloc(), 6, 1, &mut source, &mut sink),
+        "core" => core_dump(rt.alloc(), 6, 1, &mut source, &mut sink),
+        _ => dis(rt.alloc(), &mut source, &mut sink),
+    };
+    holds(rt, ended.status == 0, command);
+    holds(rt, source.ends == 1, command);
+    Ok(())
+}
+
 // A terminal has to be told the end of its input as often as it is asked for it.
 #[test]
 fn the_end_of_an_image_is_asked_for_once(rt: HostRuntime) -> Result<(), Fail> {
     let image = image_of(&rt, TEXT)?;
     for command in ["run", "tree", "core", "dis"] {
-        let mut source = Ending {
-            source: MemSource::new(image.bytes(), &[]),
-            ends: 0,
-        };
-        let mut sink = MemSink::new(rt.alloc(), 16384, &[])?;
-        let ended = match command {
-            "run" => run(rt.alloc(), 6, 1, &mut source, &mut sink),
-            "tree" => tree(rt.alloc(), 6, 1, &mut source, &mut sink),
-            "core" => core_dump(rt.alloc(), 6, 1, &mut source, &mut sink),
-            _ => dis(rt.alloc(), &mut source, &mut sink),
-        };
-        assert_eq!(rt; ended.status, 0, "of {command}");
-        assert_eq!(rt; source.ends, 1, "of {command}");
+        check_asks_once(&rt, command, image.bytes())?;
     }
     Ok(())
 }

@@ -1,7 +1,7 @@
 //! Tests of the command `slots`.
 ghost use Rattle.std.specs.Prelude.{◌≤◌, ◌<◌, ◌+◌, ◌*◌, ◌^◌};
 
-use crate::native::image_of;
+use crate::ends::{check_end, image_of};
 use arrayvec::ArrayVec;
 use pip_commands::slots;
 use pip_io::{MemSink, MemSource};
@@ -34,9 +34,16 @@ fn check(
         &mut source,
         &mut sink,
     );
-    assert_eq!(rt; sink.bytes(), text.as_bytes());
-    assert_eq!(rt; ended.status, status, "of {text}");
-    assert_eq!(rt; ended.machine.is_some(), status == 0);
+    let written = sink.bytes();
+    check_end(
+        rt,
+        lines,
+        &ended,
+        written,
+        status,
+        text.as_bytes(),
+        status == 0,
+    );
     Ok(())
 }
 
@@ -98,48 +105,61 @@ fn check_beside(
     check(rt, image.as_str(), (2, 5, 3), &[], 0, text.as_str())
 }
 
-#[test]
-fn two_machines_have_a_childs_slots_in_common(rt: HostRuntime) -> Result<(), Fail> {
-    check_beside(
-        &rt,
+// Does that for each row: the program, and the lines of its three slots.
+fn check_all_beside(
+    rt: &(impl Abort + AllocGlobal),
+    rows: &[(&str, &str, &str, &str)],
+) -> Result<(), Fail> {
+    for (program, first, second, third) in rows {
+        check_beside(rt, program, first, second, third)?;
+    }
+    Ok(())
+}
+
+static COMMON: [(&str, &str, &str, &str); 2] = [
+    (
         "beq r0 r0 -1\n",
         "0 0 call 8 switch 1 14 63\n6 0 switch 14 1 32\n",
         "14 0 call 8 switch 1 14 63\n20 0 switch 14 1 32\n",
         "28 0 call 8 switch 1 14 63\n34 0 switch 14 1 32\n",
-    )?;
-    check_beside(
-        &rt,
+    ),
+    (
         "int 64\nbeq r0 r0 -2\n",
         "0 0 call 8 switch 1 14 63\n1 0 switch 14 1 64\n",
         "14 0 call 8 switch 1 14 63\n16 0 switch 14 1 64\n",
         "28 0 call 8 switch 1 14 63\n30 0 switch 14 1 64\n",
-    )
-}
+    ),
+];
 
 #[test]
-fn a_planted_sibling_does_not_change_a_childs_slots(rt: HostRuntime) -> Result<(), Fail> {
-    check_beside(
-        &rt,
+fn two_machines_have_a_childs_slots_in_common(rt: HostRuntime) -> Result<(), Fail> {
+    check_all_beside(&rt, &COMMON)
+}
+
+static PLANTED: [(&str, &str, &str, &str); 2] = [
+    (
         "sys 3\nsys 8\nout r1\nstw r0 r0 0\n",
         "0 0 call 8 switch 1 14 63\n1 0 call 3 reply 3 0x00000000\n2 0 call 8 reply 18 0x00000000\n3 0 out 0x00000000\n4 0 switch 14 1 17\n",
         "14 0 call 8 switch 1 14 63\n15 0 switch 14 1 17\n",
         "28 0 call 8 switch 1 14 63\n29 0 switch 14 1 17\n",
-    )?;
-    check_beside(
-        &rt,
+    ),
+    (
         "",
         "0 0 call 8 switch 1 14 63\n1 0 switch 14 1 6\n",
         "14 0 call 8 switch 1 14 63\n15 0 switch 14 1 6\n",
         "28 0 call 8 switch 1 14 63\n29 0 switch 14 1 6\n",
-    )
+    ),
+];
+
+#[test]
+fn a_planted_sibling_does_not_change_a_childs_slots(rt: HostRuntime) -> Result<(), Fail> {
+    check_all_beside(&rt, &PLANTED)
 }
 
 #[test]
 fn a_child_has_the_slots_that_a_round_gives_it(rt: HostRuntime) -> Result<(), Fail> {
-    let image = image_of(
-        &rt,
-        ".frames 39\n.cpus 1\n.page 0x00400000\nint 64\n.page 0x00401000\nldw r1 r0 0\n",
-    )?;
+    let lines = ".frames 39\n.cpus 1\n.page 0x00400000\nint 64\n.page 0x00401000\nldw r1 r0 0\n";
+    let image = image_of(&rt, lines)?;
     let mut source = MemSource::new(image.bytes(), &[]);
     let mut sink = MemSink::new(rt.alloc(), 16384, &[])?;
     let mut round = ArrayVec::new();
@@ -149,7 +169,6 @@ fn a_child_has_the_slots_that_a_round_gives_it(rt: HostRuntime) -> Result<(), Fa
     let ended = slots(rt.alloc(), 2, 2, round, &mut source, &mut sink);
     let text =
         "image 39 1 0 2\nbuilt 0 0x00402000\nbuilt 1 0x0040e000\n0 0 call 8 switch 1 26 63\n1 0 switch 26 1 14\n3 0 call 8 switch 1 14 63\n4 0 switch 14 1 64\n7 0 call 8 switch 1 26 63\n8 0 switch 26 1 32\n9 0 call 8 switch 1 26 63\n10 0 switch 26 1 14\n12 0 call 8 switch 1 14 63\n13 0 switch 14 1 6\n16 0 call 8 switch 1 26 63\n17 0 switch 26 1 32\nend 18\n";
-    assert_eq!(&rt; sink.bytes(), text.as_bytes());
-    assert_eq!(&rt; ended.status, 0);
+    check_end(&rt, lines, &ended, sink.bytes(), 0, text.as_bytes(), true);
     Ok(())
 }

@@ -1,6 +1,7 @@
 ghost use Rattle.std.specs.Prelude.{◌<◌, ◌≤◌};
 ghost use Rattle.pip_base.specs.Opening.{CanOpen};
 
+use crate::ends::check_end;
 use pip_base::Steps;
 use pip_commands::soak;
 use pip_frames::RawFrames;
@@ -84,9 +85,8 @@ fn check(rt: &(impl Abort + AllocGlobal), count: u32, seed: u32, text: &str) -> 
     let mut source = MemSource::new(b"unread", &[1]);
     let mut sink = MemSink::new(rt.alloc(), 512, &[])?;
     let ended = soak(rt.alloc(), count, seed, &mut source, &mut sink);
-    assert_eq!(rt; ended.status, 0, "of {count} {seed}");
-    assert!(rt; ended.machine.is_some());
-    assert_eq!(rt; sink.bytes(), text.as_bytes(), "of {count} {seed}");
+    let written = sink.bytes();
+    check_end(rt, "a load", &ended, written, 0, text.as_bytes(), true);
     Ok(())
 }
 
@@ -96,18 +96,34 @@ fn loads_have_counts(rt: HostRuntime) -> Result<(), Fail> {
     check(&rt, 1000, 3, STEPS)
 }
 
+// Makes a load of no steps by a gatherer, where a write fails, and compares the status and the text.
+fn check_gathered(
+    rt: &(impl Abort + AllocGlobal),
+    failing: u32,
+    status: u8,
+    text: &str,
+) -> Result<(), Fail> {
+    let writes = [failing];
+    let mut sink = Gatherer::new(MemSink::new(rt.alloc(), 512, &writes)?);
+    let ended = soak(rt.alloc(), 0, 1, &mut MemSource::new(b"", &[]), &mut sink);
+    let written = sink.sink().bytes();
+    check_end(
+        rt,
+        "no steps",
+        &ended,
+        written,
+        status,
+        text.as_bytes(),
+        status == 0,
+    );
+    Ok(())
+}
+
 #[test]
 fn the_write_fails(rt: HostRuntime) -> Result<(), Fail> {
     // The text is one write.
-    for (call, status, text) in [(1, 4, ""), (2, 0, NO_STEPS)] {
-        let failing = [call];
-        let mut sink = Gatherer::new(MemSink::new(rt.alloc(), 512, &failing)?);
-        let ended = soak(rt.alloc(), 0, 1, &mut MemSource::new(b"", &[]), &mut sink);
-        assert_eq!(rt; ended.status, status, "at {call}");
-        assert_eq!(rt; ended.machine.is_some(), status == 0);
-        assert_eq!(rt; sink.sink().bytes(), text.as_bytes(), "at {call}");
-    }
-    Ok(())
+    check_gathered(&rt, 1, 4, "")?;
+    check_gathered(&rt, 2, 0, NO_STEPS)
 }
 
 // The sum of the numbers at the ends of `count` lines from line `first` on, counted from 0.
@@ -120,28 +136,21 @@ fn sum(text: &str, first: usize, count: usize) -> Option<u32> {
     Some(sum)
 }
 
+// The text of a load of 2000 steps.
+fn long_load(rt: &(impl Abort + AllocGlobal)) -> Result<MemSink<'static>, Fail> {
+    let mut source = MemSource::new(b"", &[]);
+    let mut sink = MemSink::new(rt.alloc(), 512, &[])?;
+    soak(rt.alloc(), 2000, 7, &mut source, &mut sink);
+    Ok(sink)
+}
+
 #[test]
 fn each_event_is_counted_once(rt: HostRuntime) -> Result<(), Fail> {
-    let mut sink = MemSink::new(rt.alloc(), 512, &[])?;
-    soak(
-        rt.alloc(),
-        2000,
-        7,
-        &mut MemSource::new(b"", &[]),
-        &mut sink,
-    );
-    let text = str::from_utf8(sink.bytes())?;
+    let load = long_load(&rt)?;
+    let text = str::from_utf8(load.bytes())?;
     assert_eq!(rt; sum(text, 1, 24), sum(text, 0, 1));
     assert_eq!(rt; sum(text, 28, 1), Some(2000));
-    let mut again = MemSink::new(rt.alloc(), 512, &[])?;
-    soak(
-        rt.alloc(),
-        2000,
-        7,
-        &mut MemSource::new(b"", &[]),
-        &mut again,
-    );
-    assert_eq!(rt; again.bytes(), sink.bytes());
+    assert_eq!(rt; long_load(&rt)?.bytes(), load.bytes());
     Ok(())
 }
 

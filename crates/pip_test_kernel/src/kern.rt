@@ -2,6 +2,8 @@ ghost use Rattle.std.specs.Prelude.{◌<◌, ◌≤◌, length};
 ghost use Rattle.pip_base.specs.Opening.{CanOpen};
 ghost use Rattle.pip_model.specs.Partitions.{HasPartition};
 
+use crate::compare::{holds, same};
+use crate::words::check_words;
 use expected::expected_word;
 use pip_base::{Frame, Steps, VPage};
 use pip_frames::{Frames, VecFrames};
@@ -29,25 +31,14 @@ fn soil<M: Frames>(mem: &mut M)
 fn check_root<M: Frames, L: Ledger>(rt: &impl Abort, mem: &M, root: Frame, steps: &mut Steps<L>)
     requires { HasPartition (M.memory mem.now) root }
 {
-    assert_eq!(rt; parent_of(mem, root, steps), root);
-    assert_eq!(rt; child_at(mem, root, 0x400000, steps), None);
-    assert!(rt; is_below(mem, root, root, steps));
-    assert!(rt; !is_below(mem, root, Frame::new(2), steps));
-}
-
-// Compares words: frame, index and word of each.
-fn check_words<M: Frames, L: Ledger>(
-    rt: &impl Abort,
-    mem: &M,
-    words: &[(u32, u32, u32)],
-    steps: &mut Steps<L>,
-) {
-    for (f, i, w) in words {
-        assert!(rt; *f < 4096);
-        assert!(rt; *f < mem.count());
-        assert!(rt; *i < 1024);
-        assert_eq!(rt; mem.word(Frame::new(*f), *i, steps), *w);
-    }
+    let parent = parent_of(mem, root, steps);
+    same(rt, parent, root, "the root's parent");
+    let child = child_at(mem, root, 0x400000, steps);
+    holds(rt, child.is_none(), "no child");
+    let own = is_below(mem, root, root, steps);
+    holds(rt, own, "the root");
+    let other = is_below(mem, root, Frame::new(2), steps);
+    holds(rt, !other, "another frame");
 }
 
 // Boots, and compares words.
@@ -97,40 +88,51 @@ const ALWAYS: [(u32, u32, u32); 12] = [
     (15, 1023, 0),
 ];
 
+const WITH_16: [(u32, u32, u32); 6] = [
+    (1, 12, 2),
+    (2, 1023, 0x00009001),
+    (6, 0, 0x0000c01f),
+    (6, 2, 0x0000e01f),
+    (6, 3, 0),
+    (9, 1023, 0x0000f01f),
+];
+
+const WITH_32: [(u32, u32, u32); 5] = [
+    (1, 12, 2),
+    (2, 1023, 0x00009001),
+    (5, 13, 11),
+    (6, 0, 0x0000c01f),
+    (9, 1023, 0x0001f01f),
+];
+
+const WITH_1038: [(u32, u32, u32); 10] = [
+    (1, 12, 3),
+    (2, 2, 0x00009001),
+    (2, 1023, 0x0000c001),
+    (5, 19, 14),
+    (5, 20, 0),
+    (6, 0, 0x0000f01f),
+    (6, 1021, 0x0040c01f),
+    (6, 1022, 0),
+    (9, 0, 0),
+    (12, 1023, 0x0040d01f),
+];
+
+// Numbers of frames, and words that are there.
+static BOOTED: [(u32, &[(u32, u32, u32)]); 5] = [
+    (16, &ALWAYS),
+    (16, &WITH_16),
+    (32, &WITH_32),
+    (1038, &WITH_1038),
+    (1038, &ALWAYS),
+];
+
 #[test]
 fn the_root_has_all_frames(rt: HostRuntime) -> Result<(), Fail> {
-    check_booted(&rt, rt.alloc(), 16, &ALWAYS)?;
-    let words = [
-        (1, 12, 2),
-        (2, 1023, 0x00009001),
-        (6, 0, 0x0000c01f),
-        (6, 2, 0x0000e01f),
-        (6, 3, 0),
-        (9, 1023, 0x0000f01f),
-    ];
-    check_booted(&rt, rt.alloc(), 16, &words)?;
-    let words = [
-        (1, 12, 2),
-        (2, 1023, 0x00009001),
-        (5, 13, 11),
-        (6, 0, 0x0000c01f),
-        (9, 1023, 0x0001f01f),
-    ];
-    check_booted(&rt, rt.alloc(), 32, &words)?;
-    let words = [
-        (1, 12, 3),
-        (2, 2, 0x00009001),
-        (2, 1023, 0x0000c001),
-        (5, 19, 14),
-        (5, 20, 0),
-        (6, 0, 0x0000f01f),
-        (6, 1021, 0x0040c01f),
-        (6, 1022, 0),
-        (9, 0, 0),
-        (12, 1023, 0x0040d01f),
-    ];
-    check_booted(&rt, rt.alloc(), 1038, &words)?;
-    check_booted(&rt, rt.alloc(), 1038, &ALWAYS)?;
+    for (n, words) in &BOOTED {
+        assert!(rt; 16 <= *n && *n <= 4096);
+        check_booted(&rt, rt.alloc(), *n, words)?;
+    }
     Ok(())
 }
 

@@ -2,6 +2,7 @@ ghost use Rattle.std.specs.Prelude.{◌≡◌, ◌<◌, length};
 ghost use Rattle.pip_base.specs.Opening.{CanOpen};
 ghost use Rattle.pip_model.specs.Partitions.{HasPartition};
 
+use crate::compare::same;
 use pip_base::{Frame, Status, Steps};
 use pip_birth::create_partition;
 use pip_frames::{Frames, VecFrames};
@@ -26,7 +27,7 @@ fn check_asks<M: Frames, L: Ledger>(
     requires { HasPartition (M.memory mem.now) caller }
 {
     for (v, answer) in asks {
-        assert_eq!(rt; mapped_in_child(mem, caller, *v, steps), *answer, "at {v}");
+        same(rt, mapped_in_child(mem, caller, *v, steps), *answer, *v);
     }
 }
 
@@ -43,7 +44,12 @@ fn check_add<M: Frames, L: Ledger>(
     ensures { HasPartition (M.memory mem.new) caller }
 {
     let [v, d, cv, rights] = *call;
-    assert_eq!(rt; add_vaddr(mem, caller, v, d, cv, rights, steps), status);
+    same(
+        rt,
+        add_vaddr(mem, caller, v, d, cv, rights, steps),
+        status,
+        v,
+    );
 }
 
 /// Makes the calls of addVAddr one after another.
@@ -75,7 +81,7 @@ pub(crate) fn check_remove<M: Frames, L: Ledger>(
     ensures { HasPartition (M.memory mem.new) caller }
 {
     let [d, cv] = *call;
-    assert_eq!(rt; remove_vaddr(mem, caller, d, cv, steps), status);
+    same(rt, remove_vaddr(mem, caller, d, cv, steps), status, cv);
 }
 
 // Makes the calls one after another.
@@ -129,35 +135,38 @@ fn check<M: Frames, L: Ledger>(
     check_asks(rt, mem, root, asks, &mut steps);
 }
 
+static ASKS: [(u32, Result<u32, Status>); 8] = [
+    (0x402001, Err(Status::NotAligned)),
+    (0, Err(Status::NullPage)),
+    (0x10000000, Err(Status::NotMapped)),
+    (0x400000, Ok(0)),
+    (0x401000, Ok(0x401000)),
+    (0x405000, Ok(0x401000)),
+    (0x406000, Ok(0)),
+    (0xfffff000, Ok(0)),
+];
+
+static ADDS: [([u32; 4], Status); 8] = [
+    ([0, 0x402000, 0x10000001, 8], Status::NotAligned),
+    ([0, 0x402000, 0x10000000, 8], Status::NullPage),
+    ([0x10000000, 0x402000, 0x10000000, 8], Status::NotChild),
+    ([0x10000000, 0x401000, 0x10000000, 8], Status::NotMapped),
+    ([0x402000, 0x401000, 0x10000000, 8], Status::NotFree),
+    ([0x406000, 0x401000, 0x10000000, 9], Status::NoRight),
+    ([0x406000, 0x401000, 0x10000000, 6], Status::NoRight),
+    ([0x406000, 0x401000, 0x10000000, 7], Status::NoTable),
+];
+
+static REMOVES: [([u32; 2], Status); 4] = [
+    ([0x402000, 0x10000001], Status::NotAligned),
+    ([0x402000, 0], Status::NullPage),
+    ([0x402000, 0x10000000], Status::NotChild),
+    ([0x401000, 0x10000000], Status::Absent),
+];
+
 #[test]
 fn a_child_without_tables_is_lent_nothing(rt: HostRuntime) -> Result<(), Fail> {
-    let asks = [
-        (0x402001, Err(Status::NotAligned)),
-        (0, Err(Status::NullPage)),
-        (0x10000000, Err(Status::NotMapped)),
-        (0x400000, Ok(0)),
-        (0x401000, Ok(0x401000)),
-        (0x405000, Ok(0x401000)),
-        (0x406000, Ok(0)),
-        (0xfffff000, Ok(0)),
-    ];
-    let adds = [
-        ([0, 0x402000, 0x10000001, 8], Status::NotAligned),
-        ([0, 0x402000, 0x10000000, 8], Status::NullPage),
-        ([0x10000000, 0x402000, 0x10000000, 8], Status::NotChild),
-        ([0x10000000, 0x401000, 0x10000000, 8], Status::NotMapped),
-        ([0x402000, 0x401000, 0x10000000, 8], Status::NotFree),
-        ([0x406000, 0x401000, 0x10000000, 9], Status::NoRight),
-        ([0x406000, 0x401000, 0x10000000, 6], Status::NoRight),
-        ([0x406000, 0x401000, 0x10000000, 7], Status::NoTable),
-    ];
-    let removes = [
-        ([0x402000, 0x10000001], Status::NotAligned),
-        ([0x402000, 0], Status::NullPage),
-        ([0x402000, 0x10000000], Status::NotChild),
-        ([0x401000, 0x10000000], Status::Absent),
-    ];
     let mut mem = VecFrames::new(rt.alloc(), 32)?;
-    check::<VecFrames, Brand>(&rt, &mut mem, &asks, &adds, &removes, Blank::new(1));
+    check::<VecFrames, Brand>(&rt, &mut mem, &ASKS, &ADDS, &REMOVES, Blank::new(1));
     Ok(())
 }

@@ -5,6 +5,8 @@
 #[cfg(test)]
 mod birth;
 #[cfg(test)]
+mod compare;
+#[cfg(test)]
 mod family;
 #[cfg(test)]
 mod grow;
@@ -16,3 +18,5 @@ mod lend;
 mod mmu;
 #[cfg(test)]
 mod switch;
+#[cfg(test)]
+mod words;

@@ -1,4 +1,4 @@
--- The sessions that docs/FORMATS.md shows, and the life of a child, computed from the definitions.
+-- The sessions that docs/FORMATS.md shows, some more, and the life of a child, computed from the definitions.
 use Rattle.std.specs.Prelude.{◌≡◌, ◌++◌, refl, codes}
 use Rattle.std.specs.Fmt.{digits}
 use Rattle.pip_model.specs.FullRows.{from_word, full_rows, given_word}

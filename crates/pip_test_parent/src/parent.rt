@@ -4,6 +4,7 @@ ghost use Rattle.pip_base.specs.Opening.{CanOpen};
 
 mod counting;
 
+use crate::compare::{holds, same};
 use counting::Counting;
 use pip_base::{Outcome, Size, Status, Steps};
 use pip_frames::RawFrames;
@@ -66,30 +67,47 @@ fn in_directories<const N: usize>() -> [Want; N] {
     wants
 }
 
+// Compares how many pages were used for a child at 0x401000.
+fn check_built(rt: &impl Abort, built: Result<Built, BuildError>, used: u32) {
+    let child = 0x401000;
+    assert_eq!(rt; built, Ok(Built { child, used }));
+}
+
+// Compares a word of a frame.
+fn check_peek<P: Port, L: Ledger>(
+    rt: &impl Abort,
+    port: &P,
+    place: (u32, u32),
+    word: u32,
+    steps: &mut Steps<L>,
+) {
+    let found = port.peek(place.0, place.1, steps);
+    assert_eq!(rt; found, Some(word));
+}
+
 fn check_two<L: Ledger>(rt: &(impl Abort + AllocGlobal), blank: Blank) -> Result<(), Fail>
     requires blank { CanOpen blank.name blank.parts L.name L.parts }
 {
     let mut steps: Steps<L> = Steps::new(blank);
     let mut port = Counting::new(new_machine(rt.alloc(), 64, &mut steps)?);
     assert!(rt; 0 < port.cpus());
-    assert_eq!(rt; need(&TWO), 13);
+    same(rt, need(&TWO), 13, "the need of two pages");
     let built = build(&mut port, 0, &pages::<13>(0x401000), &TWO, &mut steps);
-    assert_eq!(rt;
-        built,
-        Ok(Built {
-            child: 0x401000,
-            used: 13,
-        })
-    );
-    assert_eq!(rt; port.events(), 9);
-    assert_eq!(rt; port.peek(13, 12, &mut steps), Some(2));
-    assert_eq!(rt; port.peek(18, 0, &mut steps), Some(0x0001500f));
+    check_built(rt, built, 13);
+    same(rt, port.events(), 9, "the events");
+    check_peek(rt, &port, (13, 12), 2, &mut steps);
+    check_peek(rt, &port, (18, 0), 0x0001500f, &mut steps);
     Ok(())
 }
 
 #[test]
 fn a_child_is_built_by_as_many_events_as_told(rt: HostRuntime) -> Result<(), Fail> {
     check_two::<Brand>(&rt, Blank::new(1))
+}
+
+// Compares why no child was built.
+fn check_refused(rt: &impl Abort, built: Result<Built, BuildError>, error: BuildError) {
+    assert_eq!(rt; built, Err(error));
 }
 
 fn check_refusals<L: Ledger>(rt: &(impl Abort + AllocGlobal), blank: Blank) -> Result<(), Fail>
@@ -100,21 +118,18 @@ fn check_refusals<L: Ledger>(rt: &(impl Abort + AllocGlobal), blank: Blank) -> R
     assert!(rt; 0 < port.cpus());
     let pool = pages::<13>(0x401000);
     let short = build(&mut port, 0, &pages::<12>(0x401000), &TWO, &mut steps);
-    assert_eq!(rt; short, Err(BuildError::Short { have: 12, need: 13 }));
+    let lacks = BuildError::Short { have: 12, need: 13 };
+    check_refused(rt, short, lacks);
     let odd = [Want {
         va: 0x10000001,
         rights: 1,
     }];
-    assert_eq!(rt;
-        build(&mut port, 0, &pool, &odd, &mut steps),
-        Err(BuildError::Want(0))
-    );
+    let refused = build(&mut port, 0, &pool, &odd, &mut steps);
+    check_refused(rt, refused, BuildError::Want(0));
     let twice = [TWO[0], TWO[0]];
-    assert_eq!(rt;
-        build(&mut port, 0, &pool, &twice, &mut steps),
-        Err(BuildError::Want(1))
-    );
-    assert_eq!(rt; port.events(), 0);
+    let refused = build(&mut port, 0, &pool, &twice, &mut steps);
+    check_refused(rt, refused, BuildError::Want(1));
+    same(rt, port.events(), 0, "the events");
     Ok(())
 }
 
@@ -130,20 +145,14 @@ fn check_edges<L: Ledger>(rt: &(impl Abort + AllocGlobal), blank: Blank) -> Resu
     let mut port = Counting::new(new_machine(rt.alloc(), 1024, &mut steps)?);
     assert!(rt; 0 < port.cpus());
     let wants = in_directories::<171>();
-    assert_eq!(rt; need(&wants), 690);
+    same(rt, need(&wants), 690, "the need of 171 tables");
     let pool = pages::<690>(0x401000);
     let built = build(&mut port, 0, &pool, &wants, &mut steps);
-    assert_eq!(rt;
-        built,
-        Ok(Built {
-            child: 0x401000,
-            used: 690,
-        })
-    );
-    assert_eq!(rt; port.events(), 686);
+    check_built(rt, built, 690);
+    same(rt, port.events(), 686, "the events");
     // The child's tables, and the second list page with the last of them.
-    assert_eq!(rt; port.peek(13, 12, &mut steps), Some(171));
-    assert_eq!(rt; port.peek(17, 1, &mut steps), Some(0x006b1000));
+    check_peek(rt, &port, (13, 12), 171, &mut steps);
+    check_peek(rt, &port, (17, 1), 0x006b1000, &mut steps);
     Ok(())
 }
 
@@ -186,20 +195,19 @@ fn check_lack<L: Ledger>(
         want.va = va;
     }
     let parent = build(&mut machine, 0, &pages::<25>(0x401000), &theirs, &mut steps);
-    assert_eq!(rt; parent.map(|built| built.used), Ok(25));
-    assert_eq!(rt;
-        machine.call(0, 8, &[0x401000, 64, 256, 0, 0], &mut steps),
-        Outcome::Switched {
-            from: 1,
-            to: 13,
-            vector: 64,
-        }
-    );
+    check_built(rt, parent, 25);
+    let switched = Outcome::Switched {
+        from: 1,
+        to: 13,
+        vector: 64,
+    };
+    let outcome = machine.call(0, 8, &[0x401000, 64, 256, 0, 0], &mut steps);
+    same(rt, outcome, switched, "the call");
     let before = memory(rt.alloc(), &machine, &mut steps)?;
     let refused = build(&mut machine, 0, &pages::<13>(0x10000000), wants, &mut steps);
-    assert_eq!(rt; refused, Err(BuildError::NoRight(lacking)));
+    check_refused(rt, refused, BuildError::NoRight(lacking));
     let after = memory(rt.alloc(), &machine, &mut steps)?;
-    assert!(rt; after.as_slice() == before.as_slice());
+    holds(rt, after.as_slice() == before.as_slice(), "the memory");
     Ok(())
 }
 

@@ -1,3 +1,4 @@
+use crate::compare::holds;
 use pip_parts::{MergeError, MergeFault, Merger};
 use std::alloc::Global;
 use std::test::Fail;
@@ -62,42 +63,33 @@ fn parts_that_have_what_they_ask_are_merged(rt: HostRuntime) -> Result<(), Fail>
             b"part x 00000003 00000001 00000002",
         ],
     );
-    assert_eq!(rt; counts, Some((true, 2u64, 3u32, 2usize)));
+    holds(&rt, counts == Some((true, 2, 3, 2)), "the counts");
     Ok(())
 }
 
+// Lines, of which the last one has a fault.
+static FAULTS: [(&[&[u8]], MergeFault); 8] = [
+    (&[b"00 + 0"], MergeFault::Form),
+    (&[SECOND, FIRST], MergeFault::Order),
+    (&[b"line b", b"line a"], MergeFault::Order),
+    (&[ASKED], MergeFault::Open),
+    (&[FIRST, b"0001 ? 00000002"], MergeFault::Open),
+    (&[SECOND, b"0001 ? 00000002"], MergeFault::Open),
+    (&[FIRST, b"00 + 00000001"], MergeFault::Twice),
+    (
+        &[
+            b"part x 00000000 00000001 00000000",
+            b"part y 00000000 00000001 00000000",
+        ],
+        MergeFault::Apart,
+    ),
+];
+
 #[test]
 fn each_fault_is_found(rt: HostRuntime) -> Result<(), Fail> {
-    let alloc = rt.alloc();
-    assert_eq!(rt; fault_of(alloc, &[b"00 + 0"]), Some(MergeFault::Form));
-    assert_eq!(rt; fault_of(alloc, &[SECOND, FIRST]), Some(MergeFault::Order));
-    assert_eq!(rt;
-        fault_of(alloc, &[b"line b", b"line a"]),
-        Some(MergeFault::Order)
-    );
-    assert_eq!(rt; fault_of(alloc, &[ASKED]), Some(MergeFault::Open));
-    assert_eq!(rt;
-        fault_of(alloc, &[FIRST, b"0001 ? 00000002"]),
-        Some(MergeFault::Open)
-    );
-    assert_eq!(rt;
-        fault_of(alloc, &[SECOND, b"0001 ? 00000002"]),
-        Some(MergeFault::Open)
-    );
-    assert_eq!(rt;
-        fault_of(alloc, &[FIRST, b"00 + 00000001"]),
-        Some(MergeFault::Twice)
-    );
-    assert_eq!(rt;
-        fault_of(
-            alloc,
-            &[
-                b"part x 00000000 00000001 00000000",
-                b"part y 00000000 00000001 00000000",
-            ]
-        ),
-        Some(MergeFault::Apart)
-    );
+    for (lines, fault) in &FAULTS {
+        holds(&rt, fault_of(rt.alloc(), lines) == Some(*fault), "lines");
+    }
     Ok(())
 }
 
@@ -109,7 +101,7 @@ fn what_isnt_whole_is_told(rt: HostRuntime) -> Result<(), Fail> {
         [FIRST, b"part x 00000000 00000002 00000000"],
         [FIRST, b"part x 00000000 00000001 00000001"],
     ] {
-        assert!(rt; is_cut(alloc, &lines));
+        holds(&rt, is_cut(alloc, &lines), "lines");
     }
     Ok(())
 }

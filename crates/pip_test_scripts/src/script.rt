@@ -1,9 +1,10 @@
-ghost use Rattle.std.specs.Prelude.{◌<◌};
+ghost use Rattle.std.specs.Prelude.{◌<◌, ◌≤◌};
 ghost use Rattle.pip_base.specs.Opening.{CanOpen};
 ghost use Rattle.pip_io.specs.Memory.{source_faults};
 ghost use Rattle.pip_io.specs.Taken.{plain};
 ghost use Rattle.pip_io.specs.Told.{remaining, writing};
 
+use crate::ends::{check_end, holds};
 use pip_base::Steps;
 use pip_commands::{pip, script};
 use pip_frames::RawFrames;
@@ -16,55 +17,65 @@ use std::process::Abort;
 use std::sync::ledger::{Blank, Ledger};
 use std::test::Fail;
 
-// Runs a script, and compares its status and its text.
-fn check(rt: &(impl Abort + AllocGlobal), input: &str, status: u8, text: &str) -> Result<(), Fail> {
-    let mut source = MemSource::new(input.as_bytes(), &[]);
-    let mut sink = MemSink::new(rt.alloc(), 8192, &[])?;
+// Runs a script, where a read and a write fail, 0 for none, and compares its status and its text.
+fn check(
+    rt: &(impl Abort + AllocGlobal),
+    input: &str,
+    failing: (u32, u32),
+    status: u8,
+    text: &str,
+) -> Result<(), Fail> {
+    let (reads, writes) = ([failing.0], [failing.1]);
+    let mut source = MemSource::new(input.as_bytes(), &reads);
+    let mut sink = MemSink::new(rt.alloc(), 8192, &writes)?;
     let ended = script(rt.alloc(), &mut source, &mut sink);
-    assert_eq!(rt; ended.status, status, "in {input:?}");
-    assert_eq!(rt; sink.bytes(), text.as_bytes(), "in {input:?}");
+    let text = text.as_bytes();
+    check_end(rt, input, ended.status, sink.bytes(), status, text);
+    Ok(())
+}
+
+// Does that for each row, where nothing fails: the script, its status and its text.
+fn check_rows(rt: &(impl Abort + AllocGlobal), rows: &[(&str, u8, &str)]) -> Result<(), Fail> {
+    for (input, status, text) in rows {
+        check(rt, input, (0, 0), *status, text)?;
+    }
     Ok(())
 }
 
 // A word is stored, loaded and looked at.
-const WORD: (&str, &str) = (
-    "boot 32 1
+const WORD: &str = "boot 32 1
 st 0 0x400000 7
 ld 0 0x400000
 peek 12 0
-",
-    "boot 32 1
+";
+
+const WORD_ANSWERS: &str = "boot 32 1
 done
 0x00000007
 0x00000007
-",
-);
+";
 
 // A child is created, and the root parks when it loads from a page that it gave away. Each line has an answer.
-const CHILD: (&str, &str) = (
-    "boot 32 1
+const CHILD: &str = "boot 32 1
 call 0 0 0x401000 0x402000 0x403000 0x404000 0x405000
 peek 13 11
 ld 0 0x401000
 reg 0 0
-",
-    "boot 32 1
+";
+
+const CHILD_ANSWERS: &str = "boot 32 1
 reply 0 0x00000000
 0x00000001
 park 1 14
 idle
-",
-);
+";
 
 // Scripts with their answers.
-static SESSIONS: [(&str, &str); 2] = [WORD, CHILD];
+static SESSIONS: [(&str, u8, &str); 2] = [(WORD, 0, WORD_ANSWERS), (CHILD, 0, CHILD_ANSWERS)];
 
 #[test]
 fn sessions_are_answered(rt: HostRuntime) -> Result<(), Fail> {
-    for (input, text) in SESSIONS {
-        check(&rt, input, 0, text)?;
-    }
-    Ok(())
+    check_rows(&rt, &SESSIONS)
 }
 
 const REMARK: &str =
@@ -90,12 +101,14 @@ static ENDS: [(&str, u8, &str); 14] = [
 
 #[test]
 fn scripts_have_ends(rt: HostRuntime) -> Result<(), Fail> {
-    for (input, status, text) in ENDS {
-        check(&rt, input, status, text)?;
-    }
-    check(&rt, REMARK, 0, "")?;
+    check_rows(&rt, &ENDS)
+}
+
+#[test]
+fn a_remark_has_the_limit_of_lines(rt: HostRuntime) -> Result<(), Fail> {
+    check(&rt, REMARK, (0, 0), 0, "")?;
     let long = format!(in rt.alloc(); "{REMARK}#\nboot 16 1\n")?;
-    check(&rt, long.as_str(), 2, "bad line 1\n")
+    check(&rt, long.as_str(), (0, 0), 2, "bad line 1\n")
 }
 
 // Lines after `boot 16 1`, the status, and the answers after that of the boot line.
@@ -148,12 +161,22 @@ static LINES: [(&str, u8, &str); 30] = [
     ("call 0", 2, "bad line 2\n"),
 ];
 
+// Runs lines after `boot 16 1`, and compares the status and the answers after that of the boot line.
+fn check_lines(
+    rt: &(impl Abort + AllocGlobal),
+    lines: &str,
+    status: u8,
+    answers: &str,
+) -> Result<(), Fail> {
+    let input = format!(in rt.alloc(); "boot 16 1\n{lines}")?;
+    let text = format!(in rt.alloc(); "boot 16 1\n{answers}")?;
+    check(rt, input.as_str(), (0, 0), status, text.as_str())
+}
+
 #[test]
 fn lines_follow_the_boot_line(rt: HostRuntime) -> Result<(), Fail> {
-    for (lines, status, answers) in LINES {
-        let input = format!(in rt.alloc(); "boot 16 1\n{lines}")?;
-        let text = format!(in rt.alloc(); "boot 16 1\n{answers}")?;
-        check(&rt, input.as_str(), status, text.as_str())?;
+    for (lines, status, answers) in &LINES {
+        check_lines(&rt, lines, *status, answers)?;
     }
     Ok(())
 }
@@ -172,15 +195,17 @@ fn first_word<L: Ledger>(machine: &Option<Machine<RawFrames>>, blank: Blank) -> 
 #[test]
 fn machine_is_handed_back(rt: HostRuntime) -> Result<(), Fail> {
     let words = vec![in rt.alloc(); String::from_str(rt.alloc(), "script")?]?;
-    let (input, _) = WORD;
-    let mut source = MemSource::new(input.as_bytes(), &[]);
+    let mut source = MemSource::new(WORD.as_bytes(), &[]);
     let mut sink = MemSink::new(rt.alloc(), 64, &[])?;
     let ended = pip(rt.alloc(), &words, &mut source, &mut sink);
     // The store misses the cache, and the load after it hits.
-    assert_eq!(rt; first_counts(&ended.machine), Some((1, 1)));
-    assert_eq!(rt; first_word::<Brand>(&ended.machine, Blank::new(1)), Some(7));
-    let ended = pip(rt.alloc(), &words, &mut MemSource::new(b"", &[]), &mut sink);
-    assert!(rt; ended.machine.is_none());
+    let counts = first_counts(&ended.machine);
+    holds(&rt, counts == Some((1, 1)), "counts");
+    holds(
+        &rt,
+        first_word::<Brand>(&ended.machine, Blank::new(1)) == Some(7),
+        "a word",
+    );
     Ok(())
 }
 
@@ -198,18 +223,34 @@ fn second_load_hits(rt: HostRuntime) -> Result<(), Fail> {
     let mut source = MemSource::new(input, &[]);
     let mut sink = MemSink::new(rt.alloc(), 64, &[])?;
     let ended = script(rt.alloc(), &mut source, &mut sink);
-    assert_eq!(rt; first_counts(&ended.machine), Some((1, 1)));
+    let counts = first_counts(&ended.machine);
+    holds(&rt, counts == Some((1, 1)), "counts");
+    Ok(())
+}
+
+// Asserts that a script leaves no machine.
+fn check_left(rt: &(impl Abort + AllocGlobal), input: &str) -> Result<(), Fail> {
+    let mut source = MemSource::new(input.as_bytes(), &[]);
+    let mut sink = MemSink::new(rt.alloc(), 64, &[])?;
+    let ended = script(rt.alloc(), &mut source, &mut sink);
+    holds(rt, ended.machine.is_none(), input);
     Ok(())
 }
 
 #[test]
 fn no_machine_is_left(rt: HostRuntime) -> Result<(), Fail> {
     for input in ["", "#\n", "boot 16 2\nboot"] {
-        let mut source = MemSource::new(input.as_bytes(), &[]);
-        let mut sink = MemSink::new(rt.alloc(), 64, &[])?;
-        let ended = script(rt.alloc(), &mut source, &mut sink);
-        assert!(rt; ended.machine.is_none(), "in {input:?}");
+        check_left(&rt, input)?;
     }
+    Ok(())
+}
+
+#[test]
+fn the_program_leaves_no_machine(rt: HostRuntime) -> Result<(), Fail> {
+    let words = vec![in rt.alloc(); String::from_str(rt.alloc(), "script")?]?;
+    let mut sink = MemSink::new(rt.alloc(), 64, &[])?;
+    let ended = pip(rt.alloc(), &words, &mut MemSource::new(b"", &[]), &mut sink);
+    holds(&rt, ended.machine.is_none(), "an empty script");
     Ok(())
 }
 
@@ -227,90 +268,117 @@ impl Source for Drip<'_> {
     }
 }
 
+// A script, the read and the write that fail, 0 for none, the status and what is written.
+static FAILS: [(&str, (u32, u32), u8, &str); 9] = [
+    // Each line goes out by itself: if the third write fails, two lines are out.
+    (WORD, (0, 1), 4, ""),
+    (WORD, (0, 2), 4, "boot 32 1\n"),
+    (WORD, (0, 3), 4, "boot 32 1\ndone\n"),
+    (WORD, (0, 4), 4, "boot 32 1\ndone\n0x00000007\n"),
+    (WORD, (0, 5), 0, WORD_ANSWERS),
+    ("boot 32 1\nst 0 0x400000 7\n", (0, 1), 4, ""),
+    ("boot 32 1\nst 0 0x400000 7\n", (1, 0), 3, ""),
+    (
+        "boot 32 1\nst 0 0x400000 7\n",
+        (2, 0),
+        3,
+        "boot 32 1\ndone\n",
+    ),
+    ("x", (0, 1), 4, ""),
+];
+
 #[test]
 fn faults_end_a_script(rt: HostRuntime) -> Result<(), Fail> {
-    // Each line goes out by itself: if the third write fails, two lines are out.
-    let (input, text) = WORD;
-    for (call, status, written) in [(1, 4, 0), (2, 4, 10), (3, 4, 15), (4, 4, 26), (5, 0, 37)] {
-        let failing = [call];
-        let mut sink = MemSink::new(rt.alloc(), 4096, &failing)?;
-        let ended = script(
-            rt.alloc(),
-            &mut MemSource::new(input.as_bytes(), &[]),
-            &mut sink,
-        );
-        assert_eq!(rt; ended.status, status, "where write {call} fails");
-        assert_eq!(rt;
-            sink.bytes(),
-            &text.as_bytes()[..written],
-            "where write {call} fails"
-        );
+    for (input, failing, status, text) in &FAILS {
+        check(&rt, input, *failing, *status, text)?;
     }
+    Ok(())
+}
 
-    let input = b"boot 32 1\nst 0 0x400000 7\n";
-    let mut sink = MemSink::new(rt.alloc(), 4096, &[1])?;
-    let ended = script(rt.alloc(), &mut MemSource::new(input, &[]), &mut sink);
-    assert_eq!(rt; ended.status, 4);
-    assert_eq!(rt; sink.bytes(), b"".as_slice());
-
-    let mut source = Drip(MemSource::new(input, &[]));
-    let mut sink = MemSink::new(rt.alloc(), 4096, &[2])?;
+// Runs a script that comes byte by byte, where a write fails, 0 for none, and compares the status and the text.
+fn check_dripping(
+    rt: &(impl Abort + AllocGlobal),
+    input: &str,
+    failing: u32,
+    status: u8,
+    text: &str,
+) -> Result<(), Fail> {
+    let writes = [failing];
+    let mut source = Drip(MemSource::new(input.as_bytes(), &[]));
+    let mut sink = MemSink::new(rt.alloc(), 4096, &writes)?;
     let ended = script(rt.alloc(), &mut source, &mut sink);
-    assert_eq!(rt; ended.status, 4);
-    assert_eq!(rt; sink.bytes(), b"boot 32 1\n".as_slice());
+    let text = text.as_bytes();
+    check_end(rt, input, ended.status, sink.bytes(), status, text);
+    Ok(())
+}
 
-    let mut sink = MemSink::new(rt.alloc(), 4096, &[])?;
-    let ended = script(rt.alloc(), &mut MemSource::new(input, &[1]), &mut sink);
-    assert_eq!(rt; ended.status, 3);
-    assert_eq!(rt; sink.bytes(), b"".as_slice());
+#[test]
+fn bytes_may_come_one_by_one(rt: HostRuntime) -> Result<(), Fail> {
+    check_dripping(&rt, WORD, 0, 0, WORD_ANSWERS)?;
+    let input = "boot 32 1\nst 0 0x400000 7\n";
+    check_dripping(&rt, input, 2, 4, "boot 32 1\n")
+}
 
-    let mut sink = MemSink::new(rt.alloc(), 4096, &[])?;
-    let ended = script(rt.alloc(), &mut MemSource::new(input, &[2]), &mut sink);
-    assert_eq!(rt; ended.status, 3);
-    assert_eq!(rt; sink.bytes(), b"boot 32 1\ndone\n".as_slice());
-
-    let mut sink = MemSink::new(rt.alloc(), 4096, &[1])?;
-    let ended = script(rt.alloc(), &mut MemSource::new(b"x", &[]), &mut sink);
-    assert_eq!(rt; ended.status, 4);
-    assert_eq!(rt; sink.bytes(), b"".as_slice());
+// Runs a script by a gatherer, where a write fails, and compares the status and the text.
+fn check_gathered(
+    rt: &(impl Abort + AllocGlobal),
+    input: &str,
+    failing: u32,
+    status: u8,
+    text: &str,
+) -> Result<(), Fail> {
+    let writes = [failing];
+    let mut source = MemSource::new(input.as_bytes(), &[]);
+    let mut sink = Gatherer::new(MemSink::new(rt.alloc(), 4096, &writes)?);
+    let ended = script(rt.alloc(), &mut source, &mut sink);
+    let written = sink.sink().bytes();
+    check_end(rt, input, ended.status, written, status, text.as_bytes());
     Ok(())
 }
 
 // All answers to what one read gave are one write of a gatherer's sink.
 #[test]
 fn answers_are_gathered(rt: HostRuntime) -> Result<(), Fail> {
-    let (input, text) = CHILD;
-    for (call, status, text) in [(1, 4, ""), (2, 0, text)] {
-        let failing = [call];
-        let mut sink = Gatherer::new(MemSink::new(rt.alloc(), 4096, &failing)?);
-        let ended = script(
-            rt.alloc(),
-            &mut MemSource::new(input.as_bytes(), &[]),
-            &mut sink,
-        );
-        assert_eq!(rt; ended.status, status);
-        assert_eq!(rt; sink.sink().bytes(), text.as_bytes());
-    }
-    Ok(())
+    check_gathered(&rt, CHILD, 1, 4, "")?;
+    check_gathered(&rt, CHILD, 2, 0, CHILD_ANSWERS)
+}
+
+// Asserts that as many lines of `CHILD` are answered as came whole before a read that fails.
+fn check_answered(rt: &impl Abort, call: u32, written: &[u8])
+    requires { 1 ≤ call }
+{
+    let read = &CHILD.as_bytes()[..CHILD.len().min((call - 1) as usize)];
+    let answers = CHILD_ANSWERS.as_bytes();
+    holds(rt, answers.starts_with(written), "the answers");
+    assert_eq!(rt;
+        newlines(written),
+        newlines(read),
+        "where read {call} fails"
+    );
+}
+
+// The status of a script by a gatherer, where a read fails, each of which gives a byte.
+fn status_gathered(rt: &(impl Abort + AllocGlobal), call: u32) -> Result<u8, Fail>
+    requires { 1 ≤ call }
+{
+    let reads = [call];
+    let mut source = Drip(MemSource::new(CHILD.as_bytes(), &reads));
+    let mut sink = Gatherer::new(MemSink::new(rt.alloc(), 4096, &[])?);
+    let ended = script(rt.alloc(), &mut source, &mut sink);
+    check_answered(rt, call, sink.sink().bytes());
+    Ok(ended.status)
 }
 
 // Whatever read comes last, all that was answered before is out, and nothing else is, also over a gatherer.
 #[test]
 fn a_gatherer_is_settled_before_each_read(rt: HostRuntime) -> Result<(), Fail> {
-    let (input, text) = CHILD;
     let mut status = 3;
     for call in 1..2000 {
         if status == 3 {
-            let failing = [call];
-            let mut source = Drip(MemSource::new(input.as_bytes(), &failing));
-            let mut sink = Gatherer::new(MemSink::new(rt.alloc(), 4096, &[])?);
-            status = script(rt.alloc(), &mut source, &mut sink).status;
-            let read = &input.as_bytes()[..input.len().min((call - 1) as usize)];
-            assert!(rt; text.as_bytes().starts_with(sink.sink().bytes()));
-            assert_eq!(rt; newlines(sink.sink().bytes()), newlines(read));
+            status = status_gathered(&rt, call)?;
         }
     }
-    assert_eq!(rt; status, 0);
+    holds(&rt, status == 0, "the last status");
     Ok(())
 }
 
@@ -367,46 +435,46 @@ impl Sink for Watched<'_> {
     }
 }
 
-#[test]
-fn answers_come_before_more_is_read(rt: HostRuntime) -> Result<(), Fail> {
-    let whole = [
-        ("boot 32 1\n", 0),
-        ("ld 0 0x400000\n", 10),
-        ("fetch 0\n", 21),
-    ];
-    let halves = [
-        ("boot 32 1\nld 0 ", 0),
-        ("0x4000", 10),
-        ("00\n\nreg 0 0\nfe", 10),
-        ("tch 0\n", 32),
-    ];
-    for (pieces, all) in [(whole.as_slice(), 32), (halves.as_slice(), 43)] {
-        let written = Cell::new(0_usize);
-        let mut source = Typed {
-            pieces,
-            next: 0,
-            all,
-            written: &written,
-            late: false,
-        };
-        let mut sink = Gatherer::new(Watched { written: &written });
-        let ended = script(rt.alloc(), &mut source, &mut sink);
-        assert_eq!(rt; ended.status, 0);
-        assert!(rt; !source.late);
-        assert_eq!(rt; written.get(), all);
-    }
+// Gives a script these pieces, and asserts that each is asked for after what is due was written, and that `all` bytes
+// are at the end.
+fn check_typed(
+    rt: &(impl Abort + AllocGlobal),
+    pieces: &[(&str, usize)],
+    all: usize,
+) -> Result<(), Fail> {
+    let written = Cell::new(0_usize);
+    let mut source = Typed {
+        pieces,
+        next: 0,
+        all,
+        written: &written,
+        late: false,
+    };
+    let mut sink = Gatherer::new(Watched { written: &written });
+    let ended = script(rt.alloc(), &mut source, &mut sink);
+    holds(rt, ended.status == 0, "pieces");
+    holds(rt, !source.late, "pieces");
+    holds(rt, written.get() == all, "pieces");
     Ok(())
 }
 
+static WHOLE_LINES: [(&str, usize); 3] = [
+    ("boot 32 1\n", 0),
+    ("ld 0 0x400000\n", 10),
+    ("fetch 0\n", 21),
+];
+
+static HALF_LINES: [(&str, usize); 4] = [
+    ("boot 32 1\nld 0 ", 0),
+    ("0x4000", 10),
+    ("00\n\nreg 0 0\nfe", 10),
+    ("tch 0\n", 32),
+];
+
 #[test]
-fn bytes_may_come_one_by_one(rt: HostRuntime) -> Result<(), Fail> {
-    let (input, text) = WORD;
-    let mut source = Drip(MemSource::new(input.as_bytes(), &[]));
-    let mut sink = MemSink::new(rt.alloc(), 4096, &[])?;
-    let ended = script(rt.alloc(), &mut source, &mut sink);
-    assert_eq!(rt; ended.status, 0);
-    assert_eq!(rt; sink.bytes(), text.as_bytes());
-    Ok(())
+fn answers_come_before_more_is_read(rt: HostRuntime) -> Result<(), Fail> {
+    check_typed(&rt, &WHOLE_LINES, 32)?;
+    check_typed(&rt, &HALF_LINES, 43)
 }
 
 /// A source of that many bytes: remarks of 121 bytes with their newlines, or newlines alone.
@@ -432,15 +500,24 @@ impl Source for Blanks {
     }
 }
 
+// Compares the status of a script of that many bytes, all newlines or remarks, of which nothing can be written.
+fn check_blanks(
+    rt: &(impl Abort + AllocGlobal),
+    bytes: u32,
+    byte: u8,
+    status: u8,
+) -> Result<(), Fail> {
+    let mut sink = MemSink::new(rt.alloc(), 0, &[])?;
+    let ended = script(rt.alloc(), &mut Blanks { bytes, byte }, &mut sink);
+    assert_eq!(rt; ended.status, status, "of {bytes} bytes {byte}");
+    Ok(())
+}
+
 #[test]
 fn input_has_a_limit(rt: HostRuntime) -> Result<(), Fail> {
     for byte in [b'#', b'\n'] {
-        for (bytes, status) in [(1 << 24, 0), ((1 << 24) + 1, 6)] {
-            // No byte could be written.
-            let mut sink = MemSink::new(rt.alloc(), 0, &[])?;
-            let ended = script(rt.alloc(), &mut Blanks { bytes, byte }, &mut sink);
-            assert_eq!(rt; ended.status, status, "of {bytes} bytes {byte}");
-        }
+        check_blanks(&rt, 1 << 24, byte, 0)?;
+        check_blanks(&rt, (1 << 24) + 1, byte, 6)?;
     }
     Ok(())
 }
@@ -449,29 +526,27 @@ fn newlines(text: &[u8]) -> usize {
     text.iter().filter(|byte| **byte == b'\n').count()
 }
 
+// The status of a script, where a read fails, each of which gives a byte.
+fn status_read(rt: &(impl Abort + AllocGlobal), call: u32) -> Result<u8, Fail>
+    requires { 1 ≤ call }
+{
+    let reads = [call];
+    let mut source = Drip(MemSource::new(CHILD.as_bytes(), &reads));
+    let mut sink = MemSink::new(rt.alloc(), 4096, &[])?;
+    let ended = script(rt.alloc(), &mut source, &mut sink);
+    check_answered(rt, call, sink.bytes());
+    Ok(ended.status)
+}
+
 #[test]
 fn each_read_fails_in_turn(rt: HostRuntime) -> Result<(), Fail> {
-    let (input, text) = CHILD;
     let mut status = 3;
     for call in 1..2000 {
         if status == 3 {
-            let failing = [call];
-            let mut source = Drip(MemSource::new(input.as_bytes(), &failing));
-            let mut sink = MemSink::new(rt.alloc(), 4096, &[])?;
-            status = script(rt.alloc(), &mut source, &mut sink).status;
-            assert!(rt;
-                text.as_bytes().starts_with(sink.bytes()),
-                "where read {call} fails"
-            );
-            let read = &input.as_bytes()[..input.len().min((call - 1) as usize)];
-            assert_eq!(rt;
-                newlines(sink.bytes()),
-                newlines(read),
-                "where read {call} fails"
-            );
+            status = status_read(&rt, call)?;
         }
     }
-    assert_eq!(rt; status, 0);
+    holds(&rt, status == 0, "the last status");
     Ok(())
 }
 
@@ -495,24 +570,33 @@ impl Sink for Trickle<'_> {
     }
 }
 
+// The status of a script, where a write fails, each of which takes a byte.
+fn status_written(rt: &(impl Abort + AllocGlobal), call: u32) -> Result<u8, Fail>
+    requires { 1 ≤ call }
+{
+    let writes = [call];
+    let mut sink = Trickle(MemSink::new(rt.alloc(), 4096, &writes)?);
+    let mut source = MemSource::new(CHILD.as_bytes(), &[]);
+    let ended = script(rt.alloc(), &mut source, &mut sink);
+    let written = sink.0.bytes();
+    let answers = CHILD_ANSWERS.as_bytes();
+    holds(rt, answers.starts_with(written), "the answers");
+    assert_eq!(rt;
+        written.len(),
+        (call - 1) as usize,
+        "where write {call} fails"
+    );
+    Ok(ended.status)
+}
+
 #[test]
 fn each_write_fails_in_turn(rt: HostRuntime) -> Result<(), Fail> {
-    let (input, text) = CHILD;
     let mut status = 4;
     for call in 1..2000 {
         if status == 4 {
-            let failing = [call];
-            let mut sink = Trickle(MemSink::new(rt.alloc(), 4096, &failing)?);
-            let mut source = MemSource::new(input.as_bytes(), &[]);
-            status = script(rt.alloc(), &mut source, &mut sink).status;
-            let written = sink.0.bytes();
-            assert_eq!(rt; written.len(), (call - 1) as usize);
-            assert!(rt;
-                text.as_bytes().starts_with(written),
-                "where write {call} fails"
-            );
+            status = status_written(&rt, call)?;
         }
     }
-    assert_eq!(rt; status, 0);
+    holds(&rt, status == 0, "the last status");
     Ok(())
 }

@@ -1,3 +1,4 @@
+use crate::ends::{check_end, holds};
 use pip_commands::pip;
 use pip_io::{MemSink, MemSource};
 use std::process::Abort;
@@ -98,18 +99,35 @@ static ROWS: [(&str, u8, &str); 88] = [
     ("", 1, USAGE),
 ];
 
-// What the program answers to the words of each row, where the first read would fail.
+// The words of a line.
+fn words_of(rt: &(impl Abort + AllocGlobal), line: &str) -> Result<Vec<String>, Fail> {
+    let mut words = Vec::new(rt.alloc());
+    for word in line.split(' ') {
+        words.push(String::from_str(rt.alloc(), word)?)?;
+    }
+    Ok(words)
+}
+
+// Compares what the program answers to the words of a line, where the first read would fail.
+fn check_row(
+    rt: &(impl Abort + AllocGlobal),
+    line: &str,
+    status: u8,
+    text: &str,
+) -> Result<(), Fail> {
+    let words = words_of(rt, line)?;
+    let mut source = MemSource::new(b"", &[1]);
+    let mut sink = MemSink::new(rt.alloc(), 4096, &[])?;
+    let ended = pip(rt.alloc(), &words, &mut source, &mut sink);
+    let text = text.as_bytes();
+    check_end(rt, line, ended.status, sink.bytes(), status, text);
+    Ok(())
+}
+
+// Does that for each row.
 fn check_rows(rt: &(impl Abort + AllocGlobal), rows: &[(&str, u8, &str)]) -> Result<(), Fail> {
     for (line, status, text) in rows {
-        let mut words = Vec::new(rt.alloc());
-        for word in line.split(' ') {
-            words.push(String::from_str(rt.alloc(), word)?)?;
-        }
-        let mut source = MemSource::new(b"", &[1]);
-        let mut sink = MemSink::new(rt.alloc(), 4096, &[])?;
-        let ended = pip(rt.alloc(), &words, &mut source, &mut sink);
-        assert_eq!(rt; ended.status, *status, "of {line}");
-        assert_eq!(rt; sink.bytes(), text.as_bytes(), "of {line}");
+        check_row(rt, line, *status, text)?;
     }
     Ok(())
 }
@@ -119,41 +137,37 @@ fn words_ask_for_commands(rt: HostRuntime) -> Result<(), Fail> {
     check_rows(&rt, &ROWS)
 }
 
-#[test]
-fn words_may_be_missing(rt: HostRuntime) -> Result<(), Fail> {
-    let words: Vec<String> = Vec::new(rt.alloc());
+// Compares the status of the program that is given an input.
+fn check_status(
+    rt: &(impl Abort + AllocGlobal),
+    words: &[String],
+    input: &[u8],
+    status: u8,
+) -> Result<(), Fail> {
+    let mut source = MemSource::new(input, &[]);
     let mut sink = MemSink::new(rt.alloc(), 4096, &[])?;
-    let ended = pip(rt.alloc(), &words, &mut MemSource::new(b"", &[]), &mut sink);
-    assert_eq!(rt; ended.status, 1);
-    let words = vec![in rt.alloc(); String::from_str(rt.alloc(), "script")?]?;
-    let ended = pip(
-        rt.alloc(),
-        &words,
-        &mut MemSource::new(b"#", &[]),
-        &mut sink,
-    );
-    assert_eq!(rt; ended.status, 0);
+    let ended = pip(rt.alloc(), words, &mut source, &mut sink);
+    assert_eq!(rt; ended.status, status);
     Ok(())
 }
 
 #[test]
+fn words_may_be_missing(rt: HostRuntime) -> Result<(), Fail> {
+    let none: Vec<String> = Vec::new(rt.alloc());
+    check_status(&rt, &none, b"", 1)?;
+    let words = words_of(&rt, "script")?;
+    check_status(&rt, &words, b"#", 0)
+}
+
+#[test]
 fn a_load_is_made(rt: HostRuntime) -> Result<(), Fail> {
-    let mut words = Vec::new(rt.alloc());
-    for word in ["soak", "0x0", "0x1"] {
-        words.push(String::from_str(rt.alloc(), word)?)?;
-    }
+    let words = words_of(&rt, "soak 0x0 0x1")?;
+    let mut source = MemSource::new(b"", &[1]);
     let mut sink = MemSink::new(rt.alloc(), 512, &[])?;
-    let ended = pip(
-        rt.alloc(),
-        &words,
-        &mut MemSource::new(b"", &[1]),
-        &mut sink,
-    );
-    assert_eq!(rt; ended.status, 0);
-    assert!(rt; ended.machine.is_some());
-    assert!(rt;
-        sink.bytes()
-            .ends_with(b"parts 1\nrows 52\nhidden 11\nend 0\n")
-    );
+    let ended = pip(rt.alloc(), &words, &mut source, &mut sink);
+    holds(&rt, ended.status == 0, "a load");
+    holds(&rt, ended.machine.is_some(), "a load");
+    let last = b"parts 1\nrows 52\nhidden 11\nend 0\n";
+    holds(&rt, sink.bytes().ends_with(last), "its last lines");
     Ok(())
 }

@@ -5,6 +5,8 @@
 #[cfg(test)]
 mod base;
 #[cfg(test)]
+mod compare;
+#[cfg(test)]
 mod config;
 #[cfg(test)]
 mod entry;

@@ -3,6 +3,7 @@ ghost use Rattle.pip_base.specs.Opening.{CanOpen};
 ghost use Rattle.pip_base.specs.Memory.{zeros};
 ghost use Rattle.pip_table.specs.Table.{IsDirectory};
 
+use crate::compare::{holds, same};
 use pip_base::{Frame, Steps, VPage};
 use pip_entry::DirWord;
 use pip_frames::{Frames, VecFrames};
@@ -87,17 +88,24 @@ fn a_table_is_a_map(rt: HostRuntime) -> Result<(), Fail> {
     Ok(())
 }
 
+// Asserts that a block has zeros alone from an index on, or not, and compares the index of the first word from another
+// on that is not 0, with 1024 for none.
+fn check_block(rt: &impl Abort, words: &[u32; 1024], zeros: (u32, bool), first: (u32, u32)) {
+    assert!(rt; zeros.0 <= 1016 && first.0 <= 1024);
+    holds(rt, are_zero(words, zeros.0) == zeros.1, "zeros");
+    let found = first_index(words, first.0).unwrap_or(1024);
+    same(rt, found, first.1, "the first word");
+}
+
 #[test]
 fn a_block_has_a_word_that_isnt_0(rt: HostRuntime) {
     let mut words = [0; 1024];
-    assert!(rt; are_zero(&words, 1016));
-    assert_eq!(rt; first_index(&words, 0), None);
+    check_block(&rt, &words, (1016, true), (0, 1024));
     words[1023] = 1;
-    assert!(rt; are_zero(&words, 1015));
-    assert!(rt; !are_zero(&words, 1016));
-    assert_eq!(rt; first_index(&words, 0), Some(1023));
+    check_block(&rt, &words, (1015, true), (0, 1023));
+    check_block(&rt, &words, (1016, false), (0, 1023));
     words[9] = 7;
-    assert_eq!(rt; first_index(&words, 0), Some(9));
-    assert_eq!(rt; first_index(&words, 9), Some(9));
-    assert_eq!(rt; first_index(&words, 10), Some(1023));
+    check_block(&rt, &words, (1016, false), (0, 9));
+    check_block(&rt, &words, (1016, false), (9, 9));
+    check_block(&rt, &words, (1016, false), (10, 1023));
 }

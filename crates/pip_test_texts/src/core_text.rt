@@ -3,6 +3,7 @@ ghost use Rattle.std.specs.Prelude.{◌≡◌, ◌<◌, length, replicate};
 ghost use Rattle.pip_base.specs.Opening.{CanOpen};
 ghost use Rattle.pip_base.specs.Memory.{zeros};
 
+use crate::compare::{holds, same};
 use pip_base::{Frame, Steps};
 use pip_core_text::{CoreError, read_core, read_core_from_joint};
 use pip_dump::frame_text;
@@ -33,92 +34,143 @@ fn after_a_group(alloc: Global, text: &str) -> Result<Vec<u8>, AllocError> {
     Ok(whole)
 }
 
+static TEXTS: [(&str, u64); 15] = [
+    ("", 1),
+    ("end 0\n", 0),
+    ("end 10000000\n", 0),
+    ("end 10000001\n", 1),
+    ("end 00\n", 1),
+    ("end 0", 1),
+    ("end 0\r\n", 1),
+    ("end 0\n\n", 2),
+    ("end 0\n ", 2),
+    ("\nend 0\n", 1),
+    ("frame 0\nend 0\n", 2),
+    ("frame 3\nframe 4\n", 2),
+    ("frame 16\n", 1),
+    ("frame 4294967296\n", 1),
+    ("0000: 00000001", 1),
+];
+
+// Reads a text, and compares the number of its first bad line, 0 for none.
+fn check_text(
+    rt: &(impl Abort + AllocGlobal),
+    text: &[u8],
+    of: &str,
+    line: u64,
+) -> Result<(), Fail> {
+    let wanted = if line == 0 {
+        Ok(())
+    } else {
+        Err(CoreError::Line(line))
+    };
+    same(rt, read(rt.alloc(), text, &[])?, wanted, of);
+    Ok(())
+}
+
 #[test]
 fn a_text_is_read_or_refused_at_its_first_bad_line(rt: HostRuntime) -> Result<(), Fail> {
-    let table = [
-        ("", Err(CoreError::Line(1))),
-        ("end 0\n", Ok(())),
-        ("end 10000000\n", Ok(())),
-        ("end 10000001\n", Err(CoreError::Line(1))),
-        ("end 00\n", Err(CoreError::Line(1))),
-        ("end 0", Err(CoreError::Line(1))),
-        ("end 0\r\n", Err(CoreError::Line(1))),
-        ("end 0\n\n", Err(CoreError::Line(2))),
-        ("end 0\n ", Err(CoreError::Line(2))),
-        ("\nend 0\n", Err(CoreError::Line(1))),
-        ("frame 0\nend 0\n", Err(CoreError::Line(2))),
-        ("frame 3\nframe 4\n", Err(CoreError::Line(2))),
-        ("frame 16\n", Err(CoreError::Line(1))),
-        ("frame 4294967296\n", Err(CoreError::Line(1))),
-        ("0000: 00000001", Err(CoreError::Line(1))),
-    ];
-    for (text, want) in table {
-        assert_eq!(rt; read(rt.alloc(), text.as_bytes(), &[])?, want, "{text}");
+    for (text, line) in &TEXTS {
+        check_text(&rt, text.as_bytes(), text, *line)?;
     }
     Ok(())
 }
+
+static GROUPS: [(&str, u64); 13] = [
+    ("end 0\n", 0),
+    (
+        "0024: 00000001 00000000 00000000 00000000 00000000 00000000 00000000 00000000\nend 0\n",
+        0,
+    ),
+    (
+        "1016: 00000001 00000000 00000000 00000000 00000000 00000000 00000000 00000000\nend 0\n",
+        0,
+    ),
+    (
+        "1024: 00000001 00000000 00000000 00000000 00000000 00000000 00000000 00000000\n",
+        3,
+    ),
+    (
+        "0020: 00000001 00000000 00000000 00000000 00000000 00000000 00000000 00000000\n",
+        3,
+    ),
+    (
+        "0016: 00000001 00000000 00000000 00000000 00000000 00000000 00000000 00000000\n",
+        3,
+    ),
+    (
+        "0024: 00000000 00000000 00000000 00000000 00000000 00000000 00000000 00000000\n",
+        3,
+    ),
+    (
+        "0024: 0000000A 00000000 00000000 00000000 00000000 00000000 00000000 00000000\n",
+        3,
+    ),
+    (
+        "0024: 00000001 00000000 00000000 00000000 00000000 00000000 00000000\n",
+        3,
+    ),
+    (
+        "0024: 00000001 00000000 00000000 00000000 00000000 00000000 00000000 00000000 \n",
+        3,
+    ),
+    ("frame 3\n", 3),
+    ("frame 4\n", 4),
+    ("", 3),
+];
 
 #[test]
 fn after_a_group_stands_a_later_one_or_a_later_frame(rt: HostRuntime) -> Result<(), Fail> {
-    let table = [
-        ("end 0\n", Ok(())),
-        (
-            "0024: 00000001 00000000 00000000 00000000 00000000 00000000 00000000 00000000\nend 0\n",
-            Ok(()),
-        ),
-        (
-            "1016: 00000001 00000000 00000000 00000000 00000000 00000000 00000000 00000000\nend 0\n",
-            Ok(()),
-        ),
-        (
-            "1024: 00000001 00000000 00000000 00000000 00000000 00000000 00000000 00000000\n",
-            Err(CoreError::Line(3)),
-        ),
-        (
-            "0020: 00000001 00000000 00000000 00000000 00000000 00000000 00000000 00000000\n",
-            Err(CoreError::Line(3)),
-        ),
-        (
-            "0016: 00000001 00000000 00000000 00000000 00000000 00000000 00000000 00000000\n",
-            Err(CoreError::Line(3)),
-        ),
-        (
-            "0024: 00000000 00000000 00000000 00000000 00000000 00000000 00000000 00000000\n",
-            Err(CoreError::Line(3)),
-        ),
-        (
-            "0024: 0000000A 00000000 00000000 00000000 00000000 00000000 00000000 00000000\n",
-            Err(CoreError::Line(3)),
-        ),
-        (
-            "0024: 00000001 00000000 00000000 00000000 00000000 00000000 00000000\n",
-            Err(CoreError::Line(3)),
-        ),
-        (
-            "0024: 00000001 00000000 00000000 00000000 00000000 00000000 00000000 00000000 \n",
-            Err(CoreError::Line(3)),
-        ),
-        ("frame 3\n", Err(CoreError::Line(3))),
-        ("frame 4\n", Err(CoreError::Line(4))),
-        ("", Err(CoreError::Line(3))),
-    ];
-    for (text, want) in table {
+    for (text, line) in &GROUPS {
         let whole = after_a_group(rt.alloc(), text)?;
-        assert_eq!(rt; read(rt.alloc(), &whole, &[])?, want, "{text}");
+        check_text(&rt, &whole, text, *line)?;
     }
     Ok(())
 }
 
+// A text, and the call that fails.
+static FAILS: [(&str, u32); 4] = [("end 0\n", 1), ("end 0\n", 2), ("end 0", 1), ("end 0", 2)];
+
 #[test]
 fn a_failed_read_is_no_bad_line(rt: HostRuntime) -> Result<(), Fail> {
-    for (number, text) in ["end 0\n", "end 0"].iter().enumerate() {
-        for failing in 1..3 {
-            let calls = [failing];
-            let result = read(rt.alloc(), text.as_bytes(), &calls)?;
-            assert_eq!(rt; result, Err(CoreError::Read), "text {number}");
-        }
+    for (text, failing) in &FAILS {
+        let calls = [*failing];
+        let result = read(rt.alloc(), text.as_bytes(), &calls)?;
+        same(&rt, result, Err(CoreError::Read), text);
     }
     Ok(())
+}
+
+// The text of all frames, in a sink.
+fn core_of<M: Frames, L: Ledger>(
+    rt: &impl Abort,
+    alloc: Global,
+    mem: &M,
+    steps: &mut Steps<L>,
+) -> Result<MemSink<'static>, AllocError>
+    requires frames { length (M.memory mem.now) ≡ 16 }
+{
+    let mut text = MemSink::new(alloc, 4096, &[])?;
+    for f in 0..16 {
+        let written = frame_text(mem, Frame::new(f), &mut text, steps);
+        holds(rt, written.is_ok(), f);
+    }
+    let ended = write_all(&mut text, b"end 0\n");
+    holds(rt, ended.is_ok(), "the last line");
+    Ok(text)
+}
+
+// Compares each word of each frame.
+fn check_frames<M: Frames, L: Ledger>(rt: &impl Abort, mem: &M, back: &M, steps: &mut Steps<L>)
+    requires frames { length (M.memory mem.now) ≡ 16 }
+    requires others { length (M.memory back.now) ≡ 16 }
+{
+    for f in 0..16 {
+        let frame = Frame::new(f);
+        let read = back.frame(frame, steps);
+        let written = mem.frame(frame, steps);
+        assert_eq!(rt; read, written, "frame {f}");
+    }
 }
 
 // Boots 16 frames, and reads what is written of them into others: each word is the same.
@@ -135,28 +187,12 @@ fn compare<M: Frames, L: Ledger>(
 {
     let mut steps: Steps<L> = Steps::new(blank);
     boot(mem, &mut steps);
-    let mut text = MemSink::new(alloc, 4096, &[])?;
-    for f in 0..16 {
-        assert_eq!(rt;
-            frame_text(mem, Frame::new(f), &mut text, &mut steps),
-            Ok(())
-        );
-    }
-    assert_eq!(rt; write_all(&mut text, b"end 0\n"), Ok(()));
+    let text = core_of(rt, alloc, mem, &mut steps)?;
     let mut source = MemSource::new(text.bytes(), &[]);
     let mut sink = Discard::new();
-    assert_eq!(rt;
-        read_core_from_joint(&mut Joint::new(&mut source, &mut sink), back),
-        Ok(())
-    );
-    for f in 0..16 {
-        let frame = Frame::new(f);
-        assert_eq!(rt;
-            back.frame(frame, &mut steps),
-            mem.frame(frame, &mut steps),
-            "frame {f}"
-        );
-    }
+    let read = read_core_from_joint(&mut Joint::new(&mut source, &mut sink), back);
+    holds(rt, read.is_ok(), "all frames");
+    check_frames(rt, mem, back, &mut steps);
     Ok(())
 }
 

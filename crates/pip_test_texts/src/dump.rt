@@ -1,10 +1,11 @@
 ghost use Rattle.std.specs.Prelude.{◌≡◌, ◌<◌, length};
 ghost use Rattle.pip_base.specs.Opening.{CanOpen};
 
+use crate::compare::{holds, same};
 use pip_base::{Frame, Steps};
 use pip_dump::{Totals, frame_text, totals, tree_text};
 use pip_frames::{Frames, VecFrames};
-use pip_io::{Failed, MemSink};
+use pip_io::MemSink;
 use pip_kern::boot;
 use std::alloc::{AllocError, Global};
 use std::marker::Brand;
@@ -37,31 +38,27 @@ fn check<M: Frames, L: Ledger>(
     let mut steps: Steps<L> = Steps::new(blank);
     boot(mem, &mut steps);
     let mut sink = MemSink::new(alloc, 512, &[])?;
-    assert_eq!(rt; tree_text(mem, &mut sink, &mut steps), Ok(()));
-    assert_eq!(rt; sink.bytes(), TREE);
+    holds(rt, tree_text(mem, &mut sink, &mut steps).is_ok(), "a tree");
+    same(rt, sink.bytes(), TREE, "the tree");
     let mut faulty = MemSink::new(alloc, 512, &[2])?;
-    assert_eq!(rt; tree_text(mem, &mut faulty, &mut steps), Err(Failed));
-    assert_eq!(rt; faulty.bytes(), &TREE[..52]);
+    holds(
+        rt,
+        tree_text(mem, &mut faulty, &mut steps).is_err(),
+        "a fault",
+    );
+    same(rt, faulty.bytes(), &TREE[..52], "the tree before a fault");
     let mut lines = MemSink::new(alloc, 512, &[])?;
-    assert_eq!(rt;
-        frame_text(mem, Frame::new(0), &mut lines, &mut steps),
-        Ok(())
-    );
-    assert_eq!(rt;
-        frame_text(mem, Frame::new(1), &mut lines, &mut steps),
-        Ok(())
-    );
-    assert_eq!(rt;
-        frame_text(mem, Frame::new(15), &mut lines, &mut steps),
-        Ok(())
-    );
-    assert_eq!(rt; lines.bytes(), FRAMES);
+    for f in [0, 1, 15] {
+        let written = frame_text(mem, Frame::new(f), &mut lines, &mut steps);
+        holds(rt, written.is_ok(), f);
+    }
+    same(rt, lines.bytes(), FRAMES, "the frames");
     let wanted = Totals {
         parts: 1,
         rows: 4,
         hidden: 11,
     };
-    assert_eq!(rt; totals(mem, &mut steps), wanted);
+    same(rt, totals(mem, &mut steps), wanted, "the totals");
     Ok(())
 }
 

@@ -1,34 +1,29 @@
 //! An image by hand, read part by part and loaded, each fault of one, and failed reads.
 ghost use Rattle.pip_base.specs.Opening.{CanOpen};
 
+use crate::compare::{holds, same};
 use pip_base::{Frame, Plan, Steps};
 use pip_frames::{Frames, VecFrames};
-use pip_image::{ImageError, ImageReader, JointReader, load_image};
+use pip_image::{Header, ImageError, ImageReader, JointReader, load_image};
 use pip_io::{Discard, Joint, MemSource};
 use pip_kern::boot;
 use std::alloc::{AllocError, Global};
 use std::marker::Brand;
+use std::process::Abort;
 use std::sync::ledger::{Blank, Ledger};
 use std::test::Fail;
 
-// One plan and one page, whose first word is 7.
+// The image of one plan and one page, whose first word is 7, without the zeros at its end.
+const HEAD: [u8; 41] = [
+    b'P', b'I', b'P', b'I', b'M', b'G', b'2', b'\n', 16, 0, 0, 0, 1, 0, 0, 0, 1, 0, 0, 0, 1, 0, 0,
+    0, 0, 0, 0, 0, 2, 0, 0, 0, 0, 0, 0, 0, 0, 4, 0, 0, 7,
+];
+
 fn worked() -> [u8; 4136] {
     let mut bytes = [0; 4136];
-    bytes[0] = b'P';
-    bytes[1] = b'I';
-    bytes[2] = b'P';
-    bytes[3] = b'I';
-    bytes[4] = b'M';
-    bytes[5] = b'G';
-    bytes[6] = b'2';
-    bytes[7] = b'\n';
-    bytes[8] = 16;
-    bytes[12] = 1;
-    bytes[16] = 1;
-    bytes[20] = 1;
-    bytes[28] = 2;
-    bytes[37] = 4;
-    bytes[40] = 7;
+    for (byte, head) in bytes.iter_mut().zip(&HEAD) {
+        *byte = *head;
+    }
     bytes
 }
 
@@ -73,6 +68,19 @@ fn first_word<L: Ledger>(
     }
 }
 
+// Compares what a header says.
+fn check_header(rt: &impl Abort, header: &Header) {
+    same(rt, header.frames, 16, "frames");
+    same(rt, header.cpus, 1, "processors");
+    same(rt, header.pages, 1, "pages");
+    let plan = Plan {
+        line: 0,
+        first: 2,
+        period: 0,
+    };
+    holds(rt, header.plans.as_slice() == [plan].as_slice(), "plans");
+}
+
 #[test]
 fn an_image_is_read_to_its_end(rt: HostRuntime) -> Result<(), Fail> {
     let bytes = worked();
@@ -81,56 +89,49 @@ fn an_image_is_read_to_its_end(rt: HostRuntime) -> Result<(), Fail> {
     let mut joint = Joint::new(&mut source, &mut sink);
     let mut reader = JointReader::new();
     let header = reader.header(&mut joint)?;
-    assert_eq!(rt; header.frames, 16);
-    assert_eq!(rt; header.cpus, 1);
-    assert_eq!(rt; header.pages, 1);
-    assert_eq!(rt;
-        header.plans.as_slice(),
-        [Plan {
-            line: 0,
-            first: 2,
-            period: 0
-        }]
-        .as_slice()
-    );
+    check_header(&rt, &header);
     let mut words = [0; 1024];
-    let page = reader.page(&mut joint, &mut words)?;
-    assert_eq!(rt; page.ok_or("a page")?.number(), 1024);
-    assert_eq!(rt; words[0], 7);
-    assert_eq!(rt; reader.page(&mut joint, &mut words)?, None);
+    let page = reader.page(&mut joint, &mut words)?.ok_or("a page")?;
+    same(&rt, page.number(), 1024, "the page");
+    same(&rt, words[0], 7, "its first word");
+    let none = reader.page(&mut joint, &mut words)?;
+    holds(&rt, none.is_none(), "the end");
     Ok(())
+}
+
+static FAULTS: [(usize, u8, ImageError); 8] = [
+    (0, 0x51, ImageError::Magic { at: 0 }),
+    (6, 0x31, ImageError::OldVersion { at: 0 }),
+    (9, 0x11, ImageError::Frames { at: 8 }),
+    (12, 5, ImageError::Cpus { at: 12 }),
+    (16, 17, ImageError::Plan { at: 16 }),
+    (21, 0x11, ImageError::Page { at: 20 }),
+    (24, 16, ImageError::Plan { at: 24 }),
+    (36, 3, ImageError::Page { at: 36 }),
+];
+
+// Compares the first fault of an image in which one byte is another.
+fn check_byte(rt: &impl Abort, offset: usize, byte: u8, error: ImageError) {
+    assert!(rt; offset < 4136);
+    let mut bytes = worked();
+    bytes[offset] = byte;
+    holds(rt, fault(&bytes, &[]) == Some(error), offset);
 }
 
 #[test]
 fn each_fault_has_its_offset(rt: HostRuntime) {
-    let table = [
-        (0, 0x51, ImageError::Magic { at: 0 }),
-        (6, 0x31, ImageError::OldVersion { at: 0 }),
-        (9, 0x11, ImageError::Frames { at: 8 }),
-        (12, 5, ImageError::Cpus { at: 12 }),
-        (16, 17, ImageError::Plan { at: 16 }),
-        (21, 0x11, ImageError::Page { at: 20 }),
-        (24, 16, ImageError::Plan { at: 24 }),
-        (36, 3, ImageError::Page { at: 36 }),
-    ];
-    for (offset, byte, error) in table {
-        let mut bytes = worked();
-        bytes[offset] = byte;
-        assert_eq!(rt; fault(&bytes, &[]), Some(error));
+    for (offset, byte, error) in &FAULTS {
+        check_byte(&rt, *offset, *byte, *error);
     }
 }
 
 #[test]
 fn an_image_that_is_cut_is_short(rt: HostRuntime) {
     let bytes = worked();
-    assert_eq!(rt; fault(&bytes, &[]), None);
+    holds(&rt, fault(&bytes, &[]).is_none(), "the image");
     for count in [0, 7, 8, 38, 4135] {
-        let front = &bytes[..count.min(bytes.len())];
-        assert_eq!(rt;
-            fault(front, &[]),
-            Some(ImageError::Short { at: count as u64 }),
-            "of {count}"
-        );
+        let short = ImageError::Short { at: count as u64 };
+        holds(&rt, fault(&bytes[..count], &[]) == Some(short), count);
     }
 }
 
@@ -138,23 +139,20 @@ fn an_image_that_is_cut_is_short(rt: HostRuntime) {
 fn a_failed_read_is_no_fault_of_the_image(rt: HostRuntime) {
     let bytes = worked();
     for number in 1..5 {
-        assert_eq!(rt;
-            fault(&bytes, &[number]),
-            Some(ImageError::Read),
-            "read {number}"
-        );
+        let found = fault(&bytes, &[number]);
+        holds(&rt, found == Some(ImageError::Read), number);
     }
-    assert_eq!(rt; fault(&bytes, &[5]), None);
+    holds(&rt, fault(&bytes, &[5]).is_none(), 5);
 }
 
 #[test]
 fn the_pages_of_an_image_are_loaded(rt: HostRuntime) -> Result<(), Fail> {
     let bytes = worked();
     let whole = first_word::<Brand>(rt.alloc(), &bytes, &[], Blank::new(1))?;
-    assert_eq!(rt; whole, Ok(7));
+    holds(&rt, whole == Ok(7), "the image");
     for number in 1..5 {
         let cut = first_word::<Brand>(rt.alloc(), &bytes, &[number], Blank::new(1))?;
-        assert_eq!(rt; cut, Err(ImageError::Read), "read {number}");
+        holds(&rt, cut == Err(ImageError::Read), number);
     }
     Ok(())
 }

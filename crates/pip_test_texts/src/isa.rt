@@ -1,6 +1,17 @@
 //! Words by hand, and words that are none.
+use crate::compare::{holds, same};
 use pip_isa::{Instr, Register, Shift, Vector, decode, encode, opcode_named, opcode_row};
+use std::process::Abort;
 use std::test::Fail;
+
+// Compares the word of an instruction, and the word of what it is read as.
+fn check_word(rt: &impl Abort, instr: Instr, word: u32) {
+    same(rt, encode(&instr), word, word);
+    match decode(word) {
+        Some(instr) => same(rt, encode(&instr), word, word),
+        None => holds(rt, false, word),
+    }
+}
 
 #[test]
 fn each_instruction_has_its_word(rt: HostRuntime) -> Result<(), Fail> {
@@ -82,52 +93,57 @@ fn each_instruction_has_its_word(rt: HostRuntime) -> Result<(), Fail> {
         (Instr::Out { a }, 0x22100000u32),
     ];
     for (instr, word) in cases {
-        assert_eq!(rt; encode(&instr), word);
-        let back = decode(word).map(|instr: Instr| encode(&instr));
-        assert_eq!(rt; back, Some(word), "{word:#x}");
+        check_word(&rt, instr, word);
     }
     Ok(())
 }
 
+static NO_WORDS: [u32; 21] = [
+    0x00000000u32,
+    0x00000001u32,
+    0x23000000u32,
+    0xff000000u32,
+    0x01120001u32,
+    0x01121000u32,
+    0x02110007u32,
+    0x04123001u32,
+    0x1412ffffu32,
+    0x14120020u32,
+    0x15120020u32,
+    0x1e110001u32,
+    0x1f100001u32,
+    0x1f110000u32,
+    0x20100001u32,
+    0x2001000cu32,
+    0x2100003fu32,
+    0x21000100u32,
+    0x21010040u32,
+    0x22100001u32,
+    0x22101000u32,
+];
+
 #[test]
-fn other_words_are_no_instructions(rt: HostRuntime) -> Result<(), Fail> {
-    let words = [
-        0x00000000u32,
-        0x00000001u32,
-        0x23000000u32,
-        0xff000000u32,
-        0x01120001u32,
-        0x01121000u32,
-        0x02110007u32,
-        0x04123001u32,
-        0x1412ffffu32,
-        0x14120020u32,
-        0x15120020u32,
-        0x1e110001u32,
-        0x1f100001u32,
-        0x1f110000u32,
-        0x20100001u32,
-        0x2001000cu32,
-        0x2100003fu32,
-        0x21000100u32,
-        0x21010040u32,
-        0x22100001u32,
-        0x22101000u32,
-    ];
-    for word in words {
-        assert!(rt; decode(word).is_none(), "{word:#x}");
+fn other_words_are_no_instructions(rt: HostRuntime) {
+    for word in &NO_WORDS {
+        holds(&rt, decode(*word).is_none(), *word);
     }
-    Ok(())
+}
+
+// Mnemonics, and their opcodes, 0 for none.
+static OPCODES: [(&str, u32); 4] = [("mov", 1), ("out", 34), ("jump", 0), ("", 0)];
+
+#[test]
+fn a_mnemonic_has_one_opcode(rt: HostRuntime) {
+    for (name, opcode) in &OPCODES {
+        let found = opcode_named(name.as_bytes()).unwrap_or(0);
+        same(&rt, found, *opcode, *name);
+    }
 }
 
 #[test]
-fn a_mnemonic_has_one_opcode(rt: HostRuntime) -> Result<(), Fail> {
-    assert_eq!(rt; opcode_named(b"mov"), Some(1));
-    assert_eq!(rt; opcode_named(b"out"), Some(34));
-    assert_eq!(rt; opcode_named(b"jump"), None);
-    assert_eq!(rt; opcode_named(b""), None);
-    assert_eq!(rt; opcode_row(0), None);
-    assert_eq!(rt; opcode_row(30).ok_or("jal")?.name, "jal");
-    assert_eq!(rt; opcode_row(35), None);
+fn an_opcode_has_one_row(rt: HostRuntime) -> Result<(), Fail> {
+    holds(&rt, opcode_row(0).is_none(), "0");
+    holds(&rt, opcode_row(35).is_none(), "35");
+    same(&rt, opcode_row(30).ok_or("jal")?.name, "jal", "30");
     Ok(())
 }

@@ -5,6 +5,8 @@
 #[cfg(test)]
 mod asm;
 #[cfg(test)]
+mod compare;
+#[cfg(test)]
 mod core_text;
 #[cfg(test)]
 mod dis;

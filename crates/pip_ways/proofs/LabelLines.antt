@@ -1,8 +1,9 @@
 -- The labels that were found, one by one.
 use Rattle.std.proofs.Common.{◌≡◌, ℕ, zero, suc, ◌+◌, ◌-◌, ◌<◌, ◌≤◌, List, [], ◌∷◌, ◌++◌, length, take, refl, sym, ap}
-use Rattle.std.proofs.Common.{◌∙◌, subst, arith, true, false, Some, map, get_or}
+use Rattle.std.proofs.Common.{◌∙◌, subst, arith, true, false, Some, map, get_or, length-append}
 use Rattle.std.specs.Prelude.{if◌then◌else◌, flat_map, filter, slice_get, option_map, reverse, codes, decimal}
-use Rattle.std.proofs.lemmas.List.{length-map}
+use Rattle.std.proofs.Math.Seq.{take-length}
+use Rattle.std.proofs.lemmas.List.{length-map, take-append-le}
 use Rattle.std.proofs.lemmas.Option.{slice_get-get_or, slice_get-map}
 use Rattle.pip_io.specs.Taken.{Taken, Appends}
 use Rattle.pip_io.proofs.Taken.{Appends-nil}
@@ -28,6 +29,14 @@ all_taken [] zero most = refl
 all_taken [] (suc k) most = refl
 all_taken (x ∷ xs) zero most = absurd (omega (arith, most))
 all_taken (x ∷ xs) (suc k) most = ap (λ l. x ∷ l) (all_taken xs k (omega (arith, most)))
+
+-- a line of a trace without its first byte and its last
+pub inner_of : (x y : ℕ) (body : List ℕ) → inner (x ∷ (body ++ y ∷ [])) ≡ body
+inner_of x y body =
+    let long : length (body ++ y ∷ []) ≡ length body + 1 = length-append body (y ∷ []) in
+    let count : length (x ∷ (body ++ y ∷ [])) - 2 ≡ length body = omega (arith, long) in
+    ap (λ n. take n (body ++ y ∷ [])) count
+    ∙ (take-append-le (length body) body (y ∷ []) (omega arith) ∙ take-length body)
 
 -- ---- their runs
 

@@ -1,5 +1,5 @@
 //! The command `part`: an image is read and a part of a certificate after it, and the part is checked.
-ghost use Rattle.std.specs.Prelude.{◌≡◌, ◌≢◌, ◌<◌, ◌≤◌, ◌-◌, ◌^◌, ℕ, [], List, None, Ok, Option, length};
+ghost use Rattle.std.specs.Prelude.{◌≡◌, ◌≢◌, ◌+◌, ◌<◌, ◌≤◌, ◌-◌, ◌^◌, ℕ, [], All, List, None, Ok, Option, length};
 ghost use Rattle.pip_base.specs.Opening.{CanOpen};
 ghost use Rattle.pip_due.specs.EndsBy.{EndsBy};
 ghost use Rattle.pip_due.specs.Loading.{BeginsFrames, LoadsFront};
@@ -142,6 +142,7 @@ fn end_checked<K: Sink, L: Ledger>(
     requires limits { IsHeader begun.head }
     requires base { AreBaseWords (length (⟦<RawFrames as Frames>⟧.memory begun.mem)) read.base.items }
     requires way { length read.way.items ≤ 10000000 }
+    requires can { All (λ k. k < begun.head.cpus + length begun.head.plans.items) read.way.items }
     requires marks { length read.marks.items < 2 ^ 32 - 1 }
     requires none { (K.told sink.old).written.held ≡ [] }
     ensures ends { (i : Image) → BeginsFrames i begun.head (⟦<RawFrames as Frames>⟧.memory begun.mem) → EndsWithPart

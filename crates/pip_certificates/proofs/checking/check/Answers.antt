@@ -1,24 +1,35 @@
-use Rattle.std.proofs.Common.{rules, ◌<◌, ◌∙◌, ap, ap₂, sym, subst}
+use Rattle.std.proofs.Common.{rules, ◌<◌, ◌∙◌, ap, ap₂, length, sym, subst}
+use Rattle.std.proofs.lemmas.List.{length-map}
 use Rattle.std.specs.List.{All}
 use Rattle.pip_every.proofs.Keying.{if_ok}
 use Rattle.pip_model.specs.Images.{image_word}
-use Rattle.pip_certificates.specs.PartAbout.{about_numbers, part_sum, raised_lines, words_with}
+use Rattle.pip_due.specs.Planned.{lines_planned}
+use Rattle.pip_certificates.specs.PartAbout.{about_numbers, part_sum, words_with}
 use Rattle.pip_certificates.specs.PartShown.{IsNumbered}
-use Rattle.pip_certificates.proofs.PartsChecked.{part_of, raised_below}
+use Rattle.pip_due.proofs.LinesBelow.{lines_below}
+use Rattle.pip_certificates.proofs.PartsChecked.{part_of}
 use Rattle.pip_certificates.proofs.checking.check.Goals as goal
 
 pub part-requires-clause-below : goal.part-requires-clause-below
 part-requires-clause-below g c =
-    subst (All (λ line. line < 16)) (sym (c.as_slice-4.ensures.value ∙ (c.raised_lines-lines.ensures
-    ∙ ap raised_lines c.as_slice.ensures.value))) (raised_below c.args.head.now.plans.items c.requires.limits.lines)
+    subst (All (λ line. line < 16)) (sym (c.as_slice-4.ensures.value ∙ (c.planned_lines-lines.ensures
+    ∙ ap lines_planned c.as_slice.ensures.value))) (lines_below c.args.head.now.plans.items c.requires.limits.lines)
+
+-- all choices of the way can be made, so there is a part
+pub never-requires : goal.never-requires
+never-requires g c =
+    let lines = c.as_slice-4.ensures.value ∙ (c.planned_lines-lines.ensures
+    ∙ ap lines_planned c.as_slice.ensures.value) in
+    let count = ap length lines ∙ length-map c.args.head.now.plans.items (λ p. p.line) in
+    search rules
 
 pub returns-clause-found : goal.returns-clause-found
 returns-clause-found g c = if_ok c.counted.result _ _ (λ k is i b.
     let h = c.args.head.now in
     let m = c.args.mem.block.frames in
     let words = c.in_ok-later.later.block.frames in
-    let lines = c.as_slice-4.ensures.value ∙ (c.raised_lines-lines.ensures
-    ∙ ap raised_lines c.as_slice.ensures.value) in
+    let lines = c.as_slice-4.ensures.value ∙ (c.planned_lines-lines.ensures
+    ∙ ap lines_planned c.as_slice.ensures.value) in
     let held = c.in_ok-later.ensures.words ∙ ap (words_with m) c.as_slice-2.ensures.value in (
       m,
       b.booted,

@@ -1,4 +1,5 @@
-use Rattle.std.proofs.Common.{rules, ◌≡◌, ◌+◌, ◌-◌, ◌∙◌, ap, sym, length, ◌++◌, ap₂}
+use Rattle.std.proofs.Common.{rules, ◌≡◌, ◌+◌, ◌-◌, ◌<◌, ◌∙◌, All, ap, sym, subst, length, ◌++◌, ap₂}
+use Rattle.std.proofs.lemmas.List.Elements.{All-append, All-replicate}
 use Rattle.std.specs.Prelude.{true, false, replicate, Some}
 use Rattle.pip_certificates.specs.PartReading.{StopsText, part_seen}
 use Rattle.pip_certificates.specs.declared.faults.PartStop.TheVariants.{Memory}
@@ -38,7 +39,7 @@ returns-then-not-is_run-clause-reads g c =
     let bad : fits_way a.limits (length p.way) a.last (number_in x 0) (number_in x 1) ≡ false =
     ap₂ (λ f i. fits_way a.limits (length p.way) a.last f i) (sym c.number-choice.ensures) (sym c.number-count.ensures)
     ∙ (ap (λ n. fits_way a.limits n a.last c.number-choice.result c.number-count.result) (sym long)
-    ∙ (sym c.is_run.ensures ∙ search rules)) in
+    ∙ (sym c.is_run.ensures.fits ∙ search rules)) in
     of_fault (runs_from a.limits p a.last a.left a.at) 8 a.at
     (run_next a.limits p a.last a.at (a.left - 1))
     (run_front a.limits p a.last a.at a.left c.requires.left) x _ _ _ _ _ c.in_ok-take_front.ensures.size
@@ -64,7 +65,7 @@ returns-clause-reads g c =
     let good : fits_way a.limits (length p.way) a.last (number_in x 0) (number_in x 1) ≡ true =
     ap₂ (λ f i. fits_way a.limits (length p.way) a.last f i) (sym c.number-choice.ensures) (sym c.number-count.ensures)
     ∙ (ap (λ n. fits_way a.limits n a.last c.number-choice.result c.number-count.result) (sym long)
-    ∙ (sym c.is_run.ensures ∙ search rules)) in
+    ∙ (sym c.is_run.ensures.fits ∙ search rules)) in
     let items : c.resize.new.self.items ≡ a.part.now.way.items
     ++ replicate c.number-count.result c.number-choice.result =
     run_more a.part.now.way.items c.resize.new.self.items c.len-2.result _ c.number-count.result
@@ -82,3 +83,15 @@ returns-clause-reads g c =
           (sym c.number-choice.ensures)),
       c.in_ok-take_front.ensures.front.1,
     )
+
+pub returns-clause-can : goal.returns-clause-can
+returns-clause-can g c =
+    let a = c.args in
+    let n = c.number-count.result in
+    let choice = c.number-choice.result in
+    let items : c.resize.new.self.items ≡ a.part.now.way.items ++ replicate n choice =
+    run_more a.part.now.way.items c.resize.new.self.items c.len-2.result _ n choice (search rules) (search rules)
+    c.in_ok-resize.ensures.items in
+    subst (All (λ k. k < a.limits.choices)) (sym items)
+    (All-append (λ k. k < a.limits.choices) a.part.now.way.items (replicate n choice) c.requires.can
+    (All-replicate (λ k. k < a.limits.choices) n choice (c.is_run.ensures.can (search rules))))

@@ -1,4 +1,6 @@
-use Rattle.std.proofs.Common.{rules, ◌∙◌, sym, subst}
+use Rattle.std.proofs.Common.{rules, ◌<◌, ◌∙◌, ap, sym, subst}
+use Rattle.std.proofs.lemmas.List.Elements.{All-nil}
+use Rattle.std.specs.List.{All}
 use Rattle.pip_io.specs.Pacing.{MayRead}
 use Rattle.pip_io.specs.Moments.{streams}
 use Rattle.pip_io.proofs.Pacing.{paced_after}
@@ -94,3 +96,13 @@ returns-clause-reads g c =
           c.in_ok-read_marks.ensures.reads.0,
       c.in_ok-read_marks.ensures.reads.1 ∙ (c.in_ok-at-2.ensures.reads.1 ∙ c.in_ok-at.ensures.reads.1),
     )
+
+pub read_way-requires-clause-can : goal.read_way-requires-clause-can
+read_way-requires-clause-can g c =
+    subst (All (λ k. k < c.args.limits.choices))
+    (sym (ap (λ w. w.items) c.in_ok-at.ensures.way ∙ ap (λ p. p.way) c.new-part.ensures))
+    (All-nil (λ k. k < c.args.limits.choices))
+
+pub returns-clause-can : goal.returns-clause-can
+returns-clause-can g c = subst (All (λ k. k < c.args.limits.choices))
+    (sym (ap (λ w. w.items) c.in_ok-read_marks.ensures.way)) c.in_ok-at-2.ensures.can

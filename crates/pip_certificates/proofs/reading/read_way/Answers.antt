@@ -50,6 +50,7 @@ loop-left-preserved g c =
           (c.loop-left.place + 8)) _ _ _ was.taken now.reads.0;
       base = now.base ∙ was.base;
       short = now.short;
+      can = now.can;
       marks = now.marks ∙ was.marks;
       room = search (rules, arith);
     }

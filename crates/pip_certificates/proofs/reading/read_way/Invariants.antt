@@ -1,4 +1,4 @@
-use Rattle.std.proofs.Common.{◌≡◌, ◌<◌, ◌≤◌, ◌+◌, ◌*◌, ◌^◌, length}
+use Rattle.std.proofs.Common.{◌≡◌, ◌<◌, ◌≤◌, ◌+◌, ◌*◌, ◌^◌, All, length}
 use Rattle.pip_certificates.specs.PartReading.{TakesText, part_seen}
 use Rattle.pip_certificates.specs.PartText.{runs_from, runs_said}
 use Rattle.pip_certificates.proofs.reading.read_way.Given as goal
@@ -14,6 +14,7 @@ invariant-loop-left g l = record {
       (g.S.Source.told l.fn.joint.source.now).left (g.S.Source.told l.joint.source.now).left;
   base : l.part.base ≡ l.fn.part.base;
   short : length l.part.way.items ≤ 10000000;
+  can : All (λ k. k < l.fn.limits.choices) l.part.way.items;
   marks : l.part.marks ≡ l.fn.part.marks;
   room : l.place + 8 * l.left ≤ 2 ^ 40;
 }

@@ -1,5 +1,5 @@
 -- The part begins at the first moment, or where a way leads from there.
-use Rattle.std.proofs.Common.{◌≡◌, ◌∙◌, ◌++◌, [], ap, length, subst, sym}
+use Rattle.std.proofs.Common.{All, arith, ◌≡◌, ◌∙◌, ◌+◌, ◌*◌, ◌<◌, ◌++◌, [], ap, length, subst, sym}
 use Rattle.pip_model.specs.Booted.{IsBooted}
 use Rattle.pip_model.specs.Worlds.{boot_world_with}
 use Rattle.pip_search.specs.Certificates.{IsClosedPart, IsReachedPart}
@@ -24,6 +24,25 @@ check_part-requires-clause-key g c =
       begun (boot_world_with words n c.args.cpus) stands c.new-explorer.ensures.machine c.in_ok-add_key.ensures.count
           count c.new-start.ensures.items (c.as_slice.ensures.value ∙ c.in_ok-add_key.ensures.key),
     )
+
+pub returns-clause-can : goal.returns-clause-can
+returns-clause-can g c = if_ok c.check_part.result _ _ (λ r e all.
+    let first = g.F.First.words in
+    let s : Scope = record { cpus = c.args.cpus; lines = c.args.lines.now; from = c.args.from } in
+    let q = c.add_key.new.self in
+    let t : Menu = machine_menu q.machine q.lines.items q.from q.may.items in
+    let machine : q.machine ≡ c.new-machine.result = c.in_ok-add_key.ensures.machine ∙ c.new-explorer.ensures.machine in
+    let scope : t.scope ≡ s = scope_is
+    (length q.machine.cpus) c.args.cpus q.lines.items c.args.lines.now q.from c.args.from
+    (ap (λ y. length y.cpus) machine ∙ c.new-machine.ensures.count)
+    (ap (λ v. v.items) (c.in_ok-add_key.ensures.lines ∙ c.new-explorer.ensures.lines) ∙
+    (c.in_ok-extend_from_slice.ensures.items ∙ ap (λ v. v ++ c.args.lines.now) c.new-raised.ensures.items))
+    (c.in_ok-add_key.ensures.from ∙ c.new-explorer.ensures.from) in
+    let same : t ≡ record { scope = s; may = [] } = menu_is t.scope s q.may.items [] scope
+    (ap (λ v. v.items) (c.in_ok-add_key.ensures.may ∙ c.new-explorer.ensures.may) ∙ c.new-2.ensures.items) in
+    let count : (s.cpus + length s.lines) + s.cpus * 0 ≡ s.cpus + length s.lines = omega arith in
+    e (subst (λ v. All (λ k. k < (menu_model first v).choices) c.args.way.now) (sym same)
+    (subst (λ n. All (λ k. k < n) c.args.way.now) (sym count) all))) c.check_part.ensures.can
 
 pub returns-clause-closed : goal.returns-clause-closed
 returns-clause-closed g c = if_ok c.check_part.result _ _ (λ r e p is.

@@ -1,9 +1,14 @@
-use Rattle.std.proofs.Common.{rules, ◌≡◌, ◌<◌, true, false, length, Some, slice_get, inl, inr, refl, subst}
+use Rattle.std.proofs.Common.{rules, ◌≡◌, ◌<◌, true, false, length, Some, slice_get, inl, inr, refl, ap, sym, subst}
+use Rattle.std.proofs.Common.{◌*◌}
 use Rattle.std.proofs.Common.{◌∙◌, arith}
 use Rattle.std.proofs.lemmas.Bool.{cases_lt}
 use Rattle.std.proofs.lemmas.Option.{slice_get_read}
 use Rattle.pip_search.specs.Graphs.{IsMarked}
+use Rattle.pip_search.specs.Keys.{visits_of}
+use Rattle.pip_search.specs.Again.{IsLost}
+use Rattle.pip_search.specs.Ways.{way_to}
 use Rattle.pip_search.proofs.Lost.{comes_again, is_lost, marked_comes, unmarked_lost}
+use Rattle.pip_search.proofs.Steps.{all_steps, visit_count}
 use Rattle.pip_search.proofs.again.come_again.Goals as goal
 
 pub loop-place-preserved : goal.loop-place-preserved
@@ -33,7 +38,11 @@ returns-then-not-index-clause-again g c = λ x stands.
     let marks = c.spread.new.marks.items in
     let label = c.args.label.now in
     let width = c.args.width in
-    let rows : length marks ≡ length z.visits.items = s.count ∙ e.places in
+    let vs = visits_of z in
+    let all = visit_count z c.requires.closed.searching.keyed in
+    let places = e.places ∙ sym all in
+    let count = e.count ∙ ap (λ n. n * width) (sym all) in
+    let rows : length marks ≡ length vs = s.count ∙ places in
     let inside : c.loop-place.place < length marks = omega (
       arith,
       c.loop-place-test.true,
@@ -42,12 +51,13 @@ returns-then-not-index-clause-again g c = λ x stands.
     ) in
     let none : slice_get marks c.loop-place.place ≡ Some false = slice_get_read marks (length marks)
     c.loop-place.place false refl inside (search rules) in
-    is_lost m c.args.start.now z c.requires.closed label width marks rows
-    (marked_comes m z.visits.items label width c.requires.width targets flags marks e.edges e.flags e.count e.places
-    rows s.sound s.keeps s.closed)
-    (unmarked_lost m z.visits.items label width c.requires.width targets flags marks e.edges e.flags e.count e.places
-    rows s.sound s.keeps s.closed)
-    x stands c.loop-place.place none c.loop-place.invariant
+    subst (λ ws. IsLost m width x label (way_to ws c.loop-place.place)) (all_steps z c.requires.closed.searching.keyed)
+    (is_lost m c.args.start.now z c.requires.closed label width marks rows
+    (marked_comes m vs label width c.requires.width targets flags marks e.edges e.flags count places rows
+    s.sound s.keeps s.closed)
+    (unmarked_lost m vs label width c.requires.width targets flags marks e.edges e.flags count places rows
+    s.sound s.keeps s.closed)
+    x stands c.loop-place.place none c.loop-place.invariant)
 
 pub returns-clause-again : goal.returns-clause-again
 returns-clause-again g c = λ x stands.
@@ -60,12 +70,16 @@ returns-clause-again g c = λ x stands.
     let marks = c.spread.new.marks.items in
     let label = c.args.label.now in
     let width = c.args.width in
-    let rows : length marks ≡ length z.visits.items = s.count ∙ e.places in
+    let vs = visits_of z in
+    let all = visit_count z c.requires.closed.searching.keyed in
+    let places = e.places ∙ sym all in
+    let count = e.count ∙ ap (λ n. n * width) (sym all) in
+    let rows : length marks ≡ length vs = s.count ∙ places in
     comes_again m c.args.start.now z c.requires.closed label width marks rows
-    (marked_comes m z.visits.items label width c.requires.width targets flags marks e.edges e.flags e.count e.places
-    rows s.sound s.keeps s.closed)
-    (unmarked_lost m z.visits.items label width c.requires.width targets flags marks e.edges e.flags e.count e.places
-    rows s.sound s.keeps s.closed)
+    (marked_comes m vs label width c.requires.width targets flags marks e.edges e.flags count places rows
+    s.sound s.keeps s.closed)
+    (unmarked_lost m vs label width c.requires.width targets flags marks e.edges e.flags count places rows
+    s.sound s.keeps s.closed)
     x stands (λ j low. c.loop-place.invariant j (omega (
       arith,
       low,

@@ -1,34 +1,37 @@
 use Rattle.std.proofs.Common.{◌≡◌, ◌<◌, length, Some, ap, sym, subst, ◌∙◌, arith}
-use Rattle.pip_search.specs.Keys.{key_of}
+use Rattle.pip_search.specs.Keys.{key_of, visits_of}
 use Rattle.pip_search.specs.Packing.{packed_key, unpacked_key}
 use Rattle.pip_search.specs.Systems.{IsKey, LeadsOn}
+use Rattle.pip_search.specs.Storing.{listed}
 use Rattle.pip_search.proofs.Looking.{edge_to, is_there, key_at}
 use Rattle.pip_search.proofs.Places.{get-below, get-some}
-use Rattle.pip_search.proofs.Walking.{at_named}
+use Rattle.pip_search.proofs.Steps.{visit_count}
 use Rattle.pip_search.proofs.again.look.Goals as goal
 
 pub make-requires-clause-key : goal.make-requires-clause-key
 make-requires-clause-key g c =
     let m = g.S.System.model (g.S.System.base c.args.system.now) in
-    let vs = c.args.search.now.visits.items in
-    let (u, at) = get-some vs c.args.i c.requires.place in
+    let s = c.args.search.now in
+    let count = visit_count s c.requires.closed.searching.keyed in
+    let (u, at) = get-some (visits_of s) c.args.i (omega (arith, c.requires.place, count)) in
     subst (λ k. IsKey m k) (sym (c.as_slice.ensures.value ∙ c.requires.hand u at))
     (key_at m c.args.start.now c.args.search.now c.requires.closed c.requires.key c.args.i u at)
 
 pub overflow_cast-result : goal.overflow_cast-result
 overflow_cast-result g c =
-    let vs = c.args.search.now.visits.items in
-    let (v, (there, own)) = at_named (λ v. v.key.items) vs c.in-Some.to c.deref-3.result.now c.in-Some.ensures in
-    let low : c.in-Some.to < length vs = get-below vs c.in-Some.to v there in
-    omega (arith, c.requires.few)
+    let s = c.args.search.now in
+    let low : c.in-Some.to < length (listed s.store) = get-below (listed s.store) c.in-Some.to c.deref-3.result.now
+    c.in-Some.ensures in
+    omega (arith, low, c.requires.closed.searching.keyed.count, c.requires.few)
 
 pub unreachable-requires : goal.unreachable-requires
 unreachable-requires g c =
     let m = g.S.System.model (g.S.System.base c.args.system.now) in
-    let vs = c.args.search.now.visits.items in
+    let s = c.args.search.now in
+    let count = visit_count s c.requires.closed.searching.keyed in
     let next = c.make.new.to.items in
     let shown = c.make.new.shown.items in
-    let (u, at) = get-some vs c.args.i c.requires.place in
+    let (u, at) = get-some (visits_of s) c.args.i (omega (arith, c.requires.place, count)) in
     let leads : LeadsOn m (key_of u) c.args.choice next shown = subst (λ k. LeadsOn m k c.args.choice next shown)
     (c.as_slice.ensures.value ∙ c.requires.hand u at) c.in_ok-make.ensures.leads in
     let (j, there) = is_there m c.args.start.now c.args.search.now c.requires.closed c.requires.key c.requires.one

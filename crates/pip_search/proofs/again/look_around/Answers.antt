@@ -1,11 +1,12 @@
 use Rattle.std.proofs.Common.{rules, ◌≡◌, ◌+◌, length, length-append}
-use Rattle.std.proofs.Common.{[], ◌∷◌, ◌++◌, ap, sym, subst, ◌∙◌, arith}
+use Rattle.std.proofs.Common.{[], ◌∷◌, ◌++◌, refl, ap, sym, subst, ◌∙◌, arith}
 use Rattle.pip_search.specs.Again.{AreEdges, IsEdge, IsShownAmong, ShowsAt, ShowsOther}
-use Rattle.pip_search.specs.Keys.{key_of}
+use Rattle.pip_search.specs.Keys.{key_of, visits_of}
 use Rattle.pip_search.specs.Summary.{HasOneKey}
 use Rattle.pip_search.specs.Systems.{IsKey}
 use Rattle.pip_search.proofs.Looking.{among_other, among_shown, edges_more}
 use Rattle.pip_search.proofs.Places.{get-some}
+use Rattle.pip_search.proofs.Steps.{at_hand, visit_count}
 use Rattle.pip_search.proofs.again.look_around.Goals as goal
 use Rattle.pip_search.proofs.again.look_around.Goals.{else-shown, then-shown}
 
@@ -17,18 +18,30 @@ pub look-requires-clause-one : goal.look-requires-clause-one
 look-requires-clause-one g c = subst (λ b. HasOneKey (g.S.System.model b)) (sym c.loop-choice.invariant.base)
     c.requires.one
 
+pub loop-choice-init : goal.loop-choice-init
+loop-choice-init g c = record {
+  base = refl;
+  hand = at_hand c.args.search.now c.args.i c.name_at.result.now c.unpack.new.key.items c.name_at.ensures
+      c.in_ok-unpack.ensures;
+  filed = c.requires.filed;
+  edges = c.requires.edges;
+  count = omega (arith, c.requires.count);
+  flag = λ u at d low. absurd (omega arith);
+}
+
 pub loop-choice-preserved : goal.loop-choice-preserved
 loop-choice-preserved g c =
     let m = g.S.System.model (g.S.System.base c.args.system.now) in
     let h = c.loop-choice.invariant in
     let own = c.in_ok-to.ensures in
-    let vs = c.args.search.now.visits.items in
+    let vs = visits_of c.args.search.now in
+    let places = visit_count c.args.search.now c.requires.closed.searching.keyed in
     let n = c.loop-choice.choice in
     let label = c.args.label.now in
     let from = c.loop-choice.buffers.from.items in
     let targets = c.loop-choice.edges.hashes.items in
     let to = c.in_ok-to.to in
-    let (u, at) = get-some vs c.args.i c.requires.place in
+    let (u, at) = get-some vs c.args.i (omega (arith, c.requires.place, places)) in
     let is : from ≡ key_of u = h.hand u at in
     let edge : IsEdge m vs (key_of u) n to = subst (λ k. IsEdge m vs k n to) is
     (subst (λ b. IsEdge (g.S.System.model b) vs from n to) h.base own.edge) in

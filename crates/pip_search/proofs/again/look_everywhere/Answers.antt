@@ -1,7 +1,7 @@
 use Rattle.std.proofs.Common.{◌≡◌, ◌+◌, ℕ, Bool, List, [], ◌∷◌, length, length-append, Some, slice_get}
 use Rattle.std.proofs.Common.{refl, ap, sym, subst, ◌∙◌, arith}
 use Rattle.pip_search.specs.Again.{AreEdges, AreFlags, IsShownAmong}
-use Rattle.pip_search.specs.Keys.{key_of}
+use Rattle.pip_search.specs.Keys.{key_of, visits_of}
 use Rattle.pip_search.specs.Summary.{HasOneKey}
 use Rattle.pip_search.specs.Systems.{IsKey}
 use Rattle.pip_search.proofs.Looking.{flags_more, no_edges}
@@ -17,7 +17,7 @@ look_around-requires-clause-one g c = subst (λ b. HasOneKey (g.S.System.model b
 
 pub look_around-requires-clause-edges : goal.look_around-requires-clause-edges
 look_around-requires-clause-edges g c = subst
-    (λ b. AreEdges (g.S.System.model b) c.args.search.now.visits.items c.args.width c.loop-i.edges.hashes.items)
+    (λ b. AreEdges (g.S.System.model b) (visits_of c.args.search.now) c.args.width c.loop-i.edges.hashes.items)
     (sym c.loop-i.invariant.base) c.loop-i.invariant.edges
 
 pub loop-i-init : goal.loop-i-init
@@ -27,7 +27,7 @@ loop-i-init g c =
     record {
       base = refl;
       filed = c.in_ok-edges.ensures.filed;
-      edges = no_edges m c.args.search.now.visits.items c.args.width c.in_ok-edges.edges.hashes.items none;
+      edges = no_edges m (visits_of c.args.search.now) c.args.width c.in_ok-edges.edges.hashes.items none;
       count = let z = ap length none in omega arith;
       flags = λ j u b at is. absurd (let n = c.new-flags.ensures.items in none_at c.new-flags.result.items j b n is);
       places = ap length c.new-flags.ensures.items;
@@ -40,7 +40,7 @@ loop-i-init g c =
 pub loop-i-preserved : goal.loop-i-preserved
 loop-i-preserved g c =
     let m = g.S.System.model (g.S.System.base c.args.system.now) in
-    let vs = c.args.search.now.visits.items in
+    let vs = visits_of c.args.search.now in
     let h = c.loop-i.invariant in
     let own = c.in_ok-shows.ensures in
     let flags = c.loop-i.flags.items in

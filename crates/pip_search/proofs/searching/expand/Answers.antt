@@ -1,13 +1,26 @@
-use Rattle.std.proofs.Common.{◌≡◌, ◌<◌, arith, sym, subst, length, false}
+use Rattle.std.proofs.Common.{◌≡◌, ◌<◌, arith, refl, sym, subst, length, false}
 use Rattle.pip_search.specs.Ending.{IsBeyond}
 use Rattle.pip_search.specs.Systems.{IsKey}
+use Rattle.pip_search.specs.Keys.{steps_of, visits_of}
 use Rattle.pip_search.proofs.Ranking.{ranked_next}
 use Rattle.pip_search.proofs.Telling.{next_visit}
+use Rattle.pip_search.proofs.Steps.{at_hand, visit_count}
 use Rattle.pip_search.proofs.searching.expand.Goals as goal
 
 pub make-requires-clause-key : goal.make-requires-clause-key
 make-requires-clause-key g c = subst (λ b. IsKey (g.S.System.model b) c.args.start.now)
     (sym c.loop-choice.invariant.base) c.requires.key
+
+pub loop-choice-init : goal.loop-choice-init
+loop-choice-init g c = record {
+  base = refl;
+  searching = c.requires.searching;
+  hand = at_hand c.args.search.now c.args.i c.name_at.result.now c.unpack.new.key.items c.name_at.ensures
+      c.in_ok-unpack.ensures;
+  same = refl;
+  grows = omega arith;
+  room = c.requires.room;
+}
 
 pub returns-clause-made : goal.returns-clause-made
 returns-clause-made g c = λ t.
@@ -16,13 +29,14 @@ returns-clause-made g c = λ t.
     let n = c.count-count.ensures in
     let whole : c.loop-choice.choice ≡ m.choices = omega (arith, n) in
     let grows = c.loop-choice.invariant.grows in
-    let inside : c.args.i < length s.visits.items = omega (arith, s.visits.ok.0, grows) in
     let h = c.loop-choice.invariant.searching in
+    let vs = visits_of s in
+    let count = visit_count s h.keyed in
+    let inside : c.args.i < length vs = omega (arith, s.visits.ok.0, grows, count) in
     record {
-      exploring = next_visit m c.args.start.now s.visits.items s.found.items c.args.i c.loop-choice.choice h.exploring
-          whole inside;
-      ranked = ranked_next s.visits.items s.found.items c.args.i c.loop-choice.choice h.ranked;
-      named = h.named;
+      exploring = next_visit m c.args.start.now vs s.found.items c.args.i c.loop-choice.choice h.exploring whole inside;
+      ranked = ranked_next (steps_of vs) s.found.items c.args.i c.loop-choice.choice h.ranked;
+      keyed = h.keyed;
       told = h.told;
       kept = h.kept;
     }
@@ -30,5 +44,5 @@ returns-clause-made g c = λ t.
 pub returns-then-not-room-clause-beyond : goal.returns-then-not-room-clause-beyond
 returns-then-not-room-clause-beyond g c = λ t.
     let room : c.in_ok-room.room ≡ false = c.if-not-room.true in
-    subst (λ b. IsBeyond (g.S.System.model b) c.make.new.search.visits.items c.args.limit c.args.i)
+    subst (λ b. IsBeyond (g.S.System.model b) (visits_of c.make.new.search) c.args.limit c.args.i)
     c.loop-choice.invariant.base (c.in_ok-room.ensures.beyond room)

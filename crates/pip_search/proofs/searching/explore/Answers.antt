@@ -1,19 +1,22 @@
 use Rattle.std.proofs.Common.{rules, ◌≡◌, ◌+◌, ◌-◌, arith, refl, sym, ap, subst, ◌∙◌, length, false, IsTrue}
 use Rattle.pip_search.specs.Searching.{IsSearching}
 use Rattle.pip_search.specs.Systems.{IsKey}
+use Rattle.pip_search.specs.Keys.{keyed_visit, visits_of}
 use Rattle.pip_search.specs.declared.searching.Extent.TheVariants.{Stopped}
 use Rattle.pip_search.proofs.Done.{IsDone, closed_done, stopped_done, visit_read, within_done}
 use Rattle.pip_search.proofs.Ending.{shallow_more}
 use Rattle.pip_search.proofs.Ranking.{ranked_begun}
 use Rattle.pip_search.proofs.Telling.{begun}
+use Rattle.pip_search.proofs.Steps.{visit_count}
 use Rattle.pip_search.proofs.searching.explore.Goals as goal
 
 pub returns-then-depth-most : goal.returns-then-depth-most
 returns-then-depth-most g c =
     let h = c.loop-i.invariant in
     let v = c.index.result.now in
-    let at = visit_read c.loop-i.search c.loop-i.i v (omega (arith, c.len.ensures)) c.index.ensures in
-    within_done h.base h.searching h.room v refl at h.shallow c.if-depth-most.true
+    let (key, at) = visit_read c.loop-i.search c.loop-i.i v h.searching.keyed (omega (arith, c.len.ensures))
+    c.index.ensures in
+    within_done h.base h.searching h.room (keyed_visit key v) refl at h.shallow c.if-depth-most.true
 
 pub expand-requires-clause-key : goal.expand-requires-clause-key
 expand-requires-clause-key g c =
@@ -22,12 +25,14 @@ expand-requires-clause-key g c =
 pub returns-then-not-room : goal.returns-then-not-room
 returns-then-not-room g c =
     let v = c.index.result.now in
-    let at = visit_read c.loop-i.search c.loop-i.i v (omega (arith, c.len.ensures)) c.index.ensures in
+    let (key, at) = visit_read c.loop-i.search c.loop-i.i v c.loop-i.invariant.searching.keyed
+    (omega (arith, c.len.ensures)) c.index.ensures in
     let room : c.in_ok-room.room ≡ false = search rules in
     let e = c.in_ok-room.ensures in
     subst (λ b. IsDone (g.S.System.model b) c.args.start.now c.expand.new.search c.args.most c.args.limit
     (Stopped v.depth) b (g.S.System.base c.expand.new.system)) c.loop-i.invariant.base
-    (stopped_done c.expand.ensures.base (e.left room).1 e.room v (e.same ∙ at) c.if-depth-most.false (e.beyond room))
+    (stopped_done c.expand.ensures.base (e.left room).1 e.room (keyed_visit key v) (e.same ∙ at) c.if-depth-most.false
+    (e.beyond room))
 
 pub loop-i-preserved : goal.loop-i-preserved
 loop-i-preserved g c =
@@ -35,7 +40,8 @@ loop-i-preserved g c =
     let s = c.loop-i.search in
     let t = c.expand.new.search in
     let v = c.index.result.now in
-    let at = visit_read s c.loop-i.i v (omega (arith, c.len.ensures)) c.index.ensures in
+    let (key, at) = visit_read s c.loop-i.i v c.loop-i.invariant.searching.keyed (omega (arith, c.len.ensures))
+    c.index.ensures in
     let room : IsTrue c.in_ok-room.room = search rules in
     let h : IsSearching m c.args.start.now t (c.loop-i.i + 1) 0 =
     subst (λ b. IsSearching (g.S.System.model b) c.args.start.now t (c.loop-i.i + 1) 0) c.loop-i.invariant.base
@@ -43,10 +49,26 @@ loop-i-preserved g c =
     record {
       base = c.expand.ensures.base ∙ c.loop-i.invariant.base;
       searching = h;
-      shallow = shallow_more m c.args.start.now t.visits.items t.found.items (c.loop-i.i + 1) 0 c.loop-i.i c.args.most v
-          h.exploring (c.in_ok-room.ensures.same ∙ at) c.if-depth-most.false;
+      shallow = shallow_more m c.args.start.now (visits_of t) t.found.items (c.loop-i.i + 1) 0 c.loop-i.i c.args.most
+          (keyed_visit key v) h.exploring (c.in_ok-room.ensures.same ∙ at) c.if-depth-most.false;
       room = c.in_ok-room.ensures.room;
     }
+
+pub overflow_sub-len : goal.overflow_sub-len
+overflow_sub-len g c =
+    let s = c.loop-i.search in
+    let h = c.loop-i.invariant.searching in
+    let count = visit_count s h.keyed in
+    let some = h.exploring.some in
+    omega (arith, s.visits.ok.0, count, some, c.len-2.ensures)
+
+pub index-requires-2 : goal.index-requires-2
+index-requires-2 g c =
+    let s = c.loop-i.search in
+    let h = c.loop-i.invariant.searching in
+    let count = visit_count s h.keyed in
+    let some = h.exploring.some in
+    omega (arith, s.visits.ok.0, count, some, c.len-2.ensures)
 
 pub returns : goal.returns
 returns g c =
@@ -59,16 +81,18 @@ loop-i-init g c =
     let m = g.S.System.model (g.S.System.base c.args.system.now) in
     let s = c.in_ok-search.search in
     let b = c.in_ok-search.ensures.begun in
-    let one : length s.visits.items ≡ 1 = ap length b.one in
+    let vs = visits_of s in
+    let one : length vs ≡ 1 = ap length b.one in
+    let count = visit_count s c.in_ok-search.ensures.keys in
     record {
       base = refl;
       searching = record {
-        exploring = begun m c.args.start.now s.visits.items s.found.items b;
-        ranked = ranked_begun c.args.start.now s.visits.items s.found.items b;
-        named = c.in_ok-search.ensures.keys;
+        exploring = begun m c.args.start.now vs s.found.items b;
+        ranked = ranked_begun c.args.start.now vs s.found.items b;
+        keyed = c.in_ok-search.ensures.keys;
         told = c.in_ok-search.ensures.labels;
         kept = c.in_ok-search.ensures.kept;
       };
       shallow = λ j u low e. absurd (omega arith);
-      room = omega (arith, s.visits.ok.0, c.requires.limit);
+      room = omega (arith, s.visits.ok.0, c.requires.limit, one, count);
     }

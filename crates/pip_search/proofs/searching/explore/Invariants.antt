@@ -1,6 +1,7 @@
 use Rattle.std.proofs.Common.{◌≡◌, ◌-◌, ◌≤◌}
 use Rattle.std.specs.Prelude.{vec_len}
 use Rattle.pip_search.specs.Searching.{IsSearching}
+use Rattle.pip_search.specs.Keys.{visits_of}
 use Rattle.pip_search.proofs.Ending.{IsShallow}
 use Rattle.pip_search.proofs.searching.explore.Given as goal
 
@@ -8,7 +9,7 @@ abbrev pub invariant-loop-i : goal.invariant-loop-i
 invariant-loop-i g l = record {
   base : g.S.System.base l.system ≡ g.S.System.base l.fn.system;
   searching : IsSearching (g.S.System.model (g.S.System.base l.fn.system)) l.start l.search l.i 0;
-  shallow : IsShallow l.search.visits.items l.i l.most;
+  shallow : IsShallow (visits_of l.search) l.i l.most;
   room : vec_len l.search.visits ≤ l.limit;
 }
 

@@ -1,35 +1,46 @@
-use Rattle.std.proofs.Common.{false, rules, ◌≡◌, ◌+◌, arith, refl, sym, ap, subst, ◌∙◌, length, IsTrue}
-use Rattle.std.specs.Prelude.{Some, slice_get}
-use Rattle.std.proofs.lemmas.Option.{slice_get_read}
+use Rattle.std.proofs.Common.{false, rules, ◌≡◌, ◌+◌, arith, refl, sym, ap, subst, ◌∙◌, IsTrue}
 use Rattle.pip_search.specs.Ending.{IsBeyond}
 use Rattle.pip_search.specs.Exploring.{IsExploring}
-use Rattle.pip_search.specs.Keys.{AreKept, key_of}
+use Rattle.pip_search.specs.Keys.{AreKept, key_of, keyed_visit, keyed_visits, steps_of, visits_of}
 use Rattle.pip_search.specs.Orders.{IsRanked}
 use Rattle.pip_search.specs.Packing.{packed_key, unpacked_key}
 use Rattle.pip_search.specs.Systems.{IsKey, LeadsOn}
+use Rattle.pip_search.specs.Storing.{listed}
 use Rattle.pip_search.proofs.Keeping.{absent_key, kept_bytes, kept_more}
 use Rattle.pip_search.proofs.Making.{grew_same, grown_and_told}
 use Rattle.pip_search.proofs.Places.{get-some}
 use Rattle.pip_search.proofs.Ranking.{ranked_more}
 use Rattle.pip_search.proofs.Telling.{visit_key}
+use Rattle.pip_search.proofs.Steps.{visit_count}
+use Rattle.pip_search.proofs.Done.{visit_read}
 use Rattle.pip_search.proofs.searching.make.Goals as goal
 
 pub make-requires-clause-key : goal.make-requires-clause-key
 make-requires-clause-key g c =
     let m = g.S.System.model (g.S.System.base c.args.system.now) in
     let s = c.args.search.now in
-    let (v, at) = get-some s.visits.items c.args.i (omega (arith, s.visits.ok.0)) in
+    let count = visit_count s c.requires.searching.keyed in
+    let (v, at) = get-some (visits_of s) c.args.i (omega (arith, s.visits.ok.0, count)) in
     subst (λ k. IsKey m k) (sym (c.as_slice.ensures.value ∙ c.requires.hand v at))
-    (visit_key m c.args.start.now s.visits.items s.found.items c.args.i c.args.choice c.requires.searching.exploring
+    (visit_key m c.args.start.now (visits_of s) s.found.items c.args.i c.args.choice c.requires.searching.exploring
     c.requires.key c.args.i v at)
+
+pub overflow_add-step : goal.overflow_add-step
+overflow_add-step g c =
+    let s = c.args.search.now in
+    let h = c.requires.searching in
+    let (own, at) = visit_read s c.args.i c.index-from.result.now h.keyed (omega arith) c.index-from.ensures in
+    let low = h.exploring.low c.args.i (keyed_visit own c.index-from.result.now) at in
+    omega (arith, low)
 
 pub returns-clause-made : goal.returns-clause-made
 returns-clause-made g c = λ t.
     let m = g.S.System.model (g.S.System.base c.args.system.now) in
     let s = c.args.search.now in
-    let v = c.index-from.result.now in
-    let at : slice_get s.visits.items c.args.i ≡ Some v = slice_get_read s.visits.items (length s.visits.items)
-    c.args.i v refl (omega (arith, s.visits.ok.0)) c.index-from.ensures in
+    let vs = visits_of s in
+    let (own, at) = visit_read s c.args.i c.index-from.result.now c.requires.searching.keyed (omega arith)
+    c.index-from.ensures in
+    let v = keyed_visit own c.index-from.result.now in
     let room : IsTrue c.in_ok-room.room = search rules in
     let key = c.deref-2.result.now in
     let shown = c.deref-3.result.now in
@@ -39,10 +50,11 @@ returns-clause-made g c = λ t.
     let packed : key ≡ packed_key c.make.new.to.items = c.deref-2.ensures.value ∙ c.in_ok-pack.ensures.packed
     ∙ ap packed_key c.deref.ensures.value in
     let h = c.requires.searching in
-    let r = ranked_more s.visits.items c.reach.new.visits.items s.found.items c.tell.new.found.items key shown c.args.i
+    let ws = keyed_visits (listed c.reach.new.store) c.reach.new.visits.items in
+    let r = ranked_more vs ws s.found.items c.tell.new.found.items key shown c.args.i
     c.args.choice (v.depth + 1) run h.ranked (c.in_ok-room.ensures.grew room) c.in_ok-tell.ensures.told in
     record {
-      exploring = grown_and_told m c.args.start.now s.visits.items s.found.items c.args.i c.args.choice h.exploring v
+      exploring = grown_and_told m c.args.start.now vs s.found.items c.args.i c.args.choice h.exploring v
           key shown (v.depth + 1) run
           (record {
             at = at;
@@ -54,11 +66,11 @@ returns-clause-made g c = λ t.
             depth = refl;
             run = c.run_from.ensures;
           })
-          c.reach.new.visits.items c.tell.new.found.items r (c.in_ok-room.ensures.grew room) c.in_ok-tell.ensures.told;
+          ws c.tell.new.found.items r (c.in_ok-room.ensures.grew room) c.in_ok-tell.ensures.told;
       ranked = r;
-      named = c.in_ok-room.ensures.named;
+      keyed = c.in_ok-room.ensures.keyed;
       told = c.in_ok-tell.ensures.named;
-      kept = kept_more s.visits.items c.reach.new.visits.items key c.args.i c.args.choice (v.depth + 1) run h.kept
+      kept = kept_more vs ws key c.args.i c.args.choice (v.depth + 1) run h.kept
           (kept_bytes c.make.new.to.items key packed words) (c.in_ok-room.ensures.grew room);
     }
 
@@ -66,15 +78,16 @@ pub returns-then-not-room-clause-beyond : goal.returns-then-not-room-clause-beyo
 returns-then-not-room-clause-beyond g c = λ t.
     let m = g.S.System.model (g.S.System.base c.args.system.now) in
     let s = c.args.search.now in
-    let v = c.index-from.result.now in
-    let at : slice_get s.visits.items c.args.i ≡ Some v = slice_get_read s.visits.items (length s.visits.items)
-    c.args.i v refl (omega (arith, s.visits.ok.0)) c.index-from.ensures in
+    let vs = visits_of s in
+    let (own, at) = visit_read s c.args.i c.index-from.result.now c.requires.searching.keyed (omega arith)
+    c.index-from.ensures in
+    let v = keyed_visit own c.index-from.result.now in
     let room : c.in_ok-room.room ≡ false = c.if-not-room.true in
     let key = c.deref-2.result.now in
     let packed : key ≡ packed_key c.make.new.to.items = c.deref-2.ensures.value ∙ c.in_ok-pack.ensures.packed
     ∙ ap packed_key c.deref.ensures.value in
     let full = c.in_ok-room.ensures.full room in
-    subst (λ vs. IsBeyond m vs c.args.limit c.args.i) (sym (c.in_ok-room.ensures.stays room))
+    subst (λ zs. IsBeyond m zs c.args.limit c.args.i) (sym (c.in_ok-room.ensures.stays room))
     (record {
       from = v;
       at = at;
@@ -85,7 +98,7 @@ returns-then-not-room-clause-beyond g c = λ t.
       leads = subst (λ k. LeadsOn m k c.args.choice c.make.new.to.items c.make.new.shown.items)
           (c.as_slice.ensures.value ∙ c.requires.hand v at) c.in_ok-make.ensures.leads;
       full = full.count;
-      absent = absent_key s.visits.items key c.make.new.to.items c.requires.searching.kept packed full.absent;
+      absent = absent_key vs key c.make.new.to.items c.requires.searching.kept packed full.absent;
     })
 
 pub returns-then-not-room-clause-left : goal.returns-then-not-room-clause-left
@@ -95,10 +108,10 @@ returns-then-not-room-clause-left g c = λ t.
     let h = c.requires.searching in
     let stay = c.in_ok-room.ensures.stays c.if-not-room.true in
     record {
-      exploring = subst (λ vs. IsExploring m c.args.start.now vs s.found.items c.args.i c.args.choice) (sym stay)
+      exploring = subst (λ zs. IsExploring m c.args.start.now zs s.found.items c.args.i c.args.choice) (sym stay)
           h.exploring;
-      ranked = subst (λ vs. IsRanked vs s.found.items c.args.i c.args.choice) (sym stay) h.ranked;
-      named = c.in_ok-room.ensures.named;
+      ranked = subst (λ zs. IsRanked (steps_of zs) s.found.items c.args.i c.args.choice) (sym stay) h.ranked;
+      keyed = c.in_ok-room.ensures.keyed;
       told = h.told;
       kept = subst AreKept (sym stay) h.kept;
     }
@@ -106,9 +119,10 @@ returns-then-not-room-clause-left g c = λ t.
 pub returns-clause-same : goal.returns-clause-same
 returns-clause-same g c =
     let s = c.args.search.now in
-    let v = c.index-from.result.now in
-    let at : slice_get s.visits.items c.args.i ≡ Some v = slice_get_read s.visits.items (length s.visits.items)
-    c.args.i v refl (omega (arith, s.visits.ok.0)) c.index-from.ensures in
+    let vs = visits_of s in
+    let (own, at) = visit_read s c.args.i c.index-from.result.now c.requires.searching.keyed (omega arith)
+    c.index-from.ensures in
+    let v = keyed_visit own c.index-from.result.now in
     let room : IsTrue c.in_ok-room.room = search rules in
-    grew_same s.visits.items c.reach.new.visits.items c.deref-2.result.now c.args.i c.args.choice (v.depth + 1)
-    c.run_from.result c.args.i v at (c.in_ok-room.ensures.grew room)
+    grew_same vs (keyed_visits (listed c.reach.new.store) c.reach.new.visits.items) c.deref-2.result.now c.args.i
+    c.args.choice (v.depth + 1) c.run_from.result c.args.i v at (c.in_ok-room.ensures.grew room)

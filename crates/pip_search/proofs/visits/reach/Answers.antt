@@ -1,52 +1,80 @@
-use Rattle.std.proofs.Common.{inl, inr, refl, ap, sym, subst, ◌∙◌}
-use Rattle.pip_search.specs.Keys.{key_bytes}
-use Rattle.pip_search.specs.Naming.{IsAbsent, hash_of}
+use Rattle.std.proofs.Common.{◌+◌, inl, inr, refl, ap, sym, subst, ◌∙◌, ◌++◌, [], ◌∷◌, arith, length, length-append}
+use Rattle.std.proofs.Common.{slice_get}
+use Rattle.pip_search.specs.Keys.{keyed_visit, keyed_visits}
+use Rattle.pip_search.specs.Naming.{AreNamed, IsAbsent}
+use Rattle.pip_search.specs.Storing.{listed}
 use Rattle.pip_search.specs.declared.visits.Visit.{Visit}
 use Rattle.pip_search.proofs.Keeping.{has_key, is_absent, is_there}
-use Rattle.pip_search.proofs.Walking.{named_push_more}
+use Rattle.pip_search.proofs.Steps.{bytes_are, keyed_count, keyed_more}
+use Rattle.pip_search.proofs.Walking.{named_more}
 use Rattle.pip_search.proofs.visits.reach.Goals as goal
 
 pub returns-then-is_some-clause-grew : goal.returns-then-is_some-clause-grew
 returns-then-is_some-clause-grew c = λ t.
+    let ks = listed c.args.store.now in
     let vs = c.args.visits.now.items in
     let key = c.args.key.now in
+    let (j, there) = is_there ks key c.find.result c.find.ensures (sym c.is_some.ensures ∙ c.if-is_some.true) in
     inl (record {
       same = refl;
-      has = has_key vs key (is_there (key_bytes vs) key c.find.result c.find.ensures
-          (sym c.is_some.ensures ∙ c.if-is_some.true));
+      has = has_key (keyed_visits ks vs) key
+          (j, ap (λ zs. slice_get zs j) (bytes_are ks vs c.requires.keyed.count) ∙ there);
     })
 
-pub returns-clause-named : goal.returns-clause-named
-returns-clause-named c =
+pub returns-then-len-limit-clause-full : goal.returns-then-len-limit-clause-full
+returns-then-len-limit-clause-full c = λ t.
+    let ks = listed c.args.store.now in
+    let vs = c.args.visits.now.items in
+    let key = c.args.key.now in
+    let count = keyed_count ks vs c.requires.keyed.count in
+    record {
+      count = omega (arith, count, c.args.visits.now.ok.0, c.len.ensures, c.if-len-limit.true);
+      absent = subst (λ zs. IsAbsent zs key) (sym (bytes_are ks vs c.requires.keyed.count))
+          (is_absent ks key c.find.result c.find.ensures (sym c.is_some.ensures ∙ c.if-is_some.false));
+    }
+
+pub returns-clause-keyed : goal.returns-clause-keyed
+returns-clause-keyed c =
+    let ks = listed c.args.store.now in
     let vs = c.args.visits.now.items in
     let key = c.args.key.now in
     let one : Visit = record {
-      key = c.in_ok-key.key;
       parent = c.args.step.at;
       choice = c.args.step.choice;
       depth = c.args.step.depth;
       run = c.args.step.run;
     } in
-    let absent = is_absent (key_bytes vs) key c.find.result c.find.ensures
-    (sym c.is_some.ensures ∙ c.if-is_some.false) in
-    named_push_more (λ (v : Visit). v.key.items) vs c.push.new.self.items c.args.index.now c.add.new.self one
-    c.hash_bytes-hash.result c.requires.named (c.hash_bytes-hash.ensures ∙ ap hash_of (sym c.in_ok-key.ensures))
-    (subst (λ k. IsAbsent (key_bytes vs) k) (sym c.in_ok-key.ensures) absent) c.in_ok-add.ensures.filed
-    c.in_ok-add.ensures.hashes c.in_ok-push.ensures.items
+    let h = c.requires.keyed in
+    let added = c.in_ok-push.ensures.added in
+    record {
+      stored = c.in_ok-push.ensures.stored;
+      count = ap length added ∙ length-append ks (key ∷ []) ∙ ap (λ n. n + 1) h.count
+          ∙ sym (ap length c.in_ok-push-2.ensures.items ∙ length-append vs (one ∷ []));
+      named = subst (λ zs. AreNamed zs c.add.new.self) (sym added)
+          (named_more ks c.args.index.now c.add.new.self key c.hash_bytes-hash.result h.named c.hash_bytes-hash.ensures
+          (is_absent ks key c.find.result c.find.ensures (sym c.is_some.ensures ∙ c.if-is_some.false))
+          c.in_ok-add.ensures.filed c.in_ok-add.ensures.hashes);
+    }
 
 pub returns-clause-grew : goal.returns-clause-grew
-returns-clause-grew c = λ t. inr (record {
-  visit = record {
-    key = c.in_ok-key.key;
-    parent = c.args.step.at;
-    choice = c.args.step.choice;
-    depth = c.args.step.depth;
-    run = c.args.step.run;
-  };
-  whole = c.in_ok-push.ensures.items;
-  key_is = c.in_ok-key.ensures;
-  parent_is = refl;
-  choice_is = refl;
-  depth_is = refl;
-  run_is = refl;
-})
+returns-clause-grew c = λ t.
+    let ks = listed c.args.store.now in
+    let vs = c.args.visits.now.items in
+    let key = c.args.key.now in
+    let one : Visit = record {
+      parent = c.args.step.at;
+      choice = c.args.step.choice;
+      depth = c.args.step.depth;
+      run = c.args.step.run;
+    } in
+    inr (record {
+      visit = keyed_visit key one;
+      whole = ap (λ zs. keyed_visits zs c.push-2.new.self.items) c.in_ok-push.ensures.added
+          ∙ ap (λ ws. keyed_visits (ks ++ key ∷ []) ws) c.in_ok-push-2.ensures.items
+          ∙ keyed_more ks vs key one c.requires.keyed.count;
+      key_is = refl;
+      parent_is = refl;
+      choice_is = refl;
+      depth_is = refl;
+      run_is = refl;
+    })

@@ -10,7 +10,7 @@ ghost use Rattle.pip_io.specs.Taken.{Appends, SendsPart, Wrote};
 ghost use Rattle.pip_lines.specs.Due.{AnswersDue};
 ghost use Rattle.pip_model.specs.Booted.{HasBooted};
 ghost use Rattle.pip_model.specs.Images.{Image};
-ghost use Rattle.pip_searches.specs.EveryText.{label_bytes, lines_planned};
+ghost use Rattle.pip_searches.specs.EveryText.{label_bytes};
 ghost use Rattle.pip_due.specs.Loading.{BeginsFrames};
 ghost use Rattle.pip_searches.specs.SearchDues.{IsSearchedAgainst};
 ghost use Rattle.pip_searches.specs.Searches.{EndsWithFound, HasWays, IsToldFrom, given_menu, told_text};
@@ -21,7 +21,7 @@ use arrayvec::ArrayVec;
 use pip_base::{Plan, Steps};
 use pip_due::begun::Begun;
 use pip_due::loading::lines_of;
-use pip_due::{Ended, pass};
+use pip_due::{Ended, pass, planned_lines};
 use pip_every::{Again, MAX_LABEL, May, search_on, words_later};
 use pip_frames::{Frames, RawFrames};
 use pip_image::Header;
@@ -285,18 +285,6 @@ fn find_from<C: Callback, F: First, L: Ledger>(
         ways,
         said,
     })
-}
-
-// The interrupt lines of plans.
-fn planned_lines(plans: &[Plan]) -> ArrayVec<u32, 16>
-    requires { length plans.now ≤ 16 }
-    ensures { result.items ≡ lines_planned plans.now }
-{
-    let mut lines = ArrayVec::new();
-    for plan in plans {
-        lines.push(plan.line);
-    }
-    lines
 }
 
 // Writes the text, and all that the sink holds.

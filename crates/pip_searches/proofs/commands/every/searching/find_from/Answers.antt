@@ -14,10 +14,11 @@ use Rattle.pip_model.specs.Worlds.{boot_world_with}
 use Rattle.pip_search.specs.Summary.{IsTold}
 use Rattle.pip_search.specs.Ways.{witnesses_of}
 use Rattle.pip_switch.specs.Standing.{StandsAs}
-use Rattle.pip_searches.specs.EveryText.{label_bytes, lines_planned}
+use Rattle.pip_due.specs.Planned.{lines_planned}
+use Rattle.pip_searches.specs.EveryText.{label_bytes}
 use Rattle.pip_searches.specs.SearchDues.{most_choices}
 use Rattle.pip_searches.specs.Searches.{world_after}
-use Rattle.pip_searches.proofs.Searched.{lines_below}
+use Rattle.pip_due.proofs.LinesBelow.{lines_below}
 use Rattle.pip_searches.proofs.commands.every.searching.find_from.Goals as goal
 
 pub search_on-requires-clause-stands : goal.search_on-requires-clause-stands

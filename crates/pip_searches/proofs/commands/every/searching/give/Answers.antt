@@ -6,7 +6,8 @@ use Rattle.pip_model.specs.Run.{trace_image_line}
 use Rattle.pip_search.specs.Ways.{witnesses_of}
 use Rattle.pip_ways.specs.Texts.{search_text}
 use Rattle.pip_ways.proofs.Pieces.{part_after, part_longer, wrote_of}
-use Rattle.pip_searches.specs.EveryText.{label_bytes, lines_planned, again_text}
+use Rattle.pip_due.specs.Planned.{lines_planned}
+use Rattle.pip_searches.specs.EveryText.{label_bytes, again_text}
 use Rattle.pip_searches.proofs.commands.every.searching.give.Goals as goal
 
 pub returns-in_err-write_image-clause-wrote : goal.returns-in_err-write_image-clause-wrote

@@ -1,4 +1,0 @@
-use Rattle.pip_test_kernel.proofs.switch.a_masked_line_stays_pending.Given as goal
-
-abbrev pub ghosts-check : goal.ghosts-check
-ghosts-check g a = record { name = a.blank.name; parts = a.blank.parts }

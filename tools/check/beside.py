@@ -1,0 +1,97 @@
+"""The program beside others: the plain program of bench/plain, to which docs/PERFORMANCE.md compares, writes what it
+writes; and what the translation caches count is what they count in the reference.
+
+No output of the program depends on the caches. So a program that says after its output what they counted is made here:
+in a copy of the sources counts_program.txt stands in the place of crates/pip/src/main.rt. `rt try` builds it, without
+proofs. The cases are those generated, the scripts of examples/, and one whose pages share places."""
+
+import glob
+import os
+import shutil
+import subprocess
+import tempfile
+from collections.abc import Iterator
+from concurrent.futures import ThreadPoolExecutor
+
+from ..bench.run import plain_program
+from ..reference import commands, generate
+from .exporting import need_cargo
+from .running import REPOSITORY, Differs, contents, copied, expect, run, write
+
+CASES = 20               # of each command
+NOT_THERE = ("part", "merge")                # it has no certificates
+FIRST_SEED = 700_000     # no other check has these
+Work = tuple[list[str], bytes]
+# What is made of the image of each program of examples/
+OF_IMAGES = (["dis"], ["run", "3000", "7"], ["tree", "1500", "1"], ["core", "1500", "1"], ["every", "300"],
+             ["native", "2", "2000"], ["slots", "2", "5", "100"], ["apart", "300", "1500", "1"])
+
+
+def plain(program: str) -> None:
+    """On the scripts and programs of examples/, and on some generated cases of each command."""
+    need_cargo()
+    beside = plain_program()
+    with ThreadPoolExecutor(os.cpu_count()) as pool:
+        work = [*examples(program), *(generate.case(command, FIRST_SEED + k) for command in generate.COMMANDS
+                                      if command not in NOT_THERE for k in range(CASES))]
+        dues = pool.map(lambda one: run([program, *one[0]], one[1]), work)
+        found = pool.map(lambda one: run([beside, *one[0]], one[1]), work)
+        for (words, _), due, got in zip(work, dues, found):
+            expect(f"the plain program, {' '.join(words)}", got, due)
+
+
+def examples(program: str) -> Iterator[Work]:
+    for path in sorted(glob.glob(os.path.join(REPOSITORY, "examples", "**", "*.pip"), recursive=True)):
+        yield ["script"], contents(path)
+    for path in sorted(glob.glob(os.path.join(REPOSITORY, "examples", "**", "*.s"), recursive=True)):
+        text = contents(path)
+        yield ["asm"], text
+        image = run([program, "asm"], text)[0]
+        yield from ((list(words), image) for words in OF_IMAGES)
+        core = run([program, "core", "1500", "1"], image)[0]
+        yield ["audit", str(int.from_bytes(image[8:12], "little"))], core
+
+
+# What the caches count
+
+HERE = os.path.dirname(os.path.abspath(__file__))
+
+# Pages that are 32, 64 and 128 away from the first. With 64 places the second has a place of its own, and the others
+# haven't.
+SHARED_PLACES = b"boot 200 1\n" + b"".join(b"ld 0 0x%x\n" % address for address in (
+    0x400000, 0x420000, 0x400000, 0x440000, 0x400000, 0x480000, 0x400000, 0x440000, 0x420000))
+
+COUNTED = {"script": 100, "run": 60, "soak": 40}
+SECONDS = 2000           # building and running all cases takes no longer
+
+
+def counts(program: str) -> None:
+    """Refuses a case whose output or counts differ."""
+    with tempfile.TemporaryDirectory(prefix="pip-counts-") as place:
+        copied(place, "crates.txt", "crates", without=("must-fail", "tried"))
+        shutil.copy(os.path.join(HERE, "counts_program.txt"), os.path.join(place, "crates", "pip", "src", "main.rt"))
+        cases = os.path.join(place, "cases")
+        os.mkdir(cases)
+        total = 0
+        for total, (name, words, text) in enumerate(all_cases(), 1):
+            output, _ = commands.with_counts(words, text)
+            for ending, content in (("", text), (".args", "\n".join(words).encode()), (".stdout", output)):
+                write(content, cases, name + ending)
+        done = subprocess.run(["rt", "try", "--cases", cases], cwd=os.path.join(place, "crates", "pip"),
+                              timeout=SECONDS, stdout=subprocess.PIPE, stderr=subprocess.STDOUT,
+                              stdin=subprocess.DEVNULL)
+        told = done.stdout.decode(errors="replace").splitlines()
+        if done.returncode or not told or not told[-1].startswith(f"cases={total} ended={total} "):
+            wrong = [line for line in told if "output=expected" not in line] or told
+            raise Differs("the counts of the caches, or what comes before them: rt try ends with status "
+                          f"{done.returncode} after {len(told)} lines\n" + "\n".join(wrong[-30:]))
+
+
+def all_cases() -> Iterator[tuple[str, list[str], bytes]]:
+    """Name, words and input of each case."""
+    yield "shared-places", ["script"], SHARED_PLACES
+    for path in glob.glob(os.path.join(REPOSITORY, "examples", "*.pip")):
+        yield os.path.basename(path)[:-len(".pip")], ["script"], contents(path)
+    for command, cases in COUNTED.items():
+        for k in range(1, cases + 1):
+            yield (f"{command}-{k}", *generate.case(command, k))
