@@ -5,7 +5,6 @@ from pathlib import Path
 
 from ..common import calling
 from . import comparing, crates, dependencies, requirements, workspace
-from .tokens import Trouble
 
 REPOSITORY = Path(__file__).resolve().parent.parent.parent
 PROMISE = "the same text, not the same proof"
@@ -32,17 +31,12 @@ def main() -> None:
 
 def done(given: argparse.Namespace) -> int:
     """Does what is asked for, and answers the status: 1 where the export differs from the sources."""
-    try:
-        if given.untested:
-            print("\n".join(f"{where}: {part}" for where, part in untested(given.repository, given.only)))
-            return 0
-        if not given.compare:
-            export(given)
-        report = comparing.compared(given.repository, given.to)
-    except BrokenPipeError:
-        raise
-    except (Trouble, OSError) as trouble:
-        raise calling.Failed(str(trouble)) from None
+    if given.untested:
+        print("\n".join(f"{where}: {part}" for where, part in untested(given.repository, given.only)))
+        return 0
+    if not given.compare:
+        export(given)
+    report = comparing.compared(given.repository, given.to)
     print(report.text())
     return 1 if report.differences else 0
 

@@ -3,6 +3,8 @@
 import re
 from dataclasses import dataclass
 
+from ..common.calling import Failed
+
 CLAUSES = ("requires", "ensures")
 
 PATTERN = re.compile(r"""
@@ -19,7 +21,7 @@ BLANKS_AND_COMMENTS = re.compile(r"(?:\s+|//[^\n]*)*")
 NAME = re.compile(r"[^\W\d]\w*")
 
 
-class Trouble(Exception):
+class Trouble(Failed):
     """A form of text that the exporter doesn't know."""
 
 

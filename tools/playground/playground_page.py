@@ -34,10 +34,7 @@ def main() -> None:
                                      description="One HTML file that runs the program: the same text, not the same "
                                                  "proof.")
     parser.add_argument("--to", type=Path, required=True, metavar="FILE", help="the page")
-    made = parser.add_mutually_exclusive_group()
-    made.add_argument("--module", type=Path, metavar="FILE", help="the module, where make_module has made it")
-    made.add_argument("--debian", type=Path, metavar="FOLDER",
-                      help="where Debian's rustc-web and what it needs were unpacked")
+    module.take_module(parser)
     given = parser.parse_args()
     calling.guarded("make_page", lambda: write(given.to, given.module, given.debian))
 
