@@ -14,6 +14,7 @@ from pathlib import Path
 
 from ..common import calling
 from ..common.calling import Failed
+from ..playground import module
 from . import gate, markdown, proof, repository
 from .repository import Checkout
 
@@ -40,10 +41,7 @@ def main() -> None:
     parser.add_argument("--again", type=Path, metavar="CHECKOUT",
                         help="another checkout of the commit, in which ./pip has built, too: the programs have to be "
                              "the same")
-    page = parser.add_mutually_exclusive_group()
-    page.add_argument("--module", type=Path, metavar="FILE", help="the page's module, where make_module has made it")
-    page.add_argument("--debian", type=Path, metavar="FOLDER",
-                      help="where Debian's rustc-web and what it needs were unpacked")
+    module.take_module(parser)
     given = parser.parse_args()
     calling.guarded("release", lambda: work(given, Checkout(Path(calling.REPOSITORY))))
 
@@ -91,9 +89,7 @@ def made(given: argparse.Namespace, found: Checkout, to: Path) -> Path:
         documents(top)
         export(found, top / EXPORT)
         run("the judge", found, "tools/judge/make_judge", "--to", str(top / "tools" / "judge" / "pip_judge"))
-        page_sum = repository.sum_of(top / proof.PAGE)
-        told = proof.text(given.version, record, found, given.again is not None, page_sum) if record \
-            else proof.unproved(given.version, found, page_sum)
+        told = proof.text(given.version, record, found, bool(given.again), repository.sum_of(top / proof.PAGE))
         (top / "PROOF").write_text(told, encoding="utf-8")
         packed(top, Path(place) / tarball.name, found.seconds())
         os.rename(top, folder)
