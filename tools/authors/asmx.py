@@ -22,7 +22,7 @@ from typing import NamedTuple
 
 from ..common import calling
 from ..common.calling import Failed
-from ..reference import against, assembly, instructions, script
+from ..reference import against, assembly, instructions
 from . import why
 
 NAME = re.compile(r"[A-Za-z_][A-Za-z0-9_]{0,31}")
@@ -101,7 +101,7 @@ class Line(str):
 Lines = list[tuple[Place, Line]]
 
 
-class Wrong(Exception):
+class Wrong(Failed):
     """A line is wrong: where, from which column on, and why."""
 
     def __init__(self, place: Place, why: str, column: int = 1) -> None:
@@ -115,7 +115,7 @@ class AllWrong(Wrong):
     def __init__(self, wrongs: list[Wrong]) -> None:
         told = [str(wrong) for wrong in wrongs[:MOST_TOLD]]
         more = [f"and {len(wrongs) - MOST_TOLD} lines more"] if len(wrongs) > MOST_TOLD else []
-        Exception.__init__(self, "\n".join(told + more))
+        Failed.__init__(self, "\n".join(told + more))
         self.place, self.column, self.why, self.wrongs = wrongs[0].place, wrongs[0].column, wrongs[0].why, wrongs
 
 
@@ -448,27 +448,22 @@ class Text:
                 raise text.wrong(f"{text!r} has more than 32 bits")
         return value
 
-    def deed(self, words: list[Word]) -> Line:
-        """The line of a menu that `.may WHO WHAT` is."""
+    def of_menu(self, words: list[Word]) -> Line:
+        """The line of a menu that `.may WHO WHAT` or `.again LABEL` is, with numbers in the place of names and sums."""
+        if words[0] == ".again":
+            if len(words) < 2:
+                raise words[0].wrong(".again has a line without its step, as 0 out 0x00000005")
+            return Line.of([words[0].put(against.AGAIN.decode()), *words[1:]])
         if len(words) < 3:
             raise words[0].wrong(f".may has 'each' or a partition's name, and a deed: {', '.join(DEEDS)}")
         who, what, *numbers = words[1:]
-        if who != against.EACH.decode():
-            who = self.deed_number(who, script.WORD)
-        if what not in DEEDS:
-            raise what.wrong(f"{what!r} is no deed: they are {', '.join(DEEDS)}")
-        limits = script.FORMS.get(what.encode(), ())[1:] or (script.WORD,) * min(max(len(numbers), 1), 6)
-        if len(numbers) != len(limits):
-            due = "1 to 6 numbers" if what == "call" else f"{len(limits)} number{'' if len(limits) == 1 else 's'}"
-            raise beyond(words[2:], len(limits)).wrong(f"{what} has {due}: no processor is named here")
-        return Line.of([who, what, *(self.deed_number(word, limit or script.WORD)
-                                     for word, limit in zip(numbers, limits))])
+        return Line.of([who if who == against.EACH.decode() else self.word_text(who), what,
+                        *map(self.word_text, numbers)])
 
-    def deed_number(self, word: Word, limit: int) -> Word:
+    def word_text(self, word: Word) -> Word:
+        """A number as a word, where it is one."""
         number = self.number(word, True)
-        if not 0 <= number < limit:
-            raise word.wrong(f"{word!r} isn't from 0 to {limit - 1}")
-        return word if NUMBER.fullmatch(word) else word.put(f"0x{number:08x}")
+        return word if NUMBER.fullmatch(word) or number < 0 else word.put(f"0x{number:08x}")
 
     def names_in(self, page: Page) -> list[tuple[int, str]]:
         """The names of a page, each with the index of its word there, in their order."""
@@ -479,10 +474,7 @@ class Text:
         """The lines of the assembly text, each with its place in the source."""
         for words in self.may:
             with collected:
-                self.menu.append((words[0].place, self.deed(words) if words[0] == ".may" else asked(words)))
-        for first, most, what in ((".may", against.MOST_DEEDS, "deeds"), (".again", against.MOST_LABELS, "labels")):
-            more = [words[0].place for words in self.may if words[0] == first][most:]
-            collected.wrongs += [Wrong(place, f"a menu has at most {most} {what}") for place in more[:1]]
+                self.menu.append((words[0].place, self.of_menu(words)))
         lines = list(self.head)
         for page in self.pages:
             lines.append((page.place, Line(f".page 0x{page.address:08x}")))
@@ -505,16 +497,6 @@ class Text:
         return lines
 
 
-def asked(words: list[Word]) -> Line:
-    """The line of a menu that `.again LABEL` is."""
-    if len(words) < 2:
-        raise words[0].wrong(".again has a line without its step, as 0 out 0x00000005")
-    line = Line.of([words[0].put(against.AGAIN.decode()), *words[1:]])
-    if len(line.encode()) > script.LONGEST:
-        raise words[1].wrong(f"the line has more than {script.LONGEST} bytes in the menu")
-    return line
-
-
 def processed(path: str, files: Files | None = None) -> tuple[Lines, Text]:
     """The lines of the assembly text of a file, each with its place in the source. `files` has what may be included."""
     text, collected = Text(), Collected()
@@ -531,7 +513,9 @@ def processed(path: str, files: Files | None = None) -> tuple[Lines, Text]:
     collected.wrongs += [Wrong(place, "the line has more than 120 bytes") for place, line in lines
                          if len(line.encode()) > 120]
     told = {wrong.place for wrong in collected.wrongs}
-    collected.wrongs += [wrong for wrong in refused(lines) if wrong.place not in told]
+    further = [*refused(lines, why.by_reference(assembly.assemble)),
+               *refused(text.menu, why.by_reference(against.menu_of), why.MENU)]
+    collected.wrongs += [wrong for wrong in further if wrong.place not in told]
     collected.judge(places)
     return lines, text
 
@@ -556,33 +540,19 @@ def in_form(form: str, words: list[Word]) -> list[Word]:
     return found
 
 
-def refused(lines: Lines) -> list[Wrong]:
-    """What the reference's assembler refuses; it is asked again with a word in the place of each line that is wrong."""
-    texts = [line.encode() for _, line in lines]
-    found: list[Wrong] = []
-    while len(found) <= MOST_TOLD:
-        try:
-            assembly.assemble(b"".join(line + b"\n" for line in texts))
-            break
-        except script.BadLine as bad:
-            at = min(bad.line, len(lines)) - 1
-            line = lines[at][1] if lines else Line()
-            found.append(refusal(lines, texts, bad.line, bad.kind))
-            if bad.line > len(lines) or line.startswith(".") and not line.startswith(".word"):
-                break
-            texts[at] = b".word 0"
-    return found
+def refused(lines: Lines, judge: why.Judge, kind: why.Kind = why.ASSEMBLY) -> Iterator[Wrong]:
+    """What an assembler refuses of the assembly text, or the reference of the menu, at its place in the source."""
+    for number, fault, cause in why.bad_lines(kind, judge, [line.encode() for _, line in lines], MOST_TOLD + 1):
+        place, line = lines[min(number, len(lines)) - 1] if lines else (Place("the text", 1), Line())
+        yield Wrong(place, f"{fault}, in {line!r}: {cause.here}", line.column(cause.column))
 
 
 def assembled(program: str, lines: Lines) -> bytes:
     """The image, by the program."""
     image, status = calling.output(program, ["asm"], text_of(lines))
-    if status == 2:
-        _, _, number, kind = image.decode().split()
-        place, line = lines[min(int(number), len(lines)) - 1]
-        raise Wrong(place, f"{kind}, in {line!r}: the program refuses it, and the reference doesn't")
     if status:
-        raise Failed(f"asm ends with status {status}")
+        raise Failed(f"asm ends with status {status}, and the reference refuses nothing: "
+                     f"{image.decode('ascii', 'replace').strip()}")
     return image
 
 
@@ -600,21 +570,7 @@ def image_of(program: str, path: str) -> tuple[bytes, str | None]:
         return data, None
     if path == "-":
         raise Failed("a source is given by its name, since it may include others")
-    try:
-        return assembled(program, processed(path)[0]), path
-    except Wrong as wrong:
-        raise Failed(wrong) from None
-
-
-def refusal(lines: Lines, texts: list[bytes], number: int, kind: str) -> Wrong:
-    """What tools/why says of a refused line, at its place in the source. `texts` are the lines as assembled."""
-    place, line = lines[min(number, len(lines)) - 1] if lines else (Place("the text", 1), Line())
-    try:
-        why.judge_assembly(texts, number, kind)
-    except why.Cause as cause:
-        return Wrong(place, f"{kind}, in {line!r}: {cause.here}", line.column(cause.column))
-    except Failed:
-        return Wrong(place, f"{kind}, in {line!r}")
+    return assembled(program, processed(path)[0]), path
 
 
 def main() -> None:
@@ -631,26 +587,15 @@ def main() -> None:
 
 
 def work(given: argparse.Namespace) -> None:
-    try:
-        lines, text = processed(given.file)
-        if given.line is not None:
-            if not 1 <= given.line <= len(lines):
-                raise Failed(f"the assembly text has {len(lines)} lines")
-            place, line = lines[given.line - 1]
-            print(f"{place.file}:{place.line}: {line}")
-        elif given.image:
-            write_image(given.image, assembled(given.program, lines))
-        elif given.against:
-            write_image(given.against, assembled(given.program, lines) + text_of(text.menu))
-        else:
-            sys.stdout.write(text_of(lines).decode())
-    except Wrong as wrong:
-        raise Failed(wrong) from None
-
-
-def write_image(path: str, image: bytes) -> None:
-    try:
-        with open(path, "wb") as file:
-            file.write(image)
-    except OSError as error:
-        raise Failed(f"{path}: {error.strerror}") from None
+    lines, text = processed(given.file)
+    if given.line is not None:
+        if not 1 <= given.line <= len(lines):
+            raise Failed(f"the assembly text has {len(lines)} lines")
+        place, line = lines[given.line - 1]
+        print(f"{place.file}:{place.line}: {line}")
+    elif given.image:
+        calling.write(given.image, assembled(given.program, lines))
+    elif given.against:
+        calling.write(given.against, assembled(given.program, lines) + text_of(text.menu))
+    else:
+        sys.stdout.write(text_of(lines).decode())

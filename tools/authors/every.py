@@ -26,7 +26,7 @@ from ..reference import against, image as images, script
 from ..reference.every import AT_FIRST, After
 from ..reference.image import Image
 from ..step import page, states
-from . import asmx, trace, ways
+from . import asmx, trace, ways, why
 from .ways import Menu, Way
 
 MOST = 10_000_000
@@ -34,11 +34,6 @@ LINE = re.compile(r"(\d+) (\d+) ([^:]+): (.+)")
 DEED = re.compile(r":d(\d+)")
 END = re.compile(r"states (\d+) (?:depth (\d+) (closed|stopped)|(within) (\d+))")
 AGAIN = re.compile(r"again (.+): (yes|no|unknown)((?: [^ ]+)*)")
-BAD = {"long": "it has more than 120 bytes", "who": "its first word is neither 'each', 'again' nor a number",
-       "what": "after its first word it is no ld, lb, st, sb, trap or call of a script without its processor, or has "
-               "no label",
-       "many": f"a menu has at most {against.MOST_DEEDS} deeds, {against.MOST_LABELS} labels and "
-               f"{against.MOST_LINES} lines"}
 REASONS = {3: "its input can't be read", 4: "its output can't be written", 5: "no memory was found: give fewer STATES"}
 
 
@@ -53,10 +48,10 @@ class Line(NamedTuple):
     @property
     def is_trouble(self) -> bool:
         """A call is refused, or something faults or parks."""
-        words = self.text.split()
-        if words[0] == "call":
-            return words[2] == "reply" and words[3] != "0"
-        return words[0] == "park" or words[0] == "switch" and int(words[3]) < 32
+        call, (kind, *numbers) = meanings.outcome_of(self.text)
+        if kind == "switch":
+            return call is None and int(numbers[2]) < 32
+        return kind == "park" or kind == "reply" and numbers[0] != "0"
 
 
 class Search(NamedTuple):
@@ -96,10 +91,8 @@ def searched(program: str, words: list[str], image: bytes) -> list[str]:
 
 def waited(program: str, words: list[str], given: int, told: int) -> int:
     """The status of the program, once it has ended."""
-    try:
+    with calling.running(program):
         process = subprocess.Popen([calling.direct(program), *words], stdin=given, stdout=told)
-    except OSError as error:
-        raise Failed(f"{program} can't be run: {error.strerror}") from None
     progress = Progress()
     try:
         while True:
@@ -216,7 +209,7 @@ def main() -> None:
     parser.add_argument("depth", metavar="DEPTH", nargs="?", help="at most so many choices; without it any number")
     parser.add_argument("--after", metavar=("STEPS", "SEED"), nargs=2,
                         help="begin after so many steps of run by that seed; without it at the first moment")
-    parser.add_argument("--source", metavar="FILE", help="of an image: the text that it was made of, for its names")
+    calling.take_source(parser)
     parser.add_argument("--may", metavar="MENU", help="a file with a menu, in the place of that of the source")
     parser.add_argument("--alone", action="store_true", help="without the source's menu: the partitions' programs run")
     parser.add_argument("--trouble", action="store_true", help="only lines with a refused call, a fault or a park")
@@ -256,10 +249,9 @@ def given_of(given: argparse.Namespace) -> Given:
 
 
 def menu_of(given: argparse.Namespace, menu: bytes) -> against.Menu:
-    try:
-        return against.menu_of(menu)
-    except script.BadLine as bad:
-        raise Failed(f"{given.may or given.file}: line {bad.line} of the menu is bad: {BAD[bad.kind]}") from None
+    for place, _, cause in why.bad_lines(why.MENU, why.by_reference(against.menu_of), script.lines(menu)):
+        raise Failed(f"{given.may or given.file}: line {place} of the menu is bad: {cause.here}")
+    return against.menu_of(menu)
 
 
 def words_of(given: argparse.Namespace, command: str) -> list[str]:
@@ -309,6 +301,6 @@ def shown(given: argparse.Namespace, data: bytes, menu: Menu, source: str | None
         found = states.of_image(given.program, built, first, run.steps, run.seed, None, source)
         print(page.written(f"{os.path.basename(given.file)}: {line.text}", found), end="")
         return None
-    asmx.write_image(given.plan[1], built)
+    calling.write(given.plan[1], built)
     print(f"./pip run {run.steps} {run.seed} < {given.plan[1]}    # {', '.join(map(str, run.plans)) or 'no line'}")
     return None

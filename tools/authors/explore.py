@@ -15,17 +15,13 @@ from collections.abc import Callable, Iterable, Sequence
 from concurrent.futures import ThreadPoolExecutor
 from dataclasses import dataclass
 
-from ..common import calling, plans
+from ..common import calling, meanings, plans
 from ..common.calling import Failed
 from ..common.plans import Plan
 from ..common.progress import Progress
 from . import asmx
 
 MOST_STEPS = 10_000_000
-SWITCH = re.compile(r"^\d+ (\d+) (call \d+ )?switch (\d+) (\d+) (\d+)$")
-PARK = re.compile(r"^\d+ (\d+) park (\d+) (\d+)$")
-REPLY = re.compile(r"^\d+ \d+ call (\d+) reply (\d+) 0x[0-9a-f]{8}$")
-OUT = re.compile(r"^\d+ \d+ out (0x[0-9a-f]{8})$")
 
 
 @dataclass(frozen=True)
@@ -65,26 +61,23 @@ class End:
         self.trouble = ""
 
     def take(self, line: str) -> None:
-        if found := SWITCH.match(line):
-            cpu, by_call, source, target, vector = found.groups()
-            self.runs[int(cpu)] = f"partition {target}"
-            if not by_call and int(vector) < 32:
-                self.faults.add(f"vector {vector} of {source}")
-                self.note(line)
-        elif found := PARK.match(line):
-            cpu, source, vector = found.groups()
-            self.runs[int(cpu)] = f"nothing (parked: {source}, vector {vector})"
-            self.parks.add(f"vector {vector} of {source}")
-            self.note(line)
-        elif found := REPLY.match(line):
-            if found[2] != "0":
-                self.refused.add(f"call {found[1]} status {found[2]}")
-                self.note(line)
-        elif found := OUT.match(line):
-            self.shown[found[1]] += 1
+        cpu, what = line.split(" ", 2)[1:]
+        call, (kind, *numbers) = meanings.outcome_of(what)
+        if kind == "switch":
+            self.runs[int(cpu)] = f"partition {numbers[1]}"
+            if call is None and int(numbers[2]) < 32:
+                self.note(self.faults, f"vector {numbers[2]} of {numbers[0]}", line)
+        elif kind == "park":
+            self.runs[int(cpu)] = f"nothing (parked: {numbers[0]}, vector {numbers[1]})"
+            self.note(self.parks, f"vector {numbers[1]} of {numbers[0]}", line)
+        elif kind == "reply" and numbers[0] != "0":
+            self.note(self.refused, f"call {call} status {numbers[0]}", line)
+        elif kind == "out":
+            self.shown[numbers[0]] += 1
 
-    def note(self, line: str) -> None:
-        step, cpu, what = line.split(" ", 2)
+    def note(self, of_kind: set[str], trouble: str, line: str) -> None:
+        of_kind.add(trouble)
+        step, _, what = line.split(" ", 2)
         self.trouble = self.trouble or f"step {step}: {what}"
 
     def told(self, tree: list[str], with_outs: bool) -> str:
@@ -207,4 +200,4 @@ def write(given: argparse.Namespace, image: bytes, varied: Sequence[Plan | None]
     plan, = varied if len(varied) == 1 else [None]
     if plan is None or seeds != 1:
         raise Failed("--write is for one seed, and for one plan of --line")
-    asmx.write_image(given.write, plans.with_plans(image, [plan]))
+    calling.write(given.write, plans.with_plans(image, [plan]))

@@ -10,6 +10,7 @@ import sys
 
 from ..common import calling, meanings
 from ..common.calling import Failed, text_of
+from ..draw import texts
 from ..reference import script
 from ..step import states, walk
 from ..step.asking import Asked, BadLine
@@ -99,11 +100,7 @@ class Session:
         return [f"{len(self.kept)} lines; the last answer: {last[0]}"]
 
     def on_save(self, path: str) -> list[str]:
-        try:
-            with open(path, "wb") as file:
-                file.write(b"".join(line + b"\n" for line in self.kept))
-        except (OSError, ValueError) as error:
-            raise Failed(f"{path}: {getattr(error, 'strerror', None) or error}") from None
+        calling.write(path, b"".join(line + b"\n" for line in self.kept))
         return [f"{len(self.kept)} lines are in {path}"]
 
     def looked(self) -> walk.Looker:
@@ -113,8 +110,8 @@ class Session:
 
     def on_tree(self, _: str) -> list[str]:
         """The partitions, each below its parent."""
-        found, runs = walk.partitions(self.looked()), self.runs()
-        return [partition_line(x, [cpu for cpu, name in enumerate(runs) if name == x.name]) for x in found]
+        found, runs = texts.partitions("\n".join(walk.tree_lines(walk.partitions(self.looked())))), self.runs()
+        return [x.line([cpu for cpu, name in enumerate(runs) if name == x.name]) for x in found]
 
     def runs(self) -> list[int]:
         """What runs on each processor, a partition's name or 0, by the program's answers so far."""
@@ -134,13 +131,6 @@ class Session:
         rows = sum(len(x.rows) for x in found)
         return [f"{last}    # {len(found)} partition{'s' * (len(found) > 1)} and {rows} rows, each word as the tree "
                 "wants it" if last == "yes" else last]
-
-
-def partition_line(x: walk.Partition, cpus: list[int]) -> str:
-    free = sum(row.first == 0 and row.word & 2 != 0 for row in x.rows)
-    where = "the root" if x.depth == 0 else f"at 0x{x.born:08x} of {x.up}"
-    runs = f", runs on processor {' and '.join(map(str, cpus))}" if cpus else ""
-    return f"{'  ' * x.depth}partition {x.name}, {where}: {len(x.rows)} pages, {free} of them free{runs}"
 
 
 def explained(kept: list[bytes], line: bytes) -> list[str]:

@@ -13,7 +13,6 @@ from bisect import bisect_right
 from collections.abc import Callable, Sequence
 
 from ..common import calling
-from ..common.calling import Failed
 from ..reference import assembly, image as images, instructions, runs, script
 from ..reference.model import FETCH, PAGE, Fault, World
 from . import asmx
@@ -49,15 +48,10 @@ class Names:
         self.warning: str | None = None
         if source is None:
             return
-        try:
-            lines, text = asmx.processed(source)
-        except asmx.Wrong as wrong:
-            raise Failed(wrong) from None
+        lines, text = asmx.processed(source)
         if not is_made_of(image, lines):
             self.warning = f"{source} isn't the source of this image, or was changed since: the names may be wrong"
-        rows = images.world(image._replace(pages=[])).tree.nodes[1].rows
-        self.found = {rows[page.address // PAGE].page: text.names_in(page) for page in text.pages
-                      if page.address // PAGE in rows}
+        self.found = {frame: text.names_in(page) for frame, page in pages_of(image, text).items()}
 
     def place(self, world: World, name: int, pc: int) -> str:
         """The nearest name at or before the pc, and how many instructions after it."""
@@ -65,6 +59,12 @@ class Names:
         if isinstance(place, Fault):
             return ""
         return nearest(self.found.get(place.page, []), place.index)
+
+
+def pages_of(image: images.Image, text: asmx.Text) -> dict[int, asmx.Page]:
+    """The pages of a source, by the frames that the root has there."""
+    rows = images.world(image._replace(pages=[])).tree.nodes[1].rows
+    return {rows[page.address // PAGE].page: page for page in text.pages if page.address // PAGE in rows}
 
 
 def nearest(names: list[tuple[int, str]], index: int) -> str:
@@ -138,7 +138,7 @@ def main() -> None:
                         help="an image, of which - is standard input, or an assembly text or source of tools/asmx")
     parser.add_argument("steps", metavar="STEPS")
     parser.add_argument("seed", metavar="SEED")
-    parser.add_argument("--source", metavar="FILE", help="of an image: the text that it was made of, for its names")
+    calling.take_source(parser)
     parser.add_argument("--from", dest="first", default="0", metavar="STEP", help="show the steps from this one on")
     parser.add_argument("--partition", type=int, metavar="NAME", help="show the steps of this partition alone")
     calling.take_program(parser)

@@ -23,10 +23,11 @@ from typing import IO, Any
 
 from ..common import calling
 from ..common.calling import Failed
+from ..draw import frames
+from ..reference.model import PAGE
 from . import building, sources, wire
 from .client import At, States, Stopped
 from .debugger import OF_PARTITION, Debugger, ancestors
-from .sources import PAGE
 from .terminal import Terminal, schedule_of
 from .wire import Message
 
@@ -409,11 +410,8 @@ class Adapter:
 
     def descriptor(self, part: int) -> list[Variable]:
         words = self.on.states.words(part, 0, 16)
-        names = ("descriptor in the parent", "descriptor", "MMU directory in the parent", "MMU directory",
-                 "first shadow in the parent",
-                 "first shadow", "second shadow in the parent", "second shadow", "list page in the parent",
-                 "list page", "", "parent",
-                 "tables", "", "masked", "pending lines")
+        names = [name + where for name in frames.DESCRIPTOR for where in (" in the parent", "")]
+        names += ["", "parent", "tables", "", "masked", "pending lines"]
         return [variable(name, f"0x{word:08x}", memoryReference=f"f{part}:{index}", watched=f"f{part}:{index}")
                 for index, (name, word) in enumerate(zip(names, words)) if name]
 

@@ -72,7 +72,7 @@ def wrong_of(program: str, path: str, texts: Texts) -> list[Wrong]:
         asmx.processed(path, texts)
     except asmx.AllWrong as wrong:
         return [of_asmx(path, one) for one in wrong.wrongs[:MOST]]
-    except (asmx.Wrong, Failed) as wrong:
+    except Failed as wrong:
         return [of_asmx(path, wrong) if isinstance(wrong, asmx.Wrong) else Wrong(0, 0, str(wrong))]
     return []
 
@@ -84,7 +84,8 @@ def of_asmx(path: str, wrong: asmx.Wrong) -> Wrong:
 
 def wrong_lines(program: str, text: bytes, is_assembly: bool) -> Iterator[Wrong]:
     lines = script.lines(text)
-    for place, cause in why.wrong_lines(program, lines, is_assembly):
+    kind = why.ASSEMBLY if is_assembly else why.SCRIPT
+    for place, _, cause in why.bad_lines(kind, why.by_program(program, kind), lines):
         line = lines[place - 1] if place <= len(lines) else b""
         yield Wrong(place - 1, len(line[:max(cause.column - 1, 0)].decode("utf-8", "replace")), told(cause))
 
@@ -149,7 +150,7 @@ def definitions(path: str, texts: Texts) -> dict[str, Defined]:
                 found.setdefault(words[0][:-1], Defined(place.file, place.line - 1, " ".join(words)))
             elif words[:1] == [".equ"] and len(words) > 2:
                 found.setdefault(words[1], Defined(place.file, place.line - 1, " ".join(words)))
-    except (Failed, asmx.Wrong):
+    except Failed:
         pass
     return found
 
@@ -158,7 +159,7 @@ def addresses(path: str, texts: Texts) -> dict[str, int]:
     """Of each name its address or number, where the text is right."""
     try:
         _, text = asmx.processed(path, texts)
-    except (Failed, asmx.Wrong):
+    except Failed:
         return {}
     return {**text.constants, **{name: label.address for name, label in text.labels.items()}}
 

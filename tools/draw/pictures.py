@@ -267,12 +267,4 @@ def drawn(words: list[str]) -> str:
 
 
 def main() -> None:
-    calling.guarded("draw.py", show)
-
-
-def show() -> int:
-    try:
-        sys.stdout.write(drawn(sys.argv[1:]))
-    except texts.Misread as misread:
-        raise calling.Failed(misread) from None
-    return 0
+    calling.guarded("draw.py", lambda: print(drawn(sys.argv[1:]), end=""))

@@ -4,6 +4,8 @@ from __future__ import annotations
 
 from typing import NamedTuple
 
+from ..common.calling import Failed
+
 Memory = dict[int, dict[int, int]]      # the words of each frame, by index
 
 
@@ -32,8 +34,16 @@ class Partition(NamedTuple):
     tables: int
     pages: list[Page]
 
+    def line(self, cpus: list[int]) -> str:
+        """What there is to say of it, with the processors on which it runs, further in than its parent."""
+        free = sum(row.use == "free" and not row.hidden for row in self.pages)
+        where = f"at 0x{self.born:08x} of {self.up}" if self.depth else "the root"
+        runs = f", runs on processor {' and '.join(map(str, cpus))}" if cpus else ""
+        return (f"{'  ' * self.depth}partition {self.name}, {where}: {len(self.pages)} pages, {free} of them free"
+                + runs)
 
-class Misread(Exception):
+
+class Misread(Failed):
     """A line is none of the command's."""
 
 

@@ -18,15 +18,14 @@ MOST_STEPS = 10_000_000
 def main() -> None:
     parser = argparse.ArgumentParser(description="A script or a run of an image as one page to step through.",
                                      epilog="With a number of steps and a seed FILE is an image or a source, else a "
-                                            "script; - is "
-                                            "standard input. The page goes to standard output, and needs no network.")
+                                            "script; - is standard input. The page goes to standard output, and needs "
+                                            "no network.")
     parser.add_argument("file", metavar="FILE")
     parser.add_argument("steps", nargs="?", metavar="STEPS", help="of an image: how many steps are made")
     parser.add_argument("seed", nargs="?", metavar="SEED", help="of an image: the seed of the schedule")
     parser.add_argument("--from", dest="first", default="0", metavar="STEP", help="of an image: the page begins here")
     parser.add_argument("--to", dest="last", metavar="LINE", help="of a script: the page ends with this line")
-    parser.add_argument("--source", metavar="FILE",
-                        help="of an image: the text that it was made of, for the names of places")
+    calling.take_source(parser)
     parser.add_argument("--title", help="the page's title; without it the file's name")
     parser.add_argument("--jobs", type=int, metavar="N", help="how many runs at once; without it one a processor")
     calling.take_program(parser)
