@@ -38,9 +38,6 @@ class Session:
         self.asked = Asked(program)
         self.kept: list[bytes] = []
 
-    def end(self) -> None:
-        self.asked.end()
-
     def again(self, lines: list[bytes]) -> list[str]:
         """The program begins again with these lines; their answers."""
         self.asked.end()
@@ -58,9 +55,10 @@ class Session:
         try:
             answer = self.asked.line(line)
         except BadLine:
-            told = explained(self.kept, line)
             self.again(self.kept)
-            return told
+            lines = [*self.kept, line.split(b"\n")[0]]
+            cause = why.cause_of(why.SCRIPT, lines, len(lines), "")
+            return [f"bad line, nothing is changed: {cause.here}", *why.told("", len(lines), lines, cause)[1:]]
         self.kept.append(line)
         meaning = meanings.of_answer(answer, line.decode())
         return [answer + (f"    # {meaning}" if meaning else "")]
@@ -133,17 +131,6 @@ class Session:
                 "wants it" if last == "yes" else last]
 
 
-def explained(kept: list[bytes], line: bytes) -> list[str]:
-    """Why a line is bad, where it is after these."""
-    lines = kept + line.split(b"\n")[:1]
-    try:
-        why.judge_script(lines, len(lines))
-    except why.Cause as cause:
-        return [f"bad line, nothing is changed: {cause.here}", *why.told("", len(lines), lines, cause)[1:]]
-    except Failed as failed:
-        return [str(failed)]
-
-
 # The words of the shell, and whether something is after each: must, may or mustn't
 WORDS = {"undo": "may", "list": "no", "tree": "no", "audit": "no", "save": "must", "load": "must", "help": "no"}
 
@@ -151,11 +138,11 @@ WORDS = {"undo": "may", "list": "no", "tree": "no", "audit": "no", "save": "must
 def answered(session: Session, text: str) -> list[str]:
     """What the shell says to a typed line."""
     word, _, operand = text.strip().partition(" ")
-    if word not in WORDS:
-        return session.say(text.encode("utf-8", "surrogateescape"))
-    if WORDS[word] == "must" and not operand or WORDS[word] == "no" and operand:
-        return [f"{word} has {'a file' if WORDS[word] == 'must' else 'nothing'} after it: see help"]
     try:
+        if word not in WORDS:
+            return session.say(text.encode("utf-8", "surrogateescape"))
+        if WORDS[word] == "must" and not operand or WORDS[word] == "no" and operand:
+            return [f"{word} has {'a file' if WORDS[word] == 'must' else 'nothing'} after it: see help"]
         told: list[str] = getattr(session, "on_" + word)(operand.strip())
         return told
     except Failed as failed:
@@ -181,8 +168,7 @@ def main() -> None:
                                      formatter_class=argparse.RawDescriptionHelpFormatter)
     parser.add_argument("file", nargs="?", metavar="FILE", help="begin with the lines of this script")
     calling.take_program(parser)
-    given = parser.parse_args()
-    calling.guarded("shell", lambda: work(given))
+    calling.started(parser, work)
 
 
 def work(given: argparse.Namespace) -> int:
@@ -202,7 +188,7 @@ def work(given: argparse.Namespace) -> int:
         if on_terminal:
             print()
     finally:
-        session.end()
+        session.asked.end()
     return 0
 
 

@@ -24,7 +24,7 @@ def source(name: str) -> Image:
 class Ways(unittest.TestCase):
     def test_choices_and_their_counts(self) -> None:
         race = source("every/race.asmx")
-        turn, line = ways.Choice(1, None), ways.Choice(None, 0)
+        turn, line = ways.Choice(1), ways.Choice(0, True)
         self.assertEqual(ways.read(race, "1x2 raise0 1"), [turn, turn, line, turn])
         for text in ("2", "x2", "0 x1", "raise", "0  1", "1x", "0x1000001", ""):
             self.assertRaises(Failed, ways.read, race, text)

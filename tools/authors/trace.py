@@ -10,7 +10,7 @@ from __future__ import annotations
 import argparse
 import sys
 from bisect import bisect_right
-from collections.abc import Callable, Sequence
+from collections.abc import Iterator, Sequence
 
 from ..common import calling
 from ..reference import assembly, image as images, instructions, runs, script
@@ -84,15 +84,13 @@ def is_made_of(image: images.Image, lines: asmx.Lines) -> bool:
         return False
 
 
-def steps(image: images.Image, count: int, seed: int, told: Callable[[Watched, list[int], list[str]], object]) -> World:
-    """As runs.steps, but each turn is handed to `told` with its lines; the world at the end."""
-    world = images.world(image)
+def steps(image: images.Image, world: World, count: int, seed: int) -> Iterator[tuple[Watched, list[int], list[str]]]:
+    """The steps of a run of the image's world: the turn, the lines that were raised before it, and its own lines."""
     for step, cpu, raised in runs.drawn(image, world, count, seed):
         lines: list[str] = []
         turn = Watched(world, cpu, step, lines.append)
         turn.take()
-        told(turn, raised, lines)
-    return world
+        yield turn, raised, lines
 
 
 def line_of(turn: Watched, raised: list[int], lines: list[str], names: Names) -> str:
@@ -134,37 +132,30 @@ def main() -> None:
         description="A run step by step, by the reference, of which nothing is proved; its lines are compared with "
                     "the program's.",
         epilog="The status is 0 where the lines agree, and 1 where they differ.")
-    parser.add_argument("image", metavar="FILE",
-                        help="an image, of which - is standard input, or an assembly text or source of tools/asmx")
-    parser.add_argument("steps", metavar="STEPS")
-    parser.add_argument("seed", metavar="SEED")
-    calling.take_source(parser)
+    calling.take_image(parser)
+    parser.add_argument("steps", metavar="STEPS", type=calling.within(0, MOST_STEPS, "STEPS"))
+    parser.add_argument("seed", metavar="SEED", type=calling.within(1, 0xFFFFFFFF, "SEED"))
     parser.add_argument("--from", dest="first", default="0", metavar="STEP", help="show the steps from this one on")
     parser.add_argument("--partition", type=int, metavar="NAME", help="show the steps of this partition alone")
     calling.take_program(parser)
-    given = parser.parse_args()
-    calling.guarded("trace", lambda: work(given))
+    calling.started(parser, work)
 
 
 def work(given: argparse.Namespace) -> int | None:
-    count = calling.number(given.steps, 0, MOST_STEPS, "STEPS")
-    seed = calling.number(given.seed, 1, 0xFFFFFFFF, "SEED")
-    first = calling.number(given.first, 0, count, "--from")
-    data, source = asmx.image_of(given.program, given.image)
-    due = calling.text_of(given.program, ["run", str(count), str(seed)], data)
+    first = calling.number(given.first, 0, given.steps, "--from")
+    data, source = asmx.image_of(given.program, given.file)
+    due = calling.text_of(given.program, ["run", str(given.steps), str(given.seed)], data)
     image = images.read(data)
     names = Names(image, source or given.source)
     found: list[str] = []
     if names.warning:
         print(f"trace: {names.warning}", file=sys.stderr)
-
-    def told(turn: Watched, raised: list[int], lines: list[str]) -> None:
-        found.extend(lines)
+    print("# by the reference: no proof; the lines at the right are compared with the program's")
+    world = images.world(image)
+    for turn, raised, lines in steps(image, world, given.steps, given.seed):
+        found += lines
         if turn.step >= first and (given.partition is None or turn.where and turn.where[0] == given.partition):
             print(line_of(turn, raised, lines, names))
-
-    print("# by the reference: no proof; the lines at the right are compared with the program's")
-    world = steps(image, count, seed, told)
     print("\n".join(registers_of(world)))
     return compared(due[1:-1], found)
 

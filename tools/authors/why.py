@@ -46,11 +46,7 @@ class Cause(Exception):
 
 def words_of(line: bytes) -> list[tuple[int, bytes]]:
     """The words of a line, each with its column."""
-    found, column = [], 1
-    for word in line.split(b" "):
-        found.append((column, word))
-        column += len(word) + 1
-    return found
+    return [(found.start() + 1, found[0]) for found in re.finditer(rb"(?:^|(?<= ))[^ ]*", line)]
 
 
 def shown(word: bytes) -> str:
@@ -386,8 +382,7 @@ def main() -> None:
     parser.add_argument("--as", dest="kind", choices=("script", "asm", "menu"),
                         help="what the file is; without it its first line says so, and a file .may is a menu")
     calling.take_program(parser)
-    given = parser.parse_args()
-    calling.guarded("why", lambda: work(given))
+    calling.started(parser, work)
 
 
 def work(given: argparse.Namespace) -> int:

@@ -35,9 +35,22 @@ def take_program(parser: argparse.ArgumentParser) -> None:
                              "proved of it")
 
 
+def take_image(parser: argparse.ArgumentParser) -> None:
+    """The file of a tool that shows runs of it, and the option --source."""
+    parser.add_argument("file", metavar="FILE",
+                        help="an image, of which - is standard input, or an assembly text or source of tools/asmx")
+    take_source(parser)
+
+
 def take_source(parser: argparse.ArgumentParser) -> None:
     """The option --source of a tool that shows a run."""
     parser.add_argument("--source", metavar="FILE", help="of an image: the text that it was made of, for its names")
+
+
+def take_jobs(parser: argparse.ArgumentParser) -> None:
+    """The option --jobs of a tool that does the same many times."""
+    parser.add_argument("--jobs", type=within(1, 1024, "--jobs"), default=os.cpu_count(), metavar="N",
+                        help="how many at once; without it one a processor")
 
 
 @functools.lru_cache(maxsize=None)
@@ -55,10 +68,10 @@ def direct(program: str) -> str:
     return found[program]
 
 
-def built() -> dict[str, str]:
+def built(wrapper: str = WRAPPER) -> dict[str, str]:
     """The paths of the programs that are there, proved and unproved, and as new as the sources. Nothing is built."""
-    with running(WRAPPER):
-        told = subprocess.run([WRAPPER, "--built"], stdin=subprocess.DEVNULL, stdout=subprocess.PIPE, text=True).stdout
+    with running(wrapper):
+        told = subprocess.run([wrapper, "--built"], stdin=subprocess.DEVNULL, stdout=subprocess.PIPE, text=True).stdout
     lines = [line.split(" ", 1) for line in told.splitlines()]
     return {line[0]: line[1] for line in lines}
 
@@ -147,6 +160,16 @@ def number(text: str, least: int, most: int, what: str) -> int:
     if value is None or not least <= value <= most:
         raise Failed(f"{what} is a number from {least} to {most}, and not {text!r}")
     return value
+
+
+def within(least: int, most: int, what: str) -> Callable[[str], int]:
+    """The type of an argument that is such a number."""
+    return lambda text: number(text, least, most, what)
+
+
+def started(parser: argparse.ArgumentParser, work: Callable[[argparse.Namespace], int | None]) -> NoReturn:
+    """Runs a tool with what its command line says."""
+    guarded(parser.prog, lambda: work(parser.parse_args()))
 
 
 def guarded(tool: str, work: Callable[[], int | None]) -> NoReturn:

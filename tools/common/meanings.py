@@ -32,19 +32,16 @@ def data() -> Any:
         return json.load(file)
 
 
-@functools.lru_cache(maxsize=None)
 def statuses() -> dict[int, tuple[str, str]]:
     """Of each status its name and its meaning."""
     return {int(number): (name, meaning) for number, (name, meaning) in data()["statuses"].items()}
 
 
-@functools.lru_cache(maxsize=None)
 def calls() -> dict[int, tuple[str, str]]:
     """Of each call its name and its arguments. A number without a call isn't there."""
     return {int(number): (name, arguments) for number, (name, arguments) in data()["calls"].items()}
 
 
-@functools.lru_cache(maxsize=None)
 def vectors() -> dict[int, str]:
     """What a vector comes from, if it comes from one thing alone."""
     return {int(number): told for number, told in data()["vectors"].items()}

@@ -24,7 +24,6 @@ from ..reference import instructions, script
 from . import wire
 from .wire import Message
 
-MOST = 20                        # wrong lines that are told of a text
 WORD = re.compile(r"[<>]?[.A-Za-z0-9_]+:?")
 NAME_IN = re.compile(r"[A-Za-z_][A-Za-z0-9_]*")
 FORMATS = os.path.join(calling.REPOSITORY, "docs", "FORMATS.md")
@@ -71,7 +70,7 @@ def wrong_of(program: str, path: str, texts: Texts) -> list[Wrong]:
     try:
         asmx.processed(path, texts)
     except asmx.AllWrong as wrong:
-        return [of_asmx(path, one) for one in wrong.wrongs[:MOST]]
+        return [of_asmx(path, one) for one in wrong.wrongs[:why.MOST_TOLD]]
     except Failed as wrong:
         return [of_asmx(path, wrong) if isinstance(wrong, asmx.Wrong) else Wrong(0, 0, str(wrong))]
     return []
@@ -277,8 +276,7 @@ class Server:
         if path.endswith(".pip"):
             return []
         return [{"name": name, "kind": 12 if one.text.startswith(name) else 14,
-                 "range": range_of(one.line, 0, len(one.text)),
-                 "selectionRange": range_of(one.line, 0, len(one.text))}
+                 "range": range_of(one.line, 0, len(one.text)), "selectionRange": range_of(one.line, 0, len(one.text))}
                 for name, one in definitions(path, self.files()).items() if os.path.realpath(one.file) == path]
 
     def on_textdocument_completion(self, given: Any) -> Any:

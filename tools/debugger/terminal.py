@@ -415,13 +415,12 @@ def main() -> None:
     monitor.add_argument("--native", metavar="N", help="as by `native`: a monitor outside the machine runs N children")
     monitor.add_argument("--slots", nargs=2, metavar=("N", "TURNS"), help="as by `slots`")
     calling.take_source(parser)
-    parser.add_argument("--every", type=int, default=EVERY, metavar="K",
+    parser.add_argument("--every", type=calling.within(1, 10_000_000, "--every"), default=EVERY, metavar="K",
                         help="keep a state each K steps, for the way back")
     parser.add_argument("--check", action=argparse.BooleanOptionalAction,
                         help="compare each stop with the program; without it where it is proved")
     calling.take_program(parser)
-    given = parser.parse_args()
-    calling.guarded("debug", lambda: work(given))
+    calling.started(parser, work)
 
 
 def schedule_of(seed: str, native: str | None, slots: list[str] | None) -> str:
@@ -435,8 +434,6 @@ def schedule_of(seed: str, native: str | None, slots: list[str] | None) -> str:
 
 def work(given: argparse.Namespace) -> None:
     schedule = schedule_of(given.seed, given.native, given.slots)
-    if given.every < 1:
-        raise Failed("--every is 1 or more")
     calling.direct(given.program)
     process = States(building.program())
     try:

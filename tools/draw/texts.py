@@ -5,6 +5,7 @@ from __future__ import annotations
 from typing import NamedTuple
 
 from ..common.calling import Failed
+from ..step.walk import USES
 
 Memory = dict[int, dict[int, int]]      # the words of each frame, by index
 
@@ -68,7 +69,7 @@ def partitions(text: str) -> list[Partition]:
 
 
 def page(address: str, frame: str, rights: str, view: str, use: str, child: str | None = None) -> Page:
-    if view not in ("user", "hidden") or use not in ("free", "desc", "conf", "lent"):
+    if view not in ("user", "hidden") or use not in USES:
         raise ValueError
     return Page(int(address, 16), int(frame), rights, view == "hidden", use, int(child, 16) if child else None)
 

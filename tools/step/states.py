@@ -13,7 +13,7 @@ from ..common.calling import Failed, text_of
 from ..common.meanings import outcome_of
 from ..draw import texts
 from ..reference import image as images, script
-from ..reference.model import World
+from ..reference.model import HANDLERS, NOWHERE, SAVED, World
 from . import walk
 from .asking import Asked, BadLine
 
@@ -214,14 +214,12 @@ def watched(data: bytes, first: int, count: int, seed: int, source: str | None, 
     lines: list[str] = []
     if names.warning:
         print(f"step: {names.warning}", file=sys.stderr)
-    found = [("", registers_of(images.world(image)))] if first == 0 else []
-
-    def told(turn: trace.Watched, raised: list[int], shown: list[str]) -> None:
-        lines.extend(shown)
+    world = images.world(image)
+    found = [("", registers_of(world))] if first == 0 else []
+    for turn, _, shown in trace.steps(image, world, count, seed):
+        lines += shown
         if turn.step + 1 >= first:
-            found.append((did(turn, names, [line.split(" ", 2)[2] for line in shown]), registers_of(turn.world)))
-
-    trace.steps(image, count, seed, told)
+            found.append((did(turn, names, [line.split(" ", 2)[2] for line in shown]), registers_of(world)))
     if lines != due:
         raise Failed("the reference, which the registers come from, has other lines than the program")
     return found
@@ -286,10 +284,6 @@ def processor_changes(before: Cpus, after: Cpus) -> list[str]:
 
 # The words of frames that are no configuration: which a line of a script can have changed, and what changed
 
-HANDLERS = 0xFFFFF000
-SAVED_IN = 63                    # the vector in whose block faults, traps and interrupt lines save
-NOWHERE = 256                    # the vector of a yield that saves nothing
-
 Words = dict[int, int]           # of a frame, those that aren't 0, by index
 
 
@@ -310,7 +304,7 @@ def touched(line: bytes, answer: str, ran: int, tree: Sequence[walk.Partition], 
     numbers = [int(word, 0) for word in rest]
     if name in ("st", "sb") and answer == "done":
         return frame_at(tree, ran, numbers[1])
-    vector = (numbers[4] if len(numbers) > 4 else 0) if name == "call" else SAVED_IN
+    vector = (numbers[4] if len(numbers) > 4 else 0) if name == "call" else SAVED
     if not ran or not answer.startswith(("switch", "park")) or vector >= NOWHERE:
         return set()
     block = sum(words.get(frame, {}).get(vector, 0) for frame in frame_at(tree, ran, HANDLERS))
