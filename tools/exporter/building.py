@@ -82,13 +82,13 @@ class Program:
         self.write(self.folder)
         words = ["cargo", "build", "--release", "--quiet", "--offline",
                  *(["--features", ",".join(self.features)] if self.features else [])]
-        run(self.what, words, self.folder / self.source.name, {})
+        run(self.what, words, self.folder / self.source.name)
         os.utime(self.built)
 
 
-def run(what: str, words: Sequence[str], place: Path | None, settings: Mapping[str, str]) -> None:
-    """Runs a command that builds, with settings of the environment, and shows what it said where it fails."""
-    done = subprocess.run(words, env={**os.environ, **settings}, cwd=place, stdin=subprocess.DEVNULL,
+def run(what: str, words: Sequence[str], place: Path | None = None, settings: Mapping[str, str] | None = None) -> None:
+    """Runs a command that makes something, with settings of the environment, and shows what it said where it fails."""
+    done = subprocess.run(words, env={**os.environ, **(settings or {})}, cwd=place, stdin=subprocess.DEVNULL,
                           stdout=subprocess.PIPE, stderr=subprocess.STDOUT)
     if done.returncode:
-        raise Failed(f"{what} can't be built:\n{done.stdout.decode('utf-8', 'replace').strip()[-4000:]}")
+        raise Failed(f"{what} can't be made: {done.stdout.decode('utf-8', 'replace').strip()[-4000:]}")

@@ -11,8 +11,7 @@ PROMISE = "the same text, not the same proof"
 
 
 def main() -> None:
-    parser = argparse.ArgumentParser(prog="export",
-                                     description="The crates as ordinary Rust, for cargo: " + PROMISE + ".")
+    parser = argparse.ArgumentParser(description=f"The crates as ordinary Rust, for cargo: {PROMISE}.")
     one = parser.add_mutually_exclusive_group(required=True)
     one.add_argument("--to", type=Path, metavar="FOLDER", help="a new folder, or an earlier export")
     one.add_argument("--untested", action="store_true",
@@ -21,12 +20,11 @@ def main() -> None:
     parser.add_argument("--only", nargs="+", default=[], metavar="CRATE", help="these crates and those that they use")
     parser.add_argument("--deps", choices=("registry", "shims"),
                         help="public crates from cargo's registry, or the small ones that come with this tool; without "
-                             "it the " "registry's where cargo can get them without a network")
+                             "it the registry's where cargo can get them without a network")
     parser.add_argument("--from", dest="repository", type=Path, default=REPOSITORY, metavar="FOLDER",
                         help="the checkout with the sources; without it this one")
     parser.add_argument("--compare", action="store_true", help="write nothing: compare the export that is in FOLDER")
-    given = parser.parse_args()
-    calling.guarded("export", lambda: done(given))
+    calling.started(parser, done)
 
 
 def done(given: argparse.Namespace) -> int:

@@ -62,7 +62,7 @@ def token_at(text: str, at: int) -> Token:
     match = PATTERN.match(text, at)
     if match is None:
         raise Trouble(f"no token: {text[at:at + 40]!r}")
-    kind, end = kind_of(match), match.end()
+    kind, end = match.lastgroup or "", match.end()
     if kind == "word" and match.group() in CLAUSES:
         kind, end = "clause", clause_end(text, end)
     elif kind == "word" and match.group() == "ghost":
@@ -70,10 +70,6 @@ def token_at(text: str, at: int) -> Token:
     elif kind == "punct" and match.group() in "\"'":
         raise Trouble(f"a text that doesn't end: {text[at:at + 40]!r}")
     return Token(kind, at, end, text[at:end])
-
-
-def kind_of(match: re.Match[str]) -> str:
-    return "text" if match.lastgroup == "marks" else match.lastgroup or ""
 
 
 def clause_end(text: str, at: int) -> int:

@@ -18,13 +18,11 @@ MODULE = Program("pip_module", "the module", HERE / "module", ("pip_commands", *
 
 
 def main() -> None:
-    parser = argparse.ArgumentParser(prog="make_module",
-                                     description="The program as a module of WebAssembly: the same text, not the same "
-                                                 "proof.")
+    parser = argparse.ArgumentParser(
+        description="The program as a module of WebAssembly: the same text, not the same proof.")
     parser.add_argument("--to", type=Path, required=True, metavar="FILE", help="the module")
     take_debian(parser)
-    given = parser.parse_args()
-    calling.guarded("make_module", lambda: make(given.to, given.debian))
+    calling.started(parser, lambda given: make(given.to, given.debian))
 
 
 def take_module(parser: argparse.ArgumentParser) -> None:
