@@ -1,13 +1,13 @@
 """The tools for authors of monitors beside the program: asmx, why, trace, explore and every."""
 
-import glob
 import os
 import re
 import tempfile
 
 from ..authors import why
 from ..reference import commands as reference, generate
-from .running import REPOSITORY, Differs, contents, number_of, run, says, session, text_of, tool, write, write_program
+from .running import (REPOSITORY, Differs, contents, number_of, paths, run, says, session, text_of, tool, write,
+                      write_program)
 
 CASES = 300
 
@@ -23,7 +23,7 @@ def liar(program: str, place: str, change: str) -> str:
 
 
 def programs() -> list[str]:
-    return sorted(glob.glob(os.path.join(REPOSITORY, "examples", "**", "*.s"), recursive=True))
+    return paths("examples/**/*.s")
 
 
 def preprocessor(program: str) -> None:

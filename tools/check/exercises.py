@@ -6,12 +6,11 @@ import re
 import subprocess
 import sys
 import tempfile
-from concurrent.futures import ThreadPoolExecutor
 
 from ..common.blocks import blocks
 from ..exercises import exercise, judging
 from . import cheats
-from .running import REPOSITORY, SECONDS, Differs, contents, run, session, text_of, told_by as tool, write
+from .running import REPOSITORY, SECONDS, Differs, contents, each, run, session, text_of, tool, write
 
 TIMES = 3                # that each solution is judged, each time with another secret
 SEEDS = ("ada", "grace hopper", "\u00e9")
@@ -22,10 +21,9 @@ def solutions(program: str) -> None:
     cheats.need_judge()
     names = list(judging.exercises())
     files = judging.solutions()
-    if tool("exercise", "--list")[0].split() != names or sorted(files) != sorted(names) or len(names) < 20:
+    if tool(None, "exercise", "--list")[0].split() != names or sorted(files) != sorted(names) or len(names) < 20:
         raise Differs(f"docs/EXERCISES.md, examples/solutions ({sorted(files)}) and the judge ({names}) differ")
-    with ThreadPoolExecutor(os.cpu_count()) as pool:
-        list(pool.map(lambda name: solution(name, files[name]), names * TIMES))
+    each(lambda name: solution(name, files[name]), names * TIMES)
     whole_script(program, files["break-in"])
     drawn_again()
     lesser(files)
@@ -36,7 +34,7 @@ def solutions(program: str) -> None:
 def solution(name: str, path: str) -> None:
     if not contents(path).startswith(b"# "):
         raise Differs(f"{path}: its first line isn't a remark")
-    output, messages, status = tool("exercise", name, path)
+    output, messages, status = tool(None, "exercise", name, path)
     if status or messages:
         raise Differs(f"tools/exercise {name} of its solution: status {status}, {output}{messages}")
 
@@ -55,8 +53,7 @@ def by_seeds(program: str) -> None:
     """With a seed the text has other values; a solution for these is good, and that of the repository isn't."""
     cheats.need_judge()
     work = [(seed, name, one.is_program) for seed, (name, one) in itertools.product(SEEDS, judging.exercises().items())]
-    with ThreadPoolExecutor(os.cpu_count()) as pool:
-        list(pool.map(lambda one: by_seed(*one), work))
+    each(lambda one: by_seed(*one), work)
 
 
 def by_seed(seed: str, name: str, is_program: bool) -> None:
@@ -84,7 +81,7 @@ def told_by_seed(name: str, seed: str) -> dict[str, int]:
 
 def whole_script(program: str, path: str) -> None:
     """The script that break-in runs is a good one by itself."""
-    output, messages, status = tool("exercise", "break-in", path, "--script")
+    output, messages, status = tool(None, "exercise", "break-in", path, "--script")
     if status or messages or run([program, "script"], output.encode())[1] or "call 0 8 0x401000 64 256\n" not in output:
         raise Differs(f"tools/exercise break-in --script: status {status}, {messages!r}")
 
@@ -107,7 +104,7 @@ def lesser(files: dict[str, str]) -> None:
     with tempfile.TemporaryDirectory() as place:
         for name in ("store", "map", "take-back", "enter", "interrupt", "end"):
             path = write(b"".join(contents(files[name]).splitlines(keepends=True)[:-1]), place, "answer")
-            output, messages, status = tool("exercise", name, path)
+            output, messages, status = tool(None, "exercise", name, path)
             if status != 1 or messages or "hint: " not in output:
                 raise Differs(f"tools/exercise {name}: status {status}, where 1 is due; {output[-400:]}{messages}")
 

@@ -4,7 +4,6 @@ does what the program does."""
 from __future__ import annotations
 
 import functools
-import multiprocessing
 import os
 import re
 import shutil
@@ -15,8 +14,8 @@ from collections.abc import Callable
 from pathlib import Path
 
 from ..exporter import export
-from ..reference import comparison, generate
-from .running import REPOSITORY, Differs, Skipped, contents, copied, expect, finished, part, text_of, write
+from .running import (REPOSITORY, Differs, Skipped, agree, contents, copied, expect, finished, generated, part, run,
+                      text_of, write)
 
 EXPORT = os.path.join(REPOSITORY, "tools", "export")
 SECONDS = 900            # cargo builds everything
@@ -58,7 +57,7 @@ def by_cargo(program: str) -> None:
     built = programs(place)
     check_example(built)
     check_own_crate(place)
-    check_cases(built, program, CASES)
+    agree("the exported program", [built("pip")], program, generated(FIRST_SEED, CASES))
 
 
 def of_registry(program: str) -> None:
@@ -69,7 +68,7 @@ def of_registry(program: str) -> None:
             raise Skipped("no public crates for cargo")
         built = programs(place)
         check_example(built)
-        check_cases(built, program, CASES_OF_REGISTRY)
+        agree("the exported program", [built("pip")], program, generated(FIRST_SEED, CASES_OF_REGISTRY))
 
 
 def unproved(program: str) -> None:
@@ -153,7 +152,7 @@ def programs(place: str) -> Callable[[str], str]:
 
 def check_example(built: Callable[[str], str]) -> None:
     due = contents("crates/pip_example/stdout")
-    expect("the exported example", comparison.run_built(built("pip_example"), [], b""), (due, 0))
+    expect("the exported example", run([built("pip_example")]), (due, 0))
 
 
 def check_own_crate(export: str) -> None:
@@ -166,20 +165,4 @@ def check_own_crate(export: str) -> None:
         write(OWN + needs.replace("../pip-rust", export), place, "Cargo.toml")
         write("use " + main, place, "src", "main.rs")
         cargo(place, "build", "--quiet")
-        expect("the crate of docs/EXPORT.md",
-               comparison.run_built(os.path.join(place, "target", "debug", "own"), [], b""), (due.encode(), 0))
-
-
-def check_cases(built: Callable[[str], str], program: str, cases: int) -> None:
-    """Generated cases of each command: output and status are those of the program."""
-    work = [(built("pip"), program, command, FIRST_SEED + k) for command in generate.COMMANDS for k in range(cases)]
-    with multiprocessing.Pool() as pool:
-        for (_, _, command, seed), (got, due) in zip(work, pool.imap(both, work, chunksize=10)):
-            expect(f"the exported program, {command} with the case of seed {seed}", got, due)
-
-
-def both(given: tuple[str, str, str, int]) -> tuple[tuple[bytes, int], tuple[bytes, int]]:
-    """What the export and the program answer to a case."""
-    export, program, command, seed = given
-    words, given_text = generate.case(command, seed)
-    return comparison.run_built(export, words, given_text), comparison.run_built(program, words, given_text)
+        expect("the crate of docs/EXPORT.md", run([os.path.join(place, "target", "debug", "own")]), (due.encode(), 0))

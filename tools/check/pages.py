@@ -1,6 +1,5 @@
 """tools/step: the pages of the examples are what program and reference say, and hostile input is refused."""
 
-import glob
 import json
 import os
 import re
@@ -11,7 +10,7 @@ from typing import Any
 from ..reference.model import World
 from ..reference import image as reference_image, runs, script
 from .authors import built_of, liar
-from .running import REPOSITORY, SECONDS, Differs, contents, part, run, session, text_of, tool
+from .running import REPOSITORY, SECONDS, Differs, contents, part, paths, run, session, text_of, told_path, tool
 
 MOST_LINES = 60          # of a script: a longer one may have too many tables
 
@@ -26,9 +25,7 @@ def data_of(page: str) -> Any:
 
 
 def pages(program: str) -> None:
-    paths = [path for folder in ("examples", "examples/tutorial")
-             for path in sorted(glob.glob(os.path.join(REPOSITORY, folder, "*.pip")))]
-    for path in paths:
+    for path in paths("examples/*.pip") + paths("examples/tutorial/*.pip"):
         script_page(program, path)
     with tempfile.TemporaryDirectory() as place:
         for name, steps in (("monitor", 130), ("hostile", 150)):
@@ -39,7 +36,7 @@ def pages(program: str) -> None:
 
 def script_page(program: str, path: str) -> None:
     """The page of a script has the program's answers, and after each line the tree that the reference has."""
-    name = os.path.relpath(path, REPOSITORY)
+    name = told_path(path)
     page, messages, status = stepped(program, path, "--to", str(MOST_LINES))
     if status or messages:
         raise Differs(f"tools/step {name}: status {status}, {messages!r}")
@@ -149,7 +146,7 @@ def teachers_loop(program: str) -> None:
                               stderr=subprocess.PIPE, env=dict(os.environ, PIP=program, PAGES=place))
         made = sorted(os.listdir(place))
         is_page = all(contents(os.path.join(place, name)).startswith(b"<!doctype html>") for name in made)
-    due = [os.path.basename(path)[:-4] + ".html" for path in sorted(glob.glob(os.path.join(folders[1], "[0-9]*.pip")))
+    due = [os.path.basename(path)[:-4] + ".html" for path in paths("examples/tutorial/[0-9]*.pip")
            if "answer" not in path]
     if done.returncode or made != due or len(due) < 10 or not is_page:
         raise Differs(f"the loop of docs/TEACHING.md makes {made}, where {due} are due: {done.stderr.decode()[-200:]}")

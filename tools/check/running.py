@@ -2,6 +2,7 @@
 
 from __future__ import annotations
 
+import glob
 import os
 import re
 import shutil
@@ -9,14 +10,18 @@ import signal
 import subprocess
 import sys
 import tempfile
-from collections.abc import Callable, Mapping, Sequence
-from typing import Any
+from collections.abc import Callable, Iterable, Iterator, Mapping, Sequence
+from concurrent.futures import ThreadPoolExecutor
+from typing import Any, TypeVar
 
 from ..common.blocks import blocks, escaped, repeated
-from ..common.calling import first_difference
+from ..common.calling import REPOSITORY as REPOSITORY, first_difference
+from ..reference import generate
 
-REPOSITORY = os.path.dirname(os.path.dirname(os.path.dirname(os.path.abspath(__file__))))
+T = TypeVar("T")
+U = TypeVar("U")
 Output = tuple[bytes, int]           # what a program writes to standard output, and its status
+Case = tuple[str, list[str], bytes]  # what is said of it, the words of a command, and its input
 Check = Callable[[str], None]        # is given the program's path, and raises Differs or Skipped
 SECONDS = 300            # no run of a check takes that long, even on a machine whose processors are busy
 
@@ -29,6 +34,16 @@ def contents(*parts: str) -> bytes:
 
 def text_of(*parts: str) -> str:
     return contents(*parts).decode()
+
+
+def paths(pattern: str) -> list[str]:
+    """The files of the repository of such a path from its top, in order."""
+    return sorted(glob.glob(os.path.join(REPOSITORY, pattern), recursive=True))
+
+
+def told_path(path: str) -> str:
+    """A path as messages have it, from the top of the repository."""
+    return os.path.relpath(path, REPOSITORY)
 
 
 def write(content: str | bytes, *parts: str) -> str:
@@ -100,13 +115,9 @@ def called(name: str, *words: str, program: str | None = None, place: str = REPO
     return [sys.executable, "-B", os.path.join(place, "tools", name), *words, *(["--program", program or ""] * takes)]
 
 
-def tool(program: str, name: str, *words: str, text: bytes = b"") -> tuple[str, str, int]:
-    """Output, messages and status of a tool that needs a program."""
-    return told_by(name, *words, text=text, program=program)
-
-
-def told_by(name: str, *words: str, text: bytes = b"", program: str | None = None, place: str = REPOSITORY,
-            **settings: Any) -> tuple[str, str, int]:
+def tool(program: str | None, name: str, *words: str, text: bytes = b"", place: str = REPOSITORY,
+         **settings: Any) -> tuple[str, str, int]:
+    """Output, messages and status of a tool, with a program if it needs one."""
     settings = {"stdout": subprocess.PIPE, "cwd": place, **settings}
     done = subprocess.run(called(name, *words, program=program, place=place), input=text, timeout=SECONDS,
                           stderr=subprocess.PIPE, **settings)
@@ -136,7 +147,7 @@ def copied(place: str, *names: str, without: Sequence[str] = ()) -> None:
 
 def says(program: str | None, words: Sequence[str], status: int = 0, *parts: str, text: bytes = b"") -> str:
     """What a tool writes, with a program if it needs one. It has to end with the status, and to say these parts."""
-    output, messages, got = told_by(*words, text=text, program=program)
+    output, messages, got = tool(program, *words, text=text)
     missing = [part for part in parts if part not in output + messages]
     if got != status or missing:
         raise Differs(f"tools/{' '.join(words)}: status {got}, where {status} is due; {missing} is missing in "
@@ -158,7 +169,7 @@ def session(title: str, program: str, **paths: str) -> None:
             text = LINES.sub(lambda found: found[1] * int(found[2]), escaped(given))
             write(text, paths["FILE"])
             words = [word.format_map(paths) for word in told.split(" ")]
-            output, messages, status = told_by(*words, text=text, program=program)
+            output, messages, status = tool(program, *words, text=text)
             said = SAID.fullmatch(lines[0])
             assert said
             named = dict(line[2:].split(" ", 1) for line in lines if line.startswith("= "))
@@ -185,6 +196,34 @@ def expect(what: str, got: tuple[bytes | None, int], wanted: tuple[bytes | None,
         raise Differs(f"{what}: status {status}, where {due} is due; it wrote {short(output)}")
     place, ours, theirs = first_difference((text or b"").split(b"\n"), (output or b"").split(b"\n"))
     raise Differs(f"{what}: line {place + 1} of the output is {short(theirs)}, where {short(ours)} is due")
+
+
+def same(what: str, got: object, due: object) -> None:
+    if got != due:
+        raise Differs(f"{what}: {got!r}, where {due!r} is due")
+
+
+def each(judge: Callable[[T], U], work: Iterable[T]) -> list[U]:
+    """Judges all of these, as many at once as there are processors; what the first of them raises counts."""
+    with ThreadPoolExecutor(os.cpu_count()) as pool:
+        return list(pool.map(judge, work))
+
+
+def generated(first: int, count: int, without: Sequence[str] = ()) -> Iterator[Case]:
+    """The cases of that many seeds of each command."""
+    for command in generate.COMMANDS:
+        if command not in without:
+            for seed in range(first, first + count):
+                yield f"{command} with the case of seed {seed}", *generate.case(command, seed)
+
+
+def agree(what: str, other: Sequence[str], program: str, cases: Iterable[Case]) -> None:
+    """Refuses another program that doesn't answer each case as the program does."""
+    def judge(case: Case) -> None:
+        told, words, text = case
+        expect(f"{what}, {told}", run([*other, *words], text, stderr=subprocess.DEVNULL), run([program, *words], text))
+
+    each(judge, cases)
 
 
 def part(pattern: str, text: str) -> str:

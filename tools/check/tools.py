@@ -2,7 +2,6 @@
 the reference, the pictures, and the hints of types, in which mypy, as strict as it is, finds nothing."""
 
 import filecmp
-import glob
 import os
 import re
 import shutil
@@ -11,7 +10,7 @@ import sys
 import tempfile
 
 from ..reference import comparison
-from .running import REPOSITORY, Check, Differs, Skipped, finished, plant, planted, text_of
+from .running import REPOSITORY, Check, Differs, Skipped, finished, paths, plant, planted, text_of, told_path
 
 CASES = {"script": 400, "asm": 200, "dis": 200, "run": 200, "tree": 100, "core": 100, "soak": 200, "native": 200,
          "slots": 200, "audit": 200, "every": 500, "against": 500, "apart": 300,
@@ -81,9 +80,9 @@ def types(program: str) -> None:
     """The tools are typed throughout, by `dict[..]` and its like. Planted modules are tried first."""
     if not OLD.search("from typing import Any, Dict\n"):
         raise Differs("a planted import of Dict isn't found")
-    for path in glob.glob(os.path.join(REPOSITORY, "tools", "**", "*.py"), recursive=True):
+    for path in paths("tools/**/*.py"):
         if OLD.search(text_of(path)):
-            raise Differs(f"{os.path.relpath(path, REPOSITORY)} imports of typing what Python has itself")
+            raise Differs(f"{told_path(path)} imports of typing what Python has itself")
     mypy = shutil.which("mypy")
     if mypy is None:
         raise Skipped("no mypy")
