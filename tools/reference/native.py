@@ -10,7 +10,7 @@ from .image import Image, world as image_world
 from .model import (EXECUTE, HANDLERS, NOWHERE, PAGE, READ, ROOT, SAVED, WRITE, Done, Reply, Status, Switched, World,
                     pages_needed)
 from .runs import Turn, first_line, raise_lines
-from .script import outcome_text, word_text
+from .script import call, outcome_text, word_text
 
 MOST_CHILDREN = 8
 PROGRAM = 0x400000                           # where a child has its program, and the root the first of them
@@ -41,7 +41,7 @@ def store(world: World, address: int, word: int) -> None:
 
 
 def ask(world: World, number: int, *arguments: int) -> None:
-    reply = world.call(0, number, list(arguments) + [0] * (5 - len(arguments)))
+    reply = call(world, 0, number, *arguments)
     assert isinstance(reply, Reply) and reply.status == Status.OK
 
 
@@ -99,7 +99,7 @@ class Monitor:
         i = self.next()
         if i is None:
             return None
-        answer = world.call(0, 8, [self.built[i], SAVED, NOWHERE, 0, 0])
+        answer = call(world, 0, 8, self.built[i], SAVED, NOWHERE)
         self.last = i
         if isinstance(answer, Switched):
             return f"run {i}"
@@ -163,7 +163,7 @@ class Slots:
 
     def slot(self, child: int, turns: int) -> None:
         """The root yields into the child, the processor has its turns, and line 0 ends the slot."""
-        outcome = self.world.call(0, 8, [child, SAVED, NOWHERE, 0, 0])
+        outcome = call(self.world, 0, 8, child, SAVED, NOWHERE)
         self.told.append(f"{self.step} 0 call 8 {outcome_text(outcome)}")
         for step in range(self.step + 1, self.step + 1 + turns):
             if not self.root_runs():
