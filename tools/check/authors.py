@@ -6,7 +6,7 @@ import tempfile
 
 from ..authors import why
 from ..reference import commands as reference, generate
-from .running import (REPOSITORY, Differs, contents, number_of, paths, run, says, session, text_of, tool, write,
+from .running import (REPOSITORY, Differs, contents, number_of, paths, run, same, says, session, text_of, write,
                       write_program)
 
 CASES = 300
@@ -80,8 +80,7 @@ def traces(program: str) -> None:
         built = built_of(program, sum_of, place, "sum.img")
         traced = ("trace", built, "15", "1", "--source")
         says(program, (*traced, sum_of, "--from", "2"), 0, "next+1", "out r2", "r2  0x0000000a")
-        if right := tool(program, *traced, sum_of)[1]:
-            raise Differs(f"tools/trace by its own source: {right}")
+        says(program, (*traced, sum_of), kind=">")
         says(program, (*traced, programs()[0]), 0, "isn't the source of this image")
         says(liar(program, place, "s/0x00000004/0x00000005/"), ("trace", built, "20", "1"), 1,
              "the reference differs from the program")
@@ -107,8 +106,7 @@ def timers(program: str, place: str) -> None:
     says(program, ("explore", lossy, "900", "1", "1", "--line", "0", first, period, "--write", built), 0,
          f"(step {step}: ")
     says(program, ("trace", built, "900", "1", "--from", step, "--source", source), 0, f"{step} 0 ", what)
-    if (merged := says(program, ("explore", "--merge", write(told, place, "timers")))) != told:
-        raise Differs(f"tools/explore --merge of timers: {merged!r}, where {told!r} is due")
+    same("tools/explore --merge of timers", says(program, ("explore", "--merge", write(told, place, "timers"))), told)
     session("timers", program, IMAGE=lossy)
 
 
@@ -124,8 +122,7 @@ def groups(program: str) -> None:
             raise Differs(f"tools/explore doesn't find the race, or other groups: {whole!r}")
         parts = [write(says(program, ("explore", built, "600", first, last, "--outs")), place, first)
                  for first, last in (("1", "25"), ("26", "60"))]
-        if (merged := says(program, ("explore", "--merge", *parts))) != whole:
-            raise Differs(f"tools/explore --merge: {merged!r}, where {whole!r} is due")
+        same("tools/explore --merge", says(program, ("explore", "--merge", *parts)), whole)
         timers(program, place)
         session("explore", program, IMAGE=built)
 

@@ -17,7 +17,7 @@ from ..common.calling import Failed
 from ..reference import generate_parts, parts
 from ..reference import image as images
 from . import examples
-from .running import Differs, Skipped, contents, expect, run, says
+from .running import Differs, Skipped, contents, expect, run, same, says
 
 PLANTED = 1000                   # certificates with something wrong, at least
 MOST_CHECKED = 60                # parts with a wrong mark, a wrong way or a wrong text that are checked of an example
@@ -61,11 +61,6 @@ def goes_on(program: str, image: bytes) -> None:
         next(folder.glob("*.lines")).unlink()
         says(program, (*words, "50"), 0, " parts were checked before", " closed\n")
         says(program, (*words, "60"), 2, "parts of another image")
-
-
-def same(what: str, found: object, wanted: object) -> None:
-    if found != wanted:
-        raise Differs(f"{what} is {found!r}, where {wanted!r} is due")
 
 
 def built() -> str:

@@ -10,7 +10,7 @@ import tempfile
 from ..common.blocks import blocks
 from ..exercises import exercise, judging
 from . import cheats
-from .running import REPOSITORY, SECONDS, Differs, contents, each, run, session, text_of, tool, write
+from .running import REPOSITORY, SECONDS, Differs, contents, each, run, says, session, text_of, tool, write
 
 TIMES = 3                # that each solution is judged, each time with another secret
 SEEDS = ("ada", "grace hopper", "\u00e9")
@@ -34,9 +34,7 @@ def solutions(program: str) -> None:
 def solution(name: str, path: str) -> None:
     if not contents(path).startswith(b"# "):
         raise Differs(f"{path}: its first line isn't a remark")
-    output, messages, status = tool(None, "exercise", name, path)
-    if status or messages:
-        raise Differs(f"tools/exercise {name} of its solution: status {status}, {output}{messages}")
+    says(None, ("exercise", name, path), kind=">")
 
 
 def drawn_again() -> None:
@@ -81,9 +79,9 @@ def told_by_seed(name: str, seed: str) -> dict[str, int]:
 
 def whole_script(program: str, path: str) -> None:
     """The script that break-in runs is a good one by itself."""
-    output, messages, status = tool(None, "exercise", "break-in", path, "--script")
-    if status or messages or run([program, "script"], output.encode())[1] or "call 0 8 0x401000 64 256\n" not in output:
-        raise Differs(f"tools/exercise break-in --script: status {status}, {messages!r}")
+    told = says(None, ("exercise", "break-in", path, "--script"), 0, "call 0 8 0x401000 64 256\n", kind=">")
+    if run([program, "script"], told.encode())[1]:
+        raise Differs(f"tools/exercise break-in --script: the program refuses {told[-300:]!r}")
 
 
 def without_cargo(path: str) -> None:
@@ -104,9 +102,7 @@ def lesser(files: dict[str, str]) -> None:
     with tempfile.TemporaryDirectory() as place:
         for name in ("store", "map", "take-back", "enter", "interrupt", "end"):
             path = write(b"".join(contents(files[name]).splitlines(keepends=True)[:-1]), place, "answer")
-            output, messages, status = tool(None, "exercise", name, path)
-            if status != 1 or messages or "hint: " not in output:
-                raise Differs(f"tools/exercise {name}: status {status}, where 1 is due; {output[-400:]}{messages}")
+            says(None, ("exercise", name, path), 1, "hint: ", kind=">")
 
 
 # The solutions, rewritten for the values of a seed

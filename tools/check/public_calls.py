@@ -4,14 +4,13 @@ from __future__ import annotations
 
 import os
 import re
-import tempfile
 from collections.abc import Iterator
 from typing import Optional
 
 from ..common.blocks import blocks, parted
 from ..exporter.tokens import braces_end
 from .counters import without_texts
-from .running import REPOSITORY, Differs, text_of, write
+from .running import REPOSITORY, Differs, planted, text_of, write
 from .sources import sources
 
 LIST = os.path.join(os.path.dirname(os.path.abspath(__file__)), "public_calls.txt")
@@ -27,9 +26,8 @@ PLANTED, LISTED = CHANGED.pop("library"), CHANGED.pop("list")
 
 def public_calls(program: str) -> None:
     """Each call of the list is as it says. That each kind of change is found is tried first, on planted libraries."""
-    with tempfile.TemporaryDirectory() as planted:
-        write(PLANTED, planted, PLACE)
-        due = written(planted, "pip_planted:\n    SIZE\n    Table::find\n    Rows::count\n    look\n")
+    with planted({PLACE: PLANTED}) as top:
+        due = written(top, "pip_planted:\n    SIZE\n    Table::find\n    Rows::count\n    look\n")
     if due != LISTED:
         raise Differs(f"a planted library is listed as {due}")
     for title, text in CHANGED.items():
@@ -84,9 +82,8 @@ def changes(old: str, new: str) -> list[str]:
     """What differs from the planted library's list where a text in it is another."""
     if PLANTED.count(old) != 1:
         raise Differs(f"the planted library has {old!r} {PLANTED.count(old)} times")
-    with tempfile.TemporaryDirectory() as planted:
-        write(PLANTED.replace(old, new), planted, PLACE)
-        return list(differences(planted, LISTED))
+    with planted({PLACE: PLANTED.replace(old, new)}) as top:
+        return list(differences(top, LISTED))
 
 
 EXPORT = re.compile(r"\bpub\s+use\s+([^;{]*)\{?([^;}]*)")

@@ -2,6 +2,7 @@
 
 from __future__ import annotations
 
+import contextlib
 import glob
 import os
 import re
@@ -61,16 +62,19 @@ def write_program(content: str, *parts: str) -> str:
     return path
 
 
-def plant(files: Mapping[str, str], place: str) -> None:
-    """Writes texts by their paths below a folder."""
-    for path, text in files.items():
-        write(text, place, path)
+@contextlib.contextmanager
+def planted(files: Mapping[str, str]) -> Iterator[str]:
+    """A folder with these texts by their paths."""
+    with tempfile.TemporaryDirectory() as place:
+        for path, text in files.items():
+            write(text, place, path)
+        yield place
 
 
-def planted(check: str) -> dict[str, str]:
-    """The files that are planted for a check, by their paths: those of data/planted.txt."""
-    found = (title.partition(" ")[::2] + (text,) for title, text in blocks("data/planted.txt", __file__).items())
-    return {path: repeated(text) for name, path, text in found if name == check}
+def planted_for(check: str) -> contextlib.AbstractContextManager[str]:
+    """A folder with the files that are planted for a check: those of data/planted.txt."""
+    titled = {title.partition(" ")[::2]: text for title, text in blocks("data/planted.txt", __file__).items()}
+    return planted({path: repeated(text) for (name, path), text in titled.items() if name == check})
 
 
 class Differs(Exception):
@@ -145,13 +149,15 @@ def copied(place: str, *names: str, without: Sequence[str] = ()) -> None:
             shutil.copy(source, target)
 
 
-def says(program: str | None, words: Sequence[str], status: int = 0, *parts: str, text: bytes = b"") -> str:
-    """What a tool writes, with a program if it needs one. It has to end with the status, and to say these parts."""
+def says(program: str | None, words: Sequence[str], status: int = 0, *parts: str, text: bytes = b"",
+         kind: str = ":") -> str:
+    """What a tool writes, with a program if it needs one. It has to end with the status, and to say these parts: by the
+    kind anywhere, with nothing on standard error (`>`), or on standard output (`!`)."""
     output, messages, got = tool(program, *words, text=text)
     missing = [part for part in parts if part not in output + messages]
-    if got != status or missing:
-        raise Differs(f"tools/{' '.join(words)}: status {got}, where {status} is due; {missing} is missing in "
-                      f"{(output + messages)[-300:]!r}")
+    if got != status or missing or kind == ">" and messages or kind == "!" and output:
+        raise Differs(f"tools/{' '.join(words)} of {text[:40]!r}: status {got}, where {status} is due; {missing} is "
+                      f"missing in {output[-300:]!r} and {messages[-300:]!r}")
     return output
 
 
@@ -169,15 +175,12 @@ def session(title: str, program: str, **paths: str) -> None:
             text = LINES.sub(lambda found: found[1] * int(found[2]), escaped(given))
             write(text, paths["FILE"])
             words = [word.format_map(paths) for word in told.split(" ")]
-            output, messages, status = tool(program, *words, text=text)
             said = SAID.fullmatch(lines[0])
             assert said
             named = dict(line[2:].split(" ", 1) for line in lines if line.startswith("= "))
             parts = [said[3], *(line for line in lines[1:] if not line.startswith("= ")), *named.values()]
-            missing = [part for part in parts if escaped(part).decode() not in output + messages]
-            if status != int(said[1]) or missing or said[2] == ">" and messages or said[2] == "!" and output:
-                raise Differs(f"tools/{' '.join(words)} of {text[:40]!r}: status {status}, where {said[1]} is due; "
-                              f"{missing} is missing in {output[-300:]!r} and {messages[-300:]!r}")
+            output = says(program, words, int(said[1]), *(escaped(part).decode() for part in parts), text=text,
+                          kind=said[2])
             for name, part in named.items():
                 paths[name] = number_of(output, escaped(part).decode())
 

@@ -10,7 +10,7 @@ import sys
 import tempfile
 
 from ..reference import comparison
-from .running import REPOSITORY, Check, Differs, Skipped, finished, paths, plant, planted, text_of, told_path
+from .running import REPOSITORY, Check, Differs, Skipped, finished, paths, planted_for, text_of, told_path
 
 CASES = {"script": 400, "asm": 200, "dis": 200, "run": 200, "tree": 100, "core": 100, "soak": 200, "native": 200,
          "slots": 200, "audit": 200, "every": 500, "against": 500, "apart": 300,
@@ -86,8 +86,7 @@ def types(program: str) -> None:
     mypy = shutil.which("mypy")
     if mypy is None:
         raise Skipped("no mypy")
-    with tempfile.TemporaryDirectory() as place:
-        plant({"tools/__init__.py": "", **planted("types")}, place)
+    with planted_for("types") as place:
         told, status = judged(mypy, place)
         missing = [due for due in DUE if due not in told]
         if status != 1 or missing:

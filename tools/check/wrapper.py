@@ -18,7 +18,7 @@ from typing import Any, IO
 from ..common import forms
 from ..common.blocks import blocks
 from .running import (REPOSITORY, SECONDS, Differs, Skipped, contents, expect as expect_output, heed_interrupts,
-                      part, run, text_of, write, write_program)
+                      part, run, same, text_of, write, write_program)
 
 Process = subprocess.Popen[bytes]
 Ended = tuple[str, str, int, int]    # output, messages and status of ./pip, and how often it built
@@ -98,8 +98,7 @@ STATUSES = ((3, "status 3: standard input can't be read"), (4, "status 4: standa
 
 
 def expect(what: str, got: object, wanted: object) -> None:
-    if got != wanted:
-        raise Differs(f"./pip, {what}: {got}, where {wanted} is due")
+    same(f"./pip, {what}", got, wanted)
 
 
 def expect_told(what: str, got: Ended, output: str, status: int, *told: str, builds: int | None = None) -> None:
