@@ -132,7 +132,7 @@ def table_of(memory: Memory, directory: int, page: int, start: int) -> Table:
     entry = PAGE * mmu.page + 1
     need(entry in memory[directory], page, start + 1)
     shadows = [pair_at(memory, page, start + k) for k in (2, 4)]
-    return Table(memory[directory].index(entry), [mmu] + shadows)
+    return Table(memory[directory].index(entry), (mmu, *shadows))
 
 
 def rows_of(memory: Memory, tables: list[Table]) -> dict[int, Row]:

@@ -15,10 +15,9 @@ import subprocess
 import tempfile
 
 from ..common import calling
-from ..common.calling import REPOSITORY, Failed, first_difference
+from ..common.calling import first_difference
 from . import commands, generate
 
-BUILT = os.path.join(REPOSITORY, "crates", "pip", "out", "pip")
 Answer = tuple[bytes, int]                                   # output and status
 # words and input; what the reference answers, and the program
 Difference = tuple[list[str], bytes, Answer, Answer]
@@ -74,13 +73,12 @@ def compare() -> int:
     parser.add_argument("commands", nargs="+", choices=generate.COMMANDS)
     parser.add_argument("--cases", type=int, default=1000)
     parser.add_argument("--seed", type=int, default=1)
-    parser.add_argument("--program", default=BUILT)
+    calling.take_program(parser)
     parser.add_argument("--jobs", type=int, default=os.cpu_count())
     given = parser.parse_args()
-    if not os.access(given.program, os.X_OK):
-        raise Failed(f"there is no program at {given.program}: build it by ./pip, or name it by --program")
+    program = calling.direct(given.program)
     for command in given.commands:
-        if found := first_case(given.program, command, given.cases, given.seed, given.jobs):
+        if found := first_case(program, command, given.cases, given.seed, given.jobs):
             print(described(command, *found))
             return 1
         print(f"{command}: {given.cases} cases from seed {given.seed} agree")

@@ -120,8 +120,7 @@ class Story(Drawing):
 
     def free_pages(self, node: Node, rights: int = READ) -> list[int]:
         """Addresses of pages that are free for the node, in rising order, without its handler table."""
-        given = {page for child in self.tree.children(node) for page in child.configuration()}
-        given |= {row.page for child in self.tree.children(node) for row in child.rows.values()}
+        given = {page for child in self.tree.children(node) for page in child.held()}
         return [PAGE * v for v, row in sorted(node.rows.items())
                 if row.page not in given and row.rights & rights == rights and PAGE * v != HANDLERS]
 
