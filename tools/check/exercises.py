@@ -1,5 +1,5 @@
-"""tools/exercise: each exercise has a section and a solution that reaches all goals, also by seeds. What less misses the
-check `cheats` sees."""
+"""tools/exercise: each exercise has a section and a solution that reaches all goals, also by seeds. That less
+doesn't is told by the check `cheats`."""
 
 import itertools
 import os
