@@ -214,4 +214,5 @@ def disassembled(data: bytes) -> Iterator[str]:
             used = max((index + 1 for index, word in enumerate(words) if word), default=0)
             for word in words[:used]:
                 yield instructions.word_text(word)
-    image.ended(reader)
+    if reader.at < len(data):
+        raise image.BadImage("long", reader.at)
