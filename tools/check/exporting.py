@@ -6,15 +6,14 @@ from __future__ import annotations
 import functools
 import os
 import re
-import shutil
 import subprocess
 import tempfile
 from collections.abc import Callable
 from pathlib import Path
 
 from ..exporter import export
-from .running import (REPOSITORY, Differs, Skipped, agree, called, contents, copied, expect, finished, generated, part,
-                      run, text_of, write)
+from .running import (REPOSITORY, Differs, Skipped, agree, called, contents, copied, expect, finished, generated,
+                      needed, part, run, text_of, write)
 
 SECONDS = 900            # cargo builds everything
 CASES = 200              # of each command
@@ -100,8 +99,7 @@ def miri(program: str) -> None:
 
 def need_cargo(tool: str = "") -> None:
     """Skips a check for which there is no cargo, one that is too old, or one without a tool of its own."""
-    if not shutil.which("cargo"):
-        raise Skipped("no cargo")
+    needed("cargo")
     told = subprocess.run(["cargo", "--version"], stdout=subprocess.PIPE, stderr=subprocess.DEVNULL).stdout.decode()
     version = re.match(r"cargo (\d+)\.(\d+)", told)
     if not version or tuple(map(int, version.groups())) < EDITION_KNOWN:

@@ -17,8 +17,8 @@ from ..judge import building
 from ..reference import generate
 from . import cheats, corners, pages
 from .exporting import SECONDS, need_cargo
-from .running import (REPOSITORY, Differs, Skipped, agree, called, contents, each, finished, generated, part, paths,
-                      run, same, text_of, told_path, write)
+from .running import (REPOSITORY, Differs, Skipped, agree, called, contents, each, finished, generated, needed, part,
+                      paths, run, same, text_of, told_path, write)
 
 PLAYGROUND = os.path.join(REPOSITORY, "tools", "playground")
 CASES = 20               # of each command
@@ -32,7 +32,7 @@ NO_TARGET = "make_module: cargo can't make a module"
 
 def module(program: str) -> None:
     """The examples, and generated cases of each command."""
-    need_node()
+    needed("node")
     examples = ((told_path(path), ["script"], contents(path)) for path in scripts())
     agree("the module", asked("run", made()), program, [*examples, *generated(FIRST_SEED, CASES)])
 
@@ -45,11 +45,6 @@ def asked(name: str, *words: str) -> list[str]:
 def lines_of(command: list[str], text: bytes = b"") -> list[bytes]:
     """What a part of the page writes."""
     return run(command, text, stderr=subprocess.DEVNULL)[0].splitlines()
-
-
-def need_node() -> None:
-    if not shutil.which("node"):
-        raise Skipped("no node")
 
 
 @functools.lru_cache(maxsize=None)
@@ -87,7 +82,7 @@ def make(path: str) -> None:
 
 def states(program: str) -> None:
     """After each line of each script of examples/ the page shows what a page of tools/step shows."""
-    need_node()
+    needed("node")
     made()
     each(lambda script: same_states(program, script), scripts())
 
@@ -137,7 +132,7 @@ def state_of(data: dict[str, Any], k: int, chosen: int) -> dict[str, Any]:
 def reasons(program: str) -> None:
     """Of each generated text that is refused, and of lines that are bad in one way each, the page says what tools/why
     says."""
-    need_node()
+    needed("node")
     for kind, texts, title in (("script", corners.texts(), "lines of a script"),
                                ("asm", corners.assembly(), "lines of a text")):
         refused_as(program, kind, [*texts, *generated_texts(kind)], len(list(corners.listed_of(title))))
@@ -196,7 +191,7 @@ WINDOWS = 3
 def runs(program: str) -> None:
     """The first steps of each program of examples/, and some around its lines further on, by two seeds. Registers are
     the reference's."""
-    need_node()
+    needed("node")
     facts()
     each(lambda work: same_run(program, *work), [(source, seed) for source in paths("examples/*.s") for seed in (1, 7)])
 
@@ -253,7 +248,7 @@ ODD = (("map", b"boot 64 1\nld 0 00\n"), ("map", b""), ("map", b"# nothing\n"), 
 
 def judge(program: str) -> None:
     """The judge in the page's module says of each solution, cheat and odd text what that of tools/exercise says."""
-    need_node()
+    needed("node")
     cheats.need_judge()
     all_asked = [one.decode("utf-8", "replace") for one in requests()]
     if len(all_asked) < LEAST:

@@ -85,6 +85,14 @@ class Skipped(Exception):
     """Why a check can't be made here, as `no cargo`."""
 
 
+def needed(name: str) -> str:
+    """The path of a tool; a check for which it is missing is skipped."""
+    path = shutil.which(name)
+    if path is None:
+        raise Skipped(f"no {name}")
+    return path
+
+
 def run(command: Sequence[str | bytes], text: bytes = b"", **streams: Any) -> Output:
     """What a command writes to standard output, and its status."""
     if "stdin" not in streams:

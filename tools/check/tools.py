@@ -4,13 +4,12 @@ the reference, the pictures, and the hints of types, in which mypy, as strict as
 import filecmp
 import os
 import re
-import shutil
 import subprocess
 import sys
 import tempfile
 
 from ..reference import comparison
-from .running import REPOSITORY, Check, Differs, Skipped, finished, paths, planted_for, text_of, told_path
+from .running import REPOSITORY, Check, Differs, Skipped, finished, needed, paths, planted_for, text_of, told_path
 
 CASES = {"script": 400, "asm": 200, "dis": 200, "run": 200, "tree": 100, "core": 100, "soak": 200, "native": 200,
          "slots": 200, "audit": 200, "every": 500, "against": 500, "apart": 300,
@@ -57,8 +56,7 @@ def tested(program: str, *modules: str) -> None:
 def debugger(program: str) -> None:
     """Its states are the program's, it goes back as it went forward, and a terminal and an editor's adapter show what
     is there."""
-    if not shutil.which("cargo"):
-        raise Skipped("no cargo")
+    needed("cargo")
     tested(program, "debugger_tests", "adapter_tests")
 
 
@@ -83,9 +81,7 @@ def types(program: str) -> None:
     for path in paths("tools/**/*.py"):
         if OLD.search(text_of(path)):
             raise Differs(f"{told_path(path)} imports of typing what Python has itself")
-    mypy = shutil.which("mypy")
-    if mypy is None:
-        raise Skipped("no mypy")
+    mypy = needed("mypy")
     with planted_for("types") as place:
         told, status = judged(mypy, place)
         missing = [due for due in DUE if due not in told]

@@ -17,8 +17,8 @@ from typing import Any, IO
 
 from ..common import forms
 from ..common.blocks import blocks
-from .running import (REPOSITORY, SECONDS, Differs, Skipped, contents, expect as expect_output, heed_interrupts,
-                      part, run, same, text_of, write, write_program)
+from .running import (REPOSITORY, SECONDS, Differs, contents, expect as expect_output, heed_interrupts,
+                      needed, part, run, same, text_of, write, write_program)
 
 Process = subprocess.Popen[bytes]
 Ended = tuple[str, str, int, int]    # output, messages and status of ./pip, and how often it built
@@ -172,8 +172,7 @@ def left_of_builds(checkout: Checkout) -> list[str]:
 
 def in_turn(program: str) -> None:
     """A call that comes while another one builds waits for it, and doesn't build again."""
-    if not shutil.which("flock"):
-        raise Skipped("no flock")
+    needed("flock")
     with tempfile.TemporaryDirectory() as place:
         checkout = Checkout(os.path.join(place, "0"))
         first = begun(checkout, "8")
