@@ -115,7 +115,7 @@ def take_terminal(terminal: int) -> None:
 
 
 def wait_for(terminal: int, due: str) -> None:
-    shown, limit = "", time.monotonic() + 20
+    shown, limit = "", time.monotonic() + SECONDS
     while due not in shown:
         if not select.select([terminal], [], [], max(limit - time.monotonic(), 0))[0]:
             raise Differs(f"tools/shell on a terminal: {shown!r}, where {due!r} is due")
