@@ -5,6 +5,7 @@ use Rattle.pip_base.specs.Memory.{Memory}
 use Rattle.pip_journal.specs.Changes.{changes}
 use Rattle.pip_model.specs.declared.processors.Occupant.{Occupant}
 use Rattle.pip_search.specs.Systems.{Model}
+use Rattle.pip_switch.specs.Rewinding.{rewritten}
 use Rattle.pip_switch.specs.Standing.{StandsFor}
 use Rattle.pip_every.specs.Moments.{Moment, Scope, moment_after, choice_label}
 
@@ -33,6 +34,13 @@ processor_words (o ∷ os) = running_words o ++ processor_words os
 -- the key: the turns, the words of the processors, and the words of a memory that are others than at first
 abbrev pub key_words : Memory → ℕ → List (Option Occupant) → Memory → List ℕ
 key_words first turns cpus memory = turns ∷ (processor_words cpus ++ changes first memory)
+
+-- words are those of a memory that are others than at first: with them over the first ones it is that memory
+pub record AreChanged (first : Memory) (words : List ℕ) : Type 0 where
+  pub memory : Memory
+  pub frames : length memory ≡ length first
+  pub are : words ≡ changes first memory
+  pub whole : rewritten first words ≡ memory
 
 -- a moment has this key, whatever its caches hold: some memory lays out its tree, and the key is of that memory
 pub record IsKeyOf (first : Memory) (g : Scope) (key : List ℕ) (m : Moment) : Type 0 where
