@@ -16,6 +16,9 @@ use std::alloc::{AllocError, Global};
 use std::marker::PhantomData;
 use std::sync::ledger::Ledger;
 
+/// How many words of a rewinding are kept.
+const NOTED: usize = 4096;
+
 /// Frames beside their first words. A frame, or a part of one, that wasn't opened since the last rewinding has its
 /// first words. In a new journal all are opened. While nothing is written after a rewinding, its words are known.
 #[derive(Drop)]
@@ -148,18 +151,21 @@ impl<F: First> Journal<F> {
         }
     }
 
-    // Notes that the frames have their first words with these over them, if there is memory to keep these.
+    // Notes that the frames have their first words with these over them, where there is room for these. It takes no
+    // memory.
     fn note(&mut self, words: &[u32])
         requires { self.old.frames.block.frames ≡ rewritten F.words words.now }
         ensures { self.new.frames ≡ self.old.frames }
     {
         self.still = false;
-        self.words.clear();
-        self.still = self.words.extend_from_slice(words).is_ok();
+        if words.len() <= self.words.capacity() {
+            self.words.clear();
+            self.still = self.words.extend_from_slice(words).is_ok();
+        }
     }
 
     /// Whether nothing was written since the frames were taken back with these words over their first ones. It may
-    /// answer no where memory was out.
+    /// answer no where there are more than 4096 words.
     pub fn is_at(&self, words: &[u32]) -> bool
         ensures { IsTrue result → ⟦<Journal<F> as Frames>⟧.memory self.now ≡ rewritten F.words words.now }
     {
@@ -181,7 +187,7 @@ impl<F: First> Journal<F> {
             first,
             opened,
             parts,
-            words: Vec::new(alloc),
+            words: Vec::with_capacity(alloc, NOTED)?,
             still: false,
             of: PhantomData,
         })

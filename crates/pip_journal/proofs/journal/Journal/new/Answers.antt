@@ -12,4 +12,4 @@ invariant_of-result-clause-tracks_parts g c = ∣ no_part_shut _ _ _ _ c.in_ok-p
 
 pub invariant_of-result-clause-rewound : goal.invariant_of-result-clause-rewound
 invariant_of-result-clause-rewound g c =
-    not_rewound c.args.first.block.frames c.args.frames.block.frames c.new.result.items
+    not_rewound c.args.first.block.frames c.args.frames.block.frames c.in_ok-with_capacity.field-0.items
