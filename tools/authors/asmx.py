@@ -11,24 +11,25 @@ What it adds to the lines of docs/FORMATS.md is told in tools/README.md.
 from __future__ import annotations
 
 import argparse
+import contextlib
 import functools
 import os
 import re
 import sys
 from collections.abc import Callable, Iterator
 from dataclasses import dataclass, field
-from types import TracebackType
 from typing import NamedTuple
 
 from ..common import calling
 from ..common.calling import Failed
-from ..reference import against, assembly, instructions, script
+from ..reference import against, assembly, instructions
 from . import why
 
 NAME = re.compile(r"[A-Za-z_][A-Za-z0-9_]{0,31}")
 REGISTER = re.compile(r"r([0-9]|1[0-5])")
 NUMBER = re.compile(r"0x[0-9a-f]{1,8}|0|[1-9][0-9]{0,9}")
 TERM = re.compile(r"0x[0-9a-f]{1,8}|[0-9]+|[A-Za-z_][A-Za-z0-9_]*")
+SUMMAND = re.compile(r"([+-]|^)([^+-]*)")
 REMARK = re.compile(r"(^|\s)#.*$")
 WORD = re.compile(r"\S+")
 BRANCHES = {"beq": 3, "bne": 3, "blt": 3, "bltu": 3, "jal": 2}     # operands, the last of which is branched to
@@ -43,11 +44,11 @@ LIKE = {**why.LIKE, "jmp": "jal or j"}
 IMAGE = b"PIPIMG"
 MOST_IMAGE = 1 << 25
 PAGE, WORDS = 4096, 1024
+MOST_PARTS = 32          # of a sum
 DEEPEST = 16             # files in files
 MOST_LINES = 1 << 20
 MOST_FILES = 64          # that are included, each as often as it is
 MOST_NUMBER = 1 << 32    # what a number, and each product on the way to it, is below
-MOST_TOLD = 20           # lines that are wrong
 DEEDS = tuple(word.decode() for word in against.WORDS)
 
 
@@ -58,7 +59,6 @@ class Place(NamedTuple):
 
 class Label(NamedTuple):
     address: int             # as its partition sees it
-    elsewhere: bool          # whether it isn't the root's
     page: Page
 
 
@@ -101,7 +101,7 @@ class Line(str):
 Lines = list[tuple[Place, Line]]
 
 
-class Wrong(Exception):
+class Wrong(Failed):
     """A line is wrong: where, from which column on, and why."""
 
     def __init__(self, place: Place, why: str, column: int = 1) -> None:
@@ -113,33 +113,19 @@ class AllWrong(Wrong):
     """All lines that are wrong, one below the other."""
 
     def __init__(self, wrongs: list[Wrong]) -> None:
-        told = [str(wrong) for wrong in wrongs[:MOST_TOLD]]
-        more = [f"and {len(wrongs) - MOST_TOLD} lines more"] if len(wrongs) > MOST_TOLD else []
-        Exception.__init__(self, "\n".join(told + more))
+        told = [str(wrong) for wrong in wrongs[:why.MOST_TOLD]]
+        more = [f"and {len(wrongs) - len(told)} lines more"] if len(wrongs) > len(told) else []
+        Failed.__init__(self, "\n".join(told + more))
         self.place, self.column, self.why, self.wrongs = wrongs[0].place, wrongs[0].column, wrongs[0].why, wrongs
 
 
-class Collected:
-    """What is wrong, line after line: `with` takes a Wrong, and the work goes on after it."""
-
-    def __init__(self) -> None:
-        self.wrongs: list[Wrong] = []
-
-    def __enter__(self) -> Collected:
-        return self
-
-    def __exit__(self, kind: type[BaseException] | None, wrong: BaseException | None,
-                 trace: TracebackType | None) -> bool:
-        if not isinstance(wrong, Wrong):
-            return False
-        self.wrongs.append(wrong)
-        return True
-
-    def judge(self, places: list[Place]) -> None:
-        """Refuses, in the order of the source's lines, what was wrong."""
-        if self.wrongs:
-            order = {place: at for at, place in reversed(list(enumerate(places)))}
-            raise AllWrong(sorted(self.wrongs, key=lambda wrong: order.get(wrong.place, len(order))))
+@contextlib.contextmanager
+def collecting(wrongs: list[Wrong]) -> Iterator[None]:
+    """Notes what is wrong, and the work goes on after it."""
+    try:
+        yield
+    except Wrong as wrong:
+        wrongs.append(wrong)
 
 
 # The lines of all files
@@ -218,17 +204,13 @@ class Page:
         if at is None:
             self.next += size
 
+    @property
+    def is_elsewhere(self) -> bool:
+        """Whether a child has it at another address."""
+        return self.seen != self.address
+
     def here(self) -> int:
         return (self.seen + 4 * self.next) % (1 << 32)
-
-    def in_order(self) -> list[Item]:
-        """The items by their places. No word is filled twice."""
-        found, end = sorted(self.items, key=lambda item: item.at), 0
-        for item in found:
-            if item.size and item.at < end:
-                raise Wrong(item.place, f"word {item.at} of the page is filled already")
-            end = max(end, item.at + item.size)
-        return found
 
 
 class Text:
@@ -252,7 +234,7 @@ class Text:
         elif first == ".page":
             self.take_page(words)
         elif first in (".frames", ".cpus", ".line"):
-            self.head.append((first.place, Line.of([first, *map(self.number_text, words[1:])])))
+            self.head.append((first.place, Line.of([first, *(self.operand(word, False) for word in words[1:])])))
         elif first in (".may", ".again"):
             self.may.append(words)
         elif not self.pages:
@@ -267,7 +249,7 @@ class Text:
         else:
             page, at = self.pages[-1], self.pages[-1].here()
             size = len(WRITTEN[first][1]) if first in WRITTEN else 1
-            page.add(first.place, size, lambda: self.instruction(words, at, page.seen != page.address))
+            page.add(first.place, size, lambda: self.instruction(words, at, page.is_elsewhere))
 
     def take_constant(self, words: list[Word]) -> None:
         if len(words) != 3 or not NAME.fullmatch(words[1]) or REGISTER.fullmatch(words[1]):
@@ -307,9 +289,8 @@ class Text:
     def take_label(self, words: list[Word]) -> None:
         name, page = words[0].put(words[0][:-1]), self.pages[-1]
         self.new_name(name)
-        elsewhere = page.seen != page.address
-        self.labels[name] = Label(page.here(), elsewhere, page)
-        page.add(name.place, 0, lambda: [Line(f"# {name}:" if elsewhere else f"{name}:")])
+        self.labels[name] = Label(page.here(), page)
+        page.add(name.place, 0, lambda: [Line(f"# {name}:" if page.is_elsewhere else f"{name}:")])
         if words[1:]:
             if words[1].endswith(":"):
                 raise words[1].wrong("a line has one name")
@@ -394,7 +375,7 @@ class Text:
         return word.put(f"0x{number % (1 << 32):08x}" if is_address else str(number))
 
     def is_plain(self, word: str) -> bool:
-        return word in self.labels and not self.labels[word].elsewhere
+        return word in self.labels and not self.labels[word].page.is_elsewhere
 
     def distance(self, word: Word, at: int, elsewhere: bool) -> Word:
         """What is branched to: a name of the root's pages stays one, where the branch stands in such a page, too."""
@@ -408,20 +389,16 @@ class Text:
         number = (to.address - (at + 4) % (1 << 32)) // 4
         if not -32768 <= number <= 32767:
             raise word.wrong(f"{word} is {number} words away: a branch reaches from -32768 to 32767")
-        return word.put(str(number)) if elsewhere or to.elsewhere else word
-
-    def number_text(self, word: Word) -> Word:
-        return word if NUMBER.fullmatch(word) else word.put(str(self.number(word)))
+        return word.put(str(number)) if elsewhere or to.page.is_elsewhere else word
 
     def number(self, word: Word, with_labels: bool = False) -> int:
         """The value of a sum of products of numbers and names."""
-        signs = re.split(r"([+-])", word if word[:1] in ("+", "-") else "+" + word)
-        if signs[0] or len(signs) > 64:
+        value, parts = 0, list(SUMMAND.finditer(word))
+        if len(parts) > MOST_PARTS:
             raise word.wrong(f"{word!r} is no number")
-        value, further = 0, len(word) - sum(map(len, signs))
-        for sign, part in zip(signs[1::2], signs[2::2]):
-            value += (1 if sign == "+" else -1) * self.product(word.put(part, further + 1), with_labels)
-            further += 1 + len(part)
+        for part in parts:
+            summand = self.product(word.put(part[2], part.start(2)), with_labels)
+            value += -summand if part[1] == "-" else summand
         if abs(value) >= MOST_NUMBER:
             raise word.wrong(f"{word!r} has more than 32 bits")
         return value
@@ -448,91 +425,77 @@ class Text:
                 raise text.wrong(f"{text!r} has more than 32 bits")
         return value
 
-    def deed(self, words: list[Word]) -> Line:
-        """The line of a menu that `.may WHO WHAT` is."""
+    def of_menu(self, words: list[Word]) -> Line:
+        """The line of a menu that `.may WHO WHAT` or `.again LABEL` is, with numbers in the place of names and sums."""
+        if words[0] == ".again":
+            if len(words) < 2:
+                raise words[0].wrong(".again has a line without its step, as 0 out 0x00000005")
+            return Line.of([words[0].put(against.AGAIN.decode()), *words[1:]])
         if len(words) < 3:
             raise words[0].wrong(f".may has 'each' or a partition's name, and a deed: {', '.join(DEEDS)}")
         who, what, *numbers = words[1:]
-        if who != against.EACH.decode():
-            who = self.deed_number(who, script.WORD)
-        if what not in DEEDS:
-            raise what.wrong(f"{what!r} is no deed: they are {', '.join(DEEDS)}")
-        limits = script.FORMS.get(what.encode(), ())[1:] or (script.WORD,) * min(max(len(numbers), 1), 6)
-        if len(numbers) != len(limits):
-            due = "1 to 6 numbers" if what == "call" else f"{len(limits)} number{'' if len(limits) == 1 else 's'}"
-            raise beyond(words[2:], len(limits)).wrong(f"{what} has {due}: no processor is named here")
-        return Line.of([who, what, *(self.deed_number(word, limit or script.WORD)
-                                     for word, limit in zip(numbers, limits))])
+        return Line.of([who if who == against.EACH.decode() else self.word_text(who), what,
+                        *map(self.word_text, numbers)])
 
-    def deed_number(self, word: Word, limit: int) -> Word:
+    def word_text(self, word: Word) -> Word:
+        """A number as a word, where it is one."""
         number = self.number(word, True)
-        if not 0 <= number < limit:
-            raise word.wrong(f"{word!r} isn't from 0 to {limit - 1}")
-        return word if NUMBER.fullmatch(word) else word.put(f"0x{number:08x}")
+        return word if NUMBER.fullmatch(word) or number < 0 else word.put(f"0x{number:08x}")
 
     def names_in(self, page: Page) -> list[tuple[int, str]]:
         """The names of a page, each with the index of its word there, in their order."""
         return sorted(((label.address - page.seen) % (1 << 32) // 4, name) for name, label in self.labels.items()
                       if label.page is page)
 
-    def written(self, collected: Collected) -> Lines:
+    def written(self, wrongs: list[Wrong]) -> Lines:
         """The lines of the assembly text, each with its place in the source."""
         for words in self.may:
-            with collected:
-                self.menu.append((words[0].place, self.deed(words) if words[0] == ".may" else asked(words)))
-        for first, most, what in ((".may", against.MOST_DEEDS, "deeds"), (".again", against.MOST_LABELS, "labels")):
-            more = [words[0].place for words in self.may if words[0] == first][most:]
-            collected.wrongs += [Wrong(place, f"a menu has at most {most} {what}") for place in more[:1]]
+            with collecting(wrongs):
+                self.menu.append((words[0].place, self.of_menu(words)))
         lines = list(self.head)
         for page in self.pages:
             lines.append((page.place, Line(f".page 0x{page.address:08x}")))
-            with collected:
-                lines += self.written_page(page, collected)
+            with collecting(wrongs):
+                lines += self.written_page(page, wrongs)
         return lines
 
-    def written_page(self, page: Page, collected: Collected) -> Lines:
+    def written_page(self, page: Page, wrongs: list[Wrong]) -> Lines:
         lines: Lines = []
         end = 0
-        for item in page.in_order():
+        for item in sorted(page.items, key=lambda item: item.at):
+            if item.size and item.at < end:
+                raise Wrong(item.place, f"word {item.at} of the page is filled already")
             if item.at > end:
                 lines.append((item.place, Line(f".zero {item.at - end}")))
             # of a line that is wrong, so that what is after it stays in its place
             told = [Line(".word 0")] * item.size
-            with collected:
+            with collecting(wrongs):
                 told = item.write()
             lines += [(item.place, line) for line in told]
             end = max(end, item.at + item.size)
         return lines
 
 
-def asked(words: list[Word]) -> Line:
-    """The line of a menu that `.again LABEL` is."""
-    if len(words) < 2:
-        raise words[0].wrong(".again has a line without its step, as 0 out 0x00000005")
-    line = Line.of([words[0].put(against.AGAIN.decode()), *words[1:]])
-    if len(line.encode()) > script.LONGEST:
-        raise words[1].wrong(f"the line has more than {script.LONGEST} bytes in the menu")
-    return line
-
-
 def processed(path: str, files: Files | None = None) -> tuple[Lines, Text]:
     """The lines of the assembly text of a file, each with its place in the source. `files` has what may be included."""
-    text, collected = Text(), Collected()
-    places: list[Place] = []
-    with collected:
-        for place, words in lines_of(path, files or Files()):
-            places.append(place)
-            with collected:
+    text, wrongs = Text(), list[Wrong]()
+    order: dict[Place, int] = {}
+    with collecting(wrongs):
+        for count, (place, words) in enumerate(lines_of(path, files or Files()), 1):
+            order.setdefault(place, count)
+            with collecting(wrongs):
                 if words:
                     text.take(words)
-            if len(places) > MOST_LINES:
+            if count > MOST_LINES:
                 raise Failed(f"{path} has more than {MOST_LINES} lines, with what it includes")
-    lines = text.written(collected)
-    collected.wrongs += [Wrong(place, "the line has more than 120 bytes") for place, line in lines
-                         if len(line.encode()) > 120]
-    told = {wrong.place for wrong in collected.wrongs}
-    collected.wrongs += [wrong for wrong in refused(lines) if wrong.place not in told]
-    collected.judge(places)
+    lines = text.written(wrongs)
+    wrongs += [Wrong(place, "the line has more than 120 bytes") for place, line in lines if len(line.encode()) > 120]
+    told = {wrong.place for wrong in wrongs}
+    further = [*refused(lines, why.by_reference(assembly.assemble)),
+               *refused(text.menu, why.by_reference(against.menu_of), why.MENU)]
+    wrongs += [wrong for wrong in further if wrong.place not in told]
+    if wrongs:
+        raise AllWrong(sorted(wrongs, key=lambda wrong: order.get(wrong.place, MOST_LINES + 1)))
     return lines, text
 
 
@@ -556,33 +519,19 @@ def in_form(form: str, words: list[Word]) -> list[Word]:
     return found
 
 
-def refused(lines: Lines) -> list[Wrong]:
-    """What the reference's assembler refuses; it is asked again with a word in the place of each line that is wrong."""
-    texts = [line.encode() for _, line in lines]
-    found: list[Wrong] = []
-    while len(found) <= MOST_TOLD:
-        try:
-            assembly.assemble(b"".join(line + b"\n" for line in texts))
-            break
-        except script.BadLine as bad:
-            at = min(bad.line, len(lines)) - 1
-            line = lines[at][1] if lines else Line()
-            found.append(refusal(lines, texts, bad.line, bad.kind))
-            if bad.line > len(lines) or line.startswith(".") and not line.startswith(".word"):
-                break
-            texts[at] = b".word 0"
-    return found
+def refused(lines: Lines, judge: why.Judge, kind: why.Kind = why.ASSEMBLY) -> Iterator[Wrong]:
+    """What an assembler refuses of the assembly text, or the reference of the menu, at its place in the source."""
+    for number, fault, cause in why.bad_lines(kind, judge, [line.encode() for _, line in lines], why.MOST_TOLD + 1):
+        place, line = lines[min(number, len(lines)) - 1] if lines else (Place("the text", 1), Line())
+        yield Wrong(place, f"{fault}, in {line!r}: {cause.here}", line.column(cause.column))
 
 
 def assembled(program: str, lines: Lines) -> bytes:
     """The image, by the program."""
     image, status = calling.output(program, ["asm"], text_of(lines))
-    if status == 2:
-        _, _, number, kind = image.decode().split()
-        place, line = lines[min(int(number), len(lines)) - 1]
-        raise Wrong(place, f"{kind}, in {line!r}: the program refuses it, and the reference doesn't")
     if status:
-        raise Failed(f"asm ends with status {status}")
+        raise Failed(f"asm ends with status {status}, and the reference refuses nothing: "
+                     f"{image.decode('ascii', 'replace').strip()}")
     return image
 
 
@@ -600,21 +549,7 @@ def image_of(program: str, path: str) -> tuple[bytes, str | None]:
         return data, None
     if path == "-":
         raise Failed("a source is given by its name, since it may include others")
-    try:
-        return assembled(program, processed(path)[0]), path
-    except Wrong as wrong:
-        raise Failed(wrong) from None
-
-
-def refusal(lines: Lines, texts: list[bytes], number: int, kind: str) -> Wrong:
-    """What tools/why says of a refused line, at its place in the source. `texts` are the lines as assembled."""
-    place, line = lines[min(number, len(lines)) - 1] if lines else (Place("the text", 1), Line())
-    try:
-        why.judge_assembly(texts, number, kind)
-    except why.Cause as cause:
-        return Wrong(place, f"{kind}, in {line!r}: {cause.here}", line.column(cause.column))
-    except Failed:
-        return Wrong(place, f"{kind}, in {line!r}")
+    return assembled(program, processed(path)[0]), path
 
 
 def main() -> None:
@@ -626,31 +561,19 @@ def main() -> None:
                         help="the same, and after the image its menu, the lines .may and .again, for against")
     parser.add_argument("--line", type=int, metavar="N", help="where line N of the assembly text comes from")
     calling.take_program(parser)
-    given = parser.parse_args()
-    calling.guarded("asmx", lambda: work(given))
+    calling.started(parser, work)
 
 
 def work(given: argparse.Namespace) -> None:
-    try:
-        lines, text = processed(given.file)
-        if given.line is not None:
-            if not 1 <= given.line <= len(lines):
-                raise Failed(f"the assembly text has {len(lines)} lines")
-            place, line = lines[given.line - 1]
-            print(f"{place.file}:{place.line}: {line}")
-        elif given.image:
-            write_image(given.image, assembled(given.program, lines))
-        elif given.against:
-            write_image(given.against, assembled(given.program, lines) + text_of(text.menu))
-        else:
-            sys.stdout.write(text_of(lines).decode())
-    except Wrong as wrong:
-        raise Failed(wrong) from None
-
-
-def write_image(path: str, image: bytes) -> None:
-    try:
-        with open(path, "wb") as file:
-            file.write(image)
-    except OSError as error:
-        raise Failed(f"{path}: {error.strerror}") from None
+    lines, text = processed(given.file)
+    if given.line is not None:
+        if not 1 <= given.line <= len(lines):
+            raise Failed(f"the assembly text has {len(lines)} lines")
+        place, line = lines[given.line - 1]
+        print(f"{place.file}:{place.line}: {line}")
+    elif given.image:
+        calling.write(given.image, assembled(given.program, lines))
+    elif given.against:
+        calling.write(given.against, assembled(given.program, lines) + text_of(text.menu))
+    else:
+        sys.stdout.write(text_of(lines).decode())

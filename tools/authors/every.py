@@ -16,7 +16,6 @@ import os
 import re
 import subprocess
 import sys
-import tempfile
 from typing import NamedTuple
 
 from ..common import calling, meanings, plans
@@ -26,7 +25,7 @@ from ..reference import against, image as images, script
 from ..reference.every import AT_FIRST, After
 from ..reference.image import Image
 from ..step import page, states
-from . import asmx, trace, ways
+from . import asmx, trace, ways, why
 from .ways import Menu, Way
 
 MOST = 10_000_000
@@ -34,11 +33,6 @@ LINE = re.compile(r"(\d+) (\d+) ([^:]+): (.+)")
 DEED = re.compile(r":d(\d+)")
 END = re.compile(r"states (\d+) (?:depth (\d+) (closed|stopped)|(within) (\d+))")
 AGAIN = re.compile(r"again (.+): (yes|no|unknown)((?: [^ ]+)*)")
-BAD = {"long": "it has more than 120 bytes", "who": "its first word is neither 'each', 'again' nor a number",
-       "what": "after its first word it is no ld, lb, st, sb, trap or call of a script without its processor, or has "
-               "no label",
-       "many": f"a menu has at most {against.MOST_DEEDS} deeds, {against.MOST_LABELS} labels and "
-               f"{against.MOST_LINES} lines"}
 REASONS = {3: "its input can't be read", 4: "its output can't be written", 5: "no memory was found: give fewer STATES"}
 
 
@@ -53,10 +47,10 @@ class Line(NamedTuple):
     @property
     def is_trouble(self) -> bool:
         """A call is refused, or something faults or parks."""
-        words = self.text.split()
-        if words[0] == "call":
-            return words[2] == "reply" and words[3] != "0"
-        return words[0] == "park" or words[0] == "switch" and int(words[3]) < 32
+        call, (kind, *numbers) = meanings.outcome_of(self.text)
+        if kind == "switch":
+            return call is None and int(numbers[2]) < 32
+        return kind == "park" or kind == "reply" and numbers[0] != "0"
 
 
 class Search(NamedTuple):
@@ -81,36 +75,28 @@ def memory_of(pid: int) -> str:
 
 
 def searched(program: str, words: list[str], image: bytes) -> list[str]:
-    """The lines of the program's search, which tells its progress on standard error."""
-    with tempfile.TemporaryFile() as given, tempfile.TemporaryFile() as told:
-        given.write(image)
-        given.seek(0)
-        status = waited(program, words, given.fileno(), told.fileno())
-        told.seek(0)
-        lines = told.read().decode("ascii", "replace").splitlines()
-    if status:
-        raise Failed(f"{' '.join(words)} ends with status {status}: "
-                     f"{REASONS.get(status) or (lines[-1] if lines else 'nothing written')}")
-    return lines
-
-
-def waited(program: str, words: list[str], given: int, told: int) -> int:
-    """The status of the program, once it has ended."""
-    try:
-        process = subprocess.Popen([calling.direct(program), *words], stdin=given, stdout=told)
-    except OSError as error:
-        raise Failed(f"{program} can't be run: {error.strerror}") from None
+    """The lines of the program's search. How far it is is told on standard error."""
+    with calling.running(program):
+        process = subprocess.Popen([calling.direct(program), *words], stdin=subprocess.PIPE, stdout=subprocess.PIPE)
     progress = Progress()
+    given: bytes | None = image
     try:
         while True:
             try:
-                return process.wait(progress.every)
+                told, _ = process.communicate(given, progress.every)
+                break
             except subprocess.TimeoutExpired:
+                given = None                     # it has begun to read, and what it has written isn't lost
                 progress.tell(f"searching, {progress.seconds():.0f} s{memory_of(process.pid)}")
     finally:
         progress.end()
         process.kill()
         process.wait()
+    lines = told.decode("ascii", "replace").splitlines()
+    if process.returncode:
+        raise Failed(f"{' '.join(words)} ends with status {process.returncode}: "
+                     f"{REASONS.get(process.returncode) or (lines[-1] if lines else 'nothing written')}")
+    return lines
 
 
 def read(lines: list[str]) -> Search:
@@ -168,7 +154,7 @@ def traced(image: Image, line: Line, way: Way, menu: Menu, after: After, source:
     shown = ""
     for made in ways.made(image, way, menu, after):
         if made.turn is None:
-            print(f"{made.step:>6}   line {made.line} is raised")
+            print(f"{made.step:>6}   line {made.choice.number} is raised")
         else:
             print(trace.line_of(made.turn, [], made.lines, names))
         shown = made.lines[-1] if made.lines else ""
@@ -209,14 +195,15 @@ def main() -> None:
         description="What can happen to an image over all interleavings, with the shortest way to each line.",
         epilog="A way is made again by the reference, of which nothing is proved. The status is 1 where that differs "
                "from the program.")
-    parser.add_argument("file", metavar="FILE",
-                        help="an image, of which - is standard input, or an assembly text or source of tools/asmx")
-    parser.add_argument("states", metavar="STATES", help="room for so many states")
-    parser.add_argument("first", metavar="FROM", nargs="?", help="no line comes before so many turns; without it 0")
-    parser.add_argument("depth", metavar="DEPTH", nargs="?", help="at most so many choices; without it any number")
+    calling.take_image(parser)
+    parser.add_argument("states", metavar="STATES", type=calling.within(1, MOST, "STATES"),
+                        help="room for that many states")
+    parser.add_argument("first", metavar="FROM", nargs="?", type=calling.within(0, MOST, "FROM"),
+                        help="no line comes before that many turns; without it 0")
+    parser.add_argument("depth", metavar="DEPTH", nargs="?", type=calling.within(1, MOST, "DEPTH"),
+                        help="at most that many choices; without it any number")
     parser.add_argument("--after", metavar=("STEPS", "SEED"), nargs=2,
-                        help="begin after so many steps of run by that seed; without it at the first moment")
-    parser.add_argument("--source", metavar="FILE", help="of an image: the text that it was made of, for its names")
+                        help="begin after that many steps of run by that seed; without it at the first moment")
     parser.add_argument("--may", metavar="MENU", help="a file with a menu, in the place of that of the source")
     parser.add_argument("--alone", action="store_true", help="without the source's menu: the partitions' programs run")
     parser.add_argument("--trouble", action="store_true", help="only lines with a refused call, a fault or a park")
@@ -227,88 +214,71 @@ def main() -> None:
                      help="write the image with plans of lines by which a run goes this way, and say which run")
     one.add_argument("--page", metavar="N", help="that run as a page of tools/step/step")
     calling.take_program(parser)
-    given = parser.parse_args()
-    calling.guarded("every", lambda: work(given))
+    calling.started(parser, work)
 
 
 class Given(NamedTuple):
-    """What is searched: an image, the text of its menu, and the source of its names."""
+    """What is searched: an image, its menu with the text of that, the source of its names, and the steps before it."""
 
-    image: bytes
-    menu: bytes
+    data: bytes
+    menu: against.Menu
+    text: bytes
     source: str | None
+    after: After
 
 
 def given_of(given: argparse.Namespace) -> Given:
+    steps, seed = given.after or map(str, AT_FIRST)
+    after = After(calling.number(steps, 0, MOST, "STEPS"), calling.number(seed, 1, script.WORD - 1, "SEED"))
     data, source = asmx.image_of(given.program, given.file)
     if source and given.source:
         raise Failed("--source is for an image, and this is a source")
     try:
-        _, menu = images.parted(data)
+        _, text = images.parted(data)
     except images.BadImage:
-        menu = b""                               # the program says what is bad
-    data = data[:len(data) - len(menu)]
+        text = b""                               # the program says what is bad
+    data = data[:len(data) - len(text)]
     if source:
-        menu = asmx.text_of(asmx.processed(source)[1].menu)
+        text = asmx.text_of(asmx.processed(source)[1].menu)
     if given.may:
-        menu = calling.contents(given.may)
-    return Given(data, b"" if given.alone else menu, source or given.source)
-
-
-def menu_of(given: argparse.Namespace, menu: bytes) -> against.Menu:
-    try:
-        return against.menu_of(menu)
-    except script.BadLine as bad:
-        raise Failed(f"{given.may or given.file}: line {bad.line} of the menu is bad: {BAD[bad.kind]}") from None
-
-
-def words_of(given: argparse.Namespace, command: str) -> list[str]:
-    words = [command, str(calling.number(given.states, 1, MOST, "STATES"))]
-    if given.first is not None:
-        words.append(str(calling.number(given.first, 0, MOST, "FROM")))
-    if given.depth is not None:
-        words.append(str(calling.number(given.depth, 1, MOST, "DEPTH")))
-    return words + (["after", *map(str, after_of(given))] if given.after else [])
-
-
-def after_of(given: argparse.Namespace) -> After:
-    if given.after is None:
-        return AT_FIRST
-    steps, seed = given.after
-    return After(calling.number(steps, 0, MOST, "STEPS"), calling.number(seed, 1, script.WORD - 1, "SEED"))
+        text = calling.contents(given.may)
+    text = b"" if given.alone else text
+    for place, _, cause in why.bad_lines(why.MENU, why.by_reference(against.menu_of), script.lines(text)):
+        raise Failed(f"{given.may or given.file}: line {place} of the menu is bad: {cause.here}")
+    return Given(data, against.menu_of(text), text, source or given.source, after)
 
 
 def work(given: argparse.Namespace) -> int | None:
-    words_of(given, "every")
-    image, menu, source = given_of(given)
-    deeds, labels = menu_of(given, menu)
-    search = read(searched(given.program, words_of(given, "against" if deeds or labels else "every"), image + menu))
+    asked = given_of(given)
+    words = ["against" if any(asked.menu) else "every",
+             *(str(number) for number in (given.states, given.first, given.depth) if number is not None),
+             *(["after", *map(str, asked.after)] if given.after else [])]
+    search = read(searched(given.program, words, asked.data + asked.text))
     number = given.trace or given.script or given.page or (given.plan and given.plan[0])
     if number is None:
-        print("\n".join(told_of(search, given.trouble, deeds)))
+        print("\n".join(told_of(search, given.trouble, asked.menu.deeds)))
         return None
     if not search.lines:
         raise Failed("no line can come")
-    line = search.lines[calling.number(number, 1, len(search.lines), "N") - 1]
-    return shown(given, image, deeds, source, line)
+    return shown(given, asked, search.lines[calling.number(number, 1, len(search.lines), "N") - 1])
 
 
-def shown(given: argparse.Namespace, data: bytes, menu: Menu, source: str | None, line: Line) -> int | None:
+def shown(given: argparse.Namespace, asked: Given, line: Line) -> int | None:
     """The way to a line, as it was asked for."""
-    image, after = images.read(data), after_of(given)
+    image, menu, after = images.read(asked.data), asked.menu.deeds, asked.after
     way = ways.read(image, line.way, menu)
     if given.trace:
-        return traced(image, line, way, menu, after, source)
+        return traced(image, line, way, menu, after, asked.source)
     if given.script:
         return scripted(given.program, image, line, way, menu, after)
     if menu:
         raise Failed("a run makes no deeds: --trace and --script show a way with a menu")
-    built, run = planned(given.program, data, line, ways.before(image, after) + way)
+    built, run = planned(given.program, asked.data, line, ways.before(image, after) + way)
     if given.page:
         first = max(0, run.steps + 1 - states.MOST_STATES)
-        found = states.of_image(given.program, built, first, run.steps, run.seed, None, source)
+        found = states.of_image(given.program, built, first, run.steps, run.seed, None, asked.source)
         print(page.written(f"{os.path.basename(given.file)}: {line.text}", found), end="")
         return None
-    asmx.write_image(given.plan[1], built)
+    calling.write(given.plan[1], built)
     print(f"./pip run {run.steps} {run.seed} < {given.plan[1]}    # {', '.join(map(str, run.plans)) or 'no line'}")
     return None

@@ -8,24 +8,19 @@ from __future__ import annotations
 import argparse
 import hashlib
 import itertools
-import os
 import re
 from collections import Counter
 from collections.abc import Callable, Iterable, Sequence
 from concurrent.futures import ThreadPoolExecutor
 from dataclasses import dataclass
 
-from ..common import calling, plans
+from ..common import calling, meanings, plans
 from ..common.calling import Failed
 from ..common.plans import Plan
 from ..common.progress import Progress
 from . import asmx
 
 MOST_STEPS = 10_000_000
-SWITCH = re.compile(r"^\d+ (\d+) (call \d+ )?switch (\d+) (\d+) (\d+)$")
-PARK = re.compile(r"^\d+ (\d+) park (\d+) (\d+)$")
-REPLY = re.compile(r"^\d+ \d+ call (\d+) reply (\d+) 0x[0-9a-f]{8}$")
-OUT = re.compile(r"^\d+ \d+ out (0x[0-9a-f]{8})$")
 
 
 @dataclass(frozen=True)
@@ -44,13 +39,7 @@ class Run:
         return self.seed, self.plan or Plan(0, 0, 0)
 
 
-@dataclass(frozen=True)
-class Group:
-    """How many runs end in one way, the first of them, and the way."""
-
-    count: int
-    first: Run
-    told: str
+Groups = dict[str, tuple[int, Run]]      # by how runs end, as a sentence: how many do, and the first of them
 
 
 class End:
@@ -58,39 +47,33 @@ class End:
 
     def __init__(self, header: str) -> None:
         self.runs = ["partition 1"] + ["nothing"] * (int(header.split()[2]) - 1)
-        self.faults: set[str] = set()
-        self.parks: set[str] = set()
-        self.refused: set[str] = set()
+        self.troubles: dict[str, set[str]] = {"faults": set(), "parks": set(), "refused": set()}
         self.shown: Counter[str] = Counter()
         self.trouble = ""
 
     def take(self, line: str) -> None:
-        if found := SWITCH.match(line):
-            cpu, by_call, source, target, vector = found.groups()
-            self.runs[int(cpu)] = f"partition {target}"
-            if not by_call and int(vector) < 32:
-                self.faults.add(f"vector {vector} of {source}")
-                self.note(line)
-        elif found := PARK.match(line):
-            cpu, source, vector = found.groups()
-            self.runs[int(cpu)] = f"nothing (parked: {source}, vector {vector})"
-            self.parks.add(f"vector {vector} of {source}")
-            self.note(line)
-        elif found := REPLY.match(line):
-            if found[2] != "0":
-                self.refused.add(f"call {found[1]} status {found[2]}")
-                self.note(line)
-        elif found := OUT.match(line):
-            self.shown[found[1]] += 1
+        cpu, what = line.split(" ", 2)[1:]
+        call, (kind, *numbers) = meanings.outcome_of(what)
+        if kind == "switch":
+            self.runs[int(cpu)] = f"partition {numbers[1]}"
+            if call is None and int(numbers[2]) < 32:
+                self.note("faults", f"vector {numbers[2]} of {numbers[0]}", line)
+        elif kind == "park":
+            self.runs[int(cpu)] = f"nothing (parked: {numbers[0]}, vector {numbers[1]})"
+            self.note("parks", f"vector {numbers[1]} of {numbers[0]}", line)
+        elif kind == "reply" and numbers[0] != "0":
+            self.note("refused", f"call {call} status {numbers[0]}", line)
+        elif kind == "out":
+            self.shown[numbers[0]] += 1
 
-    def note(self, line: str) -> None:
-        step, cpu, what = line.split(" ", 2)
+    def note(self, kind: str, trouble: str, line: str) -> None:
+        self.troubles[kind].add(trouble)
+        step, _, what = line.split(" ", 2)
         self.trouble = self.trouble or f"step {step}: {what}"
 
     def told(self, tree: list[str], with_outs: bool) -> str:
         parts = [f"processor {cpu} runs {what}" for cpu, what in enumerate(self.runs)]
-        parts += [f"{what}: {', '.join(sorted(found)) or 'none'}" for what, found in
-                  (("faults", self.faults), ("parks", self.parks), ("refused", self.refused))]
+        parts += [f"{kind}: {', '.join(sorted(found)) or 'none'}" for kind, found in self.troubles.items()]
         names = [line.split(" ")[1] for line in tree if line.startswith("part ")]
         parts.append(f"tree: {', '.join(names)} ({hashlib.sha256(chr(10).join(tree).encode()).hexdigest()[:8]})")
         if with_outs:
@@ -99,8 +82,8 @@ class End:
         return "; ".join(parts)
 
 
-def ending(program: str, image: bytes, steps: str, run: Run, with_outs: bool) -> Group:
-    """A run as a group of its own. How it ends is a sentence: equal sentences are one group."""
+def ending(program: str, image: bytes, steps: str, run: Run, with_outs: bool) -> tuple[str, Run]:
+    """How a run ends, as a sentence, and the run with its first trouble."""
     if run.plan:
         image = plans.with_plans(image, [run.plan])
     trace = calling.text_of(program, ["run", steps, str(run.seed)], image)
@@ -108,17 +91,17 @@ def ending(program: str, image: bytes, steps: str, run: Run, with_outs: bool) ->
     end = End(trace[0])
     for line in trace[1:-1]:
         end.take(line)
-    return Group(1, Run(run.seed, run.plan, end.trouble), end.told(tree, with_outs))
+    return end.told(tree, with_outs), Run(run.seed, run.plan, end.trouble)
 
 
-def explored(one: Callable[[Run], Group], runs: Iterable[Run], count: int, jobs: int) -> dict[str, Group]:
-    """The groups of that many runs, by how they end."""
-    groups: dict[str, Group] = {}
+def explored(one: Callable[[Run], tuple[str, Run]], runs: Iterable[Run], count: int, jobs: int) -> Groups:
+    """The groups of that many runs."""
+    groups: Groups = {}
     waiting, done, progress = iter(runs), 0, Progress()
     with ThreadPoolExecutor(jobs) as pool:
         while part := list(itertools.islice(waiting, 16 * jobs)):
-            for group in pool.map(one, part):
-                add(groups, group)
+            for told, run in pool.map(one, part):
+                add(groups, told, 1, run)
                 done += 1
                 left = progress.seconds() * (count - done) / done
                 several = "" if len(groups) == 1 else "s"
@@ -127,30 +110,24 @@ def explored(one: Callable[[Run], Group], runs: Iterable[Run], count: int, jobs:
     return groups
 
 
-def add(groups: dict[str, Group], group: Group) -> None:
-    old = groups.get(group.told)
-    if old:
-        group = Group(old.count + group.count, min(old.first, group.first, key=Run.place), group.told)
-    groups[group.told] = group
-
-
-def in_order(groups: dict[str, Group]) -> list[Group]:
-    return sorted(groups.values(), key=lambda group: (-group.count, group.first.place()))
+def add(groups: Groups, told: str, count: int, run: Run) -> None:
+    before, first = groups.get(told, (0, run))
+    groups[told] = before + count, min(first, run, key=Run.place)
 
 
 LINE = re.compile(r" *(\d{1,18}) runs?, first seed (\d{1,10})(?: with (\.line [\d ]{5,24}))?(?: \((step [^()]*)\))?: "
                   r"(.+)")
 
 
-def parts(paths: list[str]) -> dict[str, Group]:
+def parts(paths: list[str]) -> Groups:
     """The groups of the outputs of several runs of this tool."""
-    groups: dict[str, Group] = {}
+    groups: Groups = {}
     for path in paths:
         for number, line in enumerate(calling.contents(path, 1 << 28).decode("utf-8", "replace").splitlines(), 1):
             found = LINE.fullmatch(line)
             if found:
                 plan = plans.read(found[3]) if found[3] else None
-                add(groups, Group(int(found[1]), Run(int(found[2]), plan, found[4] or ""), found[5]))
+                add(groups, found[5], int(found[1]), Run(int(found[2]), plan, found[4] or ""))
             elif line and not line.startswith("#"):
                 raise Failed(f"{path}:{number}: no line of this tool")
     return groups
@@ -162,8 +139,7 @@ def main() -> None:
         epilog="FIRST and LAST are seeds, from 1 on. Several machines: see tools/README.md.")
     parser.add_argument("words", nargs="*", metavar="FILE STEPS FIRST LAST",
                         help="an image, how many steps, and the seeds")
-    parser.add_argument("--jobs", type=int, default=os.cpu_count(), metavar="N",
-                        help="how many runs at once; without it one a processor")
+    calling.take_jobs(parser)
     parser.add_argument("--outs", action="store_true",
                         help="runs that show other words, or show them more often, are other groups")
     parser.add_argument("--line", nargs=3, metavar=("L", "FIRST", "PERIOD"),
@@ -174,13 +150,12 @@ def main() -> None:
     parser.add_argument("--merge", nargs="+", metavar="PART",
                         help="put outputs of this tool together; - is standard input")
     calling.take_program(parser)
-    given = parser.parse_args()
-    if bool(given.merge) == bool(given.words) or given.words and len(given.words) != 4:
-        parser.error("either FILE STEPS FIRST LAST, or --merge PART ..")
-    calling.guarded("explore", lambda: work(given))
+    calling.started(parser, work)
 
 
 def work(given: argparse.Namespace) -> None:
+    if bool(given.merge) == bool(given.words) or given.words and len(given.words) != 4:
+        raise Failed("either FILE STEPS FIRST LAST, or --merge PART ..")
     if given.merge:
         groups = parts(given.merge)
     else:
@@ -188,8 +163,6 @@ def work(given: argparse.Namespace) -> None:
         steps = calling.number(numbers[0], 0, MOST_STEPS, "STEPS")
         first = calling.number(numbers[1], 1, 0xFFFFFFFF, "FIRST")
         last = calling.number(numbers[2], first, 0xFFFFFFFF, "LAST")
-        if not 1 <= given.jobs <= 1024:
-            raise Failed("--jobs is 1 to 1024")
         image, _ = asmx.image_of(given.program, path)
         varied: Sequence[Plan | None] = [None]
         if given.line:
@@ -199,12 +172,12 @@ def work(given: argparse.Namespace) -> None:
         runs = (Run(seed, plan) for seed in range(first, last + 1) for plan in varied)
         groups = explored(lambda run: ending(given.program, image, str(steps), run, given.outs), runs,
                           (last - first + 1) * len(varied), given.jobs)
-    for group in in_order(groups):
-        print(f"{group.count:>6} run{'' if group.count == 1 else 's'}, {group.first.told()}: {group.told}")
+    for told, (count, run) in sorted(groups.items(), key=lambda group: (-group[1][0], group[1][1].place())):
+        print(f"{count:>6} run{'' if count == 1 else 's'}, {run.told()}: {told}")
 
 
 def write(given: argparse.Namespace, image: bytes, varied: Sequence[Plan | None], seeds: int) -> None:
     plan, = varied if len(varied) == 1 else [None]
     if plan is None or seeds != 1:
         raise Failed("--write is for one seed, and for one plan of --line")
-    asmx.write_image(given.write, plans.with_plans(image, [plan]))
+    calling.write(given.write, plans.with_plans(image, [plan]))

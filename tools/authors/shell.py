@@ -10,6 +10,7 @@ import sys
 
 from ..common import calling, meanings
 from ..common.calling import Failed, text_of
+from ..draw import texts
 from ..reference import script
 from ..step import states, walk
 from ..step.asking import Asked, BadLine
@@ -37,9 +38,6 @@ class Session:
         self.asked = Asked(program)
         self.kept: list[bytes] = []
 
-    def end(self) -> None:
-        self.asked.end()
-
     def again(self, lines: list[bytes]) -> list[str]:
         """The program begins again with these lines; their answers."""
         self.asked.end()
@@ -57,9 +55,10 @@ class Session:
         try:
             answer = self.asked.line(line)
         except BadLine:
-            told = explained(self.kept, line)
             self.again(self.kept)
-            return told
+            lines = [*self.kept, line.split(b"\n")[0]]
+            cause = why.cause_of(why.SCRIPT, lines, len(lines), "")
+            return [f"bad line, nothing is changed: {cause.here}", *why.told("", len(lines), lines, cause)[1:]]
         self.kept.append(line)
         meaning = meanings.of_answer(answer, line.decode())
         return [answer + (f"    # {meaning}" if meaning else "")]
@@ -99,11 +98,7 @@ class Session:
         return [f"{len(self.kept)} lines; the last answer: {last[0]}"]
 
     def on_save(self, path: str) -> list[str]:
-        try:
-            with open(path, "wb") as file:
-                file.write(b"".join(line + b"\n" for line in self.kept))
-        except (OSError, ValueError) as error:
-            raise Failed(f"{path}: {getattr(error, 'strerror', None) or error}") from None
+        calling.write(path, b"".join(line + b"\n" for line in self.kept))
         return [f"{len(self.kept)} lines are in {path}"]
 
     def looked(self) -> walk.Looker:
@@ -113,8 +108,8 @@ class Session:
 
     def on_tree(self, _: str) -> list[str]:
         """The partitions, each below its parent."""
-        found, runs = walk.partitions(self.looked()), self.runs()
-        return [partition_line(x, [cpu for cpu, name in enumerate(runs) if name == x.name]) for x in found]
+        found, runs = texts.partitions("\n".join(walk.tree_lines(walk.partitions(self.looked())))), self.runs()
+        return [x.line([cpu for cpu, name in enumerate(runs) if name == x.name]) for x in found]
 
     def runs(self) -> list[int]:
         """What runs on each processor, a partition's name or 0, by the program's answers so far."""
@@ -136,24 +131,6 @@ class Session:
                 "wants it" if last == "yes" else last]
 
 
-def partition_line(x: walk.Partition, cpus: list[int]) -> str:
-    free = sum(row.first == 0 and row.word & 2 != 0 for row in x.rows)
-    where = "the root" if x.depth == 0 else f"at 0x{x.born:08x} of {x.up}"
-    runs = f", runs on processor {' and '.join(map(str, cpus))}" if cpus else ""
-    return f"{'  ' * x.depth}partition {x.name}, {where}: {len(x.rows)} pages, {free} of them free{runs}"
-
-
-def explained(kept: list[bytes], line: bytes) -> list[str]:
-    """Why a line is bad, where it is after these."""
-    lines = kept + line.split(b"\n")[:1]
-    try:
-        why.judge_script(lines, len(lines))
-    except why.Cause as cause:
-        return [f"bad line, nothing is changed: {cause.here}", *why.told("", len(lines), lines, cause)[1:]]
-    except Failed as failed:
-        return [str(failed)]
-
-
 # The words of the shell, and whether something is after each: must, may or mustn't
 WORDS = {"undo": "may", "list": "no", "tree": "no", "audit": "no", "save": "must", "load": "must", "help": "no"}
 
@@ -161,11 +138,11 @@ WORDS = {"undo": "may", "list": "no", "tree": "no", "audit": "no", "save": "must
 def answered(session: Session, text: str) -> list[str]:
     """What the shell says to a typed line."""
     word, _, operand = text.strip().partition(" ")
-    if word not in WORDS:
-        return session.say(text.encode("utf-8", "surrogateescape"))
-    if WORDS[word] == "must" and not operand or WORDS[word] == "no" and operand:
-        return [f"{word} has {'a file' if WORDS[word] == 'must' else 'nothing'} after it: see help"]
     try:
+        if word not in WORDS:
+            return session.say(text.encode("utf-8", "surrogateescape"))
+        if WORDS[word] == "must" and not operand or WORDS[word] == "no" and operand:
+            return [f"{word} has {'a file' if WORDS[word] == 'must' else 'nothing'} after it: see help"]
         told: list[str] = getattr(session, "on_" + word)(operand.strip())
         return told
     except Failed as failed:
@@ -191,8 +168,7 @@ def main() -> None:
                                      formatter_class=argparse.RawDescriptionHelpFormatter)
     parser.add_argument("file", nargs="?", metavar="FILE", help="begin with the lines of this script")
     calling.take_program(parser)
-    given = parser.parse_args()
-    calling.guarded("shell", lambda: work(given))
+    calling.started(parser, work)
 
 
 def work(given: argparse.Namespace) -> int:
@@ -212,7 +188,7 @@ def work(given: argparse.Namespace) -> int:
         if on_terminal:
             print()
     finally:
-        session.end()
+        session.asked.end()
     return 0
 
 

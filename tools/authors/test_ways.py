@@ -24,7 +24,7 @@ def source(name: str) -> Image:
 class Ways(unittest.TestCase):
     def test_choices_and_their_counts(self) -> None:
         race = source("every/race.asmx")
-        turn, line = ways.Choice(1, None), ways.Choice(None, 0)
+        turn, line = ways.Choice(1), ways.Choice(0, True)
         self.assertEqual(ways.read(race, "1x2 raise0 1"), [turn, turn, line, turn])
         for text in ("2", "x2", "0 x1", "raise", "0  1", "1x", "0x1000001", ""):
             self.assertRaises(Failed, ways.read, race, text)
@@ -44,15 +44,6 @@ class Ways(unittest.TestCase):
                 self.is_script(image, way, after)
                 if image.cpus == 1:
                     self.is_run(image, ways.before(image, after) + way, f"{cpu} {text}")
-
-    def test_the_way_to_where_a_search_begins(self) -> None:
-        race, after = source("every/race.asmx"), searches.After(80, 3)
-        way = ways.before(race, after)
-        self.assertEqual(ways.read(race, ways.text_of(way)), way)
-        *_, last = ways.made(race, way)
-        shown = runs.core(race, after.steps, after.seed)[0]
-        self.assertEqual([*runs.core_lines(last.world.tree), "end 80"], shown)
-        self.assertLess(len(way), 80)
 
     def is_script(self, image: Image, way: ways.Way, after: searches.After = searches.AT_FIRST) -> None:
         text, answers = ways.script(image, way, (), after)
@@ -79,10 +70,6 @@ class Ways(unittest.TestCase):
         self.assertRaises(Failed, ways.read, image, "0:d3", menu)
         self.assertRaises(Failed, ways.read, image, "0:d1")
 
-    def test_a_run_on_two_processors(self) -> None:
-        race = source("every/race.asmx")
-        self.is_run(race, ways.read(race, "0x51 raise0 1x2 0x5 1x13"), "1 out 0x00000003")
-
     def test_lines_that_no_plan_raises(self) -> None:
         turns = source("every/turns.asmx")
         way = ways.read(turns, "raise0 0x89 raise0 0x9 raise0 0x3")
@@ -96,44 +83,24 @@ class Ways(unittest.TestCase):
 
 
 class Told(unittest.TestCase):
-    TEXT = ["image 16 1 0 1", "2 0 out 0x00000007: 0x3", "3 0 call 12 reply 1 0x00000000: 0x4", "4 0 park 1 64: 0x5"]
+    LINES = ["image 16 1 0 1", "2 0 out 0x00000007: 0x3", "3 0 call 12 reply 1 0x00000000: 0x4", "4 0 park 1 64: 0x5"]
 
-    def told(self, last: str, only_trouble: bool = False) -> list[str]:
-        return every.told_of(every.read([*self.TEXT, last]), only_trouble)
-
-    def test_each_line_has_its_number(self) -> None:
-        told = self.told("states 5 depth 4 closed")
-        self.assertEqual(told[1], "   1  2 0 out 0x00000007: 0x3")
-        self.assertTrue(told[3].startswith("   3  4 0 park 1 64: 0x5    # vector 64; nobody takes it"))
-
-    def test_the_deeds_of_a_way_are_told(self) -> None:
-        menu = against.menu_of(b"each ld 0\n13 trap 64 0 0\n").deeds
-        text = ["image 16 2 0 1", "2 1 out 0x00000007: 0 1:d2x3 0:d1", "states 1 depth 0 closed"]
-        told = every.told_of(every.read(text), False, menu)
-        self.assertTrue(told[1].endswith("0 1:d2x3 0:d1    # d1: each ld 0; d2: 13 trap 64 0 0"), told[1])
-        self.assertTrue(told[2].endswith("whatever is done of the menu"))
-
-    def test_what_is_said_of_labels_is_told(self) -> None:
-        text = ["image 16 2 0 1", "states 6 depth 3 closed", "again 0 out 0x00000005: yes", "again 1 x: no",
-                "again 1 y: no 0x3 1:d2"]
-        told = every.told_of(every.read(text), False)
-        self.assertEqual([line.partition("    # ")[2] for line in told[2:]], [
-            "it can come again, whatever was done", "it never comes", "it never comes after this way"])
-        self.assertRaises(Failed, every.read, [*text, "again 1 x"])
-
-    def test_trouble_alone(self) -> None:
-        told = self.told("states 5 depth 4 closed", True)
-        self.assertEqual([line.split()[0] for line in told], ["image", "2", "3", "states"])
-
-    def test_what_the_last_line_means(self) -> None:
-        for last, meaning in (("states 5 depth 4 closed", "nothing else can come, however long it runs"),
-                              ("states 5 within 4", "nothing else can come by 4 choices or fewer"),
-                              ("states 5 depth 3 stopped", "there are more than 5 states; nothing else can come by ")):
-            self.assertIn(f"{last}    # {meaning}", self.told(last)[-1])
+    def test_what_a_search_says(self) -> None:
+        told = every.told_of(every.read([*self.LINES, "states 5 depth 3 stopped", "again 0 out 0x00000005: yes",
+                                         "again 1 x: no", "again 1 y: no 0x3 1:d2"]), False)
+        self.assertEqual(told[1:], [
+            "   1  2 0 out 0x00000007: 0x3",
+            "   2  3 0 call 12 reply 1 0x00000000: 0x4    # call 12: UnknownCall: no call has this number",
+            "   3  4 0 park 1 64: 0x5    # vector 64; nobody takes it, and nothing runs there any more",
+            "states 5 depth 3 stopped    # there are more than 5 states; nothing else can come by 3 choices or fewer",
+            "again 0 out 0x00000005: yes    # it can come again, whatever was done",
+            "again 1 x: no    # it never comes", "again 1 y: no 0x3 1:d2    # it never comes after this way"])
 
     def test_a_text_of_another_command(self) -> None:
+        first, *rest = self.LINES
         end = "states 5 within 4"
-        for lines in ([], [end], [self.TEXT[0], "end 0"], [*self.TEXT], [self.TEXT[0], "2 0 out 0x00000007", end]):
+        for lines in ([], [end], [first, "end 0"], [first, *rest], [first, "2 0 out 0x00000007", end],
+                      [first, end, "again 1 x"]):
             self.assertRaises(Failed, every.read, lines)
 
     def test_several_plans(self) -> None:

@@ -10,10 +10,9 @@ from __future__ import annotations
 import argparse
 import sys
 from bisect import bisect_right
-from collections.abc import Callable, Sequence
+from collections.abc import Iterator, Sequence
 
 from ..common import calling
-from ..common.calling import Failed
 from ..reference import assembly, image as images, instructions, runs, script
 from ..reference.model import FETCH, PAGE, Fault, World
 from . import asmx
@@ -49,15 +48,10 @@ class Names:
         self.warning: str | None = None
         if source is None:
             return
-        try:
-            lines, text = asmx.processed(source)
-        except asmx.Wrong as wrong:
-            raise Failed(wrong) from None
+        lines, text = asmx.processed(source)
         if not is_made_of(image, lines):
             self.warning = f"{source} isn't the source of this image, or was changed since: the names may be wrong"
-        rows = images.world(image._replace(pages=[])).tree.nodes[1].rows
-        self.found = {rows[page.address // PAGE].page: text.names_in(page) for page in text.pages
-                      if page.address // PAGE in rows}
+        self.found = {frame: text.names_in(page) for frame, page in pages_of(image, text).items()}
 
     def place(self, world: World, name: int, pc: int) -> str:
         """The nearest name at or before the pc, and how many instructions after it."""
@@ -65,6 +59,12 @@ class Names:
         if isinstance(place, Fault):
             return ""
         return nearest(self.found.get(place.page, []), place.index)
+
+
+def pages_of(image: images.Image, text: asmx.Text) -> dict[int, asmx.Page]:
+    """The pages of a source, by the frames that the root has there."""
+    rows = images.world(image._replace(pages=[])).tree.nodes[1].rows
+    return {rows[page.address // PAGE].page: page for page in text.pages if page.address // PAGE in rows}
 
 
 def nearest(names: list[tuple[int, str]], index: int) -> str:
@@ -84,15 +84,13 @@ def is_made_of(image: images.Image, lines: asmx.Lines) -> bool:
         return False
 
 
-def steps(image: images.Image, count: int, seed: int, told: Callable[[Watched, list[int], list[str]], object]) -> World:
-    """As runs.steps, but each turn is handed to `told` with its lines; the world at the end."""
-    world = images.world(image)
+def steps(image: images.Image, world: World, count: int, seed: int) -> Iterator[tuple[Watched, list[int], list[str]]]:
+    """The steps of a run of the image's world: the turn, the lines that were raised before it, and its own lines."""
     for step, cpu, raised in runs.drawn(image, world, count, seed):
         lines: list[str] = []
         turn = Watched(world, cpu, step, lines.append)
         turn.take()
-        told(turn, raised, lines)
-    return world
+        yield turn, raised, lines
 
 
 def line_of(turn: Watched, raised: list[int], lines: list[str], names: Names) -> str:
@@ -134,37 +132,30 @@ def main() -> None:
         description="A run step by step, by the reference, of which nothing is proved; its lines are compared with "
                     "the program's.",
         epilog="The status is 0 where the lines agree, and 1 where they differ.")
-    parser.add_argument("image", metavar="FILE",
-                        help="an image, of which - is standard input, or an assembly text or source of tools/asmx")
-    parser.add_argument("steps", metavar="STEPS")
-    parser.add_argument("seed", metavar="SEED")
-    parser.add_argument("--source", metavar="FILE", help="of an image: the text that it was made of, for its names")
+    calling.take_image(parser)
+    parser.add_argument("steps", metavar="STEPS", type=calling.within(0, MOST_STEPS, "STEPS"))
+    parser.add_argument("seed", metavar="SEED", type=calling.within(1, 0xFFFFFFFF, "SEED"))
     parser.add_argument("--from", dest="first", default="0", metavar="STEP", help="show the steps from this one on")
     parser.add_argument("--partition", type=int, metavar="NAME", help="show the steps of this partition alone")
     calling.take_program(parser)
-    given = parser.parse_args()
-    calling.guarded("trace", lambda: work(given))
+    calling.started(parser, work)
 
 
 def work(given: argparse.Namespace) -> int | None:
-    count = calling.number(given.steps, 0, MOST_STEPS, "STEPS")
-    seed = calling.number(given.seed, 1, 0xFFFFFFFF, "SEED")
-    first = calling.number(given.first, 0, count, "--from")
-    data, source = asmx.image_of(given.program, given.image)
-    due = calling.text_of(given.program, ["run", str(count), str(seed)], data)
+    first = calling.number(given.first, 0, given.steps, "--from")
+    data, source = asmx.image_of(given.program, given.file)
+    due = calling.text_of(given.program, ["run", str(given.steps), str(given.seed)], data)
     image = images.read(data)
     names = Names(image, source or given.source)
     found: list[str] = []
     if names.warning:
         print(f"trace: {names.warning}", file=sys.stderr)
-
-    def told(turn: Watched, raised: list[int], lines: list[str]) -> None:
-        found.extend(lines)
+    print("# by the reference: no proof; the lines at the right are compared with the program's")
+    world = images.world(image)
+    for turn, raised, lines in steps(image, world, given.steps, given.seed):
+        found += lines
         if turn.step >= first and (given.partition is None or turn.where and turn.where[0] == given.partition):
             print(line_of(turn, raised, lines, names))
-
-    print("# by the reference: no proof; the lines at the right are compared with the program's")
-    world = steps(image, count, seed, told)
     print("\n".join(registers_of(world)))
     return compared(due[1:-1], found)
 

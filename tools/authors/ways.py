@@ -21,18 +21,18 @@ from ..reference.model import LOAD, NOWHERE, PAGE, ROOT, SAVED, Context, Outcome
 from ..reference.script import outcome_text, word_text
 from . import trace
 
-CHOICES = re.compile(r"(?:(\d)(?::d([1-9]\d*))?|raise(\d+))(?:x(\d+))?")
+CHOICES = re.compile(r"(\d(?::d[1-9]\d*)?|raise\d+)(?:x(\d+))?")
 MOST_CHOICES = 1_000_000
 MOST_DRAWS = 1 << 22             # so many states of the generator are tried
 BLOCK = 17                       # words of a block: a pc and 16 registers
 
 
 class Choice(NamedTuple):
-    """The turn of a processor, or a line that is raised. The other one is None. `deed` is what is done in the turn."""
+    """The turn of a processor, or a line that is raised."""
 
-    cpu: int | None
-    line: int | None
-    deed: Deed | None = None
+    number: int                  # of the processor, or of the line
+    raises: bool = False
+    deed: Deed | None = None     # what is done in the turn
 
 
 Way = list[Choice]
@@ -41,33 +41,48 @@ Menu = Sequence[Deed]
 
 def read(image: Image, text: str, menu: Menu = ()) -> Way:
     """The choices of a way's text."""
-    way: Way = []
+    words = choices_of(text)
+    choices = {word: choice_of(image, word, menu) for word in dict.fromkeys(words)}
+    return [choices[word] for word in words]
+
+
+def choices_of(text: str) -> list[str]:
+    """The words of a way's text, each as often as it says."""
+    words: list[str] = []
     for word in text.split(" "):
         found = CHOICES.fullmatch(word)
-        if not found or found[1] and int(found[1]) >= image.cpus or int(found[2] or "0") > len(menu):
-            raise Failed(f"{word!r} is no choice of this image")
-        count = int(found[4] or "1")
-        if len(way) + count > MOST_CHOICES:
+        if not found:
+            raise Failed(f"{word!r} is no choice of a way")
+        count = int(found[2] or "1")
+        if len(words) + count > MOST_CHOICES:
             raise Failed(f"a way of more than {MOST_CHOICES} choices isn't made again")
-        deed = menu[int(found[2]) - 1] if found[2] else None
-        way += [Choice(int(found[1]), None, deed) if found[1] else Choice(None, int(found[3]))] * count
-    return way
+        words += [found[1]] * count
+    return words
+
+
+def choice_of(image: Image, word: str, menu: Menu) -> Choice:
+    number, _, deed = word.removeprefix("raise").partition(":d")
+    if word.startswith("raise"):
+        return Choice(int(number), True)
+    if int(number) >= image.cpus or int(deed or "0") > len(menu):
+        raise Failed(f"{word!r} is no choice of this image")
+    return Choice(int(number), False, menu[int(deed) - 1] if deed else None)
 
 
 def before(image: Image, after: After) -> Way:
     """The choices that the steps before a search are, without the turns that change nothing."""
     world, way = images.world(image), list[Choice]()
     for step, cpu, raised in runs.drawn(image, world, after.steps, after.seed):
-        way += [Choice(None, line) for line in raised]
+        way += [Choice(line, True) for line in raised]
         if str(cpu) not in idle_of(world):
-            way.append(Choice(cpu, None))
+            way.append(Choice(cpu))
             runs.Turn(world, cpu, step, lambda line: None).take()
     return way
 
 
 def text_of(way: Way) -> str:
     """The text of a way without deeds."""
-    return searches.grouped(f"raise{choice.line}" if choice.cpu is None else str(choice.cpu) for choice in way)
+    return searches.grouped(f"raise{choice.number}" if choice.raises else str(choice.number) for choice in way)
 
 
 class Waiting(trace.Watched, against.Hostile):
@@ -80,20 +95,19 @@ class Waiting(trace.Watched, against.Hostile):
 
 def turn_of(world: World, choice: Choice, menu: Menu, step: int, told: Callable[[str], object]) -> trace.Watched:
     """The turn that a choice is."""
-    assert choice.cpu is not None
-    if against.is_hostile(world.processors[choice.cpu], menu):
-        return Waiting(world, choice.cpu, step, told, choice.deed)
-    return trace.Watched(world, choice.cpu, step, told)
+    if against.is_hostile(world.processors[choice.number], menu):
+        return Waiting(world, choice.number, step, told, choice.deed)
+    return trace.Watched(world, choice.number, step, told)
 
 
 # Choice by choice
 
 
 class Made(NamedTuple):
-    """A choice that was made: the line that was raised, or the turn and its lines, and the world after it."""
+    """A choice that was made: its turn, if it isn't a line that was raised, with its lines, and the world after it."""
 
     step: int
-    line: int | None
+    choice: Choice
     turn: trace.Watched | None
     lines: list[str]
     world: World
@@ -104,13 +118,12 @@ def made(image: Image, way: Way, menu: Menu = (), after: After = AT_FIRST) -> It
     for step, choice in enumerate(way):
         lines: list[str] = []
         turn = None
-        if choice.cpu is None:
-            assert choice.line is not None
-            world.raise_line(choice.line)
+        if choice.raises:
+            world.raise_line(choice.number)
         else:
             turn = turn_of(world, choice, menu, step, lines.append)
             turn.take()
-        yield Made(step, choice.line, turn, lines, world)
+        yield Made(step, choice, turn, lines, world)
 
 
 # As a script
@@ -250,17 +263,16 @@ def script(image: Image, way: Way, menu: Menu = (), after: After = AT_FIRST) -> 
 
 def make(world: Told, way: Way, menu: Menu = ()) -> None:
     for step, choice in enumerate(way):
-        if choice.cpu is None:
-            assert choice.line is not None
-            world.remark(f"{step} line {choice.line} is raised")
-            world.raise_line(choice.line)
+        if choice.raises:
+            world.remark(f"{step} line {choice.number} is raised")
+            world.raise_line(choice.number)
             continue
         place = len(world.lines)
         lines: list[str] = []
         turn = turn_of(world, choice, menu, step, lines.append)
         turn.take()
         did = turn.did or trace.without_instruction([line.split(" ", 2)[2] for line in lines])
-        world.lines.insert(place, f"# {step} {choice.cpu} {did}"[:scripts.LONGEST])
+        world.lines.insert(place, f"# {step} {choice.number} {did}"[:scripts.LONGEST])
         if lines and " out " in lines[-1]:
             world.remark(lines[-1])
 
@@ -301,14 +313,13 @@ def turns_of(image: Image, way: Way) -> list[Turn]:
     turns: list[Turn] = []
     raised: list[int] = []
     for choice in way:
-        if choice.cpu is None:
-            assert choice.line is not None
-            world.raise_line(choice.line)
-            raised.append(choice.line)
+        if choice.raises:
+            world.raise_line(choice.number)
+            raised.append(choice.number)
             continue
-        turns.append(Turn(choice.cpu, idle_of(world), raised))
+        turns.append(Turn(choice.number, idle_of(world), raised))
         raised = []
-        runs.Turn(world, choice.cpu, 0, lambda line: None).take()
+        runs.Turn(world, choice.number, 0, lambda line: None).take()
     return turns
 
 
@@ -347,25 +358,17 @@ def plans_of(turns: Sequence[Turn], steps: Sequence[int]) -> list[Plan] | None:
 
 def schedules(cpus: int, turns: Sequence[Turn]) -> Iterator[tuple[int, list[int]]]:
     """Seeds by which the generator draws these turns, and the step of each. Other draws between are of idle processors.
-
-    The generator goes through all its states in one ring, so that each state is a seed: in what is drawn from the seed
-    1 on the turns are searched before which no processor is idle, and the others are looked for before them.
+    The generator goes through all its states in one ring, so that each state is a seed.
     """
     if cpus == 1:
         yield 1, list(range(len(turns)))
         return
     states, drawn = draws(cpus)
-    fixed = len(turns) - 1
-    while fixed and not turns[fixed].idle:
-        fixed -= 1
-    end = "".join(str(turn.cpu) for turn in turns[fixed:])
-    at = drawn.find(end, 1)
-    while at >= 0:
-        places = places_before(drawn, turns[:fixed + 1], at)
-        if places and places[0] > 0:
-            places += range(at + 1, at + len(end))
-            yield states[places[0] - 1], [place - places[0] for place in places]
-        at = drawn.find(end, at + 1)
+    first, *later = turns
+    others = "".join(f"([{turn.idle}]*?{turn.cpu})" if turn.idle else f"({turn.cpu})" for turn in later)
+    for found in re.compile(f"(?={first.cpu}{others})").finditer(drawn, 1):
+        begin = found.start()
+        yield states[begin - 1], [0, *(found.end(place) - 1 - begin for place in range(1, len(turns)))]
 
 
 @functools.lru_cache(maxsize=1)
@@ -379,16 +382,3 @@ def draws(cpus: int) -> tuple[Sequence[int], str]:
         s ^= s << 5 & 0xFFFFFFFF
     digits = "01234"
     return states, "".join([digits[state % cpus] for state in states])
-
-
-def places_before(drawn: str, turns: Sequence[Turn], at: int) -> list[int]:
-    """Where these turns are drawn, the last of them there; none where others are drawn between that aren't idle."""
-    places = [at]
-    for turn, before in zip(reversed(turns), reversed(turns[:-1])):
-        at -= 1
-        while at > 0 and drawn[at] != str(before.cpu) and drawn[at] in turn.idle:
-            at -= 1
-        if at <= 0 or drawn[at] != str(before.cpu):
-            return []
-        places.append(at)
-    return places[::-1]

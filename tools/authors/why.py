@@ -9,7 +9,7 @@ import argparse
 import difflib
 import re
 from collections.abc import Callable, Iterator
-from typing import NoReturn, Optional
+from typing import NamedTuple, NoReturn, Optional
 
 from ..common import calling, meanings
 from ..common.calling import Failed
@@ -46,11 +46,7 @@ class Cause(Exception):
 
 def words_of(line: bytes) -> list[tuple[int, bytes]]:
     """The words of a line, each with its column."""
-    found, column = [], 1
-    for word in line.split(b" "):
-        found.append((column, word))
-        column += len(word) + 1
-    return found
+    return [(found.start() + 1, found[0]) for found in re.finditer(rb"(?:^|(?<= ))[^ ]*", line)]
 
 
 def shown(word: bytes) -> str:
@@ -86,7 +82,7 @@ def judge_number(column: int, word: bytes) -> None:
 
 # Scripts
 
-def judge_script(lines: list[bytes], place: int) -> NoReturn:
+def judge_script(lines: list[bytes], place: int, _fault: str = "") -> NoReturn:
     """Why line `place` of a script is bad."""
     line = lines[place - 1]
     judge_bytes(line, place)
@@ -115,12 +111,12 @@ def and_here(due: str, what: str, count: int) -> str:
 
 
 def judge_count(name: bytes, operands: list[tuple[int, bytes]], form: Form | None, end: int,
-                of_call: tuple[int, int] = (2, 7)) -> None:
+                of_call: tuple[int, int] = (2, 7), remark: str = "") -> None:
     least, most = of_call if form is None else (len(form), len(form))
     if not least <= len(operands) <= most:
         due = f"{least}" if least == most else f"{least} to {most}"
-        raise Cause("count", operands[most][0] if len(operands) > most else end + 1,
-                    f"{name.decode()} has {and_here(due, 'number', len(operands))}")
+        column, remark = (operands[most][0], remark) if len(operands) > most else (end + 1, "")
+        raise Cause("count", column, f"{name.decode()} has {and_here(due, 'number', len(operands))}{remark}")
 
 
 def judge_values(name: bytes, values: list[tuple[int, int]], form: Form | None, booted: bytes | None) -> None:
@@ -159,28 +155,11 @@ def judge_menu(lines: list[bytes], place: int, kind: str) -> NoReturn:
     for column, word in operands:
         judge_number(column, word)
     form = script.FORMS[name][1:] if name in script.FORMS else None
-    judge_count(name, operands, form, len(line), (1, 6))
+    judge_count(name, operands, form, len(line), (1, 6), ": no processor is named here")
     for (column, word), limit in zip(operands, form or ()):
         if limit is not None and int(word, 0) >= limit:
             raise Cause("range", column, f"{shown(word)} is above {limit - 1}")
     raise Failed(f"line {place} is bad, and this tool doesn't see why")
-
-
-def wrong_deeds(lines: list[bytes]) -> Iterator[tuple[int, Cause]]:
-    """Each bad line of a menu and its cause."""
-    lines = list(lines)
-    for _ in range(MOST_TOLD):
-        try:
-            against.menu_of(b"".join(line + b"\n" for line in lines))
-            return
-        except script.BadLine as bad:
-            try:
-                judge_menu(lines, bad.line, bad.kind)
-            except Cause as cause:
-                yield bad.line, cause
-            if bad.kind == "many":
-                return
-            lines[bad.line - 1] = b"#"
 
 
 # Assembly texts
@@ -289,6 +268,68 @@ def wrong_name(words: list[tuple[int, bytes]], line: bytes) -> tuple[int, str]:
     return column, f"no line defines {shown(word.lstrip(b'<>'))}"
 
 
+# All bad lines of a text
+
+Judge = Callable[[bytes], Optional[tuple[int, str]]]     # the first bad line, and how it is bad, where that has a name
+
+
+class Kind(NamedTuple):
+    """A kind of text: its name, what says why a line is bad, and a line that is always good."""
+
+    name: str
+    explain: Callable[[list[bytes], int, str], NoReturn]
+    good: bytes = b"#"
+
+
+SCRIPT, ASSEMBLY = Kind("script", judge_script), Kind("assembly text", judge_assembly, b".word 0")
+MENU = Kind("menu", judge_menu)
+
+
+def by_reference(accept: Callable[[bytes], object]) -> Judge:
+    def judge(text: bytes) -> tuple[int, str] | None:
+        try:
+            accept(text)
+        except script.BadLine as bad:
+            return bad.line, bad.kind
+        return None
+    return judge
+
+
+def by_program(program: str, kind: Kind) -> Judge:
+    def judge(text: bytes) -> tuple[int, str] | None:
+        output, status = calling.output(program, ["asm" if kind is ASSEMBLY else "script"], text)
+        found = re.search(rb"bad line (\d+)(?: (\w+))?\n$", output)
+        if status and found is None:
+            raise Failed("the program refuses the text, and names no line")
+        return (int(found[1]), (found[2] or b"").decode()) if status and found else None
+    return judge
+
+
+def bad_lines(kind: Kind, judge: Judge, lines: list[bytes], most: int = MOST_TOLD) -> Iterator[tuple[int, str, Cause]]:
+    """Each bad line, how it is bad, and why: after one the text is judged again with a good line in its place."""
+    lines = list(lines)
+    while most and (found := judge(b"".join(line + b"\n" for line in lines))):
+        place, fault = found
+        cause = cause_of(kind, lines, place, fault)
+        yield place, fault, cause
+        if place > len(lines) or cause.name in ("second", "menu many") or is_head(lines[place - 1]):
+            return
+        lines[place - 1] = kind.good
+        most -= 1
+
+
+def is_head(line: bytes) -> bool:
+    """A line without which all after it would be wrong."""
+    return line.startswith((b"boot", b".")) and not line.startswith(b".word")
+
+
+def cause_of(kind: Kind, lines: list[bytes], place: int, fault: str) -> Cause:
+    try:
+        kind.explain(lines, place, fault)
+    except Cause as cause:
+        return cause
+
+
 # The tool
 
 def no_text(name: str, data: bytes) -> str:
@@ -301,63 +342,25 @@ def no_text(name: str, data: bytes) -> str:
     return f"{name} is no text: it has the byte 0x{data[found.start()]:02x} at offset {found.start()}" if found else ""
 
 
-def is_assembly(lines: list[bytes]) -> bool:
-    first = next((line for line in lines if line and not line.startswith(b"#")), b"")
-    return first.lstrip(b" \t\xef\xbb\xbf").lower().startswith(b".")
-
-
 def why(program: str, name: str, text: bytes, as_assembly: bool | None = None) -> tuple[list[str], bool]:
-    """The sentences about a text, and whether it is good."""
+    """The sentences about the first bad line of a text, and whether it is good."""
     if (what := no_text(name, text)) and (text or as_assembly is None):
         return [what], False
+    kind = kind_of(text, as_assembly)
+    wrong = next(sentences(kind, by_program(program, kind), name, text), None)
+    return wrong or [f"{name} is a good {kind.name}"], wrong is None
+
+
+def kind_of(text: bytes, as_assembly: bool | None = None) -> Kind:
+    first = next((line for line in script.lines(text) if line and not line.startswith(b"#")), b"")
+    begins_assembly = first.lstrip(b" \t\xef\xbb\xbf").lower().startswith(b".")
+    return ASSEMBLY if (begins_assembly if as_assembly is None else as_assembly) else SCRIPT
+
+
+def sentences(kind: Kind, judge: Judge, name: str, text: bytes) -> Iterator[list[str]]:
+    """The sentences about each bad line."""
     lines = script.lines(text)
-    assembles = is_assembly(lines) if as_assembly is None else as_assembly
-    output, status = calling.output(program, ["asm" if assembles else "script"], text)
-    what = "assembly text" if assembles else "script"
-    if status == 0:
-        return [f"{name} is a good {what}"], True
-    found = re.search(rb"bad line (\d+)(?: (\w+))?\n$", output)
-    if found is None:
-        raise Failed(f"the program refuses {name}, and names no line")
-    return refused(name, text, int(found[1]), found[2].decode() if assembles else None), False
-
-
-def wrong_lines(program: str, lines: list[bytes], assembles: bool) -> Iterator[tuple[int, Cause]]:
-    """Each bad line and its cause: the program names one, and is asked again with a harmless line in its place."""
-    lines = list(lines)
-    for _ in range(MOST_TOLD):
-        output, status = calling.output(program, ["asm" if assembles else "script"],
-                                        b"".join(line + b"\n" for line in lines))
-        found = re.search(rb"bad line (\d+)(?: (\w+))?\n$", output)
-        if status != 2 or found is None:
-            return
-        place = int(found[1])
-        cause = cause_of(lines, place, found[2].decode() if assembles else None)
-        yield place, cause
-        if place > len(lines) or cause.name == "second" or is_head(lines[place - 1]):
-            return
-        lines[place - 1] = b".word 0" if assembles else b"#"
-
-
-def is_head(line: bytes) -> bool:
-    """A line without which all after it would be wrong."""
-    return line.startswith((b"boot", b".")) and not line.startswith(b".word")
-
-
-def cause_of(lines: list[bytes], place: int, kind: str | None) -> Cause:
-    """Why a line is bad; that of an assembly text has a kind."""
-    try:
-        if kind is not None:
-            judge_assembly(lines, place, kind)
-        judge_script(lines, place)
-    except Cause as cause:
-        return cause
-
-
-def refused(name: str, text: bytes, place: int, kind: str | None) -> list[str]:
-    """The sentences about a text whose first bad line is known; that of an assembly text has a kind."""
-    lines = script.lines(text)
-    return told(name, place, lines, cause_of(lines, place, kind))
+    return (told(name, place, lines, cause) for place, _, cause in bad_lines(kind, judge, lines))
 
 
 def told(name: str, place: int, lines: list[bytes], cause: Cause) -> list[str]:
@@ -371,12 +374,6 @@ def told(name: str, place: int, lines: list[bytes], cause: Cause) -> list[str]:
     return sentences
 
 
-def of_menu(name: str, lines: list[bytes]) -> int:
-    wrong = ["\n".join(told(name, place, lines, cause)) for place, cause in wrong_deeds(lines)]
-    print("\n\n".join(wrong) if wrong else f"{name} is a good menu")
-    return 1 if wrong else 0
-
-
 def main() -> None:
     parser = argparse.ArgumentParser(
         description="Why a script, an assembly text or a menu is refused, by the tables of docs/FORMATS.md.",
@@ -385,19 +382,19 @@ def main() -> None:
     parser.add_argument("--as", dest="kind", choices=("script", "asm", "menu"),
                         help="what the file is; without it its first line says so, and a file .may is a menu")
     calling.take_program(parser)
-    given = parser.parse_args()
-    calling.guarded("why", lambda: work(given))
+    calling.started(parser, work)
 
 
-def work(given: argparse.Namespace) -> int | None:
+def work(given: argparse.Namespace) -> int:
     text = calling.contents(given.file)
     if given.kind == "menu" or given.kind is None and given.file.endswith(".may"):
-        return of_menu(given.file, script.lines(text))
-    sentences, good = why(given.program, given.file, text, None if given.kind is None else given.kind == "asm")
-    print("\n".join(sentences))
-    if len(sentences) > 1:
-        lines = script.lines(text)
-        assembles = is_assembly(lines) if given.kind is None else given.kind == "asm"
-        for place, cause in list(wrong_lines(given.program, lines, assembles))[1:]:
-            print("\n" + "\n".join(told(given.file, place, lines, cause)))
-    return 0 if good else 1
+        kind, judge = MENU, by_reference(against.menu_of)
+    elif (what := no_text(given.file, text)) and (text or given.kind is None):
+        print(what)
+        return 1
+    else:
+        kind = kind_of(text, None if given.kind is None else given.kind == "asm")
+        judge = by_program(given.program, kind)
+    wrong = ["\n".join(lines) for lines in sentences(kind, judge, given.file, text)]
+    print("\n\n".join(wrong) or f"{given.file} is a good {kind.name}")
+    return 1 if wrong else 0

@@ -1,6 +1,6 @@
 """Writes inputs that cost a command most, as far as such were found.
 
-    bench/worst.py names KIND COUNT         an assembly text of that many labels
+    bench/worst.py names prefixes COUNT     an assembly text of that many labels, which begin with the same 26 letters
     bench/worst.py chain DEPTH BYTES KIND   a script that works at the end of a chain of partitions
     bench/worst.py audit                    a text of 4096 frames
     bench/worst.py build WANTS COUNT        a script: a child is built with that many wants and ended, again and again
@@ -8,15 +8,10 @@
     bench/worst.py faults                   an assembly text, for `native`, `slots`: children fault at each instruction
     bench/worst.py fill                     an assembly text, for `every`: it stores a word in one place after the other
 
-KIND of names: `numbers` are ordinary names and `drawn` are 32 random letters; `prefixes` begin with the same 26
-letters; `chosen` would fall into one part in 64 of the assembler's table, were its hash to begin with 0. KIND of a
-chain: `create` makes and ends a child again and again, `prepare` gives a child tables and takes them back. BYTES is the
-size of the script, at most. WANTS, at most 990, are each in a directory of its own."""
+KIND of a chain: `create` makes and ends a child again and again, `prepare` gives a child tables and takes them back.
+BYTES is the size of the script, at most. WANTS, at most 990, are each in a directory of its own."""
 
-import functools
-import itertools
 import os
-import random
 import sys
 from collections.abc import Callable, Iterator
 
@@ -24,51 +19,17 @@ from ..common import calling
 from ..step import walk
 from . import deletions
 
-LETTERS = "abcdefghijklmnopqrstuvwxyzABCDEFGHIJKLMNOPQRSTUVWXYZ_"
-FACTOR = 0x9E3779B97F4A7C15
 Memory = dict[int, dict[int, int]]
 
 
 # ---- names
 
-def numbers(count: int) -> Iterator[str]:
-    return (f"label{k}" for k in range(count))
-
-
-def drawn(count: int) -> Iterator[str]:
-    dice = random.Random(1)
-    return ("".join(dice.choices(LETTERS, k=32)) for _ in range(count))
-
-
-def prefixes(count: int) -> Iterator[str]:
-    return ("a" * 26 + f"{k:06}" for k in range(count))
-
-
-def chosen(count: int) -> Iterator[str]:
-    """Names of five letters whose places begin in the first of 64 parts of the table."""
-    homes = 2 * count + 1
-    found = (name for name, hashed in five_letters() if hashed % homes * 64 < homes)
-    return itertools.islice(found, count)
-
-
-def five_letters() -> Iterator[tuple[str, int]]:
-    """All names of five letters with their hashes, which begin with 0."""
-    for letters in itertools.product(LETTERS, repeat=4):
-        front, hashed = "".join(letters), functools.reduce(mixed, letters, 0)
-        for letter in LETTERS:
-            yield front + letter, mixed(hashed, letter)
-
-
-def mixed(hashed: int, letter: str) -> int:
-    return (hashed ^ ord(letter)) * FACTOR % 2**64
-
-
 def labels(kind: str, count: str) -> Iterator[str]:
-    names: dict[str, Callable[[int], Iterator[str]]] = {
-        "numbers": numbers, "drawn": drawn, "prefixes": prefixes, "chosen": chosen}
+    """Names of 32 letters that differ only in the last six."""
+    if kind != "prefixes":
+        raise calling.Failed(f"there are no names of the kind {kind}")
     yield from (".frames 16", ".cpus 1", ".page 0x400000")
-    for name in names[kind](int(count)):
-        yield f"{name}:"
+    yield from (f"{'a' * 26}{k:06}:" for k in range(int(count)))
 
 
 # ---- chains
@@ -166,8 +127,11 @@ def lines(kind: str, *words: str) -> Iterator[str]:
 
 
 def main() -> None:
-    words = sys.argv[1:]
-    if not words or words[0] not in KINDS:
+    if not sys.argv[1:] or sys.argv[1] not in KINDS:
         sys.exit(__doc__)
-    for line in lines(*words):
-        sys.stdout.write(line + "\n")
+    calling.guarded("worst.py", show)
+
+
+def show() -> None:
+    for line in lines(*sys.argv[1:]):
+        print(line)

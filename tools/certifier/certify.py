@@ -27,7 +27,7 @@ HERE = Path(__file__).resolve().parent
 ENGINE = Program("pip_certifier", "the certifier", HERE, ("pip_every", "pip_image", "pip_kern"))
 CHECK_PARTS = HERE / "check_parts"
 SORTED = {**os.environ, "LC_ALL": "C"}
-SEARCH_BYTES, PART_BYTES, LINE_BYTES = 50, 300, 120       # of memory for a state, and of disk for a line, about
+SEARCH_BYTES, PART_BYTES, LINE_BYTES = 50, 300, 90        # of memory for a state, and of disk for a line, about
 
 
 def main() -> None:

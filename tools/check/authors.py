@@ -1,13 +1,13 @@
 """The tools for authors of monitors beside the program: asmx, why, trace, explore and every."""
 
-import glob
 import os
 import re
 import tempfile
 
 from ..authors import why
 from ..reference import commands as reference, generate
-from .running import REPOSITORY, Differs, contents, number_of, run, says, session, text_of, tool, write, write_program
+from .running import (REPOSITORY, Differs, contents, number_of, paths, run, same, says, session, write,
+                      write_program)
 
 CASES = 300
 
@@ -23,7 +23,7 @@ def liar(program: str, place: str, change: str) -> str:
 
 
 def programs() -> list[str]:
-    return sorted(glob.glob(os.path.join(REPOSITORY, "examples", "**", "*.s"), recursive=True))
+    return paths("examples/**/*.s")
 
 
 def preprocessor(program: str) -> None:
@@ -34,20 +34,10 @@ def preprocessor(program: str) -> None:
             says(program, ("asmx", path, "--image", built))
             if contents(built) != run([program, "asm"], contents(path))[0]:
                 raise Differs(f"tools/asmx {path}: the image isn't that of 'asm'")
-        text = text_of("tools/authors/elsewhere.asmx")
-        source = write(text, place, "source.s")
-        says(program, ("asmx", source, "--image", built))
+        says(program, ("asmx", "tools/authors/elsewhere.asmx", "--image", built))
         trace, _ = run([program, "run", "60", "1"], contents(built))
         if b"out 0x0000002a" not in trace or b"out 0xffc00008" not in trace:
             raise Differs(f"tools/asmx: the program doesn't show 42 and the child's address of its name: {trace!r}")
-        write(text + "li r1 70000   # too large\n", source)
-        last = text.count("\n") + 1
-        range_of = f"source.s:{last}:7: range, in 'li r1 70000': '70000' is outside"
-        says(program, ("asmx", source, "--image", built), 2, range_of)
-        write(text_of(source) + "out r1\nlb r1 r2 0\n", source)
-        says(program, ("asmx", source, "--image", built), 2, range_of,
-             f"source.s:{last + 2}:1: 'lb' is no instruction; did you mean ldb?")
-        says(program, ("asmx", source, "--image", "/nonexistent/x"), 2, "range")
     session("asmx", program)
 
 
@@ -76,13 +66,7 @@ def traces(program: str) -> None:
             built = built_of(program, path, place, "a.img")
             says(program, ("trace", built, "300", "1", "--source", path), 0, "no proof", "the program has the same",
                  "processor 0 runs")
-        sum_of = os.path.join(REPOSITORY, "examples", "tutorial", "11_sum.s")
-        built = built_of(program, sum_of, place, "sum.img")
-        traced = ("trace", built, "15", "1", "--source")
-        says(program, (*traced, sum_of, "--from", "2"), 0, "next+1", "out r2", "r2  0x0000000a")
-        if right := tool(program, *traced, sum_of)[1]:
-            raise Differs(f"tools/trace by its own source: {right}")
-        says(program, (*traced, programs()[0]), 0, "isn't the source of this image")
+        built = built_of(program, "examples/tutorial/11_sum.s", place, "sum.img")
         says(liar(program, place, "s/0x00000004/0x00000005/"), ("trace", built, "20", "1"), 1,
              "the reference differs from the program")
         session("trace", program, IMAGE=built)
@@ -107,8 +91,7 @@ def timers(program: str, place: str) -> None:
     says(program, ("explore", lossy, "900", "1", "1", "--line", "0", first, period, "--write", built), 0,
          f"(step {step}: ")
     says(program, ("trace", built, "900", "1", "--from", step, "--source", source), 0, f"{step} 0 ", what)
-    if (merged := says(program, ("explore", "--merge", write(told, place, "timers")))) != told:
-        raise Differs(f"tools/explore --merge of timers: {merged!r}, where {told!r} is due")
+    same("tools/explore --merge of timers", says(program, ("explore", "--merge", write(told, place, "timers"))), told)
     session("timers", program, IMAGE=lossy)
 
 
@@ -124,20 +107,16 @@ def groups(program: str) -> None:
             raise Differs(f"tools/explore doesn't find the race, or other groups: {whole!r}")
         parts = [write(says(program, ("explore", built, "600", first, last, "--outs")), place, first)
                  for first, last in (("1", "25"), ("26", "60"))]
-        if (merged := says(program, ("explore", "--merge", *parts))) != whole:
-            raise Differs(f"tools/explore --merge: {merged!r}, where {whole!r} is due")
+        same("tools/explore --merge", says(program, ("explore", "--merge", *parts)), whole)
         timers(program, place)
         session("explore", program, IMAGE=built)
 
 
 def interleavings(program: str) -> None:
     """The race's lines with their ways: as a trace, as a script, and as a run that shows the same."""
-    race, guests = (os.path.join(REPOSITORY, "examples", name) for name in ("every/race.asmx", "two_guests.s"))
+    race = os.path.join(REPOSITORY, "examples", "every", "race.asmx")
     session("ways", program)
     lost = number_of(says(program, ("every", race, "10000")), " out 0x00000002: ")
-    told = says(program, ("every", guests, "2000", "--trouble"), 0, "Running", "by 920 choices")
-    if len(told.splitlines()) != 3:
-        raise Differs(f"tools/every --trouble of two guests: {told!r}")
     told = says(program, ("every", race, "10000", "--script", lost), 0, "raise 0", "answers of the reference")
     if run([program, "script"], told.encode())[1]:
         raise Differs(f"tools/every --script: the program refuses {told[-300:]!r}")

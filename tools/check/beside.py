@@ -5,23 +5,20 @@ No output of the program depends on the caches. So a program that says after its
 in a copy of the sources counts_program.txt stands in the place of crates/pip/src/main.rt. `rt try` builds it, without
 proofs. The cases are those generated, the scripts of examples/, and one whose pages share places."""
 
-import glob
 import os
 import shutil
 import subprocess
 import tempfile
 from collections.abc import Iterator
-from concurrent.futures import ThreadPoolExecutor
 
 from ..bench.run import plain_program
 from ..reference import commands, generate
 from .exporting import need_cargo
-from .running import REPOSITORY, Differs, contents, copied, expect, run, write
+from .running import Case, Differs, agree, contents, copied, generated, paths, run, told_path, write
 
 CASES = 20               # of each command
 NOT_THERE = ("part", "merge")                # it has no certificates
 FIRST_SEED = 700_000     # no other check has these
-Work = tuple[list[str], bytes]
 # What is made of the image of each program of examples/
 OF_IMAGES = (["dis"], ["run", "3000", "7"], ["tree", "1500", "1"], ["core", "1500", "1"], ["every", "300"],
              ["native", "2", "2000"], ["slots", "2", "5", "100"], ["apart", "300", "1500", "1"])
@@ -30,26 +27,20 @@ OF_IMAGES = (["dis"], ["run", "3000", "7"], ["tree", "1500", "1"], ["core", "150
 def plain(program: str) -> None:
     """On the scripts and programs of examples/, and on some generated cases of each command."""
     need_cargo()
-    beside = plain_program()
-    with ThreadPoolExecutor(os.cpu_count()) as pool:
-        work = [*examples(program), *(generate.case(command, FIRST_SEED + k) for command in generate.COMMANDS
-                                      if command not in NOT_THERE for k in range(CASES))]
-        dues = pool.map(lambda one: run([program, *one[0]], one[1]), work)
-        found = pool.map(lambda one: run([beside, *one[0]], one[1]), work)
-        for (words, _), due, got in zip(work, dues, found):
-            expect(f"the plain program, {' '.join(words)}", got, due)
+    agree("the plain program", [plain_program()], program,
+          [*examples(program), *generated(FIRST_SEED, CASES, without=NOT_THERE)])
 
 
-def examples(program: str) -> Iterator[Work]:
-    for path in sorted(glob.glob(os.path.join(REPOSITORY, "examples", "**", "*.pip"), recursive=True)):
-        yield ["script"], contents(path)
-    for path in sorted(glob.glob(os.path.join(REPOSITORY, "examples", "**", "*.s"), recursive=True)):
-        text = contents(path)
-        yield ["asm"], text
+def examples(program: str) -> Iterator[Case]:
+    for path in paths("examples/**/*.pip"):
+        yield told_path(path), ["script"], contents(path)
+    for path in paths("examples/**/*.s"):
+        name, text = told_path(path), contents(path)
+        yield f"asm of {name}", ["asm"], text
         image = run([program, "asm"], text)[0]
-        yield from ((list(words), image) for words in OF_IMAGES)
+        yield from ((f"{' '.join(words)} of {name}", list(words), image) for words in OF_IMAGES)
         core = run([program, "core", "1500", "1"], image)[0]
-        yield ["audit", str(int.from_bytes(image[8:12], "little"))], core
+        yield f"audit of {name}", ["audit", str(int.from_bytes(image[8:12], "little"))], core
 
 
 # What the caches count
@@ -90,7 +81,7 @@ def counts(program: str) -> None:
 def all_cases() -> Iterator[tuple[str, list[str], bytes]]:
     """Name, words and input of each case."""
     yield "shared-places", ["script"], SHARED_PLACES
-    for path in glob.glob(os.path.join(REPOSITORY, "examples", "*.pip")):
+    for path in paths("examples/*.pip"):
         yield os.path.basename(path)[:-len(".pip")], ["script"], contents(path)
     for command, cases in COUNTED.items():
         for k in range(1, cases + 1):

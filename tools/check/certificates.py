@@ -6,7 +6,6 @@ from __future__ import annotations
 
 import os
 import random
-import shutil
 import subprocess
 import tempfile
 from collections.abc import Iterator, Sequence
@@ -17,7 +16,7 @@ from ..common.calling import Failed
 from ..reference import generate_parts, parts
 from ..reference import image as images
 from . import examples
-from .running import Differs, Skipped, contents, expect, run, says
+from .running import Differs, contents, expect, needed, run, same, says
 
 PLANTED = 1000                   # certificates with something wrong, at least
 MOST_CHECKED = 60                # parts with a wrong mark, a wrong way or a wrong text that are checked of an example
@@ -63,14 +62,8 @@ def goes_on(program: str, image: bytes) -> None:
         says(program, (*words, "60"), 2, "parts of another image")
 
 
-def same(what: str, found: object, wanted: object) -> None:
-    if found != wanted:
-        raise Differs(f"{what} is {found!r}, where {wanted!r} is due")
-
-
 def built() -> str:
-    if not shutil.which("cargo"):
-        raise Skipped("no cargo")
+    needed("cargo")
     try:
         return ENGINE.path()
     except Failed as failed:

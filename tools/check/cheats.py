@@ -13,15 +13,13 @@ import os
 import re
 import tempfile
 from collections import Counter
-from collections.abc import Callable
-from concurrent.futures import ThreadPoolExecutor
 from dataclasses import dataclass
 
 from ..common.calling import Failed
 from ..exercises import exercise, judging
 from ..judge import building
 from .exporting import need_cargo
-from .running import REPOSITORY, Differs, text_of, write
+from .running import REPOSITORY, Differs, each, text_of, told_path, write
 
 CHEATS = os.path.join(REPOSITORY, "tools", "exercises", "cheats")
 LEAST_CHEATS, LEAST_GOOD = 10, 5     # of each exercise
@@ -34,7 +32,7 @@ class Cheat:
 
     @property
     def told(self) -> str:
-        return os.path.relpath(self.path, REPOSITORY)
+        return told_path(self.path)
 
     @property
     def is_good(self) -> bool:
@@ -119,8 +117,6 @@ def cheats(program: str) -> None:
         if few or set(counts) != set(exercises):
             what = "good works" if is_good else "cheats"
             raise Differs(f"tools/exercises/cheats has less than {least} {what} of {few}, or a folder of none")
-    judge: Callable[[Cheat], str | None] = lambda cheat: fault(cheat, exercises[cheat.name].is_program)
-    with ThreadPoolExecutor(os.cpu_count()) as pool:
-        wrong = [told for told in pool.map(judge, found) if told]
-    if wrong:
+    told = each(lambda cheat: fault(cheat, exercises[cheat.name].is_program), found)
+    if wrong := list(filter(None, told)):
         raise Differs("\n".join(wrong))

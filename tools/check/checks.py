@@ -9,13 +9,10 @@ the last line names it, and with --all it fails."""
 from __future__ import annotations
 
 import argparse
-import contextlib
 import os
 import signal
 import subprocess
 import time
-from collections.abc import Iterator
-from types import FrameType
 
 from ..common import calling
 from . import (authors, beside, certificates, cheats, corners, counters, documents, ended, endings, examples,
@@ -77,31 +74,23 @@ def made(name: str, check: Check | tuple[Check, ...], program: str) -> tuple[str
     """Makes all parts of a check. The answer is how it ended (ok, skipped or fails), and why parts were skipped."""
     begun = time.monotonic()
     missing: dict[str, None] = {}
+    signal.signal(signal.SIGALRM, is_too_long)
     for part in check if isinstance(check, tuple) else (check,):
+        signal.alarm(LONGEST)
         try:
-            with limited(LONGEST):
-                part(program)
+            part(program)
         except Skipped as skipped:
             missing[str(skipped)] = None
         except (Differs, OSError, subprocess.SubprocessError) as found:
             return told(name, "fails", f": {found}"), ""
+        finally:
+            signal.alarm(0)
     why = ", ".join(missing)
     return told(name, "skipped" if why else "ok", f": {why}" if why else f", {time.monotonic() - begun:.1f} s"), why
 
 
-@contextlib.contextmanager
-def limited(seconds: float) -> Iterator[None]:
-    """What is done inside fails where it takes longer: a check that waits for ever would end without a result."""
-    def end(_number: int, _frame: FrameType | None) -> None:
-        raise Differs(f"it isn't done after {seconds:g} seconds")
-
-    before = signal.signal(signal.SIGALRM, end)
-    signal.setitimer(signal.ITIMER_REAL, seconds)
-    try:
-        yield
-    finally:
-        signal.setitimer(signal.ITIMER_REAL, 0)
-        signal.signal(signal.SIGALRM, before)
+def is_too_long(*_: object) -> None:
+    raise Differs(f"it isn't done after {LONGEST} seconds")
 
 
 def told(name: str, ending: str, more: str) -> str:

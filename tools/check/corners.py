@@ -1,7 +1,6 @@
 """Texts, images and memories with one fault each, or that are just good, and audits of what `core` writes, as it is and
 with a word of a small machine's configuration changed. The program answers as the reference."""
 
-import glob
 import os
 import random
 from collections.abc import Iterator
@@ -9,7 +8,7 @@ from collections.abc import Iterator
 from ..common.blocks import blocks, listed
 from ..reference import against, audit, commands as reference, runs, script
 from ..step import walk
-from .running import REPOSITORY, Differs, contents, expect, run
+from .running import Differs, contents, expect, paths, run
 
 DATA = blocks("data/corners.txt", __file__)
 BEGUN = DATA["begun text"].encode()
@@ -96,7 +95,7 @@ OTHERS = 400                     # words with no line in its text that are tried
 
 def examples(program: str) -> Iterator[tuple[str, int, bytes]]:
     """Each image of examples/: its name, its frames, and its bytes."""
-    for path in sorted(glob.glob(os.path.join(REPOSITORY, "examples", "*.s"))):
+    for path in paths("examples/*.s"):
         data, status = run([program, "asm"], contents(path))
         if status:
             raise Differs(f"{os.path.basename(path)} has no image")

@@ -9,11 +9,10 @@ pip_search, which knows no counter, so it counts for nobody."""
 
 import os
 import re
-import tempfile
 from collections.abc import Iterator
 
 from ..common.blocks import blocks, parted
-from .running import REPOSITORY, Differs, plant
+from .running import REPOSITORY, Differs, planted
 from .sources import sources
 
 COMMANDS, TESTS = ("pip_searches", "pip_certificates", "pip_commands"), "pip_test_"
@@ -107,6 +106,5 @@ def ends_used(top: str, found: set[str]) -> Iterator[str]:
 
 def found_in(files: dict[str, str]) -> list[str]:
     """What is found in a tree of these files alone."""
-    with tempfile.TemporaryDirectory() as planted:
-        plant(files, planted)
-        return list(counters_named(planted))
+    with planted(files) as place:
+        return list(counters_named(place))

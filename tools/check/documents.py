@@ -1,7 +1,6 @@
 """The sessions and examples of the documents are what the program gives, and docs/TUTORIAL.md shows the files of
 examples/tutorial/ as they are."""
 
-import glob
 import os
 import re
 import sys
@@ -11,7 +10,7 @@ from pathlib import Path
 from ..exporter import crates
 from ..reference import script
 from .examples import script_gives
-from .running import REPOSITORY, Differs, commands_of, expect, part, run, text_of, write_program
+from .running import REPOSITORY, Differs, commands_of, expect, part, paths, run, text_of, told_path, write_program
 
 MARK = b"-- the next command --\n"
 
@@ -146,5 +145,4 @@ def with_answers(name: str) -> list[tuple[str, str]]:
 
 
 def files(ending: str) -> list[str]:
-    paths = glob.glob(os.path.join(REPOSITORY, FOLDER, "*" + ending))
-    return sorted(os.path.relpath(path, REPOSITORY) for path in paths)
+    return [told_path(path) for path in paths(f"{FOLDER}*{ending}")]

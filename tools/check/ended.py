@@ -8,7 +8,7 @@ import sys
 import tempfile
 import time
 
-from .running import SECONDS, Differs, called, copied, expect, finished, heed_interrupts, told_by, write_program
+from .running import SECONDS, Differs, called, copied, expect, finished, heed_interrupts, tool, write_program
 
 MAP = "examples/solutions/map.pip"
 TREE = b"part 1 depth 0 up 1 born 0x00000000 tables 0 rows 0\n"      # for those that read
@@ -22,7 +22,7 @@ def full_devices(program: str) -> None:
     """Each tool that writes ends on a full device with status 2, and says so in one line."""
     for name, *words in TOOLS:
         with open("/dev/full", "wb") as full:
-            _, messages, status = told_by(name, *words, text=TREE, program=program, stdout=full)
+            _, messages, status = tool(program, name, *words, text=TREE, stdout=full)
         if status != 2 or "No space left on device" not in "".join(messages.splitlines()[-1:]):
             raise Differs(f"tools/{name} {' '.join(words)} on a full device: status {status}, {messages[-300:]}")
 
@@ -38,7 +38,7 @@ def interrupted(program: str) -> None:
 def stop(name: str, words: tuple[str, ...], program: str) -> None:
     """Begins a tool that goes on until it is stopped, and sends it Ctrl-C."""
     at = time.monotonic()
-    told_by(name, "--help", program=program)
+    tool(program, name, "--help")
     start = time.monotonic() - at               # what a tool needs before it can answer, on this machine now
     begun = subprocess.Popen(called(name, *words, program=program), stdin=subprocess.PIPE, stdout=subprocess.PIPE,
                              stderr=subprocess.PIPE, preexec_fn=heed_interrupts, start_new_session=True)
@@ -75,7 +75,7 @@ def nothing_is_proved(program: str) -> None:
         for name, *words in NEEDING:
             for option, due in (((), "no program is here, as new as the sources: "),
                                 (("--unproved",), "no program that cargo built is here")):
-                _, messages, status = told_by(name, *words, *option, text=IMAGE, place=place, env=environment)
+                _, messages, status = tool(None, name, *words, *option, text=IMAGE, place=place, env=environment)
                 if status != 2 or messages.count("\n") != 1 or due not in messages:
                     raise Differs(f"tools/{name} {' '.join(words)}, where nothing is built: status {status}, "
                                   f"{messages}")

@@ -2,17 +2,16 @@
 happens where memory is refused."""
 
 import os
-import select
 import subprocess
 import tempfile
-from collections.abc import Callable, Iterator
-from typing import IO
+import threading
+from collections.abc import Iterator
 
 from ..authors import asmx
 from ..common import forms
 from ..reference import commands as reference
 from ..reference import parts
-from .running import REPOSITORY, SECONDS, Differs, Output, contents, expect, run, short, write
+from .running import REPOSITORY, SECONDS, Differs, Output, contents, expect, finished, run, same, write
 
 HERE = os.path.dirname(os.path.abspath(__file__))
 MOST = 1 << 24           # bytes of an input
@@ -46,10 +45,13 @@ MOST_WRITES = LINES // 800      # writes: a read brings up to 16384 bytes, which
 def typed_script(program: str) -> None:
     """Each answer comes before more is sent, also where the first half of the next line was sent."""
     for halves in False, True:
-        process = subprocess.Popen([program, "script"], stdin=subprocess.PIPE, stdout=subprocess.PIPE, bufsize=0)
+        process = subprocess.Popen([program, "script"], stdin=subprocess.PIPE, stdout=subprocess.PIPE)
+        ends = threading.Timer(SECONDS, process.kill)
+        ends.start()
         try:
             type_lines(process, halves)
         finally:
+            ends.cancel()
             process.kill()
             process.communicate()
 
@@ -60,39 +62,31 @@ def type_lines(process: subprocess.Popen[bytes], halves: bool) -> None:
     for number, (line, answer) in enumerate(TYPED, 1):
         ahead = TYPED[number][0] if halves and number < len(TYPED) else b""
         process.stdin.write(line[sent:] + ahead[:len(ahead) // 2])
+        process.stdin.flush()
         sent = len(ahead) // 2
-        got = take(process.stdout, len(answer))
-        if got != answer:
-            raise Differs(f"line {number}{' and half of the next' if sent else ''} was sent, and {short(got)} came, "
-                          f"where {short(answer)} is due")
+        what = f"what came after line {number}{' and half of the next' * bool(sent)} was sent"
+        same(what, process.stdout.read(len(answer)), answer)
     rest, _ = process.communicate(timeout=SECONDS)
     expect("the end of a typed script", (rest, process.returncode), (b"", 2))
 
 
-def take(stream: IO[bytes], count: int) -> bytes:
-    """So many bytes, or what came of them in time."""
-    taken = b""
-    while len(taken) < count and select.select([stream], [], [], SECONDS)[0]:
-        piece = os.read(stream.fileno(), count - len(taken))
-        if not piece:
-            break
-        taken += piece
-    return taken
+def preloaded(name: str, place: str) -> str:
+    """A library of this folder, built for a program to be run with it."""
+    library = os.path.join(place, name + ".so")
+    finished("gcc", ["gcc", "-O1", "-shared", "-fPIC", "-o", library, os.path.join(HERE, name + ".c"), "-ldl"])
+    return library
 
 
 def gathered_answers(program: str) -> None:
     """A long script out of a file makes few writes."""
     with tempfile.TemporaryDirectory() as place:
-        library, counted, script, text = (os.path.join(place, name)
-                                          for name in ("writes.so", "count", "script", "text"))
-        subprocess.run(["gcc", "-O1", "-shared", "-fPIC", "-o", library, os.path.join(HERE, "writes.c"), "-ldl"],
-                       check=True)
-        write(b"boot 32 1\n" + b"ld 0 0x400000\n" * LINES, script)
-        due = b"boot 32 1\n" + b"0x00000000\n" * LINES
+        counted, text = os.path.join(place, "count"), os.path.join(place, "text")
+        script = write(b"boot 32 1\n" + b"ld 0 0x400000\n" * LINES, place, "script")
         with open(script, "rb") as source, open(text, "wb") as sink:
-            done = subprocess.run([program, "script"], stdin=source, stdout=sink, timeout=SECONDS,
-                                  env=dict(os.environ, LD_PRELOAD=library, COUNT=counted))
-        expect(f"a script of {LINES} lines", (contents(text), done.returncode), (due, 0))
+            _, status = run([program, "script"], stdin=source, stdout=sink,
+                            env=dict(os.environ, LD_PRELOAD=preloaded("writes", place), COUNT=counted))
+        due = b"boot 32 1\n" + b"0x00000000\n" * LINES
+        expect(f"a script of {LINES} lines", (contents(text), status), (due, 0))
         count = int(contents(counted))
         if not 0 < count <= MOST_WRITES:
             raise Differs(f"a script of {LINES} lines: {count} writes, where {MOST_WRITES} are the most")
@@ -103,7 +97,6 @@ def gathered_answers(program: str) -> None:
 SCRIPT = b"# before the boot line\nboot 32 1\nld 0 0x400000\n"
 ASSEMBLY = (b".frames 16\n.cpus 1\n.line 0 2 0\n.page 0x00400000\n"
             b"here:\nli r1 7\nout r1\nbne r1 r0 there\nthere:\nint 64\n")
-Refused = Callable[[list[str], bytes, int], tuple[Output, int]]
 NO_MEMORY = 5            # the status
 NO_WORDS = 10            # where memory for the words of the command line is refused to the runtime
 
@@ -133,21 +126,15 @@ def cases() -> Iterator[tuple[list[str], bytes]]:
                                      .splitlines(keepends=True)))
 
 
-def refusals(program: str, library: str, place: str) -> Refused:
-    """A function that runs the program with an allocation refused, and tells how many there were."""
-    def refused(words: list[str], text: bytes, number: int) -> tuple[Output, int]:
-        counted = os.path.join(place, "count")
-        got = run([program, *words], text, env=dict(os.environ, LD_PRELOAD=library, REFUSE=str(number), COUNT=counted))
-        return got, int(contents(counted))
-    return refused
-
-
 def refused_memory(program: str) -> None:
     with tempfile.TemporaryDirectory() as place:
-        library = os.path.join(place, "refuse.so")
-        subprocess.run(["gcc", "-O1", "-shared", "-fPIC", "-o", library, os.path.join(HERE, "refuse.c"), "-ldl"],
-                       check=True)
-        refused = refusals(program, library, place)
+        library, counted = preloaded("refuse", place), os.path.join(place, "count")
+
+        def refused(words: list[str], text: bytes, number: int) -> tuple[Output, int]:
+            """Runs the program with an allocation refused, and answers how many there were, too."""
+            settings = dict(os.environ, LD_PRELOAD=library, REFUSE=str(number), COUNT=counted)
+            return run([program, *words], text, env=settings), int(contents(counted))
+
         for words, text in cases():
             whole, count = refused(words, text, 0)
             expect(f"pip {words[0]}, with a counted memory", whole, reference.pip(words, text))

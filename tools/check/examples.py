@@ -1,13 +1,12 @@
 """The scripts and programs of examples/ give what stands beside them, and the monitor shares its processor out."""
 
-import glob
 import os
 import re
 from collections.abc import Iterator
 
 from ..authors import asmx
 from ..reference import commands as reference, script
-from .running import REPOSITORY, Differs, contents, expect, run, text_of
+from .running import Differs, contents, expect, paths, run, text_of, told_path
 
 SESSIONS = os.path.join("examples", "sessions")
 PROVED = os.path.join("crates", "pip_test_model", "proofs", "Scripts.antt")
@@ -17,10 +16,9 @@ LEMMA = re.compile(r"^(\w+) : script_text \((.*?)\)\s*≡ \((.*?)\)\nunfolding",
 def examples(program: str) -> None:
     """Each script of examples/ and its sessions/ gives what is beside it; a session is also a lemma of its name."""
     for folder in ("examples", SESSIONS):
-        paths = sorted(glob.glob(os.path.join(REPOSITORY, folder, "*.pip")))
-        if not paths:
+        if not (found := paths(f"{folder}/*.pip")):
             raise Differs(f"{folder} has no script")
-        for path in paths:
+        for path in found:
             script_gives(program, path)
     sessions_are_lemmas()
 
@@ -28,11 +26,11 @@ def examples(program: str) -> None:
 def sessions_are_lemmas() -> None:
     """The lemma NAME is about the script NAME.pip of examples/sessions/, without its remarks, and about NAME.out."""
     lemmas = {name: (written(text), written(answers)) for name, text, answers in LEMMA.findall(text_of(PROVED))}
-    for path in sorted(glob.glob(os.path.join(REPOSITORY, SESSIONS, "*.pip"))):
+    for path in paths(f"{SESSIONS}/*.pip"):
         name, lines = os.path.basename(path)[:-len(".pip")], contents(path).decode().splitlines(keepends=True)
         text = "".join(line for line in lines if not line.startswith("#"))
         if lemmas.get(name) != (text, contents(path[:-len("pip")] + "out").decode()):
-            raise Differs(f"{os.path.relpath(path, REPOSITORY)}: {PROVED} has no lemma {name} of this script and these "
+            raise Differs(f"{told_path(path)}: {PROVED} has no lemma {name} of this script and these "
                           "answers")
 
 
@@ -43,7 +41,7 @@ def written(codes: str) -> str:
 
 def script_gives(program: str, path: str) -> None:
     """A script gives the answers beside it, NAME.out, by the program and by the reference."""
-    name = os.path.relpath(path, REPOSITORY)
+    name = told_path(path)
     text, shown = contents(path), contents(path[:-len("pip")] + "out")
     if not text.startswith(b"# "):
         raise Differs(f"{name}: its first line isn't a remark that says what it shows")
@@ -54,15 +52,14 @@ def script_gives(program: str, path: str) -> None:
 
 def programs(program: str) -> None:
     """Each assembly program begins with a remark, and has the reference's image, and the trace beside it, NAME.run."""
-    paths = sorted(glob.glob(os.path.join(REPOSITORY, "examples", "*.s")))
-    for path in paths:
-        name, text = os.path.relpath(path, REPOSITORY), contents(path)
+    names = list(map(told_path, paths("examples/*.s")))
+    for name in names:
+        text = contents(name)
         if not text.startswith(b"# "):
             raise Differs(f"{name}: its first line isn't a remark that says what it shows")
         expect(f"the image of {name}", run([program, "asm"], text), reference.pip(["asm"], text))
-    traced = {os.path.join(REPOSITORY, name) for name in answers(program, "run")}
-    if not set(paths) <= traced:
-        raise Differs(f"{sorted(set(paths) - traced)} have no trace beside them")
+    if lacking := set(names) - set(answers(program, "run")):
+        raise Differs(f"{sorted(lacking)} have no trace beside them")
 
 
 def searches(program: str) -> None:
@@ -92,14 +89,13 @@ def answers(program: str, kind: str) -> list[str]:
 
 def searched(program: str, kind: str) -> Iterator[tuple[str, str, bytes, bytes]]:
     """Each file of this kind: its path, the name of the program beside it, and the image and menu of that."""
-    paths = sorted(glob.glob(os.path.join(REPOSITORY, "examples", "**", "*." + kind), recursive=True))
-    if not paths:
+    if not (found := paths(f"examples/**/*.{kind}")):
         raise Differs(f"examples/ has no text of {kind}")
-    for path in paths:
+    for path in found:
         source = next(filter(os.path.exists, (path[:-len(kind)] + end for end in ("s", "asmx"))))
         lines, text = asmx.processed(source)
         image, _ = run([program, "asm"], asmx.text_of(lines))
-        yield path, os.path.relpath(source, REPOSITORY), image, asmx.text_of(text.menu)
+        yield path, told_path(source), image, asmx.text_of(text.menu)
 
 
 RETRIES = [(seed, period) for period in (40, 53, 90) for seed in range(1, 21)]
@@ -133,8 +129,7 @@ def monitor(program: str) -> None:
     text = contents("examples", "monitor.s")
     if b'"' + text + b'";' not in contents("crates/pip_commands/src/monitor.rt"):
         raise Differs("examples/monitor.s isn't the constant of crates/pip_commands/src/monitor.rt")
-    image, status = run([program, "asm"], text)
-    expect("the image of the monitor", (image, status), reference.pip(["asm"], text))
+    image, _ = run([program, "asm"], text)
     words = ["run", "100000", "1"]
     trace, status = run([program, *words], image)
     expect("the trace of the monitor", (trace, status), reference.pip(words, image))

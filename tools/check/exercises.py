@@ -1,4 +1,5 @@
-"""tools/exercise: each exercise has a section and a solution that reaches all goals, also by seeds; less doesn't."""
+"""tools/exercise: each exercise has a section and a solution that reaches all goals, also by seeds. That less
+doesn't is told by the check `cheats`."""
 
 import itertools
 import os
@@ -6,12 +7,11 @@ import re
 import subprocess
 import sys
 import tempfile
-from concurrent.futures import ThreadPoolExecutor
 
 from ..common.blocks import blocks
 from ..exercises import exercise, judging
 from . import cheats
-from .running import REPOSITORY, SECONDS, Differs, contents, run, session, text_of, told_by as tool, write
+from .running import REPOSITORY, SECONDS, Differs, contents, each, run, says, session, text_of, tool
 
 TIMES = 3                # that each solution is judged, each time with another secret
 SEEDS = ("ada", "grace hopper", "\u00e9")
@@ -22,13 +22,11 @@ def solutions(program: str) -> None:
     cheats.need_judge()
     names = list(judging.exercises())
     files = judging.solutions()
-    if tool("exercise", "--list")[0].split() != names or sorted(files) != sorted(names) or len(names) < 20:
+    if tool(None, "exercise", "--list")[0].split() != names or sorted(files) != sorted(names) or len(names) < 20:
         raise Differs(f"docs/EXERCISES.md, examples/solutions ({sorted(files)}) and the judge ({names}) differ")
-    with ThreadPoolExecutor(os.cpu_count()) as pool:
-        list(pool.map(lambda name: solution(name, files[name]), names * TIMES))
+    each(lambda name: solution(name, files[name]), names * TIMES)
     whole_script(program, files["break-in"])
     drawn_again()
-    lesser(files)
     session("exercise", program)
     without_cargo(files["map"])
 
@@ -36,9 +34,7 @@ def solutions(program: str) -> None:
 def solution(name: str, path: str) -> None:
     if not contents(path).startswith(b"# "):
         raise Differs(f"{path}: its first line isn't a remark")
-    output, messages, status = tool("exercise", name, path)
-    if status or messages:
-        raise Differs(f"tools/exercise {name} of its solution: status {status}, {output}{messages}")
+    says(None, ("exercise", name, path), kind=">")
 
 
 def drawn_again() -> None:
@@ -55,8 +51,7 @@ def by_seeds(program: str) -> None:
     """With a seed the text has other values; a solution for these is good, and that of the repository isn't."""
     cheats.need_judge()
     work = [(seed, name, one.is_program) for seed, (name, one) in itertools.product(SEEDS, judging.exercises().items())]
-    with ThreadPoolExecutor(os.cpu_count()) as pool:
-        list(pool.map(lambda one: by_seed(*one), work))
+    each(lambda one: by_seed(*one), work)
 
 
 def by_seed(seed: str, name: str, is_program: bool) -> None:
@@ -84,9 +79,9 @@ def told_by_seed(name: str, seed: str) -> dict[str, int]:
 
 def whole_script(program: str, path: str) -> None:
     """The script that break-in runs is a good one by itself."""
-    output, messages, status = tool("exercise", "break-in", path, "--script")
-    if status or messages or run([program, "script"], output.encode())[1] or "call 0 8 0x401000 64 256\n" not in output:
-        raise Differs(f"tools/exercise break-in --script: status {status}, {messages!r}")
+    told = says(None, ("exercise", "break-in", path, "--script"), 0, "call 0 8 0x401000 64 256\n", kind=">")
+    if run([program, "script"], told.encode())[1]:
+        raise Differs(f"tools/exercise break-in --script: the program refuses {told[-300:]!r}")
 
 
 def without_cargo(path: str) -> None:
@@ -100,16 +95,6 @@ def without_cargo(path: str) -> None:
     told = done.stderr.decode()
     if done.returncode != 2 or "there is no cargo here" not in told or len(told.splitlines()) != 1:
         raise Differs(f"tools/exercise without cargo: status {done.returncode}, {told}")
-
-
-def lesser(files: dict[str, str]) -> None:
-    """A solution without its last line misses a goal, and gets a hint."""
-    with tempfile.TemporaryDirectory() as place:
-        for name in ("store", "map", "take-back", "enter", "interrupt", "end"):
-            path = write(b"".join(contents(files[name]).splitlines(keepends=True)[:-1]), place, "answer")
-            output, messages, status = tool("exercise", name, path)
-            if status != 1 or messages or "hint: " not in output:
-                raise Differs(f"tools/exercise {name}: status {status}, where 1 is due; {output[-400:]}{messages}")
 
 
 # The solutions, rewritten for the values of a seed

@@ -4,21 +4,17 @@ does what the program does."""
 from __future__ import annotations
 
 import functools
-import multiprocessing
 import os
 import re
-import shutil
 import subprocess
-import sys
 import tempfile
 from collections.abc import Callable
 from pathlib import Path
 
 from ..exporter import export
-from ..reference import comparison, generate
-from .running import REPOSITORY, Differs, Skipped, contents, copied, expect, finished, part, text_of, write
+from .running import (REPOSITORY, Differs, Skipped, agree, called, contents, copied, expect, finished, generated,
+                      needed, part, run, text_of, write)
 
-EXPORT = os.path.join(REPOSITORY, "tools", "export")
 SECONDS = 900            # cargo builds everything
 CASES = 200              # of each command
 CASES_OF_REGISTRY = 20
@@ -58,7 +54,7 @@ def by_cargo(program: str) -> None:
     built = programs(place)
     check_example(built)
     check_own_crate(place)
-    check_cases(built, program, CASES)
+    agree("the exported program", [built("pip")], program, generated(FIRST_SEED, CASES))
 
 
 def of_registry(program: str) -> None:
@@ -69,7 +65,7 @@ def of_registry(program: str) -> None:
             raise Skipped("no public crates for cargo")
         built = programs(place)
         check_example(built)
-        check_cases(built, program, CASES_OF_REGISTRY)
+        agree("the exported program", [built("pip")], program, generated(FIRST_SEED, CASES_OF_REGISTRY))
 
 
 def unproved(program: str) -> None:
@@ -103,8 +99,7 @@ def miri(program: str) -> None:
 
 def need_cargo(tool: str = "") -> None:
     """Skips a check for which there is no cargo, one that is too old, or one without a tool of its own."""
-    if not shutil.which("cargo"):
-        raise Skipped("no cargo")
+    needed("cargo")
     told = subprocess.run(["cargo", "--version"], stdout=subprocess.PIPE, stderr=subprocess.DEVNULL).stdout.decode()
     version = re.match(r"cargo (\d+)\.(\d+)", told)
     if not version or tuple(map(int, version.groups())) < EDITION_KNOWN:
@@ -124,8 +119,7 @@ def exported() -> tempfile.TemporaryDirectory[str]:
 
 def written(place: str, deps: str | None) -> str:
     """Writes an export, and answers what tools/export says of it."""
-    words = [sys.executable, "-B", EXPORT, "--to", place] + (["--deps", deps] if deps else [])
-    return finished("tools/export", words, SECONDS)
+    return finished("tools/export", called("export", "--to", place, *(("--deps", deps) if deps else ())), SECONDS)
 
 
 def cargo(place: str, *words: str, **settings: str) -> str:
@@ -153,7 +147,7 @@ def programs(place: str) -> Callable[[str], str]:
 
 def check_example(built: Callable[[str], str]) -> None:
     due = contents("crates/pip_example/stdout")
-    expect("the exported example", comparison.run_built(built("pip_example"), [], b""), (due, 0))
+    expect("the exported example", run([built("pip_example")]), (due, 0))
 
 
 def check_own_crate(export: str) -> None:
@@ -166,20 +160,4 @@ def check_own_crate(export: str) -> None:
         write(OWN + needs.replace("../pip-rust", export), place, "Cargo.toml")
         write("use " + main, place, "src", "main.rs")
         cargo(place, "build", "--quiet")
-        expect("the crate of docs/EXPORT.md",
-               comparison.run_built(os.path.join(place, "target", "debug", "own"), [], b""), (due.encode(), 0))
-
-
-def check_cases(built: Callable[[str], str], program: str, cases: int) -> None:
-    """Generated cases of each command: output and status are those of the program."""
-    work = [(built("pip"), program, command, FIRST_SEED + k) for command in generate.COMMANDS for k in range(cases)]
-    with multiprocessing.Pool() as pool:
-        for (_, _, command, seed), (got, due) in zip(work, pool.imap(both, work, chunksize=10)):
-            expect(f"the exported program, {command} with the case of seed {seed}", got, due)
-
-
-def both(given: tuple[str, str, str, int]) -> tuple[tuple[bytes, int], tuple[bytes, int]]:
-    """What the export and the program answer to a case."""
-    export, program, command, seed = given
-    words, given_text = generate.case(command, seed)
-    return comparison.run_built(export, words, given_text), comparison.run_built(program, words, given_text)
+        expect("the crate of docs/EXPORT.md", run([os.path.join(place, "target", "debug", "own")]), (due.encode(), 0))

@@ -12,7 +12,7 @@ from ..common.blocks import blocks
 from ..exercises import alone, judging
 from ..judge import building
 from . import cheats
-from .running import (REPOSITORY, Differs, contents, heed_interrupts, says, session, text_of, told_by as tool, write,
+from .running import (REPOSITORY, Differs, contents, heed_interrupts, says, session, text_of, tool, write,
                       write_program)
 
 HOSTILE = os.path.join(REPOSITORY, "tools", "exercises", "hostile")
@@ -31,16 +31,16 @@ def grades(program: str) -> None:
                               ("eve x/break-in.pip", b"peek 1 1\n"), ("eve x/map.pip", CLASS["again"].encode()),
                               ("eve x/notes", b"")):
             write(content, place, path)
-        output, messages, status = tool("grade", place, "--again", "1")
+        output, messages, status = tool(None, "grade", place, "--again", "1")
         due = ("map.s is no work: map ends with .pip", "notes is no work: there is no exercise notes",
                "break-in.pip: line 1: the child can't say")
         lacks = [part for part in due if part not in messages]
         wanted = CLASS["table"] + "(--again 1 draws the same)\n"
         if (output, status) != (wanted, 0) or lacks or len(messages.splitlines()) != 3:
             raise Differs(f"tools/grade: status {status}, {output}{messages}")
-        if (got := tool("grade", place, "--csv")[0]) != CLASS["spreadsheet"]:
+        if (got := tool(None, "grade", place, "--csv")[0]) != CLASS["spreadsheet"]:
             raise Differs(f"tools/grade --csv: {got}")
-        seeds = tool("grade", place, "--seeds")[0]
+        seeds = tool(None, "grade", place, "--seeds")[0]
         if "0/3       0/3  0/3" not in seeds:
             raise Differs(f"tools/grade --seeds: {seeds}")
         session("grade", program, CLASS=place)
@@ -59,7 +59,7 @@ def hostile_works() -> None:
         shutil.copytree(HOSTILE, classroom)
         adapt(classroom)
         begun = time.monotonic()
-        output, messages, status = tool("grade", classroom)
+        output, messages, status = tool(None, "grade", classroom)
         took = time.monotonic() - begun
         rows = {line.split()[0]: line for line in output.splitlines() if line and not line.startswith("(")}
         # The work of ada is the example itself; that of 'own' includes a file of its own folder and is a good one.

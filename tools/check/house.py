@@ -5,11 +5,10 @@ import collections
 import glob
 import os
 import re
-import tempfile
 from collections.abc import Iterator
 
 from .links import documents, without_code
-from .running import REPOSITORY, Differs, plant, planted, text_of
+from .running import REPOSITORY, Differs, planted_for, text_of
 from .sources import sources, texts
 
 MOST = 120                              # columns of a line
@@ -29,8 +28,7 @@ PLANTED = 7                             # faults of the crates that are planted
 
 def house(program: str) -> None:
     """All is in order. That the check finds what isn't is tried first, on planted crates."""
-    with tempfile.TemporaryDirectory() as place:
-        plant(planted("house"), place)
+    with planted_for("house") as place:
         if len(found := list(faults(place))) != PLANTED:
             raise Differs(f"planted crates: {found}")
     if found := list(faults(REPOSITORY)):

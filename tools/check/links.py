@@ -5,7 +5,7 @@ import os
 import re
 from collections.abc import Iterator
 
-from .running import REPOSITORY, Differs, text_of
+from .running import REPOSITORY, Differs, text_of, told_path
 from .sources import sources
 
 LINK = re.compile(r"\]\(([^)\s]+)\)")
@@ -19,16 +19,16 @@ def links(program: str) -> None:
     for path in documents(REPOSITORY):
         for name in PATH.findall(without_code(path)):
             if not any(part in name for part in LEFT_OUT_PATHS) and not os.path.exists(os.path.join(REPOSITORY, name)):
-                raise Differs(f"{os.path.relpath(path, REPOSITORY)}: {name} isn't there")
+                raise Differs(f"{told_path(path)}: {name} isn't there")
         for target in LINK.findall(without_code(path)):
             if re.match("[a-z]+:", target):
                 continue
             name, _, anchor = target.partition("#")
             place = os.path.normpath(os.path.join(os.path.dirname(path), name)) if name else path
             if not os.path.exists(place):
-                raise Differs(f"{os.path.relpath(path, REPOSITORY)}: {target} isn't there")
+                raise Differs(f"{told_path(path)}: {target} isn't there")
             if anchor and anchor not in anchors.setdefault(place, headings(place)):
-                raise Differs(f"{os.path.relpath(path, REPOSITORY)}: {target} names no heading")
+                raise Differs(f"{told_path(path)}: {target} names no heading")
     contracts()
     from . import checks        # which has this one in its list
     unknown = set(checks_named()) - set(checks.CHECKS)

@@ -1,6 +1,5 @@
 """tools/step: the pages of the examples are what program and reference say, and hostile input is refused."""
 
-import glob
 import json
 import os
 import re
@@ -11,7 +10,8 @@ from typing import Any
 from ..reference.model import World
 from ..reference import image as reference_image, runs, script
 from .authors import built_of, liar
-from .running import REPOSITORY, SECONDS, Differs, contents, part, run, session, text_of, tool
+from .running import (REPOSITORY, SECONDS, Differs, contents, part, paths, run, same, says, session, text_of, told_path,
+                      tool)
 
 MOST_LINES = 60          # of a script: a longer one may have too many tables
 
@@ -26,9 +26,7 @@ def data_of(page: str) -> Any:
 
 
 def pages(program: str) -> None:
-    paths = [path for folder in ("examples", "examples/tutorial")
-             for path in sorted(glob.glob(os.path.join(REPOSITORY, folder, "*.pip")))]
-    for path in paths:
+    for path in paths("examples/*.pip") + paths("examples/tutorial/*.pip"):
         script_page(program, path)
     with tempfile.TemporaryDirectory() as place:
         for name, steps in (("monitor", 130), ("hostile", 150)):
@@ -39,10 +37,8 @@ def pages(program: str) -> None:
 
 def script_page(program: str, path: str) -> None:
     """The page of a script has the program's answers, and after each line the tree that the reference has."""
-    name = os.path.relpath(path, REPOSITORY)
-    page, messages, status = stepped(program, path, "--to", str(MOST_LINES))
-    if status or messages:
-        raise Differs(f"tools/step {name}: status {status}, {messages!r}")
+    name = told_path(path)
+    page = says(program, ("step/step", path, "--to", str(MOST_LINES)), kind=">")
     if re.search(r"(src|href)=|url\(|https?:", page):
         raise Differs(f"tools/step {name}: the page loads something from elsewhere")
     data = data_of(page)
@@ -73,13 +69,11 @@ def same_state(what: str, data: Any, step: Any, world: World) -> None:
     for x, words in zip(partitions, (words for words in due if words[0] == "part")):
         told = [str(x["name"]), str(x["depth"]), str(x["up"]), f"0x{x['born']:08x}"]
         told += [str(len(x["tables"])), str(len(x["rows"]))]
-        if told != words[1::2][:1] + words[3::2]:
-            raise Differs(f"{what}: the page has {told}, where {' '.join(words)} is due")
+        same(f"{what}: the page's partition", told, words[1::2][:1] + words[3::2])
     for (name, place), at in zip(step["cpus"], world.processors):
         registers = None if place is None else data["registers"][place]
         runs_there = (at.name, list(at.context.registers) + [at.context.pc]) if at else (0, None)
-        if (name, registers) != runs_there:
-            raise Differs(f"{what}: a processor is {(name, registers)}, where {runs_there} is due")
+        same(f"{what}: what a processor runs", (name, registers), runs_there)
 
 
 def same_words(what: str, data: Any, at: int, world: World) -> None:
@@ -87,25 +81,19 @@ def same_words(what: str, data: Any, at: int, world: World) -> None:
     for frame, due in world.tree.words.items():
         found = [place for since, place in data["words"].get(str(frame), []) if since <= at]
         told = {int(index): word for index, word in data["contents"][found[-1]].items()} if found else {}
-        if told != due:
-            raise Differs(f"{what}: the words of frame {frame} are {told}, where {due} are due")
+        same(f"{what}: the words of frame {frame}", told, due)
 
 
 def run_page(program: str, name: str, steps: int, path: str) -> None:
     """The page of a run has the program's lines at their steps, and what runs as the reference has it."""
     image = contents(built_of(program, f"examples/{name}.s", path))
-    page, messages, status = stepped(program, path, str(steps), "1")
-    if status or messages:
-        raise Differs(f"tools/step of {name}: status {status}, {messages!r}")
-    data = data_of(page)
+    data = data_of(says(program, ("step/step", path, str(steps), "1"), kind=">"))
     lines = [f"{step['place'] - 1} {step['answer']}" for step in data["steps"] if step["answer"]]
     if lines != run([program, "run", str(steps), "1"], image)[0].decode().splitlines()[1:-1]:
         raise Differs(f"tools/step of {name}: the lines aren't those of 'run'")
     world = runs.steps(reference_image.read(image), steps, 1, lambda line: None)
     same_words(f"tools/step of {name}", data, steps, world)
     same_state(f"tools/step of {name}", data, data["steps"][-1], world)
-    if [cpu[0] for cpu in data["steps"][-1]["cpus"]] != [at.name if at else 0 for at in world.processors]:
-        raise Differs(f"tools/step of {name}: what runs at the end isn't the reference's")
 
 
 def names_of_a_run(program: str, place: str) -> None:
@@ -119,9 +107,8 @@ def names_of_a_run(program: str, place: str) -> None:
         step = next(step for step in data_of(page)["steps"] if step["told"] == "step 115")
         if status or not step["did"].endswith(due) or said not in messages or not said and messages:
             raise Differs(f"tools/step of a run, {words}: status {status}, {step['did']!r}, {messages!r}")
-    output, messages, status = stepped(liar(program, place, "s/ out 0x0/ out 0x1/"), path, "200", "1", "--from", "190")
-    if status != 2 or output or "has other lines than the program" not in messages:
-        raise Differs(f"tools/step of a program that differs from the reference: status {status}, {messages!r}")
+    says(liar(program, place, "s/ out 0x0/ out 0x1/"), ("step/step", path, "200", "1", "--from", "190"), 2,
+         "has other lines than the program", kind="!")
 
 
 def hostile(program: str) -> None:
@@ -131,9 +118,7 @@ def hostile(program: str) -> None:
     data = data_of(page)
     if status or [step["answer"] for step in data["steps"]] != ["boot 16 1", "park 1 14", "bad line 5"]:
         raise Differs(f"tools/step, with marks in the text: status {status}, {messages!r}")
-    output, messages, status = stepped("/nonexistent", "-", text=b"boot 16 1\n")
-    if status != 2 or "can't be run" not in messages:
-        raise Differs(f"tools/step without a program: status {status}, {messages!r}")
+    says("/nonexistent", ("step/step", "-"), 2, "can't be run", text=b"boot 16 1\n")
 
 
 # The teacher's loop
@@ -149,7 +134,7 @@ def teachers_loop(program: str) -> None:
                               stderr=subprocess.PIPE, env=dict(os.environ, PIP=program, PAGES=place))
         made = sorted(os.listdir(place))
         is_page = all(contents(os.path.join(place, name)).startswith(b"<!doctype html>") for name in made)
-    due = [os.path.basename(path)[:-4] + ".html" for path in sorted(glob.glob(os.path.join(folders[1], "[0-9]*.pip")))
+    due = [os.path.basename(path)[:-4] + ".html" for path in paths("examples/tutorial/[0-9]*.pip")
            if "answer" not in path]
     if done.returncode or made != due or len(due) < 10 or not is_page:
         raise Differs(f"the loop of docs/TEACHING.md makes {made}, where {due} are due: {done.stderr.decode()[-200:]}")

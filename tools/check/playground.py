@@ -3,16 +3,12 @@ show."""
 
 import atexit
 import functools
-import glob
 import json
-import multiprocessing
 import os
 import shutil
 import subprocess
-import sys
 import tempfile
 from collections.abc import Iterator
-from concurrent.futures import ThreadPoolExecutor
 from typing import Any
 
 from ..authors import why
@@ -21,7 +17,8 @@ from ..judge import building
 from ..reference import generate
 from . import cheats, corners, pages
 from .exporting import SECONDS, need_cargo
-from .running import REPOSITORY, Differs, Skipped, contents, expect, finished, part, text_of, write
+from .running import (REPOSITORY, Differs, Skipped, agree, called, contents, each, finished, generated, needed, part,
+                      paths, run, same, text_of, told_path, write)
 
 PLAYGROUND = os.path.join(REPOSITORY, "tools", "playground")
 CASES = 20               # of each command
@@ -35,16 +32,19 @@ NO_TARGET = "make_module: cargo can't make a module"
 
 def module(program: str) -> None:
     """The examples, and generated cases of each command."""
-    need_node()
-    work = [(made(), program, words, text) for words, text in examples() + cases()]
-    with multiprocessing.Pool() as pool:
-        for (_, _, words, _), (got, due) in zip(work, pool.imap(both, work, chunksize=5)):
-            expect(f"the module, {' '.join(words)}", got, due)
+    needed("node")
+    examples = ((told_path(path), ["script"], contents(path)) for path in scripts())
+    agree("the module", asked("run", made()), program, [*examples, *generated(FIRST_SEED, CASES)])
 
 
-def need_node() -> None:
-    if not shutil.which("node"):
-        raise Skipped("no node")
+def asked(name: str, *words: str) -> list[str]:
+    """The words that have node run a part of the page."""
+    return ["node", os.path.join(PLAYGROUND, f"{name}.mjs"), *words]
+
+
+def lines_of(command: list[str], text: bytes = b"") -> list[bytes]:
+    """What a part of the page writes."""
+    return run(command, text, stderr=subprocess.DEVNULL)[0].splitlines()
 
 
 @functools.lru_cache(maxsize=None)
@@ -55,8 +55,7 @@ def made() -> str:
     atexit.register(shutil.rmtree, place, ignore_errors=True)
     path = os.path.join(place, "pip.wasm")
     make(path)
-    finished("make_page", [sys.executable, "-B", os.path.join(PLAYGROUND, "make_page"), "--module", path, "--to",
-                           page_of(path)])
+    finished("make_page", called("playground/make_page", "--module", path, "--to", page_of(path)))
     if (size := os.path.getsize(page_of(path))) > MOST_BYTES:
         raise Differs(f"the page has {size} bytes, and at most {MOST_BYTES} are wanted")
     return path
@@ -68,8 +67,8 @@ def page_of(path: str) -> str:
 
 def make(path: str) -> None:
     """The compiler is the one in the PATH, or Debian's, unpacked where the environment's RUSTC_WEB says."""
-    words = [sys.executable, "-B", os.path.join(PLAYGROUND, "make_module"), "--to", path]
-    words += ["--debian", os.environ["RUSTC_WEB"]] if "RUSTC_WEB" in os.environ else []
+    debian = ("--debian", os.environ["RUSTC_WEB"]) if "RUSTC_WEB" in os.environ else ()
+    words = called("playground/make_module", "--to", path, *debian)
     done = subprocess.run(words, env=dict(os.environ, **CHECKED), stdout=subprocess.PIPE, stderr=subprocess.STDOUT,
                           timeout=SECONDS)
     told = done.stdout.decode("utf-8", "replace")
@@ -79,39 +78,17 @@ def make(path: str) -> None:
         raise Differs(f"the module isn't made: {told[-3000:]}")
 
 
-def examples() -> list[tuple[list[str], bytes]]:
-    return [(["script"], contents(path)) for path in scripts()]
-
-
-def cases() -> list[tuple[list[str], bytes]]:
-    return [generate.case(command, FIRST_SEED + k) for command in generate.COMMANDS for k in range(CASES)]
-
-
-def both(given: tuple[str, str, list[str], bytes]) -> tuple[tuple[bytes, int], tuple[bytes, int]]:
-    """What the module and the program answer."""
-    path, program, words, text = given
-    return run(["node", os.path.join(PLAYGROUND, "run.mjs"), path, *words], text), run([program, *words], text)
-
-
-def run(command: list[str], text: bytes) -> tuple[bytes, int]:
-    done = subprocess.run(command, input=text, stdout=subprocess.PIPE, stderr=subprocess.DEVNULL, timeout=SECONDS)
-    return done.stdout, done.returncode
-
-
 # The states of the page
 
 def states(program: str) -> None:
     """After each line of each script of examples/ the page shows what a page of tools/step shows."""
-    need_node()
-    work = [(program, made(), script) for script in scripts()]
-    with multiprocessing.Pool() as pool:
-        for found in pool.imap(same_states, work):
-            if found:
-                raise Differs(found)
+    needed("node")
+    made()
+    each(lambda script: same_states(program, script), scripts())
 
 
 def scripts() -> list[str]:
-    return sorted(glob.glob(os.path.join(REPOSITORY, "examples", "**", "*.pip"), recursive=True))
+    return paths("examples/**/*.pip")
 
 
 def answers_of(script: str) -> bool:
@@ -119,35 +96,31 @@ def answers_of(script: str) -> bool:
     return os.path.exists(script[:-len(".pip")] + ".out")
 
 
-def same_states(given: tuple[str, str, str]) -> str:
-    """What differs, in a sentence; nothing where all is the same."""
-    program, path, script = given
-    name = os.path.relpath(script, REPOSITORY)
+def same_states(program: str, script: str) -> None:
+    name = told_path(script)
     page, messages, status = pages.stepped(program, script, "--to", str(pages.MOST_LINES))
     # The solution of break-in goes on where the exercise's script ends: there is no machine in it.
-    due = pages.data_of(page) if status == 0 else {"steps": []} if "step: bad line" in messages else None
-    if due is None:
-        return f"tools/step {name}: {messages}"
+    if status and "step: bad line" not in messages:
+        raise Differs(f"tools/step {name}: {messages}")
+    due = {"steps": []} if status else pages.data_of(page)
     count = sum(1 for step in due["steps"] if not step["answer"].startswith("bad line"))
-    told = run(["node", os.path.join(PLAYGROUND, "states.mjs"), path, str(max(count, 1))],
-               contents(script))[0].splitlines()
-    if len(told) != count:
-        return f"the page of {name} has {len(told)} states, where {count} are due"
-    found = (differs(json.loads(line), due, k) for k, line in enumerate(told))
-    return next((f"the page of {name}, answer {k + 1}: {what}"[:2000] for k, what in enumerate(found) if what), "")
+    told = lines_of(asked("states", made(), str(max(count, 1))), contents(script))
+    same(f"the states that the page of {name} has", len(told), count)
+    for k, data in enumerate(map(json.loads, told)):
+        chosen = 7 * k % data["frames"]
+        same_parts(f"the page of {name}, answer {k + 1}", state_of(data, -1, chosen), state_of(due, k, chosen))
 
 
-def differs(told: dict[str, Any], due: dict[str, Any], k: int) -> str:
-    chosen = 7 * k % told["frames"]
-    got, wanted = state_of(told, len(told["steps"]) - 1, chosen), state_of(due, k, chosen)
-    return next((f"{part} is {got[part]}, where {wanted[part]} is due" for part in wanted if got[part] != wanted[part]),
-                "")
+def same_parts(what: str, got: dict[str, Any], due: dict[str, Any]) -> None:
+    for name, wanted in due.items():
+        if got[name] != wanted:
+            raise Differs(f"{what}: {name} is {got[name]}, where {wanted} is due"[:2000])
 
 
 def state_of(data: dict[str, Any], k: int, chosen: int) -> dict[str, Any]:
-    """A state of a page, with the words of a frame."""
-    step = data["steps"][k]
-    words = [place for at, place in data["words"].get(str(chosen), []) if at <= k]
+    """A state of a page, with the words of a frame; the last one is -1."""
+    step, last = data["steps"][k], k % len(data["steps"])
+    words = [place for at, place in data["words"].get(str(chosen), []) if at <= last]
     return {"tree": [data["partitions"][at] for at in data["trees"][step["tree"]]], "grid": data["grids"][step["grid"]],
             "cpus": [(name, at if at is None else data["registers"][at]) for name, at in step["cpus"]],
             "words": data["contents"][words[-1]] if words else {},
@@ -159,15 +132,16 @@ def state_of(data: dict[str, Any], k: int, chosen: int) -> dict[str, Any]:
 def reasons(program: str) -> None:
     """Of each generated text that is refused, and of lines that are bad in one way each, the page says what tools/why
     says."""
-    need_node()
-    refused_as(program, "script", bad_texts(), len(list(corners.listed_of("lines of a script"))))
-    refused_as(program, "asm", bad_assembly(), len(list(corners.listed_of("lines of a text"))))
+    needed("node")
+    for kind, texts, title in (("script", corners.texts(), "lines of a script"),
+                               ("asm", corners.assembly(), "lines of a text")):
+        refused_as(program, kind, [*texts, *generated_texts(kind)], len(list(corners.listed_of(title))))
 
 
 def refused_as(program: str, kind: str, texts: list[bytes], least: int) -> None:
     with tempfile.TemporaryDirectory() as place:
         files = [write(text, place, str(k)) for k, text in enumerate(texts)]
-        told = run(["node", os.path.join(PLAYGROUND, "why.mjs"), made(), facts(), kind, *files], b"")[0].splitlines()
+        told = lines_of(asked("why", made(), facts(), kind, *files))
     if len(told) != len(texts):
         raise Differs(f"the page explains {len(told)} texts of {len(texts)}")
     refused = sum(same_reason(program, text, json.loads(line), kind == "asm") for text, line in zip(texts, told))
@@ -182,15 +156,7 @@ def facts() -> str:
     return write(known, os.path.dirname(made()), "facts")
 
 
-def bad_texts() -> list[bytes]:
-    return [*corners.texts(), *generated("script")]
-
-
-def bad_assembly() -> list[bytes]:
-    return [*corners.assembly(), *generated("asm")]
-
-
-def generated(command: str) -> Iterator[bytes]:
+def generated_texts(command: str) -> Iterator[bytes]:
     return filter(is_utf8, (generate.case(command, FIRST_SEED + k)[1] for k in range(CASES_OF_REASONS)))
 
 
@@ -225,21 +191,12 @@ WINDOWS = 3
 def runs(program: str) -> None:
     """The first steps of each program of examples/, and some around its lines further on, by two seeds. Registers are
     the reference's."""
-    need_node()
-    work = [(program, made(), facts(), text, seed) for text in sources() for seed in (1, 7)]
-    with multiprocessing.Pool() as pool:
-        for found in pool.imap(same_run, work):
-            if found:
-                raise Differs(found)
+    needed("node")
+    facts()
+    each(lambda work: same_run(program, *work), [(source, seed) for source in paths("examples/*.s") for seed in (1, 7)])
 
 
-def sources() -> list[str]:
-    return sorted(glob.glob(os.path.join(REPOSITORY, "examples", "*.s")))
-
-
-def same_run(given: tuple[str, str, str, str, int]) -> str:
-    """What differs, in a sentence; nothing where all is the same."""
-    program, path, facts, source, seed = given
+def same_run(program: str, source: str, seed: int) -> None:
     text = contents(source)
     with tempfile.TemporaryDirectory() as place:
         image = write(run([program, "asm"], text)[0], place, "image")
@@ -247,45 +204,35 @@ def same_run(given: tuple[str, str, str, str, int]) -> str:
             page, messages, status = pages.stepped(program, image, str(first + STEPS), str(seed), "--source", source,
                                                    "--from", str(first), "--jobs", "1")
             if status:
-                return f"tools/step {source}: {messages}"
-            found = run_differs(path, facts, text, seed, first, pages.data_of(page))
-            if found:
-                return f"the page of {os.path.basename(source)}, seed {seed}: {found}"[:2000]
-    return ""
+                raise Differs(f"tools/step {source}: {messages}")
+            same_window(f"the page of {told_path(source)}, seed {seed}", text, seed, first, pages.data_of(page))
 
 
 def windows(program: str, image: str, seed: int) -> list[int]:
     """Where windows begin: at the beginning, and before some of the lines of the run."""
     told, _ = run([program, "run", str(MOST_WITH_LINES), str(seed)], contents(image))
-    lines = told.decode().splitlines()[1:-1]
-    steps = [int(line.split(" ")[0]) for line in lines]
+    steps = [int(line.split()[0]) for line in told.splitlines()[1:-1]]
     chosen = [steps[k * len(steps) // WINDOWS] for k in range(1, WINDOWS)] if steps else []
     return sorted({0, *(max(0, step - STEPS // 2) for step in chosen)})
 
 
-def run_differs(path: str, facts: str, text: bytes, seed: int, first: int, due: dict[str, Any]) -> str:
+def same_window(what: str, text: bytes, seed: int, first: int, due: dict[str, Any]) -> None:
     counts = range(first, first + STEPS + 1)
-    told = run(["node", os.path.join(PLAYGROUND, "runs.mjs"), path, facts, str(seed),
-                           *map(str, counts)], text)[0].splitlines()
-    if len(told) != len(counts):
-        return f"{len(told)} states, where {len(counts)} are due"
-    for k, (count, line) in enumerate(zip(counts, told)):
-        data, chosen = json.loads(line), 7 * count % 16
-        got, wanted = shown(data, len(data["steps"]) - 1, chosen), shown(due, k, chosen)
+    told = lines_of(asked("runs", made(), facts(), str(seed), *map(str, counts)), text)
+    same(f"{what}: the states", len(told), len(counts))
+    for k, (count, data) in enumerate(zip(counts, map(json.loads, told))):
+        got, wanted = (shown(page, at, 7 * count % 16) for page, at in ((data, -1), (due, k)))
         if k == 0 and count:
             # of the step before the window
-            wanted = {**wanted, **{name: got[name] for name in ("told", "answer", "did", "changed", "place")}}
-        found = next((f"{name} after {count} steps is {got[name]}, where {wanted[name]} is due" for name in wanted
-                      if got[name] != wanted[name]), "")
-        if found:
-            return found
-    return ""
+            wanted.update((name, got[name]) for name in ("told", "answer", "did", "changed", "place"))
+        same_parts(f"{what}, after {count} steps", got, wanted)
 
 
 def shown(data: dict[str, Any], k: int, chosen: int) -> dict[str, Any]:
     """A state without its remark, which is the page's own."""
     state = state_of(data, k, chosen)
-    return {**{name: told for name, told in state.items() if name != "remarks"}, "did": data["steps"][k]["did"]}
+    del state["remarks"]
+    return {**state, "did": data["steps"][k]["did"]}
 
 
 # The judge
@@ -301,27 +248,17 @@ ODD = (("map", b"boot 64 1\nld 0 00\n"), ("map", b""), ("map", b"# nothing\n"), 
 
 def judge(program: str) -> None:
     """The judge in the page's module says of each solution, cheat and odd text what that of tools/exercise says."""
-    need_node()
+    needed("node")
     cheats.need_judge()
-    asked = [one.decode("utf-8", "replace") for one in requests()]
-    if len(asked) < LEAST:
-        raise Differs(f"there are {len(asked)} requests to the judge")
-    words = ["node", os.path.join(PLAYGROUND, "judge.mjs"), made()]
-    lines = "".join(json.dumps(one) + "\n" for one in asked)
-    done = subprocess.run(words, input=lines.encode(), stdout=subprocess.PIPE, timeout=SECONDS)
-    found = [json.loads(line) for line in done.stdout.splitlines()]
-    if len(found) != len(asked):
-        raise Differs(f"the module's judge answers {len(found)} requests of {len(asked)}")
+    all_asked = [one.decode("utf-8", "replace") for one in requests()]
+    if len(all_asked) < LEAST:
+        raise Differs(f"there are {len(all_asked)} requests to the judge")
+    lines = "".join(json.dumps(one) + "\n" for one in all_asked)
+    found = list(map(json.loads, lines_of(asked("judge", made()), lines.encode())))
+    same("the requests that the module's judge answers", len(found), len(all_asked))
     path = building.program()
-    with ThreadPoolExecutor(os.cpu_count()) as pool:
-        due = pool.map(lambda one: answered(path, one), asked)
-        for one, got, wanted in zip(asked, found, due):
-            if got != wanted:
-                raise Differs(f"the module's judge says {got}, where {wanted} is due, of the request\n{one[:1000]}")
-
-
-def answered(path: str, one: str) -> str:
-    return subprocess.run([path], input=one.encode(), stdout=subprocess.PIPE).stdout.decode()
+    each(lambda pair: same(f"what the module's judge says of the request {pair[0][:1000]!r}", pair[1],
+                           run([path], pair[0].encode())[0].decode()), zip(all_asked, found))
 
 
 def requests() -> Iterator[bytes]:

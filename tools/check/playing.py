@@ -1,7 +1,6 @@
 """The page of tools/step and the page that runs, in a headless Chromium: what data/playing.txt does and tests there,
 that the second loads nothing, that a long file doesn't hold it up, sizes and colours."""
 
-import glob
 import json
 import os
 import re
@@ -15,7 +14,7 @@ from ..exercises import judging
 from . import pages, playground
 from .authors import built_of
 from .browser import PAUSE, Browser, Failed, found
-from .running import REPOSITORY, Differs, Skipped, contents, text_of, write
+from .running import REPOSITORY, Differs, Skipped, contents, paths, text_of, write
 
 LONG_LINES = 1_100_000           # of "ld 0 0x400000": nearly as many bytes as an input may have
 LONGEST_WAIT = 2.0               # seconds in which the page has to answer while the worker is at that
@@ -64,7 +63,7 @@ def in_browser(program: str) -> None:
     path = playground.page_of(playground.made())
     loads_nothing(path)
     answered = [script for script in playground.scripts() if playground.answers_of(script)]
-    checked = len(answered) + len(glob.glob(os.path.join(REPOSITORY, "examples", "*.run")))
+    checked = len(answered) + len(paths("examples/*.run"))
     names = {**NAMES, "COUNT": str(checked), "NO_TABLE": meanings.of_status(9),
              "SOLUTION": text_of(judging.solutions()["store"]), "SERVICES": text_of("examples/timer_and_services.s")}
     try:

@@ -8,7 +8,7 @@ import tempfile
 from typing import Any
 
 from .exporting import SECONDS
-from .running import REPOSITORY, Differs, Skipped, contents, expect, finished, run, write, write_program
+from .running import REPOSITORY, Differs, contents, expect, finished, needed, run, write, write_program
 
 GATE = "#!/bin/sh\ncp {program} crates/pip/out/pip\necho '1 passed, 0 failed'\n"
 # Stands in for the kit, which prints its line, and for the page's module
@@ -19,8 +19,8 @@ LEFT_OUT = shutil.ignore_patterns("out", ".git", "__pycache__", "*.log")
 
 def works(program: str) -> None:
     """Makes a release of a copy of the checkout, whose gate is a stand-in, and uses it elsewhere as a reader would."""
-    found_in_path("git")
-    found_in_path("cmark-gfm")
+    needed("git")
+    needed("cmark-gfm")
     with tempfile.TemporaryDirectory() as place:
         checkout, tools = os.path.join(place, "checkout"), os.path.join(place, "bin")
         copied(checkout, program, tools)
@@ -50,7 +50,7 @@ def used(place: str, tools: str) -> None:
     """Runs a release with what any machine has, and with no kit and no cargo in the PATH."""
     os.mkdir(tools)
     for name in ("sh", "cat", "awk", "find", "head", "readlink", "dirname", "grep", "sha256sum"):
-        os.symlink(found_in_path(name), os.path.join(tools, name))
+        os.symlink(needed(name), os.path.join(tools, name))
     os.symlink(sys.executable, os.path.join(tools, "python3"))
     os.symlink("/usr/bin/env", os.path.join(tools, "env"))
     settings: dict[str, Any] = {"cwd": place, "env": {"PATH": tools}}
@@ -64,10 +64,3 @@ def used(place: str, tools: str) -> None:
     for name in ("README.html", "docs/TUTORIAL.html", "pip.html", "rust/Cargo.toml", "rust/crates/pip/src/main.rs"):
         if not os.path.isfile(os.path.join(place, name)):
             raise Differs(f"a release has no {name}")
-
-
-def found_in_path(name: str) -> str:
-    path = shutil.which(name)
-    if path is None:
-        raise Skipped(f"no {name}")
-    return path

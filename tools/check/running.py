@@ -2,6 +2,8 @@
 
 from __future__ import annotations
 
+import contextlib
+import glob
 import os
 import re
 import shutil
@@ -9,14 +11,18 @@ import signal
 import subprocess
 import sys
 import tempfile
-from collections.abc import Callable, Mapping, Sequence
-from typing import Any
+from collections.abc import Callable, Iterable, Iterator, Mapping, Sequence
+from concurrent.futures import ThreadPoolExecutor
+from typing import Any, TypeVar
 
 from ..common.blocks import blocks, escaped, repeated
-from ..common.calling import first_difference
+from ..common.calling import REPOSITORY as REPOSITORY, first_difference
+from ..reference import generate
 
-REPOSITORY = os.path.dirname(os.path.dirname(os.path.dirname(os.path.abspath(__file__))))
+T = TypeVar("T")
+U = TypeVar("U")
 Output = tuple[bytes, int]           # what a program writes to standard output, and its status
+Case = tuple[str, list[str], bytes]  # what is said of it, the words of a command, and its input
 Check = Callable[[str], None]        # is given the program's path, and raises Differs or Skipped
 SECONDS = 300            # no run of a check takes that long, even on a machine whose processors are busy
 
@@ -29,6 +35,16 @@ def contents(*parts: str) -> bytes:
 
 def text_of(*parts: str) -> str:
     return contents(*parts).decode()
+
+
+def paths(pattern: str) -> list[str]:
+    """The files of the repository of such a path from its top, in order."""
+    return sorted(glob.glob(os.path.join(REPOSITORY, pattern), recursive=True))
+
+
+def told_path(path: str) -> str:
+    """A path as messages have it, from the top of the repository."""
+    return os.path.relpath(path, REPOSITORY)
 
 
 def write(content: str | bytes, *parts: str) -> str:
@@ -46,16 +62,19 @@ def write_program(content: str, *parts: str) -> str:
     return path
 
 
-def plant(files: Mapping[str, str], place: str) -> None:
-    """Writes texts by their paths below a folder."""
-    for path, text in files.items():
-        write(text, place, path)
+@contextlib.contextmanager
+def planted(files: Mapping[str, str]) -> Iterator[str]:
+    """A folder with these texts by their paths."""
+    with tempfile.TemporaryDirectory() as place:
+        for path, text in files.items():
+            write(text, place, path)
+        yield place
 
 
-def planted(check: str) -> dict[str, str]:
-    """The files that are planted for a check, by their paths: those of data/planted.txt."""
-    found = (title.partition(" ")[::2] + (text,) for title, text in blocks("data/planted.txt", __file__).items())
-    return {path: repeated(text) for name, path, text in found if name == check}
+def planted_for(check: str) -> contextlib.AbstractContextManager[str]:
+    """A folder with the files that are planted for a check: those of data/planted.txt."""
+    titled = {title.partition(" ")[::2]: text for title, text in blocks("data/planted.txt", __file__).items()}
+    return planted({path: repeated(text) for (name, path), text in titled.items() if name == check})
 
 
 class Differs(Exception):
@@ -64,6 +83,14 @@ class Differs(Exception):
 
 class Skipped(Exception):
     """Why a check can't be made here, as `no cargo`."""
+
+
+def needed(name: str) -> str:
+    """The path of a tool; a check for which it is missing is skipped."""
+    path = shutil.which(name)
+    if path is None:
+        raise Skipped(f"no {name}")
+    return path
 
 
 def run(command: Sequence[str | bytes], text: bytes = b"", **streams: Any) -> Output:
@@ -100,13 +127,9 @@ def called(name: str, *words: str, program: str | None = None, place: str = REPO
     return [sys.executable, "-B", os.path.join(place, "tools", name), *words, *(["--program", program or ""] * takes)]
 
 
-def tool(program: str, name: str, *words: str, text: bytes = b"") -> tuple[str, str, int]:
-    """Output, messages and status of a tool that needs a program."""
-    return told_by(name, *words, text=text, program=program)
-
-
-def told_by(name: str, *words: str, text: bytes = b"", program: str | None = None, place: str = REPOSITORY,
-            **settings: Any) -> tuple[str, str, int]:
+def tool(program: str | None, name: str, *words: str, text: bytes = b"", place: str = REPOSITORY,
+         **settings: Any) -> tuple[str, str, int]:
+    """Output, messages and status of a tool, with a program if it needs one."""
     settings = {"stdout": subprocess.PIPE, "cwd": place, **settings}
     done = subprocess.run(called(name, *words, program=program, place=place), input=text, timeout=SECONDS,
                           stderr=subprocess.PIPE, **settings)
@@ -134,13 +157,15 @@ def copied(place: str, *names: str, without: Sequence[str] = ()) -> None:
             shutil.copy(source, target)
 
 
-def says(program: str | None, words: Sequence[str], status: int = 0, *parts: str, text: bytes = b"") -> str:
-    """What a tool writes, with a program if it needs one. It has to end with the status, and to say these parts."""
-    output, messages, got = told_by(*words, text=text, program=program)
+def says(program: str | None, words: Sequence[str], status: int = 0, *parts: str, text: bytes = b"",
+         kind: str = ":") -> str:
+    """What a tool writes, with a program if it needs one. It has to end with the status, and to say these parts: by the
+    kind anywhere, with nothing on standard error (`>`), or on standard output (`!`)."""
+    output, messages, got = tool(program, *words, text=text)
     missing = [part for part in parts if part not in output + messages]
-    if got != status or missing:
-        raise Differs(f"tools/{' '.join(words)}: status {got}, where {status} is due; {missing} is missing in "
-                      f"{(output + messages)[-300:]!r}")
+    if got != status or missing or kind == ">" and messages or kind == "!" and output:
+        raise Differs(f"tools/{' '.join(words)} of {text[:40]!r}: status {got}, where {status} is due; {missing} is "
+                      f"missing in {output[-300:]!r} and {messages[-300:]!r}")
     return output
 
 
@@ -158,15 +183,12 @@ def session(title: str, program: str, **paths: str) -> None:
             text = LINES.sub(lambda found: found[1] * int(found[2]), escaped(given))
             write(text, paths["FILE"])
             words = [word.format_map(paths) for word in told.split(" ")]
-            output, messages, status = told_by(*words, text=text, program=program)
             said = SAID.fullmatch(lines[0])
             assert said
             named = dict(line[2:].split(" ", 1) for line in lines if line.startswith("= "))
             parts = [said[3], *(line for line in lines[1:] if not line.startswith("= ")), *named.values()]
-            missing = [part for part in parts if escaped(part).decode() not in output + messages]
-            if status != int(said[1]) or missing or said[2] == ">" and messages or said[2] == "!" and output:
-                raise Differs(f"tools/{' '.join(words)} of {text[:40]!r}: status {status}, where {said[1]} is due; "
-                              f"{missing} is missing in {output[-300:]!r} and {messages[-300:]!r}")
+            output = says(program, words, int(said[1]), *(escaped(part).decode() for part in parts), text=text,
+                          kind=said[2])
             for name, part in named.items():
                 paths[name] = number_of(output, escaped(part).decode())
 
@@ -185,6 +207,34 @@ def expect(what: str, got: tuple[bytes | None, int], wanted: tuple[bytes | None,
         raise Differs(f"{what}: status {status}, where {due} is due; it wrote {short(output)}")
     place, ours, theirs = first_difference((text or b"").split(b"\n"), (output or b"").split(b"\n"))
     raise Differs(f"{what}: line {place + 1} of the output is {short(theirs)}, where {short(ours)} is due")
+
+
+def same(what: str, got: object, due: object) -> None:
+    if got != due:
+        raise Differs(f"{what}: {got!r}, where {due!r} is due")
+
+
+def each(judge: Callable[[T], U], work: Iterable[T]) -> list[U]:
+    """Judges all of these, as many at once as there are processors; what the first of them raises counts."""
+    with ThreadPoolExecutor(os.cpu_count()) as pool:
+        return list(pool.map(judge, work))
+
+
+def generated(first: int, count: int, without: Sequence[str] = ()) -> Iterator[Case]:
+    """The cases of that many seeds of each command."""
+    for command in generate.COMMANDS:
+        if command not in without:
+            for seed in range(first, first + count):
+                yield f"{command} with the case of seed {seed}", *generate.case(command, seed)
+
+
+def agree(what: str, other: Sequence[str], program: str, cases: Iterable[Case]) -> None:
+    """Refuses another program that doesn't answer each case as the program does."""
+    def judge(case: Case) -> None:
+        told, words, text = case
+        expect(f"{what}, {told}", run([*other, *words], text, stderr=subprocess.DEVNULL), run([program, *words], text))
+
+    each(judge, cases)
 
 
 def part(pattern: str, text: str) -> str:

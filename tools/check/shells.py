@@ -6,26 +6,20 @@ import pty
 import re
 import select
 import subprocess
-import sys
 import tempfile
 import termios
 import time
 
-from .running import REPOSITORY, SECONDS, Differs, contents, heed_interrupts, run, text_of, tool
-
-SHELL = os.path.join(REPOSITORY, "tools", "shell")
+from . import running
+from .running import REPOSITORY, SECONDS, Differs, called, contents, heed_interrupts, run, same, text_of
 
 
 def says(program: str, text: str, *words: str) -> str:
-    output, messages, status = tool(program, "shell", *words, text=text.encode("utf-8", "surrogateescape"))
-    if status or messages:
-        raise Differs(f"tools/shell of {text!r}: status {status}, {messages}")
-    return output
+    return running.says(program, ("shell", *words), text=text.encode("utf-8", "surrogateescape"), kind=">")
 
 
 def expect(what: str, got: object, due: object) -> None:
-    if got != due:
-        raise Differs(f"tools/shell, {what}: {got!r}, where {due!r} is due")
+    same(f"tools/shell, {what}", got, due)
 
 
 def through_a_pipe(program: str) -> None:
@@ -81,8 +75,8 @@ def keeps_files(program: str) -> None:
                           ("load /nonexistent", "can't be read"),
                           ("undo x", "the number of lines"), ("tree 1", "has nothing after it"),
                           ("tree", "there is no machine yet"), ("load /dev/null", "no line with an answer")):
-            if due not in says(program, line + "\n"):
-                raise Differs(f"tools/shell of {line!r}: {says(program, line)!r}")
+            if due not in (answer := says(program, line + "\n")):
+                raise Differs(f"tools/shell of {line!r}: {answer!r}")
 
 
 def each_example(program: str) -> None:
@@ -96,8 +90,8 @@ def each_example(program: str) -> None:
 def on_a_terminal(program: str) -> None:
     """A prompt, the arrow keys, and Ctrl-C that gives up a line and no more."""
     outer, inner = pty.openpty()
-    begun = subprocess.Popen([sys.executable, "-B", SHELL, "--program", program], stdin=inner, stdout=inner,
-                             stderr=inner, start_new_session=True, preexec_fn=lambda: take_terminal(inner),
+    begun = subprocess.Popen(called("shell", program=program), stdin=inner, stdout=inner, stderr=inner,
+                             start_new_session=True, preexec_fn=lambda: take_terminal(inner),
                              env=dict(os.environ, TERM="dumb"))
     os.close(inner)
     try:
@@ -121,7 +115,7 @@ def take_terminal(terminal: int) -> None:
 
 
 def wait_for(terminal: int, due: str) -> None:
-    shown, limit = "", time.monotonic() + 20
+    shown, limit = "", time.monotonic() + SECONDS
     while due not in shown:
         if not select.select([terminal], [], [], max(limit - time.monotonic(), 0))[0]:
             raise Differs(f"tools/shell on a terminal: {shown!r}, where {due!r} is due")

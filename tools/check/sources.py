@@ -4,19 +4,17 @@ the crates fit. And how checks read sources."""
 import collections
 import os
 import re
-import tempfile
 from collections.abc import Iterator
 
 from ..edits.reading import NotApplied, all_edits, edited
-from .running import REPOSITORY, Differs, plant, planted, text_of
+from .running import REPOSITORY, Differs, planted_for, text_of
 
 IMPORT = re.compile(r"^\s*ghost use [^{\n]*\{([^}\n]*)\};$")
 
 
 def ghost_imports(program: str) -> None:
     """Each name that a clause's import brings is used in its file. A planted file is tried first."""
-    with tempfile.TemporaryDirectory() as place:
-        plant(planted("imports"), place)
+    with planted_for("imports") as place:
         if [name for _, name in imports_in_vain(place)] != ["◌<◌", "length"]:
             raise Differs("planted imports aren't found")
     found = [f"{path}: {name}" for path, name in imports_in_vain(REPOSITORY)]
@@ -76,8 +74,7 @@ def troubles(top: str) -> list[str]:
 
 def edits(program: str) -> None:
     """Each edit of must-fail/ and tried/ applies, and no two of a crate have one name. Planted ones are tried first."""
-    with tempfile.TemporaryDirectory() as place:
-        plant(planted("edits"), place)
+    with planted_for("edits") as place:
         if len(troubles(place)) != 5:
             raise Differs(f"planted edits: {troubles(place)}")
     if found := troubles(REPOSITORY):

@@ -2,16 +2,14 @@
 the reference, the pictures, and the hints of types, in which mypy, as strict as it is, finds nothing."""
 
 import filecmp
-import glob
 import os
 import re
-import shutil
 import subprocess
 import sys
 import tempfile
 
 from ..reference import comparison
-from .running import REPOSITORY, Check, Differs, Skipped, finished, plant, planted, text_of
+from .running import REPOSITORY, Check, Differs, Skipped, finished, needed, paths, planted_for, text_of, told_path
 
 CASES = {"script": 400, "asm": 200, "dis": 200, "run": 200, "tree": 100, "core": 100, "soak": 200, "native": 200,
          "slots": 200, "audit": 200, "every": 500, "against": 500, "apart": 300,
@@ -58,8 +56,7 @@ def tested(program: str, *modules: str) -> None:
 def debugger(program: str) -> None:
     """Its states are the program's, it goes back as it went forward, and a terminal and an editor's adapter show what
     is there."""
-    if not shutil.which("cargo"):
-        raise Skipped("no cargo")
+    needed("cargo")
     tested(program, "debugger_tests", "adapter_tests")
 
 
@@ -81,14 +78,11 @@ def types(program: str) -> None:
     """The tools are typed throughout, by `dict[..]` and its like. Planted modules are tried first."""
     if not OLD.search("from typing import Any, Dict\n"):
         raise Differs("a planted import of Dict isn't found")
-    for path in glob.glob(os.path.join(REPOSITORY, "tools", "**", "*.py"), recursive=True):
+    for path in paths("tools/**/*.py"):
         if OLD.search(text_of(path)):
-            raise Differs(f"{os.path.relpath(path, REPOSITORY)} imports of typing what Python has itself")
-    mypy = shutil.which("mypy")
-    if mypy is None:
-        raise Skipped("no mypy")
-    with tempfile.TemporaryDirectory() as place:
-        plant({"tools/__init__.py": "", **planted("types")}, place)
+            raise Differs(f"{told_path(path)} imports of typing what Python has itself")
+    mypy = needed("mypy")
+    with planted_for("types") as place:
         told, status = judged(mypy, place)
         missing = [due for due in DUE if due not in told]
         if status != 1 or missing:

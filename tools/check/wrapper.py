@@ -17,8 +17,8 @@ from typing import Any, IO
 
 from ..common import forms
 from ..common.blocks import blocks
-from .running import (REPOSITORY, SECONDS, Differs, Skipped, contents, expect as expect_output, heed_interrupts,
-                      part, run, text_of, write, write_program)
+from .running import (REPOSITORY, SECONDS, Differs, contents, expect as expect_output, heed_interrupts,
+                      needed, part, run, same, text_of, write, write_program)
 
 Process = subprocess.Popen[bytes]
 Ended = tuple[str, str, int, int]    # output, messages and status of ./pip, and how often it built
@@ -43,18 +43,12 @@ class Checkout:
         for name in (*SOURCES, USAGE):
             self.touch(name, 1000)
         for name, text in blocks("data/standins.txt", __file__).items():
-            (self.write_program if name.startswith("bin/") else self.write)(name, text)
+            (write_program if name.startswith("bin/") else write)(text, place, name)
         for name in ("crates.txt", "tools/export", *FOLDERS[1:]):
             os.utime(self.path(name), (1000, 1000))
 
     def path(self, name: str) -> str:
         return os.path.join(self.place, name)
-
-    def write(self, name: str, text: str) -> None:
-        write(text, self.path(name))
-
-    def write_program(self, name: str, text: str) -> None:
-        write_program(text, self.path(name))
 
     def touch(self, name: str, seconds: float | None = None) -> None:
         with open(self.path(name), "a"):
@@ -98,8 +92,7 @@ STATUSES = ((3, "status 3: standard input can't be read"), (4, "status 4: standa
 
 
 def expect(what: str, got: object, wanted: object) -> None:
-    if got != wanted:
-        raise Differs(f"./pip, {what}: {got}, where {wanted} is due")
+    same(f"./pip, {what}", got, wanted)
 
 
 def expect_told(what: str, got: Ended, output: str, status: int, *told: str, builds: int | None = None) -> None:
@@ -179,8 +172,7 @@ def left_of_builds(checkout: Checkout) -> list[str]:
 
 def in_turn(program: str) -> None:
     """A call that comes while another one builds waits for it, and doesn't build again."""
-    if not shutil.which("flock"):
-        raise Skipped("no flock")
+    needed("flock")
     with tempfile.TemporaryDirectory() as place:
         checkout = Checkout(os.path.join(place, "0"))
         first = begun(checkout, "8")
@@ -246,7 +238,7 @@ def runs_unproved(checkout: Checkout) -> None:
 def says_what_a_status_means(checkout: Checkout) -> None:
     """A sentence on standard error; on a terminal also of status 2."""
     checkout.run("script")
-    checkout.write_program("crates/pip/out/pip", "#!/bin/sh\necho 'bad line 5 operand'\nexit \"$STATUS\"\n")
+    write_program("#!/bin/sh\necho 'bad line 5 operand'\nexit \"$STATUS\"\n", checkout.path("crates/pip/out/pip"))
     for number, due in STATUSES:
         status, told = beside_terminal(checkout, subprocess.PIPE, number)
         expect(f"status {number}", (status, told.startswith(due)), (number, True))
@@ -259,7 +251,7 @@ def says_what_a_status_means(checkout: Checkout) -> None:
     expect("status 2, into a pipe", beside_terminal(checkout, subprocess.PIPE, 2),
            (2, "status 2: the input is bad, and the last line of the output says where\n"))
     expect("status 0", beside_terminal(checkout, subprocess.PIPE, 0), (0, ""))
-    checkout.write_program("crates/pip/out/pip", "#!/bin/sh\nexit 4\n")
+    write_program("#!/bin/sh\nexit 4\n", checkout.path("crates/pip/out/pip"))
     closed = ("-c", 'exec "$0" asm >&-', checkout.path("pip"))
     status, told = beside_terminal(checkout, subprocess.PIPE, 4, closed, "/bin/sh")
     expect("a closed output", (status, told.startswith(STATUSES[1][1])), (4, True))
@@ -283,14 +275,14 @@ def beside_terminal(checkout: Checkout, stdout: int | IO[bytes], number: int, wo
 def hands_on(checkout: Checkout) -> None:
     """Without a terminal the program has the same input, also a closed one, and a signal to ./pip alone ends it."""
     checkout.run("script")
-    checkout.write_program("crates/pip/out/pip", "#!/bin/sh\ncat || exit 3\n")
+    write_program("#!/bin/sh\ncat || exit 3\n", checkout.path("crates/pip/out/pip"))
     told = subprocess.run([checkout.path("pip"), "script"], input=b"a line\n", stdout=subprocess.PIPE,
                           stderr=subprocess.PIPE)
     expect("its input", (told.stdout, told.stderr, told.returncode), (b"a line\n", b"", 0))
     closed = checkout.run("-c", 'exec "$0" script <&-', checkout.path("pip"), command="/bin/sh")
     expect("a closed input", (closed[1].splitlines()[-1:], closed[2]),
            ([STATUSES[0][1] + ": is it open, and no folder?"], 3))
-    checkout.write_program("crates/pip/out/pip", "#!/bin/sh\necho $$\nexec sleep 300\n")
+    write_program("#!/bin/sh\necho $$\nexec sleep 300\n", checkout.path("crates/pip/out/pip"))
     for number in (signal.SIGTERM, signal.SIGINT, signal.SIGHUP):
         begun = checkout.begin("script")
         assert begun.stdout
@@ -319,7 +311,7 @@ def says_what_is_built(checkout: Checkout) -> None:
 def of_an_unproved_release(checkout: Checkout) -> None:
     """A release that says that it is unproved runs its program with neither kit nor cargo, and says so."""
     checkout.run("--unproved", "script")
-    checkout.write("UNPROVED", "")
+    checkout.touch("UNPROVED")
     os.remove(checkout.path("bin/rt"))
     os.remove(checkout.path("bin/cargo"))
     expect("of an unproved release", checkout.run("script"), ("cargo ran script\n", OF_CARGO, 8, 0))

@@ -3,12 +3,13 @@
 from __future__ import annotations
 
 import argparse
+import contextlib
 import functools
 import itertools
 import os
 import subprocess
 import sys
-from collections.abc import Callable, Sequence
+from collections.abc import Callable, Iterator, Sequence
 from typing import NoReturn, TypeVar
 
 REPOSITORY = os.path.dirname(os.path.dirname(os.path.dirname(os.path.abspath(__file__))))
@@ -34,6 +35,24 @@ def take_program(parser: argparse.ArgumentParser) -> None:
                              "proved of it")
 
 
+def take_image(parser: argparse.ArgumentParser) -> None:
+    """The file of a tool that shows runs of it, and the option --source."""
+    parser.add_argument("file", metavar="FILE",
+                        help="an image, of which - is standard input, or an assembly text or source of tools/asmx")
+    take_source(parser)
+
+
+def take_source(parser: argparse.ArgumentParser) -> None:
+    """The option --source of a tool that shows a run."""
+    parser.add_argument("--source", metavar="FILE", help="of an image: the text that it was made of, for its names")
+
+
+def take_jobs(parser: argparse.ArgumentParser) -> None:
+    """The option --jobs of a tool that does the same many times."""
+    parser.add_argument("--jobs", type=within(1, 1024, "--jobs"), default=os.cpu_count(), metavar="N",
+                        help="how many at once; without it one a processor")
+
+
 @functools.lru_cache(maxsize=None)
 def direct(program: str) -> str:
     """The program itself, by a path or by what ./pip of this checkout has built."""
@@ -49,12 +68,10 @@ def direct(program: str) -> str:
     return found[program]
 
 
-def built() -> dict[str, str]:
+def built(wrapper: str = WRAPPER) -> dict[str, str]:
     """The paths of the programs that are there, proved and unproved, and as new as the sources. Nothing is built."""
-    try:
-        told = subprocess.run([WRAPPER, "--built"], stdin=subprocess.DEVNULL, stdout=subprocess.PIPE, text=True).stdout
-    except OSError as error:
-        raise Failed(f"{WRAPPER} can't be run: {error.strerror}") from None
+    with running(wrapper):
+        told = subprocess.run([wrapper, "--built"], stdin=subprocess.DEVNULL, stdout=subprocess.PIPE, text=True).stdout
     lines = [line.split(" ", 1) for line in told.splitlines()]
     return {line[0]: line[1] for line in lines}
 
@@ -88,13 +105,30 @@ def contents(path: str, most: int = MOST) -> bytes:
     return text
 
 
+def write(path: str, content: bytes) -> None:
+    """Writes a file."""
+    try:
+        with open(path, "wb") as file:
+            file.write(content)
+    except (OSError, ValueError) as error:
+        raise Failed(f"{path}: {getattr(error, 'strerror', None) or error}") from None
+
+
+@contextlib.contextmanager
+def running(program: str) -> Iterator[None]:
+    """Where a process begins: a program that can't be run is a failure."""
+    try:
+        yield
+    except OSError as error:
+        raise Failed(f"{program} can't be run: {error.strerror}") from None
+
+
 def output(program: str, words: Sequence[str], text: bytes, seconds: float | None = None) -> tuple[bytes, int]:
     """What the program writes, and its status."""
     program = direct(program)
     try:
-        done = subprocess.run([program, *words], input=text, stdout=subprocess.PIPE, timeout=seconds)
-    except OSError as error:
-        raise Failed(f"{program} can't be run: {error.strerror}") from None
+        with running(program):
+            done = subprocess.run([program, *words], input=text, stdout=subprocess.PIPE, timeout=seconds)
     except subprocess.TimeoutExpired:
         raise Failed(f"{program} {' '.join(words)} took more than {seconds} seconds") from None
     if done.returncode not in (0, 2, 6, 9):
@@ -126,6 +160,16 @@ def number(text: str, least: int, most: int, what: str) -> int:
     if value is None or not least <= value <= most:
         raise Failed(f"{what} is a number from {least} to {most}, and not {text!r}")
     return value
+
+
+def within(least: int, most: int, what: str) -> Callable[[str], int]:
+    """The type of an argument that is such a number."""
+    return lambda text: number(text, least, most, what)
+
+
+def started(parser: argparse.ArgumentParser, work: Callable[[argparse.Namespace], int | None]) -> NoReturn:
+    """Runs a tool with what its command line says."""
+    guarded(parser.prog, lambda: work(parser.parse_args()))
 
 
 def guarded(tool: str, work: Callable[[], int | None]) -> NoReturn:

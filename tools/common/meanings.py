@@ -32,19 +32,16 @@ def data() -> Any:
         return json.load(file)
 
 
-@functools.lru_cache(maxsize=None)
 def statuses() -> dict[int, tuple[str, str]]:
     """Of each status its name and its meaning."""
     return {int(number): (name, meaning) for number, (name, meaning) in data()["statuses"].items()}
 
 
-@functools.lru_cache(maxsize=None)
 def calls() -> dict[int, tuple[str, str]]:
     """Of each call its name and its arguments. A number without a call isn't there."""
     return {int(number): (name, arguments) for number, (name, arguments) in data()["calls"].items()}
 
 
-@functools.lru_cache(maxsize=None)
 def vectors() -> dict[int, str]:
     """What a vector comes from, if it comes from one thing alone."""
     return {int(number): told for number, told in data()["vectors"].items()}
@@ -73,24 +70,24 @@ def of_vector(vector: int) -> str:
     return f"vector {vector}: {told}" if told and vector in (6, 14, 17) else f"vector {vector}"
 
 
-def call_in(line: list[str], answer: list[str]) -> str | None:
-    """The number of the call that a line makes, or an answer of a trace names."""
-    if line[:1] == ["call"] and len(line) > 2:
-        return line[2]
-    return answer[answer.index("call") + 1] if "call" in answer else None
+def outcome_of(text: str) -> tuple[str | None, list[str]]:
+    """The call that an answer, or a line of a trace without step and processor, names, and the words of its outcome."""
+    words = text.split() or [""]
+    return (words[1], words[2:]) if words[0] == "call" else (None, words)
 
 
 def of_answer(answer: str, line: str = "") -> str:
     """An answer of a script, or a line of a trace, in words; nothing where it says all itself."""
-    words = answer.split()
-    call = call_in(line.split(), words)
+    call, (kind, *numbers) = outcome_of(answer)
+    if line.startswith("call "):
+        call = line.split()[2]
     made = calls().get(int(call, 0), (f"call {call}",))[0] + ": " if call is not None else ""
-    if "reply" in words:
-        return made + of_status(int(words[words.index("reply") + 1]))
-    if "switch" in words:
-        source, target, vector = words[words.index("switch") + 1:][:3]
+    if kind == "reply":
+        return made + of_status(int(numbers[0]))
+    if kind == "switch":
+        source, target, vector = numbers
         left = "an idle processor" if source == "0" else f"partition {source}"
         return f"{made}from {left} to partition {target}, {of_vector(int(vector))}"
-    if "park" in words:
-        return f"{of_vector(int(words[-1]))}; nobody takes it, and nothing runs there any more"
-    return "nothing runs there" if words == ["idle"] else ""
+    if kind == "park":
+        return f"{of_vector(int(numbers[-1]))}; nobody takes it, and nothing runs there any more"
+    return "nothing runs there" if kind == "idle" else ""

@@ -23,10 +23,11 @@ from typing import IO, Any
 
 from ..common import calling
 from ..common.calling import Failed
+from ..draw import frames
+from ..reference.model import PAGE
 from . import building, sources, wire
 from .client import At, States, Stopped
 from .debugger import OF_PARTITION, Debugger, ancestors
-from .sources import PAGE
 from .terminal import Terminal, schedule_of
 from .wire import Message
 
@@ -40,8 +41,7 @@ FILTERS = [("fault", "a fault"), ("park", "a processor is parked"), ("refused", 
            ("interrupt", "a line is taken")]
 PAUSING = ("pause", "disconnect", "terminate")
 SHOWING = ("registers", "processors", "words", "print", "translate", "tree", "ancestors", "list", "changed", "trace",
-           "check", "stops",
-           "every", "kept", "where", "help")
+           "check", "stops", "every", "kept", "where", "help")
 CHANGING = ("seed", "plan", "raise", "set", "store")
 MOST_LINES = 50                  # trace lines that are told after a run
 MOST_LOOKED = 20_000             # steps before the end of a run of which they are told
@@ -377,8 +377,7 @@ class Adapter:
             return []
         words = [("pc", at.pc)] + [(f"r{number}", word) for number, word in enumerate(at.registers)]
         return [variable(name, f"0x{word:08x}", evaluateName=name, watched=f"{at.part}:{name}",
-                         **self.memory(at.part, word))
-                for name, word in words]
+                         **self.memory(at.part, word)) for name, word in words]
 
     def memory(self, part: int, address: int) -> Variable:
         return {"memoryReference": f"{part}:0x{address:08x}"} if self.on.word_at(part, address) else {}
@@ -409,11 +408,8 @@ class Adapter:
 
     def descriptor(self, part: int) -> list[Variable]:
         words = self.on.states.words(part, 0, 16)
-        names = ("descriptor in the parent", "descriptor", "MMU directory in the parent", "MMU directory",
-                 "first shadow in the parent",
-                 "first shadow", "second shadow in the parent", "second shadow", "list page in the parent",
-                 "list page", "", "parent",
-                 "tables", "", "masked", "pending lines")
+        names = [name + where for name in frames.DESCRIPTOR for where in (" in the parent", "")]
+        names += ["", "parent", "tables", "", "masked", "pending lines"]
         return [variable(name, f"0x{word:08x}", memoryReference=f"f{part}:{index}", watched=f"f{part}:{index}")
                 for index, (name, word) in enumerate(zip(names, words)) if name]
 
@@ -516,8 +512,7 @@ class Adapter:
             return {"address": f"0x{address:08x}", "instruction": "no page", "presentationHint": "invalid"}
         word = self.on.states.words(place[0], place[1], 1)[0]
         told = {"address": f"0x{address:08x}", "instruction": self.on.instruction(word),
-                "instructionBytes": f"{word:08x}",
-                "symbol": self.on.source.nearest(place)}
+                "instructionBytes": f"{word:08x}", "symbol": self.on.source.nearest(place)}
         where = self.location(part, address)
         return {**told, **({"location": where["source"], "line": where["line"]} if where else {})}
 

@@ -8,7 +8,7 @@ from collections.abc import Sequence
 from dataclasses import dataclass, field
 from typing import Any, NamedTuple
 
-from ..common.calling import Failed
+from ..common.calling import Failed, running
 
 EVERY = 10_000                   # steps between two states that are kept
 
@@ -84,11 +84,9 @@ class States:
     """A run that goes forward and back."""
 
     def __init__(self, process: str) -> None:
-        try:
+        with running(process):
             self.process = subprocess.Popen([process], stdin=subprocess.PIPE, stdout=subprocess.PIPE, text=True,
                                             start_new_session=True)     # Ctrl-C is for the debugger alone
-        except OSError as error:
-            raise Failed(f"{process} can't be run: {error.strerror}") from None
         self.frames = self.cpus = 0
         self.plans: list[list[int]] = []
         self.stops: list[str] = []

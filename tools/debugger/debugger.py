@@ -380,7 +380,7 @@ class Debugger:
     def take_way(self, text: str) -> Stopped:
         """The choices of a way in the place of the schedule, from the beginning."""
         self.need_image()
-        found = [choice for word in text.split() for choice in choices(word)]
+        found = ways.choices_of(text)
         self.on_way = True
         return self.states.way(found)
 
@@ -509,14 +509,6 @@ def of_name(named: Named, address: int) -> Target:
     if not 0 <= index < 1024:
         raise Failed("that is outside of the name's page")
     return Target(None, address, (named.word[0], index))
-
-
-def choices(word: str) -> list[str]:
-    """A word of a way: a choice, as often as it says."""
-    found = re.fullmatch(r"(\d|raise\d+)(?:x(\d+))?", word)
-    if not found:
-        raise Failed(f"{word!r} is no choice of a way")
-    return [found[1]] * int(found[2] or "1")
 
 
 def ancestors(parts: list[Partition], name: int) -> list[Partition]:

@@ -70,6 +70,11 @@ class WithStates(unittest.TestCase):
         self.states = States(building.program())
         self.addCleanup(self.states.end)
 
+    def has_registers_of(self, world: World, *told: object) -> None:
+        due = [(at.name, at.context.pc, list(at.context.registers)) if at else None for at in world.processors]
+        self.assertEqual([(at.part, at.pc, list(at.registers)) if at else None for at in self.states.registers()], due,
+                         told)
+
 
 class Compared(WithStates):
     """States in random order: tree, core and lines are the program's, registers the reference's."""
@@ -88,10 +93,10 @@ class Compared(WithStates):
                 self.of_reference(debugger, seed, step)
 
     def of_reference(self, debugger: Debugger, seed: int, step: int) -> None:
-        made: list[trace.Watched] = []
-        world = trace.steps(images.read(debugger.data), step, seed, lambda turn, raised, lines: made.append(turn))
-        due = [(at.name, at.context.pc, list(at.context.registers)) if at else None for at in world.processors]
-        self.assertEqual([(at.part, at.pc, list(at.registers)) if at else None for at in self.states.registers()], due)
+        image = images.read(debugger.data)
+        world = images.world(image)
+        made = [turn for turn, _, _ in trace.steps(image, world, step, seed)]
+        self.has_registers_of(world)
         turn = self.states.turn()
         if turn and made[-1].did:
             self.assertEqual((turn.part, turn.pc), made[-1].where)
@@ -107,9 +112,7 @@ class Compared(WithStates):
                 self.states.go(step)
                 self.assertEqual(debugger.differing(), "", (name, step))
                 world = script_world(debugger.data, debugger.events[step - 1].line if step else 0)
-                due = [(at.name, at.context.pc, list(at.context.registers)) if at else None for at in world.processors]
-                self.assertEqual([(at.part, at.pc, list(at.registers)) if at else None
-                                  for at in self.states.registers()], due, (name, step))
+                self.has_registers_of(world, name, step)
                 self.assertEqual(sorted(part.name for part in debugger.partitions()), sorted(world.tree.nodes))
 
     def test_monitors_outside_the_machine(self) -> None:
@@ -162,13 +165,11 @@ stop: j stop
 """
 
 
-class BackAsForward(unittest.TestCase):
+class BackAsForward(WithStates):
     """Where a run goes back to is the last state at which it was stopped on its way forward."""
 
     def test_all_stops(self) -> None:
-        drawn = random.Random(1)
-        states = States(building.program())
-        self.addCleanup(states.end)
+        drawn, states = random.Random(1), self.states
         for path in (MONITOR, RETRY, RACE):
             debugger = Debugger(PROGRAM, states, path, f"seed {drawn.randrange(1, 1000)}", drawn.choice([3, 50, 400]))
             for stops in self.some_stops(debugger, drawn):
@@ -432,8 +433,7 @@ class Typed(unittest.TestCase):
                               timeout=60)
         self.assertEqual(done.returncode, 0, done.stdout)
         for text in ("1: break at child", "break 1: child", "watch 2: SEEN+4096", "stw r1 r4 0", "0xffc01000",
-                     "'nonsense' is no word",
-                     "is no number and no name", "states ", "this is the end of the way",
+                     "'nonsense' is no word", "is no number and no name", "states ", "this is the end of the way",
                      "no command of the program has this state",
                      "the program has the same tree and core after step 0, by seed 5"):
             self.assertIn(text, done.stdout)

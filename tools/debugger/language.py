@@ -24,7 +24,6 @@ from ..reference import instructions, script
 from . import wire
 from .wire import Message
 
-MOST = 20                        # wrong lines that are told of a text
 WORD = re.compile(r"[<>]?[.A-Za-z0-9_]+:?")
 NAME_IN = re.compile(r"[A-Za-z_][A-Za-z0-9_]*")
 FORMATS = os.path.join(calling.REPOSITORY, "docs", "FORMATS.md")
@@ -71,8 +70,8 @@ def wrong_of(program: str, path: str, texts: Texts) -> list[Wrong]:
     try:
         asmx.processed(path, texts)
     except asmx.AllWrong as wrong:
-        return [of_asmx(path, one) for one in wrong.wrongs[:MOST]]
-    except (asmx.Wrong, Failed) as wrong:
+        return [of_asmx(path, one) for one in wrong.wrongs[:why.MOST_TOLD]]
+    except Failed as wrong:
         return [of_asmx(path, wrong) if isinstance(wrong, asmx.Wrong) else Wrong(0, 0, str(wrong))]
     return []
 
@@ -84,7 +83,8 @@ def of_asmx(path: str, wrong: asmx.Wrong) -> Wrong:
 
 def wrong_lines(program: str, text: bytes, is_assembly: bool) -> Iterator[Wrong]:
     lines = script.lines(text)
-    for place, cause in why.wrong_lines(program, lines, is_assembly):
+    kind = why.ASSEMBLY if is_assembly else why.SCRIPT
+    for place, _, cause in why.bad_lines(kind, why.by_program(program, kind), lines):
         line = lines[place - 1] if place <= len(lines) else b""
         yield Wrong(place - 1, len(line[:max(cause.column - 1, 0)].decode("utf-8", "replace")), told(cause))
 
@@ -149,7 +149,7 @@ def definitions(path: str, texts: Texts) -> dict[str, Defined]:
                 found.setdefault(words[0][:-1], Defined(place.file, place.line - 1, " ".join(words)))
             elif words[:1] == [".equ"] and len(words) > 2:
                 found.setdefault(words[1], Defined(place.file, place.line - 1, " ".join(words)))
-    except (Failed, asmx.Wrong):
+    except Failed:
         pass
     return found
 
@@ -158,7 +158,7 @@ def addresses(path: str, texts: Texts) -> dict[str, int]:
     """Of each name its address or number, where the text is right."""
     try:
         _, text = asmx.processed(path, texts)
-    except (Failed, asmx.Wrong):
+    except Failed:
         return {}
     return {**text.constants, **{name: label.address for name, label in text.labels.items()}}
 
@@ -276,8 +276,7 @@ class Server:
         if path.endswith(".pip"):
             return []
         return [{"name": name, "kind": 12 if one.text.startswith(name) else 14,
-                 "range": range_of(one.line, 0, len(one.text)),
-                 "selectionRange": range_of(one.line, 0, len(one.text))}
+                 "range": range_of(one.line, 0, len(one.text)), "selectionRange": range_of(one.line, 0, len(one.text))}
                 for name, one in definitions(path, self.files()).items() if os.path.realpath(one.file) == path]
 
     def on_textdocument_completion(self, given: Any) -> Any:

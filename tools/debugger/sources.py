@@ -10,8 +10,8 @@ from ..authors import asmx, trace
 from ..authors.asmx import Place
 from ..common.calling import Failed
 from ..reference import image as images
+from ..reference.model import PAGE
 
-PAGE = 4096
 Word = tuple[int, int]              # a frame and an index in it
 
 
@@ -55,18 +55,15 @@ def read(image: bytes, path: str | None) -> Source:
     """What a source says of an image."""
     if path is None:
         return Source()
+    _, text = asmx.processed(path)
     try:
-        _, text = asmx.processed(path)
         read_image = images.read(image)
-        rows = images.world(read_image._replace(pages=[])).tree.nodes[1].rows
-    except (asmx.Wrong, images.BadImage) as wrong:
-        raise Failed(str(wrong)) from None
-    found = Source(path, constants=dict(text.constants))
-    found.words = {rows[vpage].page: words for vpage, words in read_image.pages}
-    for page in text.pages:
-        row = rows.get(page.address // PAGE)
-        if row is not None:
-            add_page(found, text, page, row.page)
+    except images.BadImage as bad:
+        raise Failed(str(bad)) from None
+    found, words = Source(path, constants=dict(text.constants)), dict(read_image.pages)
+    for frame, page in trace.pages_of(read_image, text).items():
+        found.words[frame] = words.get(page.address // PAGE, [0] * asmx.WORDS)
+        add_page(found, text, page, frame)
     return found
 
 

@@ -19,11 +19,10 @@ from typing import Any
 from ..authors import trace
 from ..common import calling, meanings, plans
 from ..common.calling import Failed
-from ..draw.texts import Partition
+from ..reference.model import PAGE
 from . import building, sources
 from .client import EVERY, States, Stopped
 from .debugger import Debugger, ancestors
-from .sources import PAGE
 
 AROUND = 5                       # lines of a source before and after the one that is looked at
 MOST_TOLD = 32
@@ -234,7 +233,7 @@ class Terminal(cmd.Cmd):
         parts = self.debugger.partitions()
         for part in parts:
             if text in ("", str(part.name)):
-                print(part_line(part, masked, self.running(part.name)))
+                print(part.line(self.running(part.name)) + ", masked" * (part.name in masked))
         if text:
             for row in next((part.pages for part in parts if str(part.name) == text), []):
                 print(f"    0x{row.address:08x} frame {row.frame:<4} {row.rights} {row.view:6} {row.told_use}")
@@ -355,15 +354,6 @@ def counted(words: list[str]) -> tuple[list[str], int]:
     return words, 1
 
 
-def part_line(part: Partition, masked: list[int], cpus: list[int]) -> str:
-    free = sum(row.use == "free" and not row.hidden for row in part.pages)
-    where = f"at 0x{part.born:08x} of {part.up}" if part.depth else "the root"
-    runs = f", runs on processor {' and '.join(map(str, cpus))}" if cpus else ""
-    mask = ", masked" if part.name in masked else ""
-    pages = f"{len(part.pages)} pages, {free} of them free"
-    return f"{'  ' * part.depth}partition {part.name}, {where}: {pages}{runs}{mask}"
-
-
 def translation(debugger: Debugger, part: int, address: int) -> list[str]:
     told = debugger.states.translate(part, address)
     index = address % PAGE // 4
@@ -418,21 +408,19 @@ def loop(terminal: Terminal) -> None:
 def main() -> None:
     parser = argparse.ArgumentParser(
         description="A debugger of runs, in a terminal. The states are of the same text as the program, not of the "
-                    "same "
-                    "proof; where the program is proved, each stop compares them.")
+                    "same proof; where the program is proved, each stop compares them.")
     parser.add_argument("file", metavar="FILE", help="an image, an assembly text or source of tools/asmx, or a script")
     parser.add_argument("seed", metavar="SEED", nargs="?", default="1")
     monitor = parser.add_mutually_exclusive_group()
     monitor.add_argument("--native", metavar="N", help="as by `native`: a monitor outside the machine runs N children")
     monitor.add_argument("--slots", nargs=2, metavar=("N", "TURNS"), help="as by `slots`")
-    parser.add_argument("--source", metavar="FILE", help="of an image: the text that it was made of")
-    parser.add_argument("--every", type=int, default=EVERY, metavar="K",
+    calling.take_source(parser)
+    parser.add_argument("--every", type=calling.within(1, 10_000_000, "--every"), default=EVERY, metavar="K",
                         help="keep a state each K steps, for the way back")
     parser.add_argument("--check", action=argparse.BooleanOptionalAction,
                         help="compare each stop with the program; without it where it is proved")
     calling.take_program(parser)
-    given = parser.parse_args()
-    calling.guarded("debug", lambda: work(given))
+    calling.started(parser, work)
 
 
 def schedule_of(seed: str, native: str | None, slots: list[str] | None) -> str:
@@ -446,8 +434,6 @@ def schedule_of(seed: str, native: str | None, slots: list[str] | None) -> str:
 
 def work(given: argparse.Namespace) -> None:
     schedule = schedule_of(given.seed, given.native, given.slots)
-    if given.every < 1:
-        raise Failed("--every is 1 or more")
     calling.direct(given.program)
     process = States(building.program())
     try:

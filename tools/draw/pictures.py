@@ -7,11 +7,12 @@
 
 from __future__ import annotations
 
+import itertools
 import re
 import sys
 
 from ..common import calling
-from ..step.walk import LEVELS, PAGE, Role
+from ..step.walk import LEVELS, PAGE, USES, Role
 from . import frames, texts, translation
 from .svg import INK, PALE, PAPER, Drawing
 
@@ -45,17 +46,10 @@ def draw_tree(partitions: list[texts.Partition]) -> str:
     return drawing.written()
 
 
-def lines(pages: list[texts.Page]) -> dict[int, list[texts.Page]]:
-    """The pages of a partition in lines of sixteen, by the address with which a line begins."""
-    found: dict[int, list[texts.Page]] = {}
-    for page in pages:
-        found.setdefault(page.address // PAGE // COLUMNS * COLUMNS * PAGE, []).append(page)
-    return found
-
-
 def draw_partition(drawing: Drawing, partition: texts.Partition, left: int, top: int) -> int:
     """A box with a cell for each page; its height is the answer."""
-    rows = lines(partition.pages)
+    by_line = itertools.groupby(partition.pages, lambda page: page.address // PAGE // COLUMNS * COLUMNS * PAGE)
+    rows = [(address, list(pages)) for address, pages in by_line]      # each line begins at its address
     width, height = LABEL + COLUMNS * CELL_WIDTH + 12, HEADER + CELL_HEIGHT * max(len(rows), 1) + 8
     drawing.rectangle(left, top, width, height, "#fbfcfd", INK, corner=6, stroke_width=1.3)
     title = f"partition {partition.name}" if partition.depth else "root, partition 1"
@@ -64,7 +58,7 @@ def draw_partition(drawing: Drawing, partition: texts.Partition, left: int, top:
     if not rows:
         drawing.text(left + 12, top + HEADER + 22, "no page is lent to it", size=11, colour=PALE)
     children = {page.address: page.frame for page in partition.pages if page.use == "desc"}
-    for place, (address, pages) in enumerate(rows.items()):
+    for place, (address, pages) in enumerate(rows):
         y = top + HEADER + CELL_HEIGHT * place
         drawing.text(left + 12, y + 23, f"0x{address:08x}", size=11, mono=True)
         for page in pages:
@@ -74,12 +68,9 @@ def draw_partition(drawing: Drawing, partition: texts.Partition, left: int, top:
 
 def facts(partition: texts.Partition) -> str:
     told = [f"child of {partition.up}, which has its descriptor at 0x{partition.born:08x}"] if partition.depth else []
-    told += [counted(partition.tables, "table"), counted(len(partition.pages), "page")]
+    told += [f"{number} {what}{'' if number == 1 else 's'}"
+             for number, what in ((partition.tables, "table"), (len(partition.pages), "page"))]
     return " \u00b7 ".join(told)
-
-
-def counted(number: int, what: str) -> str:
-    return f"{number} {what}" if number == 1 else f"{number} {what}s"
 
 
 def draw_page(drawing: Drawing, page: texts.Page, children: dict[int, int], x: float, y: float) -> None:
@@ -146,8 +137,7 @@ def draw_page_table(drawing: Drawing, memory: texts.Memory, frame: int, role: Ro
         drawing.text(112, y + 15, f"0x{leaf:08x}", mono=True)
         draw_leaf(drawing, 208, y, leaf)
         first, second = (frames.word(memory, shadow, place) for shadow in shadows)
-        use = {0: "free", 1: "desc", 2: "conf", 3: "lent"}[first % PAGE]
-        drawing.rectangle(432, y + 3, 12, 14, COLOURS[use], "#9aa5b1", corner=2)
+        drawing.rectangle(432, y + 3, 12, 14, COLOURS[USES[first % PAGE]], "#9aa5b1", corner=2)
         drawing.text(450, y + 15, f"0x{first:08x}", mono=True)
         drawing.text(536, y + 15, frames.given(first), size=10)
         drawing.text(760, y + 15, f"0x{second:08x}", mono=True)
@@ -230,10 +220,15 @@ def draw_entries(drawing: Drawing, memory: texts.Memory, partition: int, vector:
         address = frames.TABLE_OF_HANDLERS + 4 * beside
         value = frames.loaded(memory, partition, address)
         colour = INK if beside == vector else PALE
-        drawing.text(16, y + 15, f"0x{address:08x}", mono=True, colour=colour)
-        drawing.rectangle(104, y + 2, 92, LINE - 5, "#f8dfab" if beside == vector else PAPER, "#9aa5b1")
-        drawing.text(150, y + 15, f"0x{value or 0:08x}", anchor="middle", mono=True, colour=colour)
+        draw_word(drawing, 16, y, address, value or 0, "#f8dfab" if beside == vector else PAPER, colour)
         drawing.text(204, y + 15, f"vector {beside}", size=10, colour=colour)
+
+
+def draw_word(drawing: Drawing, x: float, y: float, address: int, value: int, fill: str, colour: str = INK) -> None:
+    """A word in a box, after its address."""
+    drawing.text(x, y + 15, f"0x{address:08x}", mono=True, colour=colour)
+    drawing.rectangle(x + 88, y + 2, 92, LINE - 5, fill, "#9aa5b1")
+    drawing.text(x + 134, y + 15, f"0x{value:08x}", anchor="middle", mono=True, colour=colour)
 
 
 def draw_block(drawing: Drawing, address: int, block: list[int]) -> None:
@@ -242,9 +237,7 @@ def draw_block(drawing: Drawing, address: int, block: list[int]) -> None:
     drawing.text(620, 78, "what is entered by a fault, a trap or a line has", size=10, bold=True)
     for place, value in enumerate(block):
         y = 88 + LINE * place
-        drawing.text(360, y + 15, f"0x{address + 4 * place:08x}", mono=True)
-        drawing.rectangle(448, y + 2, 92, LINE - 5, "#f0a59b" if place == 0 else "#e3f1e1", "#9aa5b1")
-        drawing.text(494, y + 15, f"0x{value:08x}", anchor="middle", mono=True)
+        draw_word(drawing, 360, y, address + 4 * place, value, "#f0a59b" if place == 0 else "#e3f1e1")
         drawing.text(550, y + 15, "pc" if place == 0 else f"r{place - 1}", mono=True)
         told = TOLD[place - 1] if 0 < place <= len(TOLD) else ""
         drawing.text(620, y + 15, f"{told}, in the place of this word" if told else "this word", size=10,
@@ -267,12 +260,4 @@ def drawn(words: list[str]) -> str:
 
 
 def main() -> None:
-    calling.guarded("draw.py", show)
-
-
-def show() -> int:
-    try:
-        sys.stdout.write(drawn(sys.argv[1:]))
-    except texts.Misread as misread:
-        raise calling.Failed(misread) from None
-    return 0
+    calling.guarded("draw.py", lambda: print(drawn(sys.argv[1:]), end=""))

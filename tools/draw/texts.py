@@ -4,6 +4,9 @@ from __future__ import annotations
 
 from typing import NamedTuple
 
+from ..common.calling import Failed
+from ..step.walk import USES
+
 Memory = dict[int, dict[int, int]]      # the words of each frame, by index
 
 
@@ -32,8 +35,16 @@ class Partition(NamedTuple):
     tables: int
     pages: list[Page]
 
+    def line(self, cpus: list[int]) -> str:
+        """What there is to say of it, with the processors on which it runs, further in than its parent."""
+        free = sum(row.use == "free" and not row.hidden for row in self.pages)
+        where = f"at 0x{self.born:08x} of {self.up}" if self.depth else "the root"
+        runs = f", runs on processor {' and '.join(map(str, cpus))}" if cpus else ""
+        return (f"{'  ' * self.depth}partition {self.name}, {where}: {len(self.pages)} pages, {free} of them free"
+                + runs)
 
-class Misread(Exception):
+
+class Misread(Failed):
     """A line is none of the command's."""
 
 
@@ -58,7 +69,7 @@ def partitions(text: str) -> list[Partition]:
 
 
 def page(address: str, frame: str, rights: str, view: str, use: str, child: str | None = None) -> Page:
-    if view not in ("user", "hidden") or use not in ("free", "desc", "conf", "lent"):
+    if view not in ("user", "hidden") or use not in USES:
         raise ValueError
     return Page(int(address, 16), int(frame), rights, view == "hidden", use, int(child, 16) if child else None)
 

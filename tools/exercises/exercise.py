@@ -34,8 +34,7 @@ def main() -> None:
     parser.add_argument("--seed", metavar="STUDENT",
                         help="the exercise with other addresses, words and numbers, which depend on this name alone")
     parser.add_argument("--again", metavar="SECRET", help="draw what the verdict drew that named this secret")
-    given = parser.parse_args()
-    calling.guarded("exercise", lambda: work(given))
+    calling.started(parser, work)
 
 
 def work(given: argparse.Namespace) -> int:

@@ -85,15 +85,11 @@ def main() -> None:
     parser.add_argument("--allow", nargs="+", default=[], metavar="EXAMPLE",
                         help="files of examples/ that a work may include by this name, as monitor.s; without it none")
     parser.add_argument("--again", metavar="SECRET", help="draw what the grading drew that named this secret")
-    parser.add_argument("--jobs", type=int, default=os.cpu_count(), metavar="N",
-                        help="how many at once; without it one a processor")
-    given = parser.parse_args()
-    calling.guarded("grade", lambda: work(given))
+    calling.take_jobs(parser)
+    calling.started(parser, work)
 
 
 def work(given: argparse.Namespace) -> int:
-    if given.jobs < 1:
-        raise Failed("--jobs is 1 or more")
     os.environ["PIP_JUDGE"] = os.path.abspath(building.program())       # it may be built, once
     exercises = judging.exercises()
     given.secret = given.again or judging.drawn()
@@ -143,24 +139,19 @@ def found(folder: str, exercises: dict[str, judging.Exercise]) -> tuple[list[str
 
 
 def all_judged(given: argparse.Namespace, exercises: dict[str, judging.Exercise], works: Iterable[Work]) -> list[Work]:
-    with tempfile.TemporaryDirectory() as place:
-        return judged_by(alone.Processes(place), given, exercises, works)
-
-
-def judged_by(processes: alone.Processes, given: argparse.Namespace, exercises: dict[str, judging.Exercise],
-              works: Iterable[Work]) -> list[Work]:
     def judged(one: Work) -> Work:
         folder, name = os.path.split(one.path)
         path, seed = os.path.join(os.path.realpath(folder), name), one.student if given.seeds else None
         asked = alone.Work(one.exercise, exercises[one.exercise].is_program, path, seed, given.secret, given.allow)
         return Work(one.student, one.exercise, one.path, processes.judge(asked))
 
-    pool = ThreadPoolExecutor(given.jobs)
-    try:
-        return list(pool.map(judged, works))
-    finally:
-        processes.end_all()
-        pool.shutdown(cancel_futures=True)
+    with tempfile.TemporaryDirectory() as place:
+        processes, pool = alone.Processes(place), ThreadPoolExecutor(given.jobs)
+        try:
+            return list(pool.map(judged, works))
+        finally:
+            processes.end_all()
+            pool.shutdown(cancel_futures=True)
 
 
 def alike(exercises: dict[str, judging.Exercise], works: list[Work],

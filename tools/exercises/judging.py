@@ -7,10 +7,11 @@ import secrets
 import subprocess
 from dataclasses import dataclass, field
 
-from ..authors import asmx, why
+from ..authors import asmx, trace, why
 from ..common import calling, meanings
 from ..common.calling import REPOSITORY, Failed
 from ..judge import building
+from ..reference import script
 
 SECRET_BYTES = 8
 SOLUTIONS = os.path.join(REPOSITORY, "examples", "solutions")
@@ -21,10 +22,9 @@ def ask(act: str, name: str = "", seed: str | None = None, secret: str = "", tex
     if any("\n" in word for word in (name, seed or "", secret)):
         raise Failed("a name and a seed have one line")
     head = "\n".join((act, name, seed or "", secret, ""))
-    try:
-        done = subprocess.run([building.program()], input=head.encode() + text, stdout=subprocess.PIPE)
-    except OSError as error:
-        raise Failed(f"the judge can't be run: {error.strerror}") from None
+    program = building.program()
+    with calling.running(program):
+        done = subprocess.run([program], input=head.encode() + text, stdout=subprocess.PIPE)
     if done.returncode:
         raise Failed(f"the judge ends with status {done.returncode}")
     return done.stdout.decode("utf-8", "replace")
@@ -105,25 +105,25 @@ def judged(name: str, path: str, text: bytes, is_program: bool, seed: str | None
     """What a work reaches. A program may be a source of tools/asmx, which includes what `files` allows."""
     found = Judged(name, secret or drawn(), plain=text)
     answer = ask("judge", name, seed, found.secret, text)
-    source: tuple[asmx.Lines, asmx.Text] | None = None
+    source: asmx.Text | None = None
     used: asmx.Lines = []
     if is_program and path != "-":
         try:
-            source = asmx.processed(path, files)
+            lines, source = asmx.processed(path, files)
         except asmx.Wrong as wrong:
             if answer.startswith("refused "):
                 found.refused = [f"{name}: the text is refused", str(wrong)]
                 return found
         if source and answer.startswith("refused "):
-            used = source[0]
+            used = lines
             found.plain = asmx.text_of(used)
             answer = ask("judge", name, seed, found.secret, found.plain)
-    read(found, answer, path, is_program, Places(source[1]) if source else None, used)
+    read(found, answer, path, is_program, source, used)
     return found
 
 
-def read(found: Judged, answer: str, path: str, is_program: bool, places: Places | None, lines: asmx.Lines) -> None:
-    """Takes the judge's answer apart."""
+def read(found: Judged, answer: str, path: str, is_program: bool, source: asmx.Text | None, lines: asmx.Lines) -> None:
+    """Takes the judge's answer apart. `lines` are those that were judged, of a source."""
     trouble: list[str] = []
     for line in answer.splitlines():
         word, _, rest = line.partition(" ")
@@ -138,7 +138,7 @@ def read(found: Judged, answer: str, path: str, is_program: bool, places: Places
         elif word == "say":
             found.remarks.append(rest)
         elif word == "trouble":
-            trouble.append(of_program(rest.split("\t"), places) if is_program else of_script(rest.split("\t")))
+            trouble.append(of_program(rest.split("\t"), source) if is_program else of_script(rest.split("\t")))
         elif word == "more":
             trouble.append(f"and {rest} more")
     found.remarks += ["what was refused or parked:", *trouble] if trouble else []
@@ -147,10 +147,10 @@ def read(found: Judged, answer: str, path: str, is_program: bool, places: Places
 def refusal(found: Judged, rest: str, path: str, is_program: bool, lines: asmx.Lines) -> list[str]:
     place, _, kind = rest.partition(" ")
     if len(lines) >= int(place):
-        texts = [line.encode() for _, line in lines]
-        return [f"{found.name}: the text is refused", str(asmx.refusal(lines, texts, int(place), kind))]
-    told = why.refused(path, found.plain, int(place), kind if is_program else None)
-    return [f"{found.name}: line {place} is refused", *told]
+        return [f"{found.name}: the text is refused", str(next(asmx.refused(lines, lambda text: (int(place), kind))))]
+    texts = script.lines(found.plain)
+    cause = why.cause_of(why.ASSEMBLY if is_program else why.SCRIPT, texts, int(place), kind)
+    return [f"{found.name}: line {place} is refused", *why.told(path, int(place), texts, cause)]
 
 
 def of_script(parts: list[str]) -> str:
@@ -158,27 +158,19 @@ def of_script(parts: list[str]) -> str:
     return f"line {number}: {line} -> {answer} ({meanings.of_answer(answer, line)})"
 
 
-def of_program(parts: list[str], places: Places | None) -> str:
+def of_program(parts: list[str], source: asmx.Text | None) -> str:
     step, cpu, partition, address, line = parts
-    where = places.told(int(address, 16)) if places and address != "-" else ""
+    where = place_of(source, int(address, 16)) if source and address != "-" else ""
     return f"{where}step {step}: processor {cpu}, partition {partition}: {line} ({meanings.of_answer(line)})"
 
 
-class Places:
-    """The lines of a source, by the root's addresses of what they fill."""
-
-    def __init__(self, text: asmx.Text) -> None:
-        self.lines = {page.address + 4 * word: item.place
-                      for page in text.pages for item in page.items for word in range(item.at, item.at + item.size)}
-        self.names = sorted((page.address + 4 * index, name)
-                            for page in text.pages for index, name in text.names_in(page))
-
-    def told(self, address: int) -> str:
-        """The line that an instruction is from, and the name at or before it; nothing where it isn't in the source."""
-        place = self.lines.get(address)
-        if place is None:
-            return ""
-        before = [(at, name) for at, name in self.names if at <= address and at // 4096 == address // 4096]
-        at, name = before[-1] if before else (0, "")
-        label = f" ({name}{f'+{(address - at) // 4}' if address > at else ''})" if name else ""
-        return f"{os.path.basename(place.file)}:{place.line}{label}, "
+def place_of(source: asmx.Text, address: int) -> str:
+    """The line that an instruction of the root is from, and the name at or before it; nothing where it isn't in the
+    source."""
+    for page in source.pages:
+        index = (address - page.address) // 4
+        for item in page.items:
+            if item.at <= index < item.at + item.size:
+                name = trace.nearest(source.names_in(page), index)
+                return f"{os.path.basename(item.place.file)}:{item.place.line}{f' ({name})' if name else ''}, "
+    return ""

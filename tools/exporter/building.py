@@ -1,9 +1,12 @@
 """A program of a tool: a crate of its own beside an export that it uses, built by cargo where a source is newer."""
 
+from __future__ import annotations
+
 import os
 import shutil
 import subprocess
 import sys
+from collections.abc import Mapping, Sequence
 from dataclasses import dataclass
 from pathlib import Path
 
@@ -62,23 +65,30 @@ class Program:
         return {**files, **{f"{place}/src/{path.name}": path.read_text(encoding="utf-8")
                    for path in sorted((self.source / "src").iterdir())}}
 
-    def build(self) -> None:
+    def write(self, folder: Path, *others: Program) -> None:
+        """An export of the crates that it uses, with its own crate and those of others beside them."""
         from . import crates, workspace
-        from .tokens import Trouble
+        found = crates.chosen(crates.crates_of(REPOSITORY), list(self.uses))
+        files = workspace.files_of(found, REPOSITORY, None)
+        for program in (self, *others):
+            files.update(program.files())
+        workspace.write(folder, files)
+
+    def build(self) -> None:
         if not shutil.which("cargo"):
             raise Failed(f"{self.what} is a program that cargo builds, and there is no cargo here: "
                          f"install Rust 1.85 or later{self.without_cargo}")
         print(f"building {self.what} by cargo; this takes about half a minute, once", file=sys.stderr)
-        try:
-            found = crates.chosen(crates.crates_of(REPOSITORY), list(self.uses))
-            self.folder.mkdir(parents=True, exist_ok=True)
-            workspace.write(self.folder, {**workspace.files_of(found, REPOSITORY, None), **self.files()})
-        except (Trouble, OSError) as trouble:
-            raise Failed(str(trouble)) from None
+        self.write(self.folder)
         words = ["cargo", "build", "--release", "--quiet", "--offline",
                  *(["--features", ",".join(self.features)] if self.features else [])]
-        done = subprocess.run(words, cwd=self.folder / self.source.name, stdin=subprocess.DEVNULL,
-                              stdout=subprocess.DEVNULL, stderr=subprocess.PIPE, text=True)
-        if done.returncode:
-            raise Failed(f"cargo can't build {self.what}: {done.stderr.strip()[-4000:]}")
+        run(self.what, words, self.folder / self.source.name)
         os.utime(self.built)
+
+
+def run(what: str, words: Sequence[str], place: Path | None = None, settings: Mapping[str, str] | None = None) -> None:
+    """Runs a command that makes something, with settings of the environment, and shows what it said where it fails."""
+    done = subprocess.run(words, env={**os.environ, **(settings or {})}, cwd=place, stdin=subprocess.DEVNULL,
+                          stdout=subprocess.PIPE, stderr=subprocess.STDOUT)
+    if done.returncode:
+        raise Failed(f"{what} can't be made: {done.stdout.decode('utf-8', 'replace').strip()[-4000:]}")

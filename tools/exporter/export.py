@@ -5,15 +5,13 @@ from pathlib import Path
 
 from ..common import calling
 from . import comparing, crates, dependencies, requirements, workspace
-from .tokens import Trouble
 
 REPOSITORY = Path(__file__).resolve().parent.parent.parent
 PROMISE = "the same text, not the same proof"
 
 
 def main() -> None:
-    parser = argparse.ArgumentParser(prog="export",
-                                     description="The crates as ordinary Rust, for cargo: " + PROMISE + ".")
+    parser = argparse.ArgumentParser(description=f"The crates as ordinary Rust, for cargo: {PROMISE}.")
     one = parser.add_mutually_exclusive_group(required=True)
     one.add_argument("--to", type=Path, metavar="FOLDER", help="a new folder, or an earlier export")
     one.add_argument("--untested", action="store_true",
@@ -22,27 +20,21 @@ def main() -> None:
     parser.add_argument("--only", nargs="+", default=[], metavar="CRATE", help="these crates and those that they use")
     parser.add_argument("--deps", choices=("registry", "shims"),
                         help="public crates from cargo's registry, or the small ones that come with this tool; without "
-                             "it the " "registry's where cargo can get them without a network")
+                             "it the registry's where cargo can get them without a network")
     parser.add_argument("--from", dest="repository", type=Path, default=REPOSITORY, metavar="FOLDER",
                         help="the checkout with the sources; without it this one")
     parser.add_argument("--compare", action="store_true", help="write nothing: compare the export that is in FOLDER")
-    given = parser.parse_args()
-    calling.guarded("export", lambda: done(given))
+    calling.started(parser, done)
 
 
 def done(given: argparse.Namespace) -> int:
     """Does what is asked for, and answers the status: 1 where the export differs from the sources."""
-    try:
-        if given.untested:
-            print("\n".join(f"{where}: {part}" for where, part in untested(given.repository, given.only)))
-            return 0
-        if not given.compare:
-            export(given)
-        report = comparing.compared(given.repository, given.to)
-    except BrokenPipeError:
-        raise
-    except (Trouble, OSError) as trouble:
-        raise calling.Failed(str(trouble)) from None
+    if given.untested:
+        print("\n".join(f"{where}: {part}" for where, part in untested(given.repository, given.only)))
+        return 0
+    if not given.compare:
+        export(given)
+    report = comparing.compared(given.repository, given.to)
     print(report.text())
     return 1 if report.differences else 0
 

@@ -60,13 +60,13 @@ def tests_of(source: Source, function: int, clauses: list[Token], brace: int) ->
 
 def conditions_of(clause: str, types: dict[str, str], fields: bool) -> list[str]:
     """Those conditions of a clause that Rust can test as they are; of fields of `self` only where it is said."""
-    body = clause[clause.index("{") + 1:clause.rindex("}")]
-    found = (comparison(part, types, fields) for part in factors(body.strip()))
+    found = (comparison(part, types, fields) for part in factors(clause))
     return [condition for condition in found if condition]
 
 
-def factors(body: str) -> list[str]:
-    """What `×` joins, without the brackets around it."""
+def factors(clause: str) -> list[str]:
+    """What `×` joins in a clause, without the brackets around it."""
+    body = clause[clause.index("{") + 1:clause.rindex("}")].strip()
     found, last, depth = [], 0, 0
     for at, character in enumerate(body):
         depth += (character in "([{") - (character in ")]}")
@@ -144,11 +144,9 @@ def untested(text: str) -> dict[str, list[str]]:
     found: dict[str, list[str]] = {}
     for place, token in enumerate(source.tokens):
         function = source.function_of(place) if token.kind == "clause" and token.text.startswith("requires") else None
-        if function is None or not re.search(r"\bpub (?:const )?$",
-                                             text[max(0, source.at(function).start - 16):source.at(function).start]):
+        if function is None or not re.search(r"\bpub (?:const )?$", text[:source.at(function).start][-16:]):
             continue
         types = source.parameters(function)
-        body = token.text[token.text.index("{") + 1:token.text.rindex("}")]
-        parts = [" ".join(part.split()) for part in factors(body.strip()) if not comparison(part, types, False)]
+        parts = [" ".join(part.split()) for part in factors(token.text) if not comparison(part, types, False)]
         found.setdefault(source.at(function + 1).text, []).extend(parts)
     return {name: parts for name, parts in found.items() if parts}

@@ -21,10 +21,6 @@ class Source:
             return self.tokens[place]
         return Token("none", len(self.text), len(self.text), "")
 
-    def words(self, first: int, last: int) -> list[str]:
-        """The texts of the tokens from `first` to before `last`, without comments."""
-        return [token.text for token in self.tokens[max(first, 0):last] if token.kind != "comment"]
-
     def code(self) -> str:
         """The text with blanks in the place of comments, texts, characters, clauses and ghost items."""
         pieces, at = list[str](), 0

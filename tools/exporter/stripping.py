@@ -185,7 +185,8 @@ def clauses(source: Source, place: int, edits: Edits) -> int:
 def model(source: Source, place: int, edits: Edits) -> int:
     """An `impl Model`, which is for proofs, stays as a comment."""
     brace = source.next_punct(place, "{;),")
-    if not re.search(r" Model for ", " ".join(source.words(place, brace))):
+    if not any(token.is_word("Model") and source.at(at + 1).is_word("for")
+               for at, token in enumerate(source.tokens[place:brace], place)):
         return place + 1
     closing = source.closing(brace)
     if any(token.kind not in ("ghost", "comment") for token in source.tokens[brace + 1:closing]):

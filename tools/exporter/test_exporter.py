@@ -21,7 +21,7 @@ REPOSITORY = Path(__file__).resolve().parent.parent.parent
 CHANGES, SEED = 30, 20
 
 FORMS = blocks("forms.txt", __file__)
-SOURCE, DROP = FORMS["source"], FORMS["drop"]
+SOURCE = FORMS["source"]
 # Of the parameters of tests of requirements
 TYPES = {"s": "& [ u8 ]", "n": "u32", "m": "usize", "b": "u8", "f": "impl Fn ( u8 )"}
 
@@ -42,6 +42,8 @@ class Exports(unittest.TestCase):
             if title.startswith("exports: "):
                 source, _, due = text.partition("=>\n")
                 self.assertEqual(exported(source), due or source, title)
+                self.assertIsNone(difference(source, exported(source)), title)
+                self.assertIsNotNone(difference(source, "fn more() {}\n"), title)
 
     def test_other_forms_are_refused(self) -> None:
         sources = [text for title, text in FORMS.items() if title.startswith("refuses: ")]
@@ -77,24 +79,15 @@ class Differences(unittest.TestCase):
         for other in (export + "fn more() {}\n", start + "    assert!(f < self.count)" + end.replace(";", "")):
             self.assertIsNotNone(difference(SOURCE, other, role))
 
-    def test_a_drop_by_parts_is_accepted_and_no_other(self) -> None:
-        self.assertIsNone(difference(DROP, exported(DROP)))
-        for old, new in (("let (a, b)", "let (b, a)"), ("&mut self", "&self"), ("&self.b", "&self.a")):
-            self.assertIsNotNone(difference(DROP, exported(DROP).replace(old, new)), new)
-
-    def test_a_part_of_a_choice_or_of_a_conclusion_is_no_requirement(self) -> None:
-        for clause in ("(n < 3) ⊎ (m < 3)", "A → ((m < 4) × (n < 3))", "¬ (n < 3)"):
-            source = f"fn f(n: u32, m: u32)\n    requires {{ {clause} }}\n{{\n    g()\n}}\n"
-            export = exported(source)
-            self.assertIsNone(difference(source, export))
-            tested = export.replace("    g()", "    debug_assert!(n < 3);\n    g()")
-            self.assertIsNotNone(difference(source, tested), clause)
-
-    def test_what_only_looks_as_if_it_were_for_proofs_stays(self) -> None:
-        for source in ("use std::ops::{Drop, Deref};\n", "impl Model for S {\n    fn f() {}\n}\n",
-                       "#[tactics]\nfn f() {}\n"):
-            self.assertIsNone(difference(source, source))
-            self.assertIsNotNone(difference(source, "\n"))
+    def test_changes_of_other_forms_are_found(self) -> None:
+        """Another drop by parts, and a test of a part of a choice or of a conclusion, which is no requirement."""
+        for title, old, new in (("a drop by parts", "let (a, b)", "let (b, a)"),
+                                ("a drop by parts", "&mut self", "&self"), ("a drop by parts", "&self.b", "&self.a"),
+                                ("choices and conclusions", "    g()", "    debug_assert!(n < 3);\n    g()")):
+            source = FORMS["exports: " + title].partition("=>\n")[0]
+            self.assertIsNotNone(difference(source, exported(source).replace(old, new)), new)
+        model = FORMS["refuses: a model with code"]
+        self.assertIsNone(difference(model, model))
 
     def test_a_changed_token_of_a_source_of_the_repository(self) -> None:
         """One token of an export is left out, written twice, or replaced by another of the same file."""

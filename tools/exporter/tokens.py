@@ -3,6 +3,8 @@
 import re
 from dataclasses import dataclass
 
+from ..common.calling import Failed
+
 CLAUSES = ("requires", "ensures")
 
 PATTERN = re.compile(r"""
@@ -19,7 +21,7 @@ BLANKS_AND_COMMENTS = re.compile(r"(?:\s+|//[^\n]*)*")
 NAME = re.compile(r"[^\W\d]\w*")
 
 
-class Trouble(Exception):
+class Trouble(Failed):
     """A form of text that the exporter doesn't know."""
 
 
@@ -60,7 +62,7 @@ def token_at(text: str, at: int) -> Token:
     match = PATTERN.match(text, at)
     if match is None:
         raise Trouble(f"no token: {text[at:at + 40]!r}")
-    kind, end = kind_of(match), match.end()
+    kind, end = match.lastgroup or "", match.end()
     if kind == "word" and match.group() in CLAUSES:
         kind, end = "clause", clause_end(text, end)
     elif kind == "word" and match.group() == "ghost":
@@ -68,10 +70,6 @@ def token_at(text: str, at: int) -> Token:
     elif kind == "punct" and match.group() in "\"'":
         raise Trouble(f"a text that doesn't end: {text[at:at + 40]!r}")
     return Token(kind, at, end, text[at:end])
-
-
-def kind_of(match: re.Match[str]) -> str:
-    return "text" if match.lastgroup == "marks" else match.lastgroup or ""
 
 
 def clause_end(text: str, at: int) -> int:

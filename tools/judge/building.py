@@ -16,15 +16,13 @@ SHIPPED = HERE / NAME            # where a release has it
 JUDGE = Program(NAME, "the judge", HERE, ("pip_asm", "pip_cpu", "pip_image", "pip_kern", "pip_script", "pip_switch"),
                 ("host",),
                 ", or copy the file that tools/judge/make_judge --to FILE writes on a machine like this, and name it "
-                "by " "the environment's PIP_JUDGE")
+                "by the environment's PIP_JUDGE")
 
 
 def main() -> None:
-    parser = argparse.ArgumentParser(prog="make_judge",
-                                     description="The judge of the exercises as a program, which cargo builds.")
+    parser = argparse.ArgumentParser(description="The judge of the exercises as a program, which cargo builds.")
     parser.add_argument("--to", type=Path, required=True, metavar="FILE", help="a copy of it")
-    given = parser.parse_args()
-    calling.guarded("make_judge", lambda: make(given.to))
+    calling.started(parser, lambda given: make(given.to))
 
 
 def make(to: Path) -> None:

@@ -30,16 +30,11 @@ BEGINNING = ".frames 64\n.cpus 1\n.page 0x400000\n"      # without these lines a
 
 
 def main() -> None:
-    parser = argparse.ArgumentParser(prog="make_page",
-                                     description="One HTML file that runs the program: the same text, not the same "
-                                                 "proof.")
+    parser = argparse.ArgumentParser(
+        description="One HTML file that runs the program: the same text, not the same proof.")
     parser.add_argument("--to", type=Path, required=True, metavar="FILE", help="the page")
-    made = parser.add_mutually_exclusive_group()
-    made.add_argument("--module", type=Path, metavar="FILE", help="the module, where make_module has made it")
-    made.add_argument("--debian", type=Path, metavar="FOLDER",
-                      help="where Debian's rustc-web and what it needs were unpacked")
-    given = parser.parse_args()
-    calling.guarded("make_page", lambda: write(given.to, given.module, given.debian))
+    module.take_module(parser)
+    calling.started(parser, lambda given: write(given.to, given.module, given.debian))
 
 
 def write(to: Path, made: Path | None, debian: Path | None) -> None:
@@ -71,8 +66,8 @@ def facts() -> dict[str, Any]:
     further: dict[bytes, tuple[int | None, ...]] = {b"boot": (script.WORD, script.WORD), b"call": ()}
     forms = {name.decode(): list(form) for name, form in {**script.FORMS, **further}.items()}
     return {"statuses": list(meanings.statuses().values()), "calls": page.told_calls(), "vectors": meanings.vectors(),
-            "forms": forms,
-            "causes": meanings.causes(), "assembly": of_assembly(), "ends": ends(), "most": MOST_EDITED}
+            "forms": forms, "causes": meanings.causes(), "assembly": of_assembly(), "ends": ends(),
+            "most": MOST_EDITED}
 
 
 def of_assembly() -> dict[str, Any]:

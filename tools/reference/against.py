@@ -107,21 +107,13 @@ class Hostile(Turn):
             self.do()
 
     def do(self) -> None:
-        if self.deed:
-            self.make(self.deed.word, self.deed.numbers)
-
-    def make(self, word: str, x: tuple[int, ...]) -> None:
-        cpu, world = self.cpu, self.world
-        if word == "call":
-            number, *arguments = x
-            outcome = world.call(cpu, number, arguments + [0] * (5 - len(arguments)))
-            self.tell(f"call {number} {script.outcome_text(outcome)}")
-        elif word == "trap":
-            self.trap(*x)
-        elif word in ("ld", "lb"):
-            self.tell_switch(world.load(cpu, x[0], word == "ld"))
+        if self.deed is None:
+            return
+        outcome = script.event(self.world, self.deed.word.encode(), self.cpu, *self.deed.numbers)
+        if self.deed.word == "call":
+            self.tell(f"call {self.deed.numbers[0]} {script.outcome_text(outcome)}")
         else:
-            self.tell_switch(world.store(cpu, x[0], word == "st", x[1]))
+            self.tell_switch(outcome)
 
 
 def is_hostile(at: Running | None, deeds: Sequence[Deed]) -> bool:

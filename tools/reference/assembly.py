@@ -4,7 +4,6 @@ from __future__ import annotations
 
 import re
 from collections.abc import Callable, Iterator
-from dataclasses import dataclass
 
 from . import image, instructions
 from .image import Image, Plan
@@ -19,8 +18,6 @@ HALVES = ("li", "lih", "ori")                           # an immediate may be a 
 DISTANCES = ("beq", "bne", "blt", "bltu", "jal")        # an immediate may be a name that is branched to
 
 
-Finish = Callable[[int, int], int]                      # the address of a name, and that of the word, to the word
-Waiting = tuple[bytes, Finish]
 Act = Callable[[int, bytes, list[bytes]], None]         # by the line's number, its first word and the others
 
 
@@ -28,14 +25,8 @@ class Wrong(Exception):
     """A line has a fault of this kind."""
 
 
-@dataclass(eq=False)
-class Use:
-    """A word of a page that waits for the address of a name."""
-
-    line: int
-    at: int
-    name: bytes
-    finish: Finish
+class Waits(Exception):
+    """A word waits for the address of a name."""
 
 
 def operand_number(text: bytes) -> int:
@@ -64,11 +55,12 @@ class Assembler:
         self.cpus: int | None = None
         self.rows: dict[int, Row] = {}
         self.plans: list[Plan] = []
-        self.pages: dict[int, list[int | Use]] = {}     # the words of each page, by its vpage
+        self.pages: dict[int, list[int]] = {}           # the words of each page, by its vpage
         self.page: int | None = None
-        self.words: list[int | Use] = []                # those of the last page
+        self.words: list[int] = []                      # those of the last page
         self.names: dict[bytes, int] = {}
-        self.uses: list[Use] = []
+        self.are_known = False                          # the names: in the second pass
+        self.waiting: list[tuple[int, list[int], int, Callable[[], int]]] = []
 
     def line(self, place: int, line: bytes) -> None:
         need("unknown", len(line) <= LONGEST)
@@ -120,21 +112,29 @@ class Assembler:
         """The address of the page's next place, kept to 32 bits."""
         return (PAGE * (self.page or 0) + 4 * len(self.words)) % (1 << 32)
 
-    def add(self, *words: int | Use) -> None:
+    def add(self, *words: int) -> None:
         need("size", len(self.words) + len(words) <= WORDS)
         self.words += words
 
-    def use(self, place: int, name: bytes, finish: Finish) -> None:
-        use = Use(place, self.here(), name, finish)
-        self.add(use)
-        self.uses.append(use)
+    def put(self, place: int, made: Callable[[int], int]) -> None:
+        """A word that is made of its address, in the second pass if it waits for a name."""
+        at, words, index = self.here(), self.words, len(self.words)
+        try:
+            self.add(made(at))
+        except Waits:
+            self.add(0)
+            self.waiting.append((place, words, index, lambda: made(at)))
+
+    def address(self, name: bytes) -> int:
+        if not self.are_known:
+            raise Waits
+        need("label", name in self.names)
+        return self.names[name]
 
     def word(self, place: int, form: bytes, operands: list[bytes]) -> None:
         need("operand", len(operands) == 1)
-        if NAME.fullmatch(operands[0]):
-            self.use(place, operands[0], lambda address, at: address)
-        else:
-            self.add(operand_number(operands[0]))
+        text, = operands
+        self.put(place, lambda at: self.address(text) if NAME.fullmatch(text) else operand_number(text))
 
     def zeros(self, place: int, form: bytes, operands: list[bytes]) -> None:
         count, = numbers(operands, 1)
@@ -150,55 +150,40 @@ class Assembler:
         kind = KINDS[OPCODES[form.decode()]]
         wanted = FORMS[kind.form]
         need("operand", len(operands) == len(wanted))
-        values: list[int] = []
-        for what, text in zip(wanted, operands):
-            value = self.operand(kind, what, text)
-            if isinstance(value, tuple):
-                waiting, finish = value
-                self.use(place, waiting, lambda address, at: self.finished(kind, values, finish(address, at)))
-                return
-            values.append(value)
-        if wanted[-1] not in SHIFTS:
-            need("range", kind.least <= values[-1] <= kind.most)
-        self.add(instructions.encode(Instruction(kind.name, tuple(values))))
 
-    def operand(self, kind: instructions.Kind, what: str, text: bytes) -> int | Waiting:
-        """A register's number, an immediate, or a name that is waited for and what becomes of its address."""
+        def made(at: int) -> int:
+            values = [self.operand(kind, what, text, at) for what, text in zip(wanted, operands)]
+            need("range", wanted[-1] in SHIFTS or kind.least <= values[-1] <= kind.most)
+            return instructions.encode(Instruction(kind.name, tuple(values)))
+
+        self.put(place, made)
+
+    def operand(self, kind: instructions.Kind, what: str, text: bytes, at: int) -> int:
+        """A register's number, or an immediate."""
         if what in SHIFTS:
             need("operand", REGISTER.fullmatch(text))
             return int(text[1:])
         if kind.name in HALVES and text[:1] in (b"<", b">"):
             need("operand", NAME.fullmatch(text[1:]))
-            high = text.startswith(b">")
-            return text[1:], lambda address, at: address >> 16 if high else address & 0xFFFF
+            address = self.address(text[1:])
+            return address >> 16 if text.startswith(b">") else address & 0xFFFF
         if kind.name in DISTANCES and NAME.fullmatch(text):
-            return text, lambda address, at: (address - (at + 4) % (1 << 32)) // 4
+            return (self.address(text) - (at + 4) % (1 << 32)) // 4
         if what == SIGNED and NEGATIVE.fullmatch(text):
             return -operand_number(text[1:])
         return operand_number(text)
-
-    def finished(self, kind: instructions.Kind, values: list[int], immediate: int) -> int:
-        need("range", kind.least <= immediate <= kind.most)
-        return instructions.encode(Instruction(kind.name, tuple(values) + (immediate,)))
 
     # The second pass
 
     def filled(self) -> list[image.Page]:
         """All pages, with the names in them."""
-        finished = {use: self.resolved(use) for use in self.uses}
-        pages: list[image.Page] = []
-        for vpage, page in self.pages.items():
-            words = [finished[word] if isinstance(word, Use) else word for word in page]
-            pages.append((vpage, words + [0] * (WORDS - len(words))))
-        return pages
-
-    def resolved(self, use: Use) -> int:
-        if use.name not in self.names:
-            raise BadLine(use.line, "label")
-        try:
-            return use.finish(self.names[use.name], use.at)
-        except Wrong as wrong:
-            raise BadLine(use.line, str(wrong)) from None
+        self.are_known = True
+        for place, words, index, made in self.waiting:
+            try:
+                words[index] = made()
+            except Wrong as wrong:
+                raise BadLine(place, str(wrong)) from None
+        return [(vpage, words + [0] * (WORDS - len(words))) for vpage, words in self.pages.items()]
 
 
 def assemble(text: bytes) -> bytes:
@@ -229,4 +214,5 @@ def disassembled(data: bytes) -> Iterator[str]:
             used = max((index + 1 for index, word in enumerate(words) if word), default=0)
             for word in words[:used]:
                 yield instructions.word_text(word)
-    image.ended(reader)
+    if reader.at < len(data):
+        raise image.BadImage("long", reader.at)

@@ -13,9 +13,8 @@ Memory = list[list[int]]         # the words of each frame
 LEAST_FRAMES, MOST_FRAMES = 16, 4096
 MOST_TABLES = 1024       # of a descriptor that can be read
 MOST_END = 10000000      # in the last line of a text
-NUMBER = rb"(0|[1-9][0-9]{0,9})"
-FRAME, END = re.compile(b"frame " + NUMBER), re.compile(b"end " + NUMBER)
-GROUP = re.compile(rb"([0-9]{4}):((?: [0-9a-f]{8}){8})")
+LINE = re.compile(rb"(?P<kind>frame|end) (?P<number>0|[1-9][0-9]{0,9})"
+                  rb"|(?P<group>[0-9]{4}):(?P<words>(?: [0-9a-f]{8}){8})")
 
 
 class Unread(Exception):
@@ -25,46 +24,30 @@ class Unread(Exception):
 # The text
 
 
-class Text:
-    """A text on its way: the words that were read, and what was named last."""
-
-    def __init__(self, frames: int) -> None:
-        self.memory = [[0] * WORDS for _ in range(frames)]
-        self.frame, self.is_whole = -1, False
-        self.group: int | None = None
-
-    def line(self, line: bytes) -> bool:
-        """Whether the line may stand here; its words are taken."""
-        if self.is_whole:
-            return False
-        if found := GROUP.fullmatch(line):
-            return self.take_group(int(found[1]), [int(word, 16) for word in found[2].split()])
-        is_closed = self.frame < 0 or self.group is not None
-        if found := FRAME.fullmatch(line):
-            last, self.frame, self.group = self.frame, int(found[1]), None
-            return is_closed and last < self.frame < len(self.memory)
-        found = END.fullmatch(line)
-        self.is_whole = found is not None and is_closed and int(found[1]) <= MOST_END
-        return self.is_whole
-
-    def take_group(self, index: int, words: list[int]) -> bool:
-        last, self.group = -1 if self.group is None else self.group, index
-        if self.frame < 0 or index % 8 or not last < index < WORDS or not any(words):
-            return False
-        self.memory[self.frame][index:index + 8] = words
-        return True
-
-
-def read(frames: int, text: bytes) -> list[list[int]]:
-    """The memory of a text."""
-    told = Text(frames)
+def read(frames: int, text: bytes) -> Memory:
+    """The memory of a text: frames in order, each with its groups of eight words in order, and then the end."""
+    memory = [[0] * WORDS for _ in range(frames)]
+    frame, group, is_whole = -1, 0, False        # what was named last; below 0 is no group yet of a frame
     *lines, rest = text.split(b"\n")
     for number, line in enumerate(lines, 1):
-        if not told.line(line):
+        found = LINE.fullmatch(line)
+        if is_whole or found is None:
             raise BadLine(number)
-    if rest or not told.is_whole:
+        if found["kind"] is None:
+            last, group, words = group, int(found["group"]), [int(word, 16) for word in found["words"].split()]
+            is_good = frame >= 0 and group % 8 == 0 and last < group < WORDS and any(words)
+            if is_good:
+                memory[frame][group:group + 8] = words
+        elif found["kind"] == b"frame":
+            last, frame = frame, int(found["number"])
+            is_good, group = group >= 0 and last < frame < frames, -8
+        else:
+            is_good = is_whole = group >= 0 and int(found["number"]) <= MOST_END
+        if not is_good:
+            raise BadLine(number)
+    if rest or not is_whole:
         raise BadLine(len(lines) + 1)
-    return told.memory
+    return memory
 
 
 # Reading a tree off
@@ -132,7 +115,7 @@ def table_of(memory: Memory, directory: int, page: int, start: int) -> Table:
     entry = PAGE * mmu.page + 1
     need(entry in memory[directory], page, start + 1)
     shadows = [pair_at(memory, page, start + k) for k in (2, 4)]
-    return Table(memory[directory].index(entry), [mmu] + shadows)
+    return Table(memory[directory].index(entry), (mmu, *shadows))
 
 
 def rows_of(memory: Memory, tables: list[Table]) -> dict[int, Row]:

@@ -12,7 +12,7 @@ from __future__ import annotations
 
 import sys
 from collections.abc import Callable, Iterable, Sequence
-from typing import NamedTuple, Optional
+from typing import Any, NamedTuple, Optional
 
 from . import against, apart, assembly, audit, every, image, native, parts, runs, script
 from .model import World
@@ -22,11 +22,11 @@ USAGE = b"usage: pip script | run STEPS SEED | asm | dis | tree STEPS SEED | cor
     b" | every STATES [FROM [DEPTH]] [after STEPS SEED] | against STATES [FROM [DEPTH]] [after STEPS SEED]" \
     b" | apart STATES STEPS SEED | part [FROM] | merge\n"
 Ended = tuple[bytes, int, Optional[World]]       # output and status, and the world that the command leaves
-OnImage = Callable[[image.Image], tuple[Iterable[str], Optional[World]]]
+OnImage = Callable[..., tuple[Iterable[str], Optional[World]]]
 MOST_STEPS, MOST_COUNT = 10000000, 1000000
 STEPS, SEED = (0, MOST_STEPS), (1, script.WORD - 1)        # the limits of these words
 AFTER = "after"                                  # between the words of a search and those of the steps before it
-ON_IMAGES = {"run": runs.run, "tree": runs.tree, "core": runs.core}
+ON_IMAGES: dict[str, OnImage] = {"run": runs.run, "tree": runs.tree, "core": runs.core}
 
 
 def numbers_of(words: Sequence[str], *limits: tuple[int, int]) -> tuple[int, ...] | None:
@@ -113,29 +113,23 @@ def answered(words: Sequence[str], text: bytes) -> Ended:
     if command in ON_TEXTS and not rest:
         return ON_TEXTS[command](text)
     if command in ON_IMAGES and (given := numbers_of(rest, STEPS, SEED)):
-        run, (count, seed) = ON_IMAGES[command], given
-        return on_image(lambda machine: run(machine, count, seed), text)
+        return on_image(ON_IMAGES[command], text, *given)
     if command == "soak" and (given := numbers_of(rest, (0, MOST_COUNT), SEED)):
         told, world = runs.soak(*given)
         return in_lines(told), 0, world
     if command == "native" and (given := numbers_of(rest, (1, native.MOST_CHILDREN), STEPS)):
-        n, count = given
-        return on_image(lambda machine: native.native(machine, n, count), text, n)
-    if command == "slots" and (shares := slots_of(rest)):
-        n, round, rounds = shares
-        return on_image(lambda machine: native.slots(machine, n, round, rounds), text, n)
+        return on_image(native.native, text, *given, children=given[0])
+    if command == "slots" and (slots := slots_of(rest)):
+        return on_image(native.slots, text, *slots, children=slots[0])
     if command == "audit" and (given := numbers_of(rest, (audit.LEAST_FRAMES, audit.MOST_FRAMES))):
-        frames, = given
-        told, status = audit.audit(frames, text)
+        told, status = audit.audit(given[0], text)
         return in_lines(told), status, None
     if command == "every" and (asked := search_of(rest)):
-        search = asked
-        return on_image(lambda machine: (every.every(machine, *search), None), text)
+        return in_lines(every.every(image.read(text), *asked)), 0, None
     if command == "against" and (asked := search_of(rest)):
         return on_menu(asked, text)
     if command == "apart" and (given := numbers_of(rest, (1, every.MOST_STATES), STEPS, SEED)):
-        room, steps, seed = given
-        return on_image(lambda machine: (apart.apart(machine, room, steps, seed), None), text)
+        return in_lines(apart.apart(image.read(text), *given)), 0, None
     if command == "part" and (given := numbers_of(rest or ["0"], (0, every.MOST))):
         return in_lines(parts.part(text, *given)), 0, None
     return USAGE, 1, None
@@ -172,9 +166,9 @@ def merge(text: bytes) -> Ended:
 ON_TEXTS: dict[str, Callable[[bytes], Ended]] = {"script": script.ended, "asm": asm, "dis": dis, "merge": merge}
 
 
-def on_image(command: OnImage, data: bytes, children: int = 0) -> Ended:
-    """What a command says of an image, which has room for that many children."""
-    told, world = command(image.read(data, native.frames_needed(children) if children else 0))
+def on_image(command: OnImage, data: bytes, *words: Any, children: int = 0) -> Ended:
+    """What a command says of an image, which has room for that many children, by these words."""
+    told, world = command(image.read(data, native.frames_needed(children) if children else 0), *words)
     return in_lines(told), 0, world
 
 

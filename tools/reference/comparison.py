@@ -7,6 +7,7 @@ Only the commands that are named are compared."""
 from __future__ import annotations
 
 import argparse
+import functools
 import multiprocessing
 import os
 import signal
@@ -14,20 +15,13 @@ import subprocess
 import tempfile
 
 from ..common import calling
-from ..common.calling import REPOSITORY, Failed, first_difference
+from ..common.calling import first_difference
 from . import commands, generate
 
-BUILT = os.path.join(REPOSITORY, "crates", "pip", "out", "pip")
 Answer = tuple[bytes, int]                                   # output and status
 # words and input; what the reference answers, and the program
 Difference = tuple[list[str], bytes, Answer, Answer]
 SECONDS = 120            # a run of the built program that takes longer counts as a difference
-
-
-def run_built(path: str, words: list[str], text: bytes) -> Answer:
-    """What the built program writes, and its status."""
-    done = subprocess.run([path, *words], input=text, stdout=subprocess.PIPE, timeout=SECONDS)
-    return done.stdout, done.returncode
 
 
 def difference(path: str, command: str, seed: int) -> Difference | None:
@@ -35,14 +29,11 @@ def difference(path: str, command: str, seed: int) -> Difference | None:
     words, text = generate.case(command, seed)
     expected = commands.pip(words, text)
     try:
-        got = run_built(path, words, text)
+        done = subprocess.run([path, *words], input=text, stdout=subprocess.PIPE, timeout=SECONDS)
     except subprocess.TimeoutExpired:
         return words, text, expected, (b"nothing in time", -1)
+    got = done.stdout, done.returncode
     return None if got == expected else (words, text, expected, got)
-
-
-def job(given: tuple[str, str, int]) -> tuple[int, Difference | None]:
-    return given[2], difference(*given)
 
 
 def do_no_more(*_: object) -> None:
@@ -52,13 +43,10 @@ def do_no_more(*_: object) -> None:
 
 def first_case(path: str, command: str, cases: int, seed: int, jobs: int | None) -> tuple[int, Difference] | None:
     """The first seed whose case differs, with the difference; None where all agree."""
-    work = ((path, command, seed + k) for k in range(cases))
+    seeds = range(seed, seed + cases)
     with multiprocessing.Pool(jobs, signal.signal, (signal.SIGINT, do_no_more)) as pool:
-        for at, found in pool.imap(job, work, chunksize=20):
-            if found:
-                pool.terminate()
-                return at, found
-    return None
+        found = pool.imap(functools.partial(difference, path, command), seeds, chunksize=20)
+        return next(((at, other) for at, other in zip(seeds, found) if other), None)
 
 
 def described(command: str, seed: int, found: Difference) -> str:
@@ -85,13 +73,12 @@ def compare() -> int:
     parser.add_argument("commands", nargs="+", choices=generate.COMMANDS)
     parser.add_argument("--cases", type=int, default=1000)
     parser.add_argument("--seed", type=int, default=1)
-    parser.add_argument("--program", default=BUILT)
+    calling.take_program(parser)
     parser.add_argument("--jobs", type=int, default=os.cpu_count())
     given = parser.parse_args()
-    if not os.access(given.program, os.X_OK):
-        raise Failed(f"there is no program at {given.program}: build it by ./pip, or name it by --program")
+    program = calling.direct(given.program)
     for command in given.commands:
-        if found := first_case(given.program, command, given.cases, given.seed, given.jobs):
+        if found := first_case(program, command, given.cases, given.seed, given.jobs):
             print(described(command, *found))
             return 1
         print(f"{command}: {given.cases} cases from seed {given.seed} agree")

@@ -13,9 +13,8 @@ from collections.abc import Iterable, Iterator, Sequence
 from dataclasses import replace
 from typing import NamedTuple
 
-from .caches import Cache
 from .image import Image, world as image_world
-from .model import ROOT, Node, Row, Running, Table, Tree, World
+from .model import ROOT, Node, Running, Tree, World
 from .runs import Turn, first_line, steps
 
 MOST_STATES, MOST = 100000000, 10000000          # at most so many states; turns before a line, and choices in a row
@@ -58,13 +57,6 @@ class SharedTree(Tree):
         return page not in self.words
 
 
-class NoCache(Cache):
-    """No answer of an event depends on a cache, so nothing is remembered."""
-
-    def access(self, part: int, vpage: int, row: Row | None) -> None:
-        pass
-
-
 class SharedWorld(World):
     """A world whose partitions other moments have, too: all are copied before a call that changes their shape."""
 
@@ -74,13 +66,9 @@ class SharedWorld(World):
     def reply(self, caller: Node, number: int, x: list[int]) -> int:
         if number in SHAPING and not self.is_shaped:
             self.is_shaped = True
-            self.tree.nodes = {name: unshared(node) for name, node in self.tree.nodes.items()}
+            self.tree.nodes = {x.name: replace(x, tables=list(x.tables), more=list(x.more), rows=dict(x.rows))
+                               for x in self.tree.nodes.values()}
         return super().reply(self.tree.nodes[caller.name], number, x)
-
-
-def unshared(node: Node) -> Node:
-    tables = [Table(table.index, list(table.pairs)) for table in node.tables]
-    return replace(node, tables=tables, more=list(node.more), rows=dict(node.rows))
 
 
 # Moments by value
@@ -106,12 +94,8 @@ class Shape(NamedTuple):
 
 def shape_value(nodes: Iterable[Node]) -> object:
     """What is equal of equal shapes, in whatever order their partitions were made."""
-    return frozenset((x.name, x.up, x.born, tuple(x.base), tables_value(x), tuple(x.more), frozenset(x.rows.items()))
+    return frozenset((x.name, x.up, x.born, tuple(x.base), tuple(x.tables), tuple(x.more), frozenset(x.rows.items()))
                      for x in nodes)
-
-
-def tables_value(node: Node) -> object:
-    return tuple((table.index, tuple(table.pairs)) for table in node.tables)
 
 
 class Moments:
@@ -159,9 +143,7 @@ class Moments:
             words.pop(page, None)
         for page, number in moment.changed:
             words[page] = self.pages[number]
-        world = SharedWorld(SharedTree(self.frames, nodes, words), list(moment.processors))
-        world.caches = [NoCache()] * self.cpus
-        return world
+        return SharedWorld(SharedTree(self.frames, nodes, words), list(moment.processors))
 
     def moment_of(self, world: World) -> Moment:
         """The moment of a world of its own, before any turn."""

@@ -74,11 +74,14 @@ class Story(Drawing):
 
     def wake(self) -> bool:
         """The root takes a line on some processor, where it has a handler for one."""
-        lines = [line for line in range(LINES) if self.tree.handler(self.tree.nodes[ROOT], 32 + line)]
+        lines = self.handled_lines()
         if lines:
             self.say("raise", self.random.choice(lines))
             self.say("poll", self.any_cpu())
         return bool(lines)
+
+    def handled_lines(self) -> list[int]:
+        return [line for line in range(LINES) if self.tree.handler(self.tree.nodes[ROOT], 32 + line)]
 
     # Choices
 
@@ -120,10 +123,14 @@ class Story(Drawing):
 
     def free_pages(self, node: Node, rights: int = READ) -> list[int]:
         """Addresses of pages that are free for the node, in rising order, without its handler table."""
-        given = {page for child in self.tree.children(node) for page in child.configuration()}
-        given |= {row.page for child in self.tree.children(node) for row in child.rows.values()}
+        given = {page for child in self.tree.children(node) for page in child.held()}
         return [PAGE * v for v, row in sorted(node.rows.items())
                 if row.page not in given and row.rights & rights == rights and PAGE * v != HANDLERS]
+
+    def pages_to_give(self, node: Node, count: int) -> list[int]:
+        """That many pages that can become configuration, or any where there are too few."""
+        pages = self.free_pages(node, READ | WRITE)
+        return self.random.sample(pages, count) if len(pages) >= count else [self.any_page(node) for _ in range(count)]
 
     def free_page(self, node: Node) -> int:
         pages = self.free_pages(node)
@@ -236,8 +243,7 @@ class Story(Drawing):
 
     def create(self) -> None:
         cpu, node = self.caller()
-        pages = self.free_pages(node, READ | WRITE)
-        chosen = self.random.sample(pages, 5) if len(pages) >= 5 else [self.any_page(node) for _ in range(5)]
+        chosen = self.pages_to_give(node, 5)
         if self.chance(0.15):
             chosen[self.random.randrange(5)] = self.pick(chosen[0], self.any_page(node), HANDLERS, 0x00800000)
         self.say("call", cpu, 0, *(self.odd(address) for address in chosen))
@@ -260,8 +266,7 @@ class Story(Drawing):
     def prepare(self) -> None:
         cpu, node = self.parent()
         d = self.child(node)
-        pages = self.free_pages(node, READ | WRITE)
-        chain = self.random.sample(pages, 3) if len(pages) >= 3 else [self.any_page(node) for _ in range(3)]
+        chain = self.pages_to_give(node, 3)
         if self.chance(0.25):
             broken = self.pick(chain[0], chain[1], self.any_page(node), self.any_page(node), HANDLERS, 0)
             chain[self.random.randrange(3)] = broken
@@ -348,9 +353,6 @@ class Story(Drawing):
 
     # Acts: whole plots
 
-    def raise_child(self) -> None:
-        self.raise_child_of(*self.caller())
-
     def raise_child_of(self, cpu: int, node: Node, for_depth: bool = False) -> None:
         """A child with tables, a handler table and some pages; perhaps it is yielded to. Where the plot goes deeper,
         it gets enough to raise one of its own, and is."""
@@ -413,8 +415,7 @@ class Story(Drawing):
             self.give_blocks(at[0], HANDLERS, self.random.sample((14, 17, 32, 33, 47, SAVED), 3))
         elif not at:
             idle = [cpu for cpu, running in enumerate(self.world.processors) if not running]
-            lines = [line for line in range(LINES) if self.tree.handler(root, 32 + line)]
-            self.say("raise", self.random.choice(lines or range(LINES)))
+            self.say("raise", self.random.choice(self.handled_lines() or range(LINES)))
             self.say("poll", self.random.choice(idle or range(len(self.world.processors))))
 
     def remark(self) -> None:
@@ -426,7 +427,7 @@ ACTS: list[tuple[Callable[[Story], None], int]] = [
     (Story.delete, 2), (lambda story: story.of_place(2), 2), (Story.prepare, 4), (lambda story: story.of_place(4), 3),
     (Story.add, 6), (lambda story: story.of_place(6, True), 4), (Story.mapped, 2), (Story.yield_to, 6),
     (Story.go_on, 3), (Story.mask, 2), (Story.other_call, 1), (Story.interrupt, 5), (Story.look, 8),
-    (Story.raise_child, 4), (Story.forge, 2), (Story.beside, 4), (Story.remark, 1),
+    (lambda story: story.raise_child_of(*story.caller()), 4), (Story.forge, 2), (Story.beside, 4), (Story.remark, 1),
 ]
 
 

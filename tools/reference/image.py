@@ -109,32 +109,22 @@ def parts(reader: Reader, least: int = 0) -> Iterator[Head | Plan | Page]:
         yield vpage, struct.unpack("<1024I", reader.take(PAGE)[0])
 
 
-def ended(reader: Reader) -> None:
-    """Nothing is after the image."""
-    if reader.at < len(reader.data):
-        raise BadImage("long", reader.at)
-
-
-def front_of(reader: Reader, least: int) -> Image:
-    """The image with which the bytes begin."""
+def parted(data: bytes, least: int = 0) -> tuple[Image, bytes]:
+    """The image with which the bytes begin, and what is after it; BadImage where they don't begin with one."""
+    reader = Reader(data)
     head, *rest = parts(reader, least)
     assert isinstance(head, Head)
     plans = [part for part in rest if isinstance(part, Plan)]
-    return Image(head.frames, head.cpus, plans, [part for part in rest if not isinstance(part, (Head, Plan))])
+    pages = [part for part in rest if not isinstance(part, (Head, Plan))]
+    return Image(head.frames, head.cpus, plans, pages), data[reader.at:]
 
 
 def read(data: bytes, least: int = 0) -> Image:
-    """The image that the bytes are; BadImage where they are none."""
-    reader = Reader(data)
-    image = front_of(reader, least)
-    ended(reader)
+    """The image that the bytes are."""
+    image, after = parted(data, least)
+    if after:
+        raise BadImage("long", len(data) - len(after))
     return image
-
-
-def parted(data: bytes, least: int = 0) -> tuple[Image, bytes]:
-    """The same of bytes that begin with an image, and what is after it."""
-    reader = Reader(data)
-    return front_of(reader, least), data[reader.at:]
 
 
 def written(image: Image) -> bytes:

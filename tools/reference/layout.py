@@ -1,8 +1,5 @@
 """What each word of each frame is for a given tree, in the words of docs/FORMATS.md."""
 
-import functools
-from collections.abc import Callable
-
 from .model import PAGE, ROOT, SLOTS, WORDS, Node, Row, Tree
 
 PRESENT, USER = 1, 2
@@ -10,66 +7,48 @@ PRESENT, USER = 1, 2
 
 def word(tree: Tree, frame: int, index: int) -> int:
     """The word of a frame below the tree's number of frames, at an index below 1024."""
-    return words_of(tree, frame)(index)
+    return words_of(tree, frame).get(index, 0)
 
 
 def frame_words(tree: Tree, frame: int) -> list[int]:
     """All words of a frame."""
-    return list(map(words_of(tree, frame), range(WORDS)))
+    words = words_of(tree, frame)
+    return [words.get(index, 0) for index in range(WORDS)]
 
 
-def words_of(tree: Tree, frame: int) -> Callable[[int], int]:
-    """The words of a frame, as a function of the index."""
+def words_of(tree: Tree, frame: int) -> dict[int, int]:
+    """The words of a frame by their index, but for those that are 0."""
     if frame in tree.words:
-        return lambda i: tree.word(frame, i)
+        return tree.words[frame]
     for node in tree.nodes.values():
         if node.name == frame:
-            return functools.partial(descriptor_word, node)
+            return descriptor(node)
         for which, pair in enumerate(node.base[1:4]):
             if pair.page == frame:
-                return functools.partial(directory_word, node, which)
+                return {table.index: PAGE * table.pairs[which].page + 1 for table in node.tables}
         for place, pair in enumerate([node.base[4]] + node.more):
             if pair.page == frame:
-                return functools.partial(list_word, node, place)
+                return list_page(node, place)
         for table in node.tables:
-            for place, pair in enumerate(table.pairs):
+            for pair, entry in zip(table.pairs, (mmu_word, first_shadow_word, second_shadow_word)):
                 if pair.page == frame:
-                    entry = (mmu_word, first_shadow_word, second_shadow_word)[place]
-                    return functools.partial(table_word, tree, node, 1024 * table.index, entry)
-    return lambda i: 0
+                    return {vpage % 1024: entry(tree, node, row) for vpage, row in node.rows.items()
+                            if vpage // 1024 == table.index}
+    return {}
 
 
-def descriptor_word(node: Node, index: int) -> int:
-    if index < 10:
-        pair = node.base[index // 2]
-        return pair.address if index % 2 == 0 else pair.page
-    return {11: node.up, 12: len(node.tables), 14: int(node.masked),
-            15: sum(1 << line for line in node.pending)}.get(index, 0)
+def descriptor(node: Node) -> dict[int, int]:
+    base = [word for pair in node.base for word in pair]
+    return {**dict(enumerate(base)), 11: node.up, 12: len(node.tables), 14: int(node.masked),
+            15: sum(1 << line for line in node.pending)}
 
 
-def directory_word(node: Node, which: int, index: int) -> int:
-    """`which` is 0 for the MMU's directory, 1 and 2 for the shadows'."""
-    return next((PAGE * table.pairs[which].page + 1 for table in node.tables if table.index == index), 0)
-
-
-def list_word(node: Node, place: int, index: int) -> int:
-    """A word of list page number `place` of a partition."""
-    if index < 2:
-        if place == len(node.more):
-            return 0
-        following = node.more[place]
-        return following.page if index == 0 else following.address
-    slot, part = divmod(index - 2, 6)
-    if slot >= SLOTS or SLOTS * place + slot >= len(node.tables):
-        return 0
-    pair = node.tables[SLOTS * place + slot].pairs[part // 2]
-    return pair.address if part % 2 == 0 else pair.page
-
-
-def table_word(tree: Tree, node: Node, first: int, entry: Callable[[Tree, Node, Row], int], index: int) -> int:
-    """A word of a table whose first vpage is given."""
-    row = node.rows.get(first + index)
-    return entry(tree, node, row) if row else 0
+def list_page(node: Node, place: int) -> dict[int, int]:
+    """List page number `place` of a partition: the next one, and then slots of tables."""
+    noted = node.tables[SLOTS * place:SLOTS * (place + 1)]
+    words = [word for table in noted for pair in table.pairs for word in pair]
+    following = [(more.page, more.address) for more in node.more[place:place + 1]]
+    return dict(enumerate([*(following or [(0, 0)])[0], *words]))
 
 
 def mmu_word(tree: Tree, node: Node, row: Row) -> int:

@@ -74,7 +74,7 @@ class Table:
     """A directory index; MMU table, first shadow table, second shadow table."""
 
     index: int
-    pairs: list[Pair]
+    pairs: tuple[Pair, ...]
 
 
 class Row(NamedTuple):
@@ -125,8 +125,9 @@ class Node:
         index = directory_index(address // PAGE)
         return next((table for table in self.tables if table.index == index), None)
 
-    def holds(self, page: int) -> bool:
-        return page in self.configuration() or any(row.page == page for row in self.rows.values())
+    def held(self) -> list[int]:
+        """All its pages: the configuration, and those of its rows."""
+        return self.configuration() + [row.page for row in self.rows.values()]
 
 
 @dataclass
@@ -148,7 +149,7 @@ class Tree:
 
     def holder(self, node: Node, page: int) -> Node | None:
         """The child that holds the page, or None."""
-        return next((c for c in self.children(node) if c.holds(page)), None)
+        return next((c for c in self.children(node) if page in c.held()), None)
 
     def is_hidden(self, page: int) -> bool:
         return any(page in x.configuration() for x in self.nodes.values())
@@ -161,11 +162,9 @@ class Tree:
             ancestors.append(node)
         return ancestors
 
-    def is_below(self, node: Node, top: Node) -> bool:
-        return node is top or top in self.proper_ancestors(node)
-
     def below(self, top: Node) -> list[Node]:
-        return [x for x in self.nodes.values() if self.is_below(x, top)]
+        """A partition, and those below it."""
+        return [x for x in self.nodes.values() if x is top or top in self.proper_ancestors(x)]
 
     def is_free(self, node: Node, address: int) -> bool:
         row = node.row_at(address)
@@ -271,7 +270,7 @@ def boot_tree(frames: int) -> Tree:
     t = root_tables(frames)
     tables = []
     for place, index in enumerate([*range(1, t + 1), 1023]):
-        tables.append(Table(index, [Pair(0, 6 + 3 * place + k) for k in range(3)]))
+        tables.append(Table(index, tuple(Pair(0, 6 + 3 * place + k) for k in range(3))))
     rights = READ + WRITE + EXECUTE
     users = range(3 * t + 9, frames - 1)
     rows = {0x400 + k: Row(page, rights) for k, page in enumerate(users)}
@@ -353,7 +352,7 @@ def prepare(tree: Tree, caller: Node, d: int, cv: int, first: int) -> int:
     chain = check_chain(tree, caller, first, count)
     if count:
         pairs = [pair_at(caller, address) for address in chain]
-        child.tables.append(Table(directory_index(cv // PAGE), pairs[:3]))
+        child.tables.append(Table(directory_index(cv // PAGE), tuple(pairs[:3])))
         child.more += pairs[3:]
         hide(tree, pairs)
     return count

@@ -4,13 +4,14 @@ given."""
 
 from __future__ import annotations
 
+from collections import deque
 from collections.abc import Iterable, Sequence
 
 from .image import Image, world as image_world
 from .model import (EXECUTE, HANDLERS, NOWHERE, PAGE, READ, ROOT, SAVED, WRITE, Done, Reply, Status, Switched, World,
                     pages_needed)
 from .runs import Turn, first_line, raise_lines
-from .script import outcome_text, word_text
+from .script import call, outcome_text, word_text
 
 MOST_CHILDREN = 8
 PROGRAM = 0x400000                           # where a child has its program, and the root the first of them
@@ -41,7 +42,7 @@ def store(world: World, address: int, word: int) -> None:
 
 
 def ask(world: World, number: int, *arguments: int) -> None:
-    reply = world.call(0, number, list(arguments) + [0] * (5 - len(arguments)))
+    reply = call(world, 0, number, *arguments)
     assert isinstance(reply, Reply) and reply.status == Status.OK
 
 
@@ -80,32 +81,23 @@ def children(world: World, n: int) -> list[int]:
 # The monitor
 
 
-class Monitor:
-    """The children of the root, which of them are alive, and which was chosen last."""
+def root_runs(world: World) -> bool:
+    at = world.processors[0]
+    return at is not None and at.name == ROOT
 
-    def __init__(self, built: list[int]) -> None:
-        self.built = built
-        self.alive = set(range(len(built)))
-        self.last = len(built) - 1
 
-    def next(self) -> int | None:
-        """The next child in turn that is alive, after the last one; None where none is."""
-        n = len(self.built)
-        turns = [(self.last + k) % n for k in range(1, n + 1)]
-        return next((i for i in turns if i in self.alive), None)
-
-    def decide(self, world: World) -> str | None:
-        """The root runs on processor 0: it yields to the next child, or drops it. None where there is nobody."""
-        i = self.next()
-        if i is None:
-            return None
-        answer = world.call(0, 8, [self.built[i], SAVED, NOWHERE, 0, 0])
-        self.last = i
-        if isinstance(answer, Switched):
-            return f"run {i}"
-        assert isinstance(answer, Reply)
-        self.alive.remove(i)
-        return f"drop {i} {int(answer.status)}"
+def decided(world: World, alive: deque[tuple[int, int]]) -> str | None:
+    """The root yields to the next child, which goes to the end of those that are alive, or drops it. None where there
+    is nobody."""
+    if not alive:
+        return None
+    i, address = alive.popleft()
+    answer = call(world, 0, 8, address, SAVED, NOWHERE)
+    if isinstance(answer, Switched):
+        alive.append((i, address))
+        return f"run {i}"
+    assert isinstance(answer, Reply)
+    return f"drop {i} {int(answer.status)}"
 
 
 # The command
@@ -121,15 +113,12 @@ def begun(image: Image, n: int) -> tuple[list[str], World, list[int]]:
 def native(image: Image, n: int, count: int) -> tuple[list[str], World]:
     """The text, line by line, of that many steps in which a monitor runs n children, and the last world."""
     told, world, built = begun(image, n)
-    monitor = Monitor(built)
+    alive = deque(enumerate(built))
     for step in range(count):
         raise_lines(image, world, step)
-        at = world.processors[0]
-        if at is None or at.name != ROOT:
+        if not root_runs(world):
             Turn(world, 0, step, told.append).take()
-            continue
-        decision = monitor.decide(world)
-        if decision:
+        elif decision := decided(world, alive):
             told.append(f"{step} 0 {decision}")
     return told + [f"end {count}"], world
 
@@ -151,34 +140,24 @@ def steps_of(round: Round, rounds: int) -> int:
     return rounds * sum(turns + 2 for _, turns in round)
 
 
-class Slots:
-    """Slots on processor 0, one after another, and the lines that are told of them."""
-
-    def __init__(self, world: World, told: list[str]) -> None:
-        self.world, self.told, self.step = world, told, 0
-
-    def root_runs(self) -> bool:
-        at = self.world.processors[0]
-        return at is not None and at.name == ROOT
-
-    def slot(self, child: int, turns: int) -> None:
-        """The root yields into the child, the processor has its turns, and line 0 ends the slot."""
-        outcome = self.world.call(0, 8, [child, SAVED, NOWHERE, 0, 0])
-        self.told.append(f"{self.step} 0 call 8 {outcome_text(outcome)}")
-        for step in range(self.step + 1, self.step + 1 + turns):
-            if not self.root_runs():
-                Turn(self.world, 0, step, self.told.append).take()
-        if not self.root_runs():
-            self.world.raise_line(LINE)
-            Turn(self.world, 0, self.step + 1 + turns, self.told.append).tell_switch(self.world.poll(0))
-        self.step += turns + 2
+def slot(world: World, told: list[str], first: int, child: int, turns: int) -> None:
+    """From a step on the root yields into the child, the processor has its turns, and line 0 ends the slot."""
+    told.append(f"{first} 0 call 8 {outcome_text(call(world, 0, 8, child, SAVED, NOWHERE))}")
+    last = first + 1 + turns
+    for step in range(first + 1, last):
+        if not root_runs(world):
+            Turn(world, 0, step, told.append).take()
+    if not root_runs(world):
+        world.raise_line(LINE)
+        Turn(world, 0, last, told.append).tell_switch(world.poll(0))
 
 
 def slots(image: Image, n: int, round: Round, rounds: int) -> tuple[list[str], World]:
     """The text, line by line, and the last world."""
     told, world, built = begun(image, n)
-    run = Slots(world, told)
+    step = 0
     for _ in range(rounds):
         for child, turns in round:
-            run.slot(built[child], turns)
-    return told + [f"end {steps_of(round, rounds)}"], world
+            slot(world, told, step, built[child], turns)
+            step += turns + 2
+    return told + [f"end {step}"], world

@@ -146,7 +146,10 @@ class Keys:
             if running is None:
                 yield 0
             else:
-                yield from (running.name, running.context.pc, *running.context.registers)
+                registers = list(running.context.registers)
+                while registers and not registers[-1]:
+                    registers.pop()
+                yield from (running.name, running.context.pc, len(registers), *registers)
         tree = self.moments.world(moment).tree
         for frame, first in enumerate(self.first):
             for index, word in enumerate(layout.frame_words(tree, frame)):

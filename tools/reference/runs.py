@@ -4,10 +4,11 @@ from collections.abc import Callable, Iterator, Sequence
 
 from . import layout
 from .image import Image, is_due, world as image_world
-from .instructions import BRANCHES, NEXT, VALUES, Instruction, WORD as ALL, decode
+from .instructions import (BRANCHES, FORMS, KINDS, NEXT, OPCODES, SHIFTS, VALUES, Instruction, WORD as ALL,
+                           decode)
 from .model import (EXECUTE, HANDLERS, PAGE, ROOT, WORDS, WRITE, Context, Done, Idle, Node, Outcome, Parked, Reply, Row,
                     Switched, Tree, Word, World)
-from .script import outcome_text, word_text
+from .script import call, outcome_text, word_text
 
 
 class Generator:
@@ -104,15 +105,11 @@ class Turn:
             self.tell(f"out {word_text(r[x[0]])}")
             self.set(after)
 
-    def values(self, instruction: Instruction) -> Sequence[int]:
+    def values(self, instruction: Instruction) -> list[int]:
         """The values of b and c, or of b and the immediate, or of the immediate."""
-        registers = self.context.registers
-        name, operands = instruction
-        if name in ("li", "lih"):
-            return operands[1:]
-        if name in ("addi", "andi", "ori", "shli", "shri"):
-            return registers[operands[1]], operands[2]
-        return [registers[operand] for operand in operands[1:]]
+        name, (_, *operands) = instruction
+        registers, (_, *form) = self.context.registers, FORMS[KINDS[OPCODES[name]].form]
+        return [registers[operand] if what in SHIFTS else operand for what, operand in zip(form, operands)]
 
 
 def raise_lines(image: Image, world: World, step: int) -> list[int]:
@@ -265,7 +262,7 @@ class Soak:
             self.count(world.poll(cpu))
 
     def call(self, cpu: int, number: int, *arguments: int) -> None:
-        self.count(self.world.call(cpu, number, list(arguments) + [0] * (5 - len(arguments))))
+        self.count(call(self.world, cpu, number, *arguments))
 
 
 def soak(count: int, seed: int) -> tuple[list[str], World]:

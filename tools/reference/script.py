@@ -74,14 +74,15 @@ class Script:
         numbers = [number(operand) for operand in operands]
         if self.world is None:
             return self.boot(name, numbers)
-        if name == b"call":
-            return call(self.world, numbers)
-        if name not in FORMS or len(numbers) != len(FORMS[name]):
-            raise Bad
+        form = (CPU, *(WORD,) * min(max(len(numbers) - 1, 1), 6)) if name == b"call" else FORMS.get(name)
         cpus = len(self.world.processors)
-        if any(x >= (cpus if limit is CPU else limit) for x, limit in zip(numbers, FORMS[name])):
+        if form is None or len(numbers) != len(form):
             raise Bad
-        return event(self.world, name, numbers)
+        if any(x >= (cpus if limit is CPU else limit) for x, limit in zip(numbers, form)):
+            raise Bad
+        if name == b"peek":
+            return peek(self.world, *numbers)
+        return register(self.world, *numbers) if name == b"reg" else outcome_text(event(self.world, name, *numbers))
 
     def boot(self, name: bytes, numbers: list[int]) -> str:
         if name != b"boot" or len(numbers) != 2:
@@ -93,30 +94,23 @@ class Script:
         return f"boot {frames} {cpus}"
 
 
-def call(world: World, numbers: list[int]) -> str:
-    if not 2 <= len(numbers) <= 7 or numbers[0] >= len(world.processors):
-        raise Bad
-    cpu, number, *arguments = numbers
-    return outcome_text(world.call(cpu, number, arguments + [0] * (5 - len(arguments))))
+def call(world: World, cpu: int, number: int, *arguments: int) -> Outcome:
+    """A call; the arguments that aren't given are 0."""
+    return world.call(cpu, number, [*arguments, *[0] * (5 - len(arguments))])
 
 
-def event(world: World, name: bytes, x: list[int]) -> str:
-    if name == b"peek":
-        return peek(world, *x)
-    if name == b"reg":
-        return register(world, *x)
-    outcomes: dict[bytes, Callable[[], Outcome]] = {
-        b"ld": lambda: world.load(x[0], x[1], True),
-        b"lb": lambda: world.load(x[0], x[1], False),
-        b"st": lambda: world.store(x[0], x[1], True, x[2]),
-        b"sb": lambda: world.store(x[0], x[1], False, x[2]),
-        b"fetch": lambda: world.fetch(x[0]),
-        b"trap": lambda: world.trap(*x),
-        b"raise": lambda: world.raise_line(x[0]),
-        b"poll": lambda: world.poll(x[0]),
-        b"pc": lambda: world.set_pc(*x),
-    }
-    return outcome_text(outcomes[name]())
+def event(world: World, name: bytes, *x: int) -> Outcome:
+    """What a line with these numbers does, but for those that only look."""
+    if name == b"call":
+        return call(world, *x)
+    if name in (b"ld", b"lb"):
+        return world.load(x[0], x[1], name == b"ld")
+    if name in (b"st", b"sb"):
+        return world.store(x[0], x[1], name == b"st", x[2])
+    others: dict[bytes, Callable[..., Outcome]] = {
+        b"fetch": world.fetch, b"trap": world.trap, b"raise": world.raise_line, b"poll": world.poll,
+        b"pc": world.set_pc}
+    return others[name](*x)
 
 
 def peek(world: World, frame: int, index: int) -> str:

@@ -13,10 +13,6 @@ def first_fault(tree: Tree) -> int | None:
     return next((number for number, holds in enumerate(facts(tree), 1) if not holds), None)
 
 
-def held(node: Node) -> list[int]:
-    return node.configuration() + [row.page for row in node.rows.values()]
-
-
 def facts(tree: Tree) -> Iterator[bool]:
     """Whether each fact holds of the tree."""
     nodes, names, root = list(tree.nodes.values()), list(tree.nodes), tree.nodes.get(ROOT)
@@ -29,10 +25,10 @@ def facts(tree: Tree) -> Iterator[bool]:
     yield 16 <= tree.frames <= 4096 and all(getattr(root, part) == getattr(first, part)
                                             for part in ("name", "born", "base", "tables", "more", "rows"))
     # One use in one partition
-    yield all(len(set(held(x))) == len(held(x)) for x in nodes)
+    yield all(len(set(x.held())) == len(x.held()) for x in nodes)
     yield all(comes_from_parent(x, tree.nodes[x.up]) for x in others)
     # Siblings are apart
-    below = [[page for child in tree.children(x) for page in held(child)] for x in nodes]
+    below = [[page for child in tree.children(x) for page in child.held()] for x in nodes]
     yield all(len(set(pages)) == len(pages) for pages in below)
     # Rights only shrink
     rights = {x.name: {row.page: row.rights for row in x.rows.values()} for x in nodes}
@@ -49,7 +45,7 @@ def comes_from_parent(x: Node, parent: Node) -> bool:
     """Everything comes from the parent."""
     pairs = x.base + [pair for table in x.tables for pair in table.pairs] + x.more
     rows = [(address % PAGE, parent.row_at(address), page) for address, page in pairs]
-    return (set(held(x)) <= {row.page for row in parent.rows.values()} and x.base[0] == (x.born, x.name)
+    return (set(x.held()) <= {row.page for row in parent.rows.values()} and x.base[0] == (x.born, x.name)
             and all(not offset and row is not None and row.page == page for offset, row, page in rows))
 
 

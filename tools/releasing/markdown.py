@@ -12,23 +12,7 @@ HEADING = re.compile(r"<h(\d)>(.*?)</h\1>", re.DOTALL)
 TO_DOCUMENT = re.compile(r'(<a href="(?![a-z]+:)[^"#]*)\.md(?=["#])')
 MARKS = (("<pre>", '<pre tabindex="0">'), ("<table>", '<div class="wide" tabindex="0"><table>'),
          ("</table>", "</table></div>"), ("<th></th>", "<td></td>"), ("<th>", '<th scope="col">'))
-PAGE = """<!doctype html>
-<html lang="en">
-<head>
-<meta charset="utf-8">
-<meta name="viewport" content="width=device-width, initial-scale=1">
-<title>{title}</title>
-<style>
-{style}</style>
-</head>
-<body>
-<nav><a href="{top}README.html">pip</a></nav>
-<main>
-{body}
-</main>
-</body>
-</html>
-"""
+PAGE = (HERE / "document.html").read_text(encoding="utf-8")
 
 
 def page(text: str, depth: int) -> str:

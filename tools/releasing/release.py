@@ -2,18 +2,17 @@
 export, and PROOF."""
 
 import argparse
-import gzip
 import os
 import re
 import shutil
-import subprocess
 import sys
-import tarfile
 import tempfile
 from pathlib import Path
 
 from ..common import calling
 from ..common.calling import Failed
+from ..exporter import building
+from ..playground import module
 from . import gate, markdown, proof, repository
 from .repository import Checkout
 
@@ -26,7 +25,7 @@ BESIDE = "pip-release"                     # beside the checkout
 
 def main() -> None:
     parser = argparse.ArgumentParser(
-        prog="release", description="A folder and a tarball for a person without the kit and without cargo.",
+        description="A folder and a tarball for a person without the kit and without cargo.",
         epilog="It refuses a checkout that isn't clean, and one on which 'release --gate' hasn't passed.")
     parser.add_argument("version", nargs="?", metavar="VERSION", help="as 1.2, or 1.2-rc1")
     parser.add_argument("--gate", action="store_true",
@@ -40,12 +39,8 @@ def main() -> None:
     parser.add_argument("--again", type=Path, metavar="CHECKOUT",
                         help="another checkout of the commit, in which ./pip has built, too: the programs have to be "
                              "the same")
-    page = parser.add_mutually_exclusive_group()
-    page.add_argument("--module", type=Path, metavar="FILE", help="the page's module, where make_module has made it")
-    page.add_argument("--debian", type=Path, metavar="FOLDER",
-                      help="where Debian's rustc-web and what it needs were unpacked")
-    given = parser.parse_args()
-    calling.guarded("release", lambda: work(given, Checkout(Path(calling.REPOSITORY))))
+    module.take_module(parser)
+    calling.started(parser, lambda given: work(given, Checkout(Path(calling.REPOSITORY))))
 
 
 def work(given: argparse.Namespace, found: Checkout) -> int:
@@ -91,9 +86,7 @@ def made(given: argparse.Namespace, found: Checkout, to: Path) -> Path:
         documents(top)
         export(found, top / EXPORT)
         run("the judge", found, "tools/judge/make_judge", "--to", str(top / "tools" / "judge" / "pip_judge"))
-        page_sum = repository.sum_of(top / proof.PAGE)
-        told = proof.text(given.version, record, found, given.again is not None, page_sum) if record \
-            else proof.unproved(given.version, found, page_sum)
+        told = proof.text(given.version, record, found, bool(given.again), repository.sum_of(top / proof.PAGE))
         (top / "PROOF").write_text(told, encoding="utf-8")
         packed(top, Path(place) / tarball.name, found.seconds())
         os.rename(top, folder)
@@ -151,24 +144,13 @@ def documents(top: Path) -> None:
 
 
 def run(what: str, found: Checkout, tool: str, *words: str) -> None:
-    done = subprocess.run([sys.executable, "-B", str(found.place / tool), *words], stdin=subprocess.DEVNULL,
-                          stdout=subprocess.PIPE, stderr=subprocess.STDOUT)
-    if done.returncode:
-        raise Failed(f"{what} can't be made: {done.stdout.decode('utf-8', 'replace').strip()[-2000:]}")
+    building.run(what, [sys.executable, "-B", str(found.place / tool), *words])
 
 
 def packed(top: Path, to: Path, seconds: int) -> None:
     """The tarball, of the same bytes each time: all is as old as the commit, and no source newer than the program."""
-    def plain(member: tarfile.TarInfo) -> tarfile.TarInfo:
-        member.mtime, member.uid, member.gid, member.uname, member.gname = seconds, 0, 0, "", ""
-        member.mode = 0o755 if member.isdir() or member.mode & 0o100 else 0o644
-        return member
-
     for path in [*top.rglob("*"), top]:
         os.utime(path, (seconds, seconds), follow_symlinks=False)
-    with tempfile.TemporaryFile() as whole, open(to, "wb") as raw:
-        with tarfile.open(fileobj=whole, mode="w", format=tarfile.PAX_FORMAT) as archive:
-            archive.add(top, top.name, filter=plain)
-        whole.seek(0)
-        with gzip.GzipFile("", "wb", mtime=seconds, fileobj=raw) as zipped:
-            shutil.copyfileobj(whole, zipped)
+    building.run("the tarball", ["tar", "--create", "--file", str(to), "--use-compress-program", "gzip --no-name",
+                                 "--format", "gnu", "--sort", "name", "--owner", "0", "--group", "0", "--numeric-owner",
+                                 "--mode", "u=rwX,go=rX", "--directory", str(top.parent), top.name])

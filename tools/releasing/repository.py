@@ -8,6 +8,7 @@ import subprocess
 from dataclasses import dataclass
 from pathlib import Path
 
+from ..common import calling
 from ..common.calling import Failed
 
 UNPROVED = "out/rust/target/release/pip"
@@ -71,8 +72,7 @@ class Checkout:
 
     def need_unproved(self) -> Path:
         """The program that cargo built of what is checked out, as ./pip says."""
-        told = subprocess.run([str(self.place / "pip"), "--built"], stdout=subprocess.PIPE, text=True).stdout
-        if f"unproved {self.unproved}" not in told.splitlines():
+        if calling.built(str(self.place / "pip")).get(calling.UNPROVED) != str(self.unproved):
             raise Failed(f"there is no program at {self.unproved} that is as new as the sources: "
                          "say ./pip --unproved script < examples/first.pip first")
         return self.unproved

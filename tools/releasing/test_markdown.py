@@ -3,38 +3,34 @@
 from __future__ import annotations
 
 import html.parser
-import os
 import re
 import shutil
 import unittest
 from pathlib import Path
 
+from ..check import links
+from ..common.calling import REPOSITORY
 from . import markdown
 
-REPOSITORY = Path(__file__).resolve().parent.parent.parent
-LEFT_OUT = {"out", ".git"}
 SINGLE = {"meta", "img"}
 # of a document's text
 NOT_SHOWN = re.compile(r"!\[[^\]]*\]\([^)]*\)|\]\([^)\s]*\)|^\s*\d+\. |^```.*$", re.MULTILINE)
 
 
 class Reader(html.parser.HTMLParser):
-    """The words, anchors and links of a page, whose elements have to be closed in their order."""
+    """The words and anchors of a page, whose elements have to be closed in their order."""
 
     def __init__(self, text: str) -> None:
         super().__init__()
         self.inside: list[str] = []
         self.words: list[str] = []
         self.anchors: list[str] = []
-        self.links: list[str] = []
         self.feed(text)
         self.close()
         assert not self.inside, self.inside
 
     def handle_starttag(self, tag: str, attrs: list[tuple[str, str | None]]) -> None:
-        found = {name: value or "" for name, value in attrs}
-        self.anchors += [found["id"]] if "id" in found else []
-        self.links += [found[name] for name in ("href", "src") if name in found]
+        self.anchors += [value or "" for name, value in attrs if name == "id"]
         if tag not in SINGLE:
             self.inside.append(tag)
 
@@ -54,27 +50,12 @@ def letters(text: str) -> list[str]:
     return re.findall(r"[^\W_]", text)
 
 
-def documents() -> list[Path]:
-    return [path for path in sorted(REPOSITORY.rglob("*.md")) if not LEFT_OUT & set(path.relative_to(REPOSITORY).parts)]
-
-
 @unittest.skipUnless(shutil.which("cmark-gfm"), "no cmark-gfm")
 class Documents(unittest.TestCase):
-    def test_elements_are_closed_and_no_word_is_lost(self) -> None:
-        for path in documents():
-            text = path.read_text(encoding="utf-8")
+    def test_elements_are_closed_no_word_is_lost_and_headings_have_the_anchors_that_links_name(self) -> None:
+        for path in links.documents(REPOSITORY):
+            text = Path(path).read_text(encoding="utf-8")
             read = Reader(markdown.page(text, 0))
             self.assertEqual(letters(" ".join(read.words)), letters(NOT_SHOWN.sub("", text)), path)
-
-    def test_links_lead_somewhere(self) -> None:
-        pages = {path.with_suffix(".html"): Reader(markdown.page(path.read_text(encoding="utf-8"), 0))
-                 for path in documents()}
-        for path, read in pages.items():
             self.assertEqual(len(read.anchors), len(set(read.anchors)), path)
-            for link in read.links:
-                if re.match("[a-z]+:", link) or link == "README.html":
-                    continue
-                name, _, anchor = link.partition("#")
-                target = Path(os.path.normpath(path.parent / name)) if name else path
-                self.assertTrue(target in pages or target.exists(), f"{path}: {link}")
-                self.assertTrue(not anchor or anchor in pages[target].anchors, f"{path}: {link}")
+            self.assertEqual(set(read.anchors), links.headings(path), path)

@@ -14,32 +14,15 @@ from collections.abc import Callable
 from pathlib import Path
 from typing import Any
 
+from ..common.blocks import blocks
 from ..common.calling import Failed
 from . import gate, release, repository
 from .repository import Checkout
 
 KIT = "kit-1"
-GATE = """#!/bin/sh
-cd "$(dirname "$0")/.."
-mkdir -p crates/pip/out
-echo built > crates/pip/out/pip
-{more}
-echo '3 passed, 0 failed'
-echo 'check: 2 of 2 checks pass'
-exit {status}
-"""
-TOOL = "import os, sys\nto = sys.argv[sys.argv.index('--to') + 1]\n"
-FILES = {
-    ".gitignore": "out/\n",
-    "pip": "#!/bin/sh\nhere=$(realpath \"$(dirname \"$0\")\")/out/rust/target/release/pip\n"
-           "[ ! -e \"$here\" ] || echo \"unproved $here\"\n",
-    ".ci/run": GATE.format(more="", status=0),
-    "README.md": "# A title\n\nSee [what is proved](docs/PROVED.md#trusted).\n",
-    "docs/PROVED.md": "# Proved\n\n## Trusted\n\n- The kit.\n\n## More\n\nIt.\n",
-    "tools/playground/make_page": TOOL + "open(to, 'w').write('a page')\n",
-    "tools/judge/make_judge": TOOL + "open(to, 'w').write('a judge')\n",
-    "tools/export": TOOL + "os.makedirs(to)\nopen(os.path.join(to, 'Cargo.toml'), 'w').write('exported')\n",
-}
+FILES = blocks("checkout.txt", __file__)
+GATE = FILES[".ci/run"]
+FILES[".ci/run"] = GATE.format(more="", status=0)
 
 
 @unittest.skipUnless(shutil.which("cmark-gfm"), "no cmark-gfm")

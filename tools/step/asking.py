@@ -5,7 +5,7 @@ from __future__ import annotations
 import subprocess
 from collections.abc import Sequence
 
-from ..common.calling import Failed, direct
+from ..common.calling import Failed, direct, running
 
 MOST_AT_ONCE = 1000       # lines whose answers fit into a pipe
 MOST_FED = 16_000_000     # bytes of one input, below the program's own limit
@@ -24,12 +24,10 @@ class Asked:
         self.begin()
 
     def begin(self) -> None:
-        try:
+        with running(self.program):
             # In a session of its own: Ctrl-C on the terminal is for the tool, and the program ends with its input.
             self.process = subprocess.Popen([direct(self.program), "script"], stdin=subprocess.PIPE,
                                             stdout=subprocess.PIPE, start_new_session=True)
-        except OSError as error:
-            raise Failed(f"{self.program} can't be run: {error.strerror}") from None
         self.fed = 0
 
     def end(self) -> None:

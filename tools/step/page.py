@@ -7,6 +7,7 @@ import itertools
 import json
 import os
 import re
+from pathlib import Path
 from typing import Any
 
 from ..common import meanings
@@ -106,11 +107,6 @@ def filled(name: str, folders: list[str], told: dict[str, str]) -> str:
     """A file of the first folder that has it, with each mark replaced: those of `told`, and names of other files."""
     def put(found: re.Match[str]) -> str:
         return told[found.group()] if found.group() in told else filled(found.group(1) or found.group(2), folders, told)
+    text = next(path for folder in folders if (path := Path(folder, name)).exists()).read_text(encoding="utf-8")
     marks = "|".join(map(re.escape, told))
-    return re.sub(f"{FILES}|{marks}", put, part(name, folders))
-
-
-def part(name: str, folders: list[str]) -> str:
-    path = next(path for path in (os.path.join(folder, name) for folder in folders) if os.path.exists(path))
-    with open(path, encoding="utf-8") as file:
-        return file.read()
+    return re.sub(f"{FILES}|{marks}", put, text)

@@ -6,34 +6,31 @@ import os
 import sys
 from collections.abc import Callable, Iterable, Sequence
 from concurrent.futures import ThreadPoolExecutor
-from dataclasses import dataclass, field
 from typing import NamedTuple, Optional
 
 from ..authors import trace
 from ..common.calling import Failed, text_of
+from ..common.meanings import outcome_of
 from ..draw import texts
 from ..reference import image as images, script
-from ..reference.model import World
+from ..reference.model import HANDLERS, NOWHERE, SAVED, World
 from . import walk
 from .asking import Asked, BadLine
 
-# place: a line's number, or a step. told: the line, or the step. cpus: of each processor what runs, and its registers.
-# words: of each frame those that aren't 0; a frame without any isn't there. did: of a step, who made which instruction
-# where
 Registers = Optional[Sequence[int]]      # r0 to r15 and the pc, or None where nothing runs
 Cpus = list[tuple[int, Registers]]       # what runs on each processor, a partition's name or 0, and its registers
 
 
 class State(NamedTuple):
-    place: int
-    told: str
+    place: int                           # a line's number, or a step
+    told: str                            # the line, or the step
     remarks: list[str]
     answer: str
     frames: int
     cpus: Cpus
     tree: list[walk.Partition]
-    words: walk.Words
-    did: str = ""
+    words: walk.Words                    # of each frame those that aren't 0; a frame without any isn't there
+    did: str = ""                        # of a step, who made which instruction where
 
 
 MOST_STATES = 3000
@@ -152,15 +149,19 @@ def of_image(program: str, image: bytes, first: int, steps: int, seed: int, jobs
     for step in range(first):
         runs_after_step(running, told.get(str(step)))
     states: list[State] = []
-    kept = Kept()
+    tree: list[walk.Partition] = []
+    words: walk.Words = {}
+    last_core = None
     with ThreadPoolExecutor(jobs or os.cpu_count()) as pool:
         shown = range(first, steps + 1)
-        for step, texts_of in zip(shown, pool.map(lambda k: both(program, image, k, seed), shown)):
+        for step, (told_tree, core) in zip(shown, pool.map(lambda k: both(program, image, k, seed), shown)):
             line = told.get(str(step - 1)) if step > first else None
             runs_after_step(running, line)
-            tree, words = kept_state(kept, frames, step, *texts_of)
+            if core != last_core:
+                tree, words = read_off(frames, step, told_tree, core)
+                last_core = core
             what = f"step {step - 1}" if step > first else "the beginning" if step == 0 else f"after step {step - 1}"
-            did, registers = (seen[step - first].did, seen[step - first].registers) if seen else ("", [None] * cpus)
+            did, registers = seen[step - first] if seen else ("", (None,) * cpus)
             states.append(State(step, what, [], line or "", frames, list(zip(running, registers)), tree, words, did))
     return states
 
@@ -174,43 +175,26 @@ def both(program: str, image: bytes, step: int, seed: int) -> tuple[str, str]:
 def runs_after_step(running: list[int], line: str | None) -> None:
     """What runs on each processor after a step with this line: `P switch F T V`, `P park F V` or a call."""
     if line:
-        cpu, *words = line.split()
-        runs_after(running, cpu, words[2:] if words[0] == "call" else words)
+        cpu, what = line.split(" ", 1)
+        runs_after(running, cpu, outcome_of(what)[1])
 
 
-@dataclass
-class Kept:
-    """The text of `core` of the last step, and what was read off it."""
-
-    core: str | None = None
-    tree: list[walk.Partition] = field(default_factory=list)
-    words: walk.Words = field(default_factory=dict)
-
-
-def kept_state(kept: Kept, frames: int, step: int, tree: str, core: str) -> tuple[list[walk.Partition], walk.Words]:
-    """The tree read off the words of `core`, which has to be that of the command `tree`."""
-    if kept.core != core:
-        words: walk.Words = {frame: {} for frame in range(frames)}
-        words.update(texts.memory(core))
-        found = walk.partitions(walk.of_memory(words))
-        if "\n".join(walk.tree_lines(found)) != tree:
-            raise Failed(f"step {step}: what 'tree' and 'core' say of the partitions differs")
-        kept.core, kept.tree, kept.words = core, found, words
-    return kept.tree, kept.words
+def read_off(frames: int, step: int, tree: str, core: str) -> tuple[list[walk.Partition], walk.Words]:
+    """The words of `core`, and the tree read off them, which has to be that of the command `tree`."""
+    words: walk.Words = {**{frame: {} for frame in range(frames)}, **texts.memory(core)}
+    found = walk.partitions(walk.of_memory(words))
+    if "\n".join(walk.tree_lines(found)) != tree:
+        raise Failed(f"step {step}: what 'tree' and 'core' say of the partitions differs")
+    return found, words
 
 
 # Who made which instruction where, and all registers, by the reference, of which nothing is proved; its lines have to
 # be those of the program
 
-@dataclass(frozen=True)
-class Seen:
-    """What a step did, and the registers after it: of each processor r0 to r15 and the pc, or None where it is idle."""
-
-    did: str
-    registers: tuple[tuple[int, ...] | None, ...]
+Seen = tuple[str, tuple[Registers, ...]]         # what a step did, and the registers after it of each processor
 
 
-def registers_of(world: World) -> tuple[tuple[int, ...] | None, ...]:
+def registers_of(world: World) -> tuple[Registers, ...]:
     return tuple((*at.context.registers, at.context.pc) if at else None for at in world.processors)
 
 
@@ -230,14 +214,12 @@ def watched(data: bytes, first: int, count: int, seed: int, source: str | None, 
     lines: list[str] = []
     if names.warning:
         print(f"step: {names.warning}", file=sys.stderr)
-    found = [Seen("", registers_of(images.world(image)))] if first == 0 else []
-
-    def told(turn: trace.Watched, raised: list[int], shown: list[str]) -> None:
-        lines.extend(shown)
+    world = images.world(image)
+    found = [("", registers_of(world))] if first == 0 else []
+    for turn, _, shown in trace.steps(image, world, count, seed):
+        lines += shown
         if turn.step + 1 >= first:
-            found.append(Seen(did(turn, names, [line.split(" ", 2)[2] for line in shown]), registers_of(turn.world)))
-
-    trace.steps(image, count, seed, told)
+            found.append((did(turn, names, [line.split(" ", 2)[2] for line in shown]), registers_of(world)))
     if lines != due:
         raise Failed("the reference, which the registers come from, has other lines than the program")
     return found
@@ -302,10 +284,6 @@ def processor_changes(before: Cpus, after: Cpus) -> list[str]:
 
 # The words of frames that are no configuration: which a line of a script can have changed, and what changed
 
-HANDLERS = 0xFFFFF000
-SAVED_IN = 63                    # the vector in whose block faults, traps and interrupt lines save
-NOWHERE = 256                    # the vector of a yield that saves nothing
-
 Words = dict[int, int]           # of a frame, those that aren't 0, by index
 
 
@@ -314,10 +292,10 @@ def configuration(tree: Iterable[walk.Partition]) -> set[int]:
     return set(walk.roles(tree))
 
 
-def frame_at(tree: Iterable[walk.Partition], name: int, address: int) -> int | None:
-    """The frame that a partition has at an address."""
-    rows = (row for x in tree if x.name == name for row in x.rows)
-    return next((row.word // walk.PAGE for row in rows if row.vpage == address // walk.PAGE), None)
+def frame_at(tree: Iterable[walk.Partition], name: int, address: int) -> set[int]:
+    """The frame that a partition has at an address, or none."""
+    return {row.word // walk.PAGE for x in tree if x.name == name
+            for row in x.rows if row.vpage == address // walk.PAGE}
 
 
 def touched(line: bytes, answer: str, ran: int, tree: Sequence[walk.Partition], words: dict[int, Words]) -> set[int]:
@@ -325,22 +303,16 @@ def touched(line: bytes, answer: str, ran: int, tree: Sequence[walk.Partition], 
     name, *rest = line.decode().split(" ")
     numbers = [int(word, 0) for word in rest]
     if name in ("st", "sb") and answer == "done":
-        return only(frame_at(tree, ran, numbers[1]))
-    vector = (numbers[4] if len(numbers) > 4 else 0) if name == "call" else SAVED_IN
+        return frame_at(tree, ran, numbers[1])
+    vector = (numbers[4] if len(numbers) > 4 else 0) if name == "call" else SAVED
     if not ran or not answer.startswith(("switch", "park")) or vector >= NOWHERE:
         return set()
-    entries = frame_at(tree, ran, HANDLERS)
-    block = 0 if entries is None else words.get(entries, {}).get(vector, 0)
-    return only(frame_at(tree, ran, block))
-
-
-def only(frame: int | None) -> set[int]:
-    """A frame alone, or nothing."""
-    return set() if frame is None else {frame}
+    block = sum(words.get(frame, {}).get(vector, 0) for frame in frame_at(tree, ran, HANDLERS))
+    return frame_at(tree, ran, block)
 
 
 def words_after(asked: Asked, line: bytes, answer: str, ran: int, before: State | None, tree: list[walk.Partition],
-          words: dict[int, Words]) -> tuple[dict[int, Words], int]:
+                words: dict[int, Words]) -> tuple[dict[int, Words], int]:
     """The words after a line: those of the configuration as they were seen, all others as they were before but where a
     line can have changed them; and how many frames were looked at for that."""
     hidden = configuration(tree)

@@ -8,6 +8,7 @@ ROOT = 1
 PAGE = 4096
 WORDS = 1024
 SLOTS = 170
+USES = ("free", "desc", "conf", "lent")          # of a page, by the low bits of its word in the first shadow table
 LEVELS = ("page table", "first shadow table", "second shadow table")
 
 Words = dict[int, dict[int, int]]    # of each frame, those that aren't 0, by index
@@ -169,9 +170,8 @@ def tree_lines(tree: list[Partition]) -> list[str]:
 
 def row_line(row: Row) -> str:
     view = "user" if row.word & 2 else "hidden"
-    use = ("free", "desc", "conf", "lent")[row.first % PAGE]
     child = f" 0x{row.first - row.first % PAGE:08x}" if row.first else ""
-    return f"row 0x{PAGE * row.vpage:08x} {row.word // PAGE} {rights(row.word)} {view} {use}{child}"
+    return f"row 0x{PAGE * row.vpage:08x} {row.word // PAGE} {rights(row.word)} {view} {USES[row.first % PAGE]}{child}"
 
 
 def rights(leaf: int) -> str:

@@ -16,7 +16,7 @@ use Rattle.pip_switch.specs.Rewinding.{ArePlaces, rewritten}
 use Rattle.pip_switch.specs.Standing.{HasCachedWorld, HasWorld, StandsAs, StandsFor, State}
 use Rattle.pip_switch.proofs.Elsewhere.{rewound}
 use Rattle.pip_every.specs.Choosing.{IsAtWorld, IsMade}
-use Rattle.pip_every.specs.Keys.{IsKeyOf, key_words, processor_words}
+use Rattle.pip_every.specs.Keys.{AreChanged, IsKeyOf, key_words, processor_words}
 use Rattle.pip_every.specs.Moments.{Moment, Scope, moment_at}
 use Rattle.pip_every.specs.Menus.{Menu}
 use Rattle.pip_every.specs.Reading.{StartsWithAll}
@@ -103,6 +103,18 @@ module _ {first : Memory} {g : Scope} {key : List ℕ} {m : Moment} {n : ℕ} {c
               (subst (λ v. StandsFor v cpus m.world) (sym h.same)
               (subst (λ v. StandsFor k.memory v m.world) (sym r.0) k.stands));
         };
+      }
+
+  -- the words that were read are its changed words
+  pub changed_words : AreChanged first words
+  changed_words =
+      let h : HasParts first key g.cpus m k.memory = parts first g key m shape k in
+      let r = was_read in
+      record {
+        memory = k.memory;
+        frames = k.frames;
+        are = r.1;
+        whole = ap (λ v. rewritten first v) r.1 ∙ h.same;
       }
 
   -- a machine that was taken there is at the moment

@@ -46,10 +46,8 @@ read_once ws (Some r) p rest more a b =
     let some : slice_index ws 0 ≡ 0 → ⊥ = λ e.
     let same : slice_index ws 0 ≡ r.name = ap (λ v. slice_index v 0) a.whole in
     omega (arith, e, same, a.runs.least) in
-    let q : Occupant =
-    record { name = slice_index ws 0; ctx = record { pc = slice_index ws 1; regs = take 16 (drop 2 ws) } } in
-    let at : (Some q ≡ Some r) × (drop 18 ws ≡ rest) = read_some ws q some refl (Some r) rest a in
-    let there : (Some q ≡ p) × (drop 18 ws ≡ more) = read_some ws q some refl p more b in
+    let at = read_some ws some (Some r) rest a in
+    let there = read_some ws some p more b in
     (sym at.0 ∙ there.0, sym at.1 ∙ there.1)
 
 pub all_once : (os ps : List (Option Occupant)) (ws : List ℕ) (n : ℕ) (rest more : List ℕ) → StartsWithAll ws n os rest

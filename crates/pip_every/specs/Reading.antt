@@ -1,5 +1,6 @@
 -- How what runs on processors is read off words.
-use Rattle.std.specs.Prelude.{◌≡◌, ℕ, ◌^◌, ◌<◌, ◌≤◌, List, ◌++◌, Option, Some, None, length}
+use Rattle.std.specs.Prelude.{◌≡◌, ℕ, ◌+◌, ◌-◌, ◌^◌, ◌<◌, ◌≤◌, List, ◌++◌, Option, Some, None, length, take, drop}
+use Rattle.std.specs.Prelude.{replicate, slice_index}
 use Rattle.std.specs.List.{AllByRecursion}
 use Rattle.pip_model.specs.declared.processors.Occupant.{Occupant}
 use Rattle.pip_every.specs.Keys.{processor_words, running_words}
@@ -25,3 +26,19 @@ pub record StartsWithAll (words : List ℕ) (count : ℕ) (os : List (Option Occ
   pub run : AllByRecursion MayRun os
   pub count_is : length os ≡ count
   pub whole : words ≡ processor_words os ++ rest
+
+-- a partition that runs, by words that begin with its own
+abbrev pub read_occupant : List ℕ → Occupant
+read_occupant ws = record {
+  name = slice_index ws 0;
+  ctx = record {
+    pc = slice_index ws 1;
+    regs = take (slice_index ws 2) (drop 3 ws) ++ replicate (16 - slice_index ws 2) 0;
+  };
+}
+
+-- words hold as many registers as they say, and no more than there are
+pub record HoldRegisters (ws : List ℕ) : Type 0 where
+  pub some : 3 ≤ length ws
+  pub few : slice_index ws 2 ≤ 16
+  pub there : 3 + slice_index ws 2 ≤ length ws

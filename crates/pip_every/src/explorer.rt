@@ -1,5 +1,5 @@
 //! A machine as a system of states.
-ghost use Rattle.std.specs.Prelude.{◌≡◌, ℕ, ◌+◌, ◌*◌, ◌<◌, ◌≤◌, ◌++◌, ◌&&◌, [], All, length, nat_lt, IfOk};
+ghost use Rattle.std.specs.Prelude.{◌≡◌, ℕ, ◌+◌, ◌*◌, ◌<◌, ◌≤◌, ◌++◌, ◌&&◌, [], ◌∷◌, All, length, nat_lt, IfOk};
 ghost use Rattle.std.specs.Prelude.{IsTrue, false, slice_index};
 ghost use Rattle.pip_base.specs.Memory.{IsMemory};
 ghost use Rattle.pip_model.specs.Worlds.{World};
@@ -7,7 +7,7 @@ ghost use Rattle.pip_model.specs.declared.turn_end.TurnEnd.{TurnEnd};
 ghost use Rattle.pip_search.specs.Systems.{IsKey};
 ghost use Rattle.pip_every.specs.Choosing.{ChangesNothing, HasChosen, HasPicked, IsAtWorld};
 ghost use Rattle.pip_every.specs.Choosing.{machine_scope};
-ghost use Rattle.pip_every.specs.Keys.{IsKeyOf, key_words};
+ghost use Rattle.pip_every.specs.Keys.{AreChanged, IsKeyOf, key_words, processor_words};
 ghost use Rattle.pip_every.specs.Menus.{Hostile, Nothing, deed_at, deed_cpu, is_hostile, menu_model, name_on, picked};
 ghost use Rattle.pip_every.specs.Menus.{usual_choices};
 ghost use Rattle.pip_every.specs.Moments as moments;
@@ -85,6 +85,14 @@ impl<F: First, L: Ledger> Explorer<F, L> {
         }
     }
 
+    // Adds the words of the key that come before those of the memory.
+    fn add_front(&self, turns: u32, to: &mut Vec<u32>) -> Result<(), AllocError>
+        ensures { IfOk result (λ _. to.new.items ≡ to.old.items ++ turns ∷ processor_words self.now.machine.cpus) }
+    {
+        to.push(turns)?;
+        add_processors(self.machine.processors(), to)
+    }
+
     /// Adds the key of the moment that the machine is at, after `turns` turns. The only error is that memory is out.
     pub(crate) fn add_key(&mut self, turns: u32, to: &mut Vec<u32>) -> Result<(), AllocError>
         ensures key { IfOk result (λ _. to.new.items
@@ -95,17 +103,36 @@ impl<F: First, L: Ledger> Explorer<F, L> {
         ensures from { self.new.from ≡ self.old.from }
         ensures may { self.new.may ≡ self.old.may }
     {
-        to.push(turns)?;
-        add_processors(self.machine.processors(), to)?;
+        self.add_front(turns, to)?;
         self.machine.mem().add_changes(to, &mut self.steps)
     }
 
-    // Takes the machine to the moment of a key, and answers how many turns were made.
-    fn go_to(&mut self, key: &[u32]) -> u32
+    // Adds the key of the moment that the machine is at, after `turns` turns. `words` are the changed words of the
+    // moment that it was taken to; they aren't looked for again where nothing was written since.
+    fn add_next(&mut self, words: &[u32], turns: u32, to: &mut Vec<u32>) -> Result<(), AllocError>
+        requires { AreChanged F.words words.now }
+        ensures key { IfOk result (λ _. to.new.items
+            ≡ to.old.items ++ key_words F.words turns self.old.machine.cpus self.old.machine.memory) }
+        ensures count { IfOk result (λ _. length self.old.machine.memory ≡ length F.words) }
+        ensures machine { self.new.machine ≡ self.old.machine }
+        ensures lines { self.new.lines ≡ self.old.lines }
+        ensures from { self.new.from ≡ self.old.from }
+        ensures may { self.new.may ≡ self.old.may }
+    {
+        if !self.machine.mem().is_at(words) {
+            return self.add_key(turns, to);
+        }
+        self.add_front(turns, to)?;
+        to.extend_from_slice(words)
+    }
+
+    // Takes the machine to the moment of a key, and answers how many turns were made, and the changed words.
+    fn go_to<'k>(&mut self, key: &'k [u32]) -> (u32, &'k [u32])
         requires { IsKey (menu_model F.words (explored self.old)) key.now }
         ensures at { (m : Moment) →
             IsKeyOf F.words (machine_scope self.old.machine self.old.lines.items self.old.from) key.now m →
-            IsAtWorld self.new.machine m.world × (result ≡ m.turns) }
+            IsAtWorld self.new.machine m.world × (result.0 ≡ m.turns) }
+        ensures changed { AreChanged F.words result.1.now }
         ensures count { length self.new.machine.cpus ≡ length self.old.machine.cpus }
         ensures lines { self.new.lines ≡ self.old.lines }
         ensures from { self.new.from ≡ self.old.from }
@@ -114,7 +141,7 @@ impl<F: First, L: Ledger> Explorer<F, L> {
     {
         let (cpus, words) = read_processors(&key[1..], self.machine.cpus());
         self.machine.rewind(words, cpus, &mut self.steps);
-        key[0]
+        (key[0], words)
     }
 
     /// How many choices there are without the deeds.
@@ -325,10 +352,10 @@ impl<F: First, L: Ledger> System for Explorer<F, L> {
         if self.changes_nothing(from, choice) {
             return to.extend_from_slice(from);
         }
-        let turns = self.go_to(from);
+        let (turns, words) = self.go_to(from);
         self.label.clear();
         let turns = self.choose(choice, turns)?;
         shown.extend_from_slice(self.label.bytes())?;
-        self.add_key(turns, to)
+        self.add_next(words, turns, to)
     }
 }

@@ -1,9 +1,12 @@
 //! What runs on processors, as words.
-ghost use Rattle.std.specs.Prelude.{◌≡◌, ◌<◌, ◌≤◌, ◌^◌, ◌++◌, ℕ, List, Option, IfOk, length, take, drop, slice_index};
+ghost use Rattle.std.specs.Prelude.{◌≡◌, ◌+◌, ◌-◌, ◌<◌, ◌≤◌, ◌^◌, ◌++◌, ℕ, List, Option, IfOk, length};
+ghost use Rattle.std.specs.Prelude.{replicate, slice_index};
 ghost use Rattle.pip_model.specs.declared.processors.Occupant.{Occupant};
+ghost use Rattle.pip_every.specs.Keys as keys;
 ghost use Rattle.pip_every.specs.Keys.{processor_words, running_words};
 ghost use Rattle.pip_switch.specs.Occupied.{part_on};
-ghost use Rattle.pip_every.specs.Reading.{StartsWithOne, StartsWithAll};
+ghost use Rattle.pip_every.specs.Reading as reading;
+ghost use Rattle.pip_every.specs.Reading.{HoldRegisters, StartsWithOne, StartsWithAll};
 
 use arrayvec::ArrayVec;
 use pip_base::{Ctx, Frame};
@@ -11,8 +14,17 @@ use pip_model::Occupant;
 use pip_switch::Processors;
 use std::alloc::AllocError;
 
-/// How many words a processor has if a partition runs on it: its name, its pc and its registers.
-const RUNNING: usize = 18;
+// How many registers there are before those that are 0 at the end.
+fn used(regs: &[u32; 16]) -> usize
+    ensures used { result ≡ keys.used regs.now }
+    ensures most { result ≤ 16 }
+{
+    let mut count = regs.len();
+    while count > 0 && regs[count - 1] == 0 {
+        count -= 1;
+    }
+    count
+}
 
 // Adds the words of what runs on a processor. The only error is that memory is out.
 fn add_running(runs: &Option<Occupant>, to: &mut Vec<u32>) -> Result<(), AllocError>
@@ -22,7 +34,9 @@ fn add_running(runs: &Option<Occupant>, to: &mut Vec<u32>) -> Result<(), AllocEr
         Some(r) => {
             to.push(r.name.number())?;
             to.push(r.ctx.pc)?;
-            to.extend_from_slice(&r.ctx.regs)
+            let count = used(&r.ctx.regs);
+            to.push(count as u32)?;
+            to.extend_from_slice(&r.ctx.regs[..count])
         }
         None => {
             to.push(0)?;
@@ -41,20 +55,29 @@ pub fn add_processors(cpus: &[Option<Occupant>], to: &mut Vec<u32>) -> Result<()
     Ok(())
 }
 
-// A partition that runs, by its words.
-fn read_occupant(words: &[u32]) -> Occupant
-    requires count { 18 ≤ length words.now }
-    requires name { slice_index words.now 0 < 2 ^ 20 }
-    ensures { result ≡ record {
-      name = slice_index words.now 0;
-      ctx = record { pc = slice_index words.now 1; regs = take 16 (drop 2 words.now) };
-    } }
+// Registers, by their words; those after them are 0.
+fn read_registers(words: &[u32]) -> [u32; 16]
+    requires { length words.now ≤ 16 }
+    ensures { result ≡ words.now ++ replicate (16 - length words.now) 0 }
 {
     let mut regs = [0; 16];
-    regs.copy_from_slice(&words[2..RUNNING]);
+    regs[..words.len()].copy_from_slice(words);
+    regs
+}
+
+// A partition that runs, by its words.
+fn read_occupant(words: &[u32]) -> Occupant
+    requires registers { HoldRegisters words.now }
+    requires name { slice_index words.now 0 < 2 ^ 20 }
+    ensures { result ≡ reading.read_occupant words.now }
+{
+    let end = 3 + words[2] as usize;
     Occupant {
         name: Frame::new(words[0]),
-        ctx: Ctx { pc: words[1], regs },
+        ctx: Ctx {
+            pc: words[1],
+            regs: read_registers(&words[3..end]),
+        },
     }
 }
 
@@ -67,7 +90,8 @@ fn read_running(words: &[u32]) -> (Option<Occupant>, &[u32])
     if words[0] == 0 {
         return (None, &words[1..]);
     }
-    (Some(read_occupant(words)), &words[RUNNING..])
+    let end = 3 + words[2] as usize;
+    (Some(read_occupant(words)), &words[end..])
 }
 
 /// What runs on `count` processors, by words that begin with theirs, and the words after them.

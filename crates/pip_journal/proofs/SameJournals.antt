@@ -5,16 +5,18 @@ use Rattle.std.proofs.Math.Nat.{ℕ_set}
 use Rattle.std.proofs.Math.Logic.{∥∥₁_prop}
 use Rattle.std.specs.Coded.{coded_list, coded_ℕ}
 use base.Stored.{Coded-set}
-use Rattle.pip_journal.specs.Tracks.{Tracks, TracksParts}
+use Rattle.pip_journal.specs.Tracks.{IsRewound, Tracks, TracksParts}
 use Rattle.pip_journal.specs.declared.journal.Journal.{Journal}
 
 pub same_journals : {F : Type 0} {d : _} (a b : Journal F d) → a.frames ≡ b.frames → a.first ≡ b.first
-    → a.opened ≡ b.opened → a.parts ≡ b.parts → a.of ≡ b.of → a ≡ b
-same_journals {F} {d} a b frames first opened parts of = λ i. record {
+    → a.opened ≡ b.opened → a.parts ≡ b.parts → a.words ≡ b.words → a.still ≡ b.still → a.of ≡ b.of → a ≡ b
+same_journals {F} {d} a b frames first opened parts words still of = λ i. record {
   frames = frames i;
   first = first i;
   opened = opened i;
   parts = parts i;
+  words = words i;
+  still = still i;
   of = of i;
   first_is = is_prop→PathP (λ j. (first j).block.frames ≡ d.words)
       (λ j. Coded-set (coded_list (coded_list coded_ℕ)) (first j).block.frames d.words) a.first_is b.first_is i;
@@ -28,4 +30,7 @@ same_journals {F} {d} a b frames first opened parts of = λ i. record {
       (λ j. ∥∥₁_prop) a.tracks b.tracks i;
   tracks_parts = is_prop→PathP (λ j. ∥ TracksParts (first j).block.frames (frames j).block.frames (parts j).items ∥₁)
       (λ j. ∥∥₁_prop) a.tracks_parts b.tracks_parts i;
+  rewound = is_prop→PathP
+      (λ j. ∥ IsRewound (first j).block.frames (frames j).block.frames (words j).items (still j) ∥₁)
+      (λ j. ∥∥₁_prop) a.rewound b.rewound i;
 }

@@ -1,8 +1,12 @@
 -- Words are written one after another.
-use Rattle.std.proofs.Common.{◌≡◌, ℕ, ◌/◌, ◌%◌, ◌≤◌, List, [], ◌∷◌, length, drop, ap}
+use Rattle.std.proofs.Common.{◌≡◌, ℕ, ◌/◌, ◌%◌, ◌≤◌, Bool, true, List, [], ◌∷◌, length, drop, ap, ap₂}
 use Rattle.std.proofs.Common.{◌∙◌, arith, get_or}
+use Rattle.std.proofs.Math.Logic.{∥∥₁_elim}
+use Rattle.std.specs.Coded.{coded_list, coded_ℕ}
+use base.Stored.{Coded-set}
 use Rattle.pip_base.specs.Memory.{Memory, put_word}
 use Rattle.pip_switch.specs.Rewinding.{ArePlaces, rewritten}
+use Rattle.pip_journal.specs.Tracks.{IsRewound}
 
 -- a word at the head of a list was written, and the rest is left
 pub written_next : (m k : Memory) (n : ℕ) (ws : List ℕ) (f : ℕ) → 2 ≤ length ws → f ≡ get_or ws 0 0 / 1024
@@ -12,3 +16,10 @@ written_next m k n [] f long at is h = absurd (omega (arith, long))
 written_next m k n (p ∷ []) f long at is h = absurd h
 written_next m k n (p ∷ w ∷ ws) f long at is h =
     (ap (λ v. rewritten v ws) (is ∙ ap (λ j. put_word m j (p % 1024) w) at), h.1)
+
+-- where nothing was written since, the words are as they were taken back
+pub was_rewound : (a first m : Memory) (own words : List ℕ) (still : Bool) → first ≡ a
+    → ∥ IsRewound first m own still ∥₁ → still ≡ true → own ≡ words → m ≡ rewritten a words
+was_rewound a first m own words still is t on same =
+    ∥∥₁_elim t (Coded-set (coded_list (coded_list coded_ℕ)) m (rewritten first own)) (λ h. h on)
+    ∙ ap₂ rewritten is same

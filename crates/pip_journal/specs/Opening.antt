@@ -6,7 +6,7 @@ use Rattle.std.proofs.Math.Logic.{∥∥₁_map}
 use Rattle.std.proofs.lemmas.List.{length-set, get_or-set_other, get_or-set_same}
 use Rattle.std.proofs.lemmas.Bool.{cases_eq}
 use Rattle.pip_base.specs.Memory.{Memory, frame_at, put_word}
-use Rattle.pip_journal.specs.Tracks.{Tracks, TracksParts}
+use Rattle.pip_journal.specs.Tracks.{IsRewound, Tracks, TracksParts}
 
 -- a list has as many elements after a write
 pub length_set : {A : Type 0} (xs : List A) (k : ℕ) (x : A) (n : ℕ) → length xs ≡ n → length (set xs k x) ≡ n
@@ -172,3 +172,7 @@ pub parts_closed_at : (a m n : Memory) (ps : List (List Bool)) (f k : ℕ) (row 
 parts_closed_at a m n ps f k row same is fi t = subst (λ v. ∥ TracksParts a v (set ps k row) ∥₁) (sym is)
     (subst (λ j. ∥ TracksParts a (set m f (frame_at a f)) (set ps j row) ∥₁) (sym same)
     (∥∥₁_map t (λ h. parts_close a m ps f row fi h)))
+
+-- frames that were written aren't as they were taken back
+pub not_rewound : (a m : Memory) (ws : List ℕ) → ∥ IsRewound a m ws false ∥₁
+not_rewound a m ws = ∣ (λ e. absurd (cc)) ∣₁

@@ -1,6 +1,8 @@
--- Which frames, and which parts of 32 words of them, may be others than at first.
+-- Which frames, and which parts of 32 words of them, may be others than at first, and whether none was written since
+-- they were taken back.
 use Rattle.std.specs.Prelude.{◌≡◌, ℕ, ◌/◌, ◌<◌, Bool, true, false, List, [], slice_index_or}
 use Rattle.pip_base.specs.Memory.{Memory, frame_at}
+use Rattle.pip_switch.specs.Rewinding.{rewritten}
 
 -- a frame that was not opened is as it was at first
 abbrev pub Tracks : Memory → Memory → List Bool → Type 0
@@ -14,3 +16,7 @@ TracksWords first now parts =
 -- so are those of each frame
 abbrev pub TracksParts : Memory → Memory → List (List Bool) → Type 0
 TracksParts first m parts = (f : ℕ) → TracksWords (frame_at first f) (frame_at m f) (slice_index_or parts f [])
+
+-- where none was written, the frames are as at first, with these words over them
+abbrev pub IsRewound : Memory → Memory → List ℕ → Bool → Type 0
+IsRewound first m words still = still ≡ true → m ≡ rewritten first words

@@ -1,9 +1,9 @@
 //! Frames that keep their first words.
-ghost use Rattle.std.specs.Prelude.{◌≡◌, ◌<◌, length, IfOk, slice_set};
+ghost use Rattle.std.specs.Prelude.{◌≡◌, ◌<◌, length, IfOk, IsTrue, slice_set};
 ghost use Rattle.pip_base.specs.Memory.{IsMemory, frame_at};
 ghost use Rattle.pip_journal.specs.Changes.{HasChanges};
 ghost use Rattle.pip_switch.specs.Rewinding.{ArePlaces, rewritten};
-ghost use Rattle.pip_journal.specs.Tracks.{Tracks, TracksParts};
+ghost use Rattle.pip_journal.specs.Tracks.{IsRewound, Tracks, TracksParts};
 
 use crate::changes::add_frame;
 use crate::first::First;
@@ -16,14 +16,20 @@ use std::alloc::{AllocError, Global};
 use std::marker::PhantomData;
 use std::sync::ledger::Ledger;
 
+/// How many words of a rewinding are kept.
+const NOTED: usize = 4096;
+
 /// Frames beside their first words. A frame, or a part of one, that wasn't opened since the last rewinding has its
-/// first words. In a new journal all are opened.
+/// first words. In a new journal all are opened. While nothing is written after a rewinding, its words are known.
 #[derive(Drop)]
 pub struct Journal<F: First> {
     frames: RawFrames,
     first: RawFrames,
     opened: Vec<bool>,
     parts: Vec<Parts>,
+    // The words of the last rewinding, and whether the frames are still as it left them.
+    words: Vec<u32>,
+    still: bool,
     of: PhantomData<F>,
     ghost first_is: { first.block.frames ≡ F.words },
     ghost count: { length frames.block.frames ≡ length first.block.frames },
@@ -31,15 +37,16 @@ pub struct Journal<F: First> {
     ghost rows: { length parts.items ≡ length first.block.frames },
     ghost tracks: { ∥ Tracks first.block.frames frames.block.frames opened.items ∥₁ },
     ghost tracks_parts: { ∥ TracksParts first.block.frames frames.block.frames parts.items ∥₁ },
+    ghost rewound: { ∥ IsRewound first.block.frames frames.block.frames words.items still ∥₁ },
 }
 
 impl<F: First> Frames for Journal<F> {
     ghost use Rattle.std.proofs.Common.{refl};
-    ghost use Rattle.std.specs.Prelude.{true};
+    ghost use Rattle.std.specs.Prelude.{false, true};
     ghost use Rattle.std.specs.Vec.{with_item};
     ghost use Rattle.pip_frames.specs.Lending.{block_with_frame};
     ghost use Rattle.pip_frames.specs.RawBounds.{raw_bounds};
-    ghost use Rattle.pip_journal.specs.Opening.{all_opened, length_set, opens_frame, opens_parts};
+    ghost use Rattle.pip_journal.specs.Opening.{all_opened, length_set, not_rewound, opens_frame, opens_parts};
 
     ghost memory = { λ m. m.frames.block.frames };
 
@@ -47,11 +54,13 @@ impl<F: First> Frames for Journal<F> {
       frames = record m.frames { block = block_with_frame m.frames.block f ws };
       opened = with_item m.opened f true;
       parts = with_item m.parts f all_opened;
+      still = false;
       count = length_set m.frames.block.frames f ws _ m.count;
       each = length_set m.opened.items f true _ m.each;
       rows = length_set m.parts.items f all_opened _ m.rows;
       tracks = opens_frame m.first.block.frames m.frames.block.frames m.opened.items f ws m.tracks;
       tracks_parts = opens_parts m.first.block.frames m.frames.block.frames m.parts.items f ws m.tracks_parts;
+      rewound = not_rewound m.first.block.frames _ m.words.items;
     } };
 
     ghost puts = { λ m f ws. refl };
@@ -67,12 +76,14 @@ impl<F: First> Frames for Journal<F> {
     }
 
     fn set_word(&mut self, f: Frame, i: u32, w: u32) {
+        self.still = false;
         self.opened[f.number() as usize] = true;
         self.parts[f.number() as usize][i as usize / PART] = true;
         self.frames.set_word(f, i, w);
     }
 
     fn zero(&mut self, f: Frame) {
+        self.still = false;
         self.opened[f.number() as usize] = true;
         self.parts[f.number() as usize] = all_parts(true);
         self.frames.zero(f);
@@ -83,6 +94,7 @@ impl<F: First> Frames for Journal<F> {
     }
 
     fn frame_mut<L: Ledger>(&mut self, f: Frame, steps: &mut Steps<L>) -> &mut [u32; 1024] {
+        self.still = false;
         self.opened[f.number() as usize] = true;
         self.parts[f.number() as usize] = all_parts(true);
         self.frames.frame_mut(f, steps)
@@ -94,6 +106,7 @@ impl<F: First> Frames for Journal<F> {
         write: Frame,
         steps: &mut Steps<L>,
     ) -> (&[u32; 1024], &mut [u32; 1024]) {
+        self.still = false;
         self.opened[write.number() as usize] = true;
         self.parts[write.number() as usize] = all_parts(true);
         self.frames.pair(read, write, steps)
@@ -106,6 +119,7 @@ impl<F: First> Journal<F> {
         requires { frame < length F.words }
         ensures { self.new.frames.block.frames ≡ slice_set self.old.frames.block.frames frame (frame_at F.words frame) }
     {
+        self.still = false;
         let parts = &self.parts[frame.number() as usize];
         restore_frame(&self.first, &mut self.frames, frame, parts, steps);
         self.parts[frame.number() as usize] = all_parts(false);
@@ -137,6 +151,27 @@ impl<F: First> Journal<F> {
         }
     }
 
+    // Notes that the frames have their first words with these over them, where there is room for these. It takes no
+    // memory.
+    fn note(&mut self, words: &[u32])
+        requires { self.old.frames.block.frames ≡ rewritten F.words words.now }
+        ensures { self.new.frames ≡ self.old.frames }
+    {
+        self.still = false;
+        if words.len() <= self.words.capacity() {
+            self.words.clear();
+            self.still = self.words.extend_from_slice(words).is_ok();
+        }
+    }
+
+    /// Whether nothing was written since the frames were taken back with these words over their first ones. It may
+    /// answer no where there are more than 4096 words.
+    pub fn is_at(&self, words: &[u32]) -> bool
+        ensures { IsTrue result → ⟦<Journal<F> as Frames>⟧.memory self.now ≡ rewritten F.words words.now }
+    {
+        self.still && self.words.as_slice() == words
+    }
+
     /// A journal of `frames`, whose first words are those of `first`, which has as many frames. The only error is that
     /// memory is out.
     pub fn new(alloc: Global, frames: RawFrames, first: RawFrames) -> Result<Journal<F>, AllocError>
@@ -152,6 +187,8 @@ impl<F: First> Journal<F> {
             first,
             opened,
             parts,
+            words: Vec::with_capacity(alloc, NOTED)?,
+            still: false,
             of: PhantomData,
         })
     }
@@ -181,7 +218,11 @@ impl<F: First> Rewind for Journal<F> {
     ghost first = { F.words };
 
     fn rewind<L: Ledger>(&mut self, words: &[u32], steps: &mut Steps<L>) {
+        if self.is_at(words) {
+            return;
+        }
         self.close(steps);
         self.write(words);
+        self.note(words);
     }
 }

@@ -1,7 +1,7 @@
 -- Keys that are kept as bytes, and lists that are found by name.
 use Rattle.std.proofs.Common.{◌≡◌, ℕ, List, [], ◌∷◌, inl, inr, Some, None, slice_get, ap, sym, subst, ◌∙◌}
 use Rattle.std.specs.Prelude.{Option, MatchOption, is_some, true, false}
-use Rattle.pip_search.specs.Growing.{Grew, HasKey, HasLabel}
+use Rattle.pip_search.specs.Growing.{Grew, HasKey, HasLabel, WasVisited}
 use Rattle.pip_search.specs.Keys.{AreKept, Keyed, key_bytes, key_of, keys, labels}
 use Rattle.pip_search.specs.Naming.{AreDistinct, IsAbsent}
 use Rattle.pip_search.specs.Packing.{packed_key, unpacked_key}
@@ -72,3 +72,13 @@ absent_key vs bytes key kept is absent j e =
     let (u, (at, same)) = at_named key_of vs j key e in
     absent j (named_at (λ (w : Keyed). w.key) vs j u at
     ∙ ap (λ x. Some x) (sym (kept j u at) ∙ ap packed_key same ∙ sym is))
+
+-- the words of a visit are those of its key
+pub kept_words : (vs : List Keyed) (i : ℕ) (v : Keyed) {words : List ℕ} → AreKept vs → slice_get vs i ≡ Some v
+    → words ≡ key_of v → WasVisited vs words
+kept_words vs i v kept at is =
+    let same = ap packed_key is ∙ kept i v at in
+    record {
+      has = record { place = i; at = record { visit = v; at = at; same = sym same } };
+      back = ap unpacked_key same ∙ sym is;
+    }

@@ -1,10 +1,12 @@
 -- Keys that are kept one after another.
-use Rattle.std.proofs.Common.{◌≡◌, ℕ, zero, suc, ◌+◌, ◌-◌, ◌<◌, ◌≤◌, List, [], ◌∷◌, ◌++◌, length, Some, slice_get}
-use Rattle.std.proofs.Common.{refl, ap, sym, subst, ◌∙◌, arith, get_or, take, drop, length-append}
+use Rattle.std.proofs.Common.{◌≡◌, ℕ, zero, suc, ◌+◌, ◌-◌, ◌*◌, ◌/◌, ◌<◌, ◌≤◌, inl, inr, List, [], ◌∷◌, ◌++◌, length}
+use Rattle.std.proofs.Common.{Some, slice_get, refl, ap, ap₂, sym, subst, ◌∙◌, arith, get_or, take, drop, length-append}
 use Rattle.std.specs.Prelude.{slice_range}
+use Rattle.std.proofs.lemmas.Bool.{cases_lt}
 use Rattle.std.proofs.lemmas.List.{drop-append-le, length-drop, take-append-le}
-use Rattle.std.proofs.Math.Seq.{drop-append_seam, take-length}
-use Rattle.pip_search.specs.Storing.{AreEnds, IsStored, listed, listed_from}
+use Rattle.std.proofs.Math.ListN.{get_or-append}
+use Rattle.std.proofs.Math.Seq.{drop-append_seam, get_or-append_seam, take-length}
+use Rattle.pip_search.specs.Storing.{AreEnds, HasOpenBlock, IsStored, ends_from, ends_of, listed, listed_from}
 use Rattle.pip_search.specs.declared.key_store.KeyStore.{KeyStore}
 
 pub none_listed : (start : ℕ) (bytes : List ℕ) → listed_from start bytes [] ≡ []
@@ -75,18 +77,217 @@ ends_more : (start : ℕ) (ends : List ℕ) (last next : ℕ) → AreEnds start 
 ends_more start [] last next h rise = (omega arith, refl)
 ends_more start (end ∷ ends) last next h rise = (h.0, ends_more end ends last next h.1 rise)
 
+-- ---- blocks
+
+pub ends_count : (place : ℕ) (blocks ends : List ℕ) → length (ends_from place blocks ends) ≡ length ends
+unfolding ends_from
+ends_count place blocks [] = refl
+ends_count place blocks (end ∷ ends) = ap suc (ends_count (place + 1) blocks ends)
+
+pub ends_at : (place : ℕ) (blocks ends : List ℕ) (i : ℕ) → i < length ends
+    → get_or (ends_from place blocks ends) i 0 ≡ get_or blocks ((place + i) / 64) 0 + get_or ends i 0
+unfolding ends_from
+ends_at place blocks [] i low = absurd (omega arith)
+ends_at place blocks (end ∷ ends) zero low =
+    let here : place ≡ place + 0 = omega arith in ap (λ n. get_or blocks (n / 64) 0 + end) here
+ends_at place blocks (end ∷ ends) (suc i) low =
+    let there : place + 1 + i ≡ place + suc i = omega arith in
+    ends_at (place + 1) blocks ends i (omega arith) ∙ ap (λ n. get_or blocks (n / 64) 0 + get_or ends i 0) there
+
+-- one block more
+ends_later : (place : ℕ) (blocks more ends : List ℕ) → place + length ends ≤ 64 * length blocks
+    → ends_from place (blocks ++ more) ends ≡ ends_from place blocks ends
+unfolding ends_from
+ends_later place blocks more [] low = refl
+ends_later place blocks more (end ∷ ends) low =
+    let there : place / 64 < length blocks = omega arith in
+    ap₂ (λ n ns. (n + end) ∷ ns) (get_or-append blocks more 0 (place / 64) there)
+    (ends_later (place + 1) blocks more ends (omega arith))
+
+-- one end more
+ends_push : (place : ℕ) (blocks ends : List ℕ) (end : ℕ) → ends_from place blocks (ends ++ end ∷ [])
+    ≡ ends_from place blocks ends ++ (get_or blocks ((place + length ends) / 64) 0 + end) ∷ []
+unfolding ends_from
+ends_push place blocks [] end =
+    let here : place ≡ place + 0 = omega arith in ap (λ n. (get_or blocks (n / 64) 0 + end) ∷ []) here
+ends_push place blocks (first ∷ ends) end =
+    let there : place + 1 + length ends ≡ place + suc (length ends) = omega arith in
+    ap (λ ns. (get_or blocks (place / 64) 0 + first) ∷ ns) (ends_push (place + 1) blocks ends end
+    ∙ ap (λ n. ends_from (place + 1) blocks ends ++ (get_or blocks (n / 64) 0 + end) ∷ []) there)
+
+last_end : (start : ℕ) (ends : List ℕ) (last : ℕ) → AreEnds start ends last
+    → get_or (start ∷ ends) (length ends) 0 ≡ last
+last_end start [] last h = h
+last_end start (end ∷ ends) last h = last_end end ends last h.1
+
+starts_low : (start : ℕ) (ends : List ℕ) (last i : ℕ) → AreEnds start ends last → i ≤ length ends
+    → get_or (start ∷ ends) i 0 ≤ last
+starts_low start ends last zero h low = start_low start ends last h
+starts_low start ends last (suc i) h low = end_low start ends last i h (omega arith)
+
+-- where a block begins there are bytes, or they end
+pub block_low : (x : KeyStore) (k : ℕ) → IsStored x → k < length x.blocks.items
+    → get_or x.blocks.items k 0 ≤ length x.bytes.items
+block_low x k h low =
+    let count = ends_count 0 x.blocks.items x.ends.items in
+    let within : 64 * k ≤ length (ends_of x) = omega (arith, count, low, h.enough.1) in
+    let begins = h.blocks k low in
+    let most = starts_low 0 (ends_of x) (length x.bytes.items) (64 * k) h.ends within in
+    omega (arith, begins, most)
+
+-- the end of a key, by its block
+module _ (x : KeyStore) (i : ℕ) (h : IsStored x) (low : i < length x.ends.items) where
+  pub its_block : i / 64 < length x.blocks.items
+  its_block = let e = h.enough.0 in omega (arith, low, e)
+
+  pub its_end : get_or (ends_of x) i 0 ≡ get_or x.blocks.items (i / 64) 0 + get_or x.ends.items i 0
+  its_end = let here : 0 + i ≡ i = omega arith in
+      ends_at 0 x.blocks.items x.ends.items i low
+      ∙ ap (λ n. get_or x.blocks.items (n / 64) 0 + get_or x.ends.items i 0) here
+
+  pub its_end_low : get_or (ends_of x) i 0 ≤ length x.bytes.items
+  its_end_low = end_low 0 (ends_of x) (length x.bytes.items) i h.ends
+      (let count = ends_count 0 x.blocks.items x.ends.items in omega (arith, count, low))
+
+-- a store has room, and the keys that it had
+pub record HasOpened (x y : KeyStore) : Type 0 where
+  pub stored : IsStored y
+  pub room : HasOpenBlock y
+  pub same : listed y ≡ listed x
+
+-- after a block was begun where the bytes end
+module _ (x y : KeyStore) (h : IsStored x) (full : length x.ends.items / 64 ≡ length x.blocks.items)
+    (bytes : y.bytes ≡ x.bytes) (blocks : y.blocks.items ≡ x.blocks.items ++ length x.bytes.items ∷ [])
+    (ends : y.ends ≡ x.ends) where
+  all : length x.ends.items ≡ 64 * length x.blocks.items
+  all = let e = h.enough.0 in omega (arith, full, e)
+
+  same_ends : ends_of y ≡ ends_of x
+  same_ends = ap₂ (ends_from 0) blocks (ap (λ v. v.items) ends)
+      ∙ ends_later 0 x.blocks.items (length x.bytes.items ∷ []) x.ends.items (let a = all in omega arith)
+
+  one_more : length y.blocks.items ≡ length x.blocks.items + 1
+  one_more = ap length blocks ∙ length-append x.blocks.items (length x.bytes.items ∷ [])
+
+  as_many : length y.ends.items ≡ length x.ends.items
+  as_many = ap (λ v. length v.items) ends
+
+  begins : (k : ℕ) → k < length y.blocks.items → get_or y.blocks.items k 0 ≡ get_or (0 ∷ ends_of y) (64 * k) 0
+  begins k low = elim (cases_lt k (length x.blocks.items)) [
+    | inl less ↦ ap (λ ns. get_or ns k 0) blocks ∙ get_or-append x.blocks.items (length x.bytes.items ∷ []) 0 k less
+        ∙ h.blocks k less ∙ ap (λ ns. get_or (0 ∷ ns) (64 * k) 0) (sym same_ends)
+    | inr most ↦
+        let m = one_more in
+        let last : k ≡ length x.blocks.items = omega (arith, most, low, m) in
+        let count = ends_count 0 x.blocks.items x.ends.items in
+        let a = all in
+        let there : length (ends_of x) ≡ 64 * k = omega (arith, last, count, a) in
+        ap (λ ns. get_or ns k 0) blocks ∙ ap (λ n. get_or (x.blocks.items ++ length x.bytes.items ∷ []) n 0) last
+        ∙ get_or-append_seam x.blocks.items (length x.bytes.items) [] 0
+        ∙ sym (last_end 0 (ends_of x) (length x.bytes.items) h.ends)
+        ∙ ap (λ n. get_or (0 ∷ ends_of x) n 0) there ∙ ap (λ ns. get_or (0 ∷ ns) (64 * k) 0) (sym same_ends)
+  ]
+
+  pub block_opened : HasOpened x y
+  block_opened = let a = all in let m = one_more in let n = as_many in record {
+    stored = record {
+      ends = subst (λ ns. AreEnds 0 ns (length y.bytes.items)) (sym same_ends)
+          (subst (λ v. AreEnds 0 (ends_of x) (length v.items)) (sym bytes) h.ends);
+      enough = (omega (arith, a, m, n), omega (arith, a, m, n));
+      blocks = begins;
+    };
+    room = omega (arith, a, m, n);
+    same = ap₂ (λ v es. listed_from 0 v.items es) bytes same_ends;
+  }
+
+-- there is room where not all blocks are full
+pub has_room : (x : KeyStore) → IsStored x → (length x.ends.items / 64 ≡ length x.blocks.items → ⊥) → HasOpenBlock x
+has_room x h other = elim (cases_lt (length x.ends.items) (64 * length x.blocks.items)) [
+  | inl less ↦ less
+  | inr most ↦
+      let e = h.enough.0 in
+      let full : length x.ends.items / 64 ≡ length x.blocks.items = omega (arith, most, e) in
+      absurd (other full)
+]
+
+-- a store has a key more
+pub record HasAdded (x y : KeyStore) (key : List ℕ) : Type 0 where
+  pub stored : IsStored y
+  pub added : listed y ≡ listed x ++ key ∷ []
+
 -- after a key was added, by its bytes and its end
-module _ (x y : KeyStore) (key : List ℕ) (end : ℕ) (h : IsStored x) (bytes : y.bytes.items ≡ x.bytes.items ++ key)
-    (ends : y.ends.items ≡ x.ends.items ++ end ∷ []) (is : end ≡ length y.bytes.items) where
+module _ (x y : KeyStore) (key : List ℕ) (end : ℕ) (h : IsStored x) (room : HasOpenBlock x)
+    (bytes : y.bytes.items ≡ x.bytes.items ++ key) (blocks : y.blocks ≡ x.blocks)
+    (ends : y.ends.items ≡ x.ends.items ++ end ∷ [])
+    (is : end ≡ length y.bytes.items - get_or x.blocks.items (length x.ends.items / 64) 0) where
   whole : length y.bytes.items ≡ length x.bytes.items + length key
   whole = ap length bytes ∙ length-append x.bytes.items key
 
-  pub stored_more : IsStored y
-  stored_more = subst (λ es. AreEnds 0 es (length y.bytes.items)) (sym ends)
-      (subst (λ n. AreEnds 0 (x.ends.items ++ end ∷ []) n) is
-      (ends_more 0 x.ends.items (length x.bytes.items) end h (let a = whole in omega arith)))
+  all_ends : ends_of y ≡ ends_of x ++ (length x.bytes.items + length key) ∷ []
+  all_ends =
+      let n = length x.ends.items in
+      let here : 0 + n ≡ n = omega arith in
+      let low = block_low x (n / 64) h (omega (arith, room)) in
+      let w = whole in
+      let sum : get_or x.blocks.items (n / 64) 0 + end ≡ length x.bytes.items + length key =
+      omega (arith, low, w, is) in
+      ap₂ (λ v es. ends_from 0 v.items es) blocks ends ∙ ends_push 0 x.blocks.items x.ends.items end
+      ∙ ap (λ k. ends_of x ++ (get_or x.blocks.items (k / 64) 0 + end) ∷ []) here
+      ∙ ap (λ k. ends_of x ++ k ∷ []) sum
 
-  pub key_added : listed y ≡ listed x ++ key ∷ []
-  key_added = ap (λ bs. listed_from 0 bs y.ends.items) bytes
-      ∙ ap (λ es. listed_from 0 (x.bytes.items ++ key) es) (ends ∙ ap (λ n. x.ends.items ++ n ∷ []) (is ∙ whole))
-      ∙ listed_more 0 x.bytes.items x.ends.items key h
+  more_ends : length y.ends.items ≡ length x.ends.items + 1
+  more_ends = ap length ends ∙ length-append x.ends.items (end ∷ [])
+
+  begins_still : (k : ℕ) → k < length y.blocks.items → get_or y.blocks.items k 0 ≡ get_or (0 ∷ ends_of y) (64 * k) 0
+  begins_still k low =
+      let old : k < length x.blocks.items = subst (λ v. k < length v.items) blocks low in
+      let count = ends_count 0 x.blocks.items x.ends.items in
+      let e = h.enough.1 in
+      let within : 64 * k < suc (length (ends_of x)) = omega (arith, old, count, e) in
+      ap (λ v. get_or v.items k 0) blocks ∙ h.blocks k old
+      ∙ sym (ap (λ ns. get_or (0 ∷ ns) (64 * k) 0) all_ends
+      ∙ get_or-append (0 ∷ ends_of x) ((length x.bytes.items + length key) ∷ []) 0 (64 * k) within)
+
+  pub key_added : HasAdded x y key
+  key_added = record {
+    stored = record {
+      ends = subst (λ es. AreEnds 0 es (length y.bytes.items)) (sym all_ends)
+          (subst (λ n. AreEnds 0 (ends_of x ++ n ∷ []) (length y.bytes.items)) whole
+          (ends_more 0 (ends_of x) (length x.bytes.items) (length y.bytes.items) h.ends
+          (let w = whole in omega arith)));
+      enough =
+          let e = h.enough.1 in
+          let m = more_ends in
+          let b : length y.blocks.items ≡ length x.blocks.items = ap (λ v. length v.items) blocks in
+          (omega (arith, room, m, b), omega (arith, e, m, b));
+      blocks = begins_still;
+    };
+    added = ap₂ (listed_from 0) bytes all_ends ∙ listed_more 0 x.bytes.items (ends_of x) key h.ends;
+  }
+
+-- a store has as many keys as ends
+pub key_count : (x : KeyStore) → length (listed x) ≡ length x.ends.items
+key_count x = listed_count 0 x.bytes.items (ends_of x) ∙ ends_count 0 x.blocks.items x.ends.items
+
+-- ---- no keys
+
+none_ended : (blocks : List ℕ) → ends_from 0 blocks [] ≡ []
+unfolding ends_from
+none_ended blocks = refl
+
+module _ (x : KeyStore) (ends : x.ends.items ≡ []) where
+  none : ends_of x ≡ []
+  none = ap (ends_from 0 x.blocks.items) ends ∙ none_ended x.blocks.items
+
+  pub none_kept : listed x ≡ []
+  none_kept = ap (listed_from 0 x.bytes.items) none ∙ none_listed 0 x.bytes.items
+
+  pub none_stored : x.bytes.items ≡ [] → x.blocks.items ≡ [] → IsStored x
+  none_stored bytes blocks =
+      let b : length x.blocks.items ≡ 0 = ap length blocks in
+      let e : length x.ends.items ≡ 0 = ap length ends in
+      record {
+        ends = subst (λ ns. AreEnds 0 ns (length x.bytes.items)) (sym none) (sym (ap length bytes));
+        enough = (omega (arith, b, e), omega (arith, b, e));
+        blocks = λ k low. absurd (omega (arith, b, low));
+      }

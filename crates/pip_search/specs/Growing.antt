@@ -2,6 +2,7 @@
 use Rattle.std.specs.Prelude.{◌≡◌, ℕ, ◌≤◌, List, [], ◌∷◌, ◌++◌, ◌⊎◌, ◌≢◌, length, Some, slice_get}
 use Rattle.pip_search.specs.Keys.{Keyed, key_bytes}
 use Rattle.pip_search.specs.Naming.{IsAbsent}
+use Rattle.pip_search.specs.Packing.{packed_key, unpacked_key}
 use Rattle.pip_search.specs.declared.found.Found.{Found}
 
 -- the visit at a place has this key, as bytes
@@ -14,6 +15,11 @@ pub record HasKeyAt (vs : List Keyed) (j : ℕ) (key : List ℕ) : Type 0 where
 pub record HasKey (vs : List Keyed) (key : List ℕ) : Type 0 where
   pub place : ℕ
   pub at : HasKeyAt vs place key
+
+-- some visit has the key of these words, which are read off it
+pub record WasVisited (vs : List Keyed) (words : List ℕ) : Type 0 where
+  pub has : HasKey vs (packed_key words)
+  pub back : unpacked_key (packed_key words) ≡ words
 
 -- a new visit, after the others
 pub record AddsVisit (vs ws : List Keyed) (key : List ℕ) (parent choice depth run : ℕ) : Type 0 where

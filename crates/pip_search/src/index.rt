@@ -55,8 +55,8 @@ impl Index {
         })
     }
 
-    /// Adds a hash. The buckets are doubled if there would be more hashes than buckets. The only error is that memory
-    /// is out: an index has room for 2^32 - 1 hashes.
+    /// Adds a hash. The buckets are doubled if there would be more than two hashes a bucket. The only error is that
+    /// memory is out: an index has room for 2^32 - 1 hashes.
     pub(crate) fn add(&mut self, alloc: Global, hash: u32) -> Result<(), AllocError>
         requires filed { IsFiled self.old }
         ensures filed { IfOk result (λ x. IsFiled self.new) }
@@ -68,10 +68,10 @@ impl Index {
         }
         self.hashes.push(hash)?;
         self.chains.push(0)?;
-        if at < self.heads.len() {
+        if at / 2 < self.heads.len() {
             link(&self.hashes, &mut self.chains, &mut self.heads, at);
         } else {
-            self.heads = vec![in alloc; 0u32; at * 2]?;
+            self.heads = vec![in alloc; 0u32; at]?;
             relink(&self.hashes, &mut self.chains, &mut self.heads);
         }
         Ok(())

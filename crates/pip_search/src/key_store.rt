@@ -1,18 +1,23 @@
 //! The keys of visits, one after another.
 ghost use Rattle.std.specs.Prelude.{◌≡◌, ◌<◌, ◌≤◌, ◌++◌, [], ◌∷◌, IfOk, Some, length, slice_get};
 ghost use Rattle.std.specs.Prelude.{slice_index, slice_range};
-ghost use Rattle.pip_search.specs.Storing.{IsStored, listed};
+ghost use Rattle.pip_search.specs.Storing.{HasOpenBlock, IsStored, ends_of, listed};
 
 use crate::names::Names;
 use std::alloc::{AllocError, Global};
 
+/// How many keys a block has.
+const BLOCK_KEYS: usize = 64;
+
 /// Keys as bytes, numbered from 0. The bytes of each follow those of the one before it, so that no key has a block of
-/// memory of its own.
+/// memory of its own. Where a key ends is counted from where its block begins, so that 32 bits are enough.
 #[derive(Drop)]
 pub struct KeyStore {
     bytes: Vec<u8>,
-    // Per key: where it ends.
-    ends: Vec<usize>,
+    // Per block: where its first key begins.
+    blocks: Vec<usize>,
+    // Per key: how far it ends after the beginning of its block.
+    ends: Vec<u32>,
 }
 
 impl KeyStore {
@@ -23,27 +28,60 @@ impl KeyStore {
     {
         KeyStore {
             bytes: Vec::new(alloc),
+            blocks: Vec::new(alloc),
             ends: Vec::new(alloc),
         }
     }
 
-    /// Adds a key. The only error is that memory is out.
+    // Begins a block, if the others are full.
+    fn open_block(&mut self) -> Result<(), AllocError>
+        requires stored { IsStored self.old }
+        ensures stored { IfOk result (λ _. IsStored self.new) }
+        ensures room { IfOk result (λ _. HasOpenBlock self.new) }
+        ensures same { IfOk result (λ _. listed self.new ≡ listed self.old) }
+    {
+        if self.ends.len() / BLOCK_KEYS == self.blocks.len() {
+            self.blocks.push(self.bytes.len())?;
+        }
+        Ok(())
+    }
+
+    /// Adds a key. The only error is that memory is out: a block has room for 4 GB.
     pub(crate) fn push(&mut self, key: &[u8]) -> Result<(), AllocError>
         requires stored { IsStored self.old }
         ensures stored { IfOk result (λ _. IsStored self.new) }
         ensures added { IfOk result (λ _. listed self.new ≡ listed self.old ++ key.now ∷ []) }
     {
+        self.open_block()?;
         self.bytes.extend_from_slice(key)?;
-        self.ends.push(self.bytes.len())?;
+        let end = self.bytes.len() - self.blocks[self.ends.len() / BLOCK_KEYS];
+        if end > u32::MAX as usize {
+            return Err(AllocError);
+        }
+        self.ends.push(end as u32)?;
         Ok(())
     }
 
-    // Where the key at a place begins.
-    fn start(&self, place: usize) -> usize
-        requires { place ≤ length self.now.ends.items }
-        ensures { result ≡ slice_index (0 ∷ self.now.ends.items) place }
+    // Where the key at a place ends.
+    fn end(&self, place: usize) -> usize
+        requires stored { IsStored self.now }
+        requires place { place < length self.now.ends.items }
+        ensures { result ≡ slice_index (ends_of self.now) place }
     {
-        if place == 0 { 0 } else { self.ends[place - 1] }
+        self.blocks[place / BLOCK_KEYS] + self.ends[place] as usize
+    }
+
+    // Where it begins.
+    fn start(&self, place: usize) -> usize
+        requires stored { IsStored self.now }
+        requires place { place < length self.now.ends.items }
+        ensures { result ≡ slice_index (0 ∷ ends_of self.now) place }
+    {
+        if place % BLOCK_KEYS == 0 {
+            self.blocks[place / BLOCK_KEYS]
+        } else {
+            self.end(place - 1)
+        }
     }
 
     // Where it begins and ends.
@@ -55,7 +93,7 @@ impl KeyStore {
         ensures key { slice_get (listed self.now) place
             ≡ Some (slice_range self.now.bytes.items result.0 result.1) }
     {
-        (self.start(place), self.ends[place])
+        (self.start(place), self.end(place))
     }
 }
 

@@ -19,7 +19,7 @@ use crate::key_store::KeyStore;
 use crate::names::Names;
 use crate::packing::{pack, unpack};
 use crate::system::System;
-use crate::visits::{MadeChoice, Visit, reach, run_from};
+use crate::visits::{MadeChoice, Visit, reach_next, run_from};
 use std::alloc::{AllocError, Global};
 
 /// How far a search came.
@@ -146,7 +146,6 @@ fn make<S: System>(
         &mut buffers.to,
         &mut buffers.shown,
     )?;
-    pack(&buffers.to, &mut buffers.bytes)?;
     let from = &search.visits[i as usize];
     let step = MadeChoice {
         at: i,
@@ -154,12 +153,14 @@ fn make<S: System>(
         depth: from.depth + 1,
         run: run_from(from, i, choice),
     };
-    let room = reach(
+    let room = reach_next(
         &mut search.visits,
         &mut search.store,
         &mut search.keys,
         alloc,
-        &buffers.bytes,
+        &mut buffers.bytes,
+        &buffers.from,
+        &buffers.to,
         step,
         limit,
     )?;

@@ -1,14 +1,16 @@
 //! The states that were visited, in the order in which they were found.
 ghost use Rattle.std.specs.Prelude.{◌≡◌, ◌≤◌, IfOk, IsTrue, false, vec_len};
-ghost use Rattle.pip_search.specs.Growing.{Grew, IsFull};
+ghost use Rattle.pip_search.specs.Growing.{Grew, WasVisited, IsFull};
 ghost use Rattle.pip_search.specs.Exploring.{StartsRun};
 ghost use Rattle.pip_search.specs.Keys.{HaveKeys, keyed_visits};
+ghost use Rattle.pip_search.specs.Packing.{packed_key, unpacked_key};
 ghost use Rattle.pip_search.specs.Storing.{listed};
 
 use crate::hashes::hash_bytes;
 use crate::index::Index;
 use crate::key_store::KeyStore;
 use crate::names::find;
+use crate::packing::pack;
 use std::alloc::{AllocError, Global};
 
 /// A state that was visited: the visit from which it was found first and by which choice, and how many choices lead
@@ -80,4 +82,38 @@ pub(crate) fn reach(
     })?;
     index.add(alloc, hash)?;
     Ok(true)
+}
+
+/// Adds the visit of a key `to`, unless it was visited. The key `from` was, so there is nothing to look for where both
+/// are the same. `bytes` is a buffer.
+pub(crate) fn reach_next(
+    visits: &mut Vec<Visit>,
+    store: &mut KeyStore,
+    index: &mut Index,
+    alloc: Global,
+    bytes: &mut Vec<u8>,
+    from: &[u32],
+    to: &[u32],
+    step: MadeChoice,
+    limit: u32,
+) -> Result<bool, AllocError>
+    requires keyed { HaveKeys visits.old.items store.old index.old }
+    requires from { WasVisited (keyed_visits (listed store.old) visits.old.items) from.now }
+    ensures keyed { IfOk result (λ x. HaveKeys visits.new.items store.new index.new) }
+    ensures back { IfOk result (λ x. unpacked_key (packed_key to.now) ≡ to.now) }
+    ensures grew { IfOk result (λ room. IsTrue room → Grew (keyed_visits (listed store.old) visits.old.items)
+        (keyed_visits (listed store.new) visits.new.items) (packed_key to.now) step.at step.choice step.depth
+        step.run) }
+    ensures stays { IfOk result (λ room. room ≡ false → keyed_visits (listed store.new) visits.new.items
+        ≡ keyed_visits (listed store.old) visits.old.items) }
+    ensures full { IfOk result (λ room. room ≡ false → IsFull (keyed_visits (listed store.old) visits.old.items)
+        (packed_key to.now) limit) }
+    ensures grows { vec_len visits.old ≤ vec_len visits.new }
+    ensures room { IfOk result (λ x. vec_len visits.old ≤ limit → vec_len visits.new ≤ limit) }
+{
+    if to == from {
+        return Ok(true);
+    }
+    pack(to, bytes)?;
+    reach(visits, store, index, alloc, bytes, step, limit)
 }

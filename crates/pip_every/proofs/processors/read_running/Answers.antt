@@ -1,10 +1,22 @@
 -- Where the first word isn't 0, a partition runs.
-use Rattle.std.proofs.Common.{◌∙◌}
+use Rattle.std.proofs.Common.{◌+◌, ◌∙◌, slice_index, Some, ap}
 use Rattle.std.proofs.lemmas.List.{take_rest}
-use Rattle.pip_every.proofs.Words.{read_some}
+use Rattle.pip_every.proofs.Words.{can_hold, read_some}
 use Rattle.pip_every.proofs.processors.read_running.Goals as goal
+
+pub read_occupant-requires-clause-registers : goal.read_occupant-requires-clause-registers
+read_occupant-requires-clause-registers c =
+    let b = c.requires.1 in can_hold c.args.words.now c.if-words-eq0.false c.requires.0 b.0 b.1
+
+pub slice_bounds-result-count-2 : goal.slice_bounds-result-count-2
+slice_bounds-result-count-2 c =
+    let b = c.requires.1 in (can_hold c.args.words.now c.if-words-eq0.false c.requires.0 b.0 b.1).there
+
+pub slice_bounds-result-start-2 : goal.slice_bounds-result-start-2
+slice_bounds-result-start-2 c =
+    let b = c.requires.1 in (can_hold c.args.words.now c.if-words-eq0.false c.requires.0 b.0 b.1).there
 
 pub returns : goal.returns
 returns c o rest b =
-    let r = read_some c.args.words.now c.read_occupant.result c.if-words-eq0.false c.read_occupant.ensures o rest b in
-    (r.0, take_rest c.args.words.now 18 ∙ r.1)
+    let r = read_some c.args.words.now c.if-words-eq0.false o rest b in
+    (ap Some c.read_occupant.ensures ∙ r.0, take_rest c.args.words.now (3 + slice_index c.args.words.now 2) ∙ r.1)

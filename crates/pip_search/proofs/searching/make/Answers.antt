@@ -6,7 +6,7 @@ use Rattle.pip_search.specs.Orders.{IsRanked}
 use Rattle.pip_search.specs.Packing.{packed_key, unpacked_key}
 use Rattle.pip_search.specs.Systems.{IsKey, LeadsOn}
 use Rattle.pip_search.specs.Storing.{listed}
-use Rattle.pip_search.proofs.Keeping.{absent_key, kept_bytes, kept_more}
+use Rattle.pip_search.proofs.Keeping.{absent_key, kept_bytes, kept_more, kept_words}
 use Rattle.pip_search.proofs.Making.{grew_same, grown_and_told}
 use Rattle.pip_search.proofs.Places.{get-some}
 use Rattle.pip_search.proofs.Ranking.{ranked_more}
@@ -25,6 +25,13 @@ make-requires-clause-key g c =
     (visit_key m c.args.start.now (visits_of s) s.found.items c.args.i c.args.choice c.requires.searching.exploring
     c.requires.key c.args.i v at)
 
+pub reach_next-requires-clause-from : goal.reach_next-requires-clause-from
+reach_next-requires-clause-from g c =
+    let s = c.args.search.now in
+    let count = visit_count s c.requires.searching.keyed in
+    let (v, at) = get-some (visits_of s) c.args.i (omega (arith, s.visits.ok.0, count)) in
+    kept_words (visits_of s) c.args.i v c.requires.searching.kept at (c.deref.ensures.value ∙ c.requires.hand v at)
+
 pub overflow_add-step : goal.overflow_add-step
 overflow_add-step g c =
     let s = c.args.search.now in
@@ -42,15 +49,13 @@ returns-clause-made g c = λ t.
     c.index-from.ensures in
     let v = keyed_visit own c.index-from.result.now in
     let room : IsTrue c.in_ok-room.room = search rules in
-    let key = c.deref-2.result.now in
+    let key = packed_key c.deref-2.result.now in
     let shown = c.deref-3.result.now in
     let run = c.run_from.result in
-    let words : unpacked_key key ≡ c.make.new.to.items = ap unpacked_key c.deref-2.ensures.value
-    ∙ c.in_ok-pack.ensures.words ∙ c.deref.ensures.value in
-    let packed : key ≡ packed_key c.make.new.to.items = c.deref-2.ensures.value ∙ c.in_ok-pack.ensures.packed
-    ∙ ap packed_key c.deref.ensures.value in
+    let words : unpacked_key key ≡ c.make.new.to.items = c.in_ok-room.ensures.back ∙ c.deref-2.ensures.value in
+    let packed : key ≡ packed_key c.make.new.to.items = ap packed_key c.deref-2.ensures.value in
     let h = c.requires.searching in
-    let ws = keyed_visits (listed c.reach.new.store) c.reach.new.visits.items in
+    let ws = keyed_visits (listed c.reach_next.new.store) c.reach_next.new.visits.items in
     let r = ranked_more vs ws s.found.items c.tell.new.found.items key shown c.args.i
     c.args.choice (v.depth + 1) run h.ranked (c.in_ok-room.ensures.grew room) c.in_ok-tell.ensures.told in
     record {
@@ -83,9 +88,8 @@ returns-then-not-room-clause-beyond g c = λ t.
     c.index-from.ensures in
     let v = keyed_visit own c.index-from.result.now in
     let room : c.in_ok-room.room ≡ false = c.if-not-room.true in
-    let key = c.deref-2.result.now in
-    let packed : key ≡ packed_key c.make.new.to.items = c.deref-2.ensures.value ∙ c.in_ok-pack.ensures.packed
-    ∙ ap packed_key c.deref.ensures.value in
+    let key = packed_key c.deref-2.result.now in
+    let packed : key ≡ packed_key c.make.new.to.items = ap packed_key c.deref-2.ensures.value in
     let full = c.in_ok-room.ensures.full room in
     subst (λ zs. IsBeyond m zs c.args.limit c.args.i) (sym (c.in_ok-room.ensures.stays room))
     (record {
@@ -124,5 +128,6 @@ returns-clause-same g c =
     c.index-from.ensures in
     let v = keyed_visit own c.index-from.result.now in
     let room : IsTrue c.in_ok-room.room = search rules in
-    grew_same vs (keyed_visits (listed c.reach.new.store) c.reach.new.visits.items) c.deref-2.result.now c.args.i
+    grew_same vs (keyed_visits (listed c.reach_next.new.store) c.reach_next.new.visits.items)
+    (packed_key c.deref-2.result.now) c.args.i
     c.args.choice (v.depth + 1) c.run_from.result c.args.i v at (c.in_ok-room.ensures.grew room)

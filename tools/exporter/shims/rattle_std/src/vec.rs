@@ -51,6 +51,11 @@ impl<T, A: Allocator> Vec<T, A> {
         self.items.truncate(count);
     }
 
+    /// How many items it has room for.
+    pub fn capacity(&self) -> usize {
+        self.items.capacity()
+    }
+
     /// The items.
     pub fn as_slice(&self) -> &[T] {
         &self.items

@@ -1,7 +1,7 @@
 -- The words of a key are those of each moment that has it.
 use Rattle.std.proofs.Common.{◌∙◌, ap, length, refl}
 use Rattle.pip_every.specs.Choosing.{machine_scope}
-use Rattle.pip_every.proofs.Keying.{can_read, has_read, moved_to, parts}
+use Rattle.pip_every.proofs.Keying.{can_read, changed_words, has_read, moved_to, parts}
 use Rattle.pip_every.proofs.explorer.Explorer.go_to.Goals as goal
 
 pub read_processors-cpus-requires-clause-begins : goal.read_processors-cpus-requires-clause-begins
@@ -24,3 +24,7 @@ pub returns-clause-count : goal.returns-clause-count
 returns-clause-count g c =
     let h = has_read c.args.self.now.shape c.requires.1 c.cpus.ensures c.read_processors-cpus.ensures in
     ap length c.rewind.ensures.cpus ∙ h.count
+
+pub returns-clause-changed : goal.returns-clause-changed
+returns-clause-changed g c =
+    changed_words c.args.self.now.shape c.requires.1 c.cpus.ensures c.read_processors-cpus.ensures

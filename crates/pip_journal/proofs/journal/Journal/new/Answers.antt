@@ -1,4 +1,5 @@
 -- At first all frames are opened, with all their parts.
+use Rattle.pip_journal.specs.Opening.{not_rewound}
 use Rattle.pip_journal.proofs.Closing.{no_part_shut, none_shut}
 use Rattle.pip_journal.proofs.journal.Journal.new.Goals as goal
 
@@ -8,3 +9,7 @@ invariant_of-result-clause-tracks g c =
 
 pub invariant_of-result-clause-tracks_parts : goal.invariant_of-result-clause-tracks_parts
 invariant_of-result-clause-tracks_parts g c = ∣ no_part_shut _ _ _ _ c.in_ok-parts.ensures ∣₁
+
+pub invariant_of-result-clause-rewound : goal.invariant_of-result-clause-rewound
+invariant_of-result-clause-rewound g c =
+    not_rewound c.args.first.block.frames c.args.frames.block.frames c.in_ok-with_capacity.field-0.items

@@ -1,6 +1,6 @@
 -- A frame with its first words is closed.
 use Rattle.std.proofs.Common.{◌∙◌, ap, false, length, arith, refl}
-use Rattle.pip_journal.specs.Opening.{closed_at, length_set, parts_closed_at}
+use Rattle.pip_journal.specs.Opening.{closed_at, length_set, not_rewound, parts_closed_at}
 use Rattle.pip_journal.proofs.Closing.{tracked_words}
 use Rattle.pip_journal.proofs.journal.Journal.restore.Goals as goal
 
@@ -19,6 +19,7 @@ invariant_of-self g c = record {
       c.restore_frame.ensures
       (omega (arith, c.requires, c.args.self.now.count, ap length c.args.self.now.first_is))
       c.args.self.now.tracks_parts;
+  rewound = not_rewound c.args.self.now.first.block.frames _ c.args.self.now.words.items;
 }
 
 pub restore_frame-requires-clause-parts : goal.restore_frame-requires-clause-parts

@@ -3,7 +3,7 @@ use Rattle.std.proofs.Common.{◌∙◌, ◌<◌, ◌/◌, [], ap, arith, length
 use Rattle.std.proofs.Math.ListN.{set}
 use Rattle.std.proofs.lemmas.List.{get_or_default}
 use Rattle.pip_base.specs.Memory.{put_word}
-use Rattle.pip_journal.specs.Opening.{length_set, opened_at, part_opened_at}
+use Rattle.pip_journal.specs.Opening.{length_set, not_rewound, opened_at, part_opened_at}
 use Rattle.pip_journal.proofs.journal.JournalFrames.set_word.Goals as goal
 
 pub invariant_of-self : goal.invariant_of-self
@@ -25,4 +25,5 @@ invariant_of-self g c = record {
       (ap (λ row. set row (c.args.i / 32) true) (c.index_mut-2.ensures.value ∙
       get_or_default ps c.number-2.result c.index_mut-2.result.now [] (omega (arith, below, c.number-2.ensures.same))))
       c.args.self.now.tracks_parts;
+  rewound = not_rewound c.args.self.now.first.block.frames _ c.args.self.now.words.items;
 }

@@ -1,7 +1,7 @@
 -- The frame that is cleared is opened, with all its parts.
 use Rattle.std.proofs.Common.{◌∙◌, true}
 use Rattle.pip_base.specs.Memory.{zero_frame}
-use Rattle.pip_journal.specs.Opening.{length_set, opened_at, parts_opened_at}
+use Rattle.pip_journal.specs.Opening.{length_set, not_rewound, opened_at, parts_opened_at}
 use Rattle.pip_journal.proofs.journal.JournalFrames.zero.Goals as goal
 
 pub invariant_of-self : goal.invariant_of-self
@@ -15,4 +15,5 @@ invariant_of-self g c = record {
       c.zero.ensures.words c.args.self.now.tracks;
   tracks_parts = parts_opened_at _ _ _ c.args.self.now.parts.items c.args.f c.number-2.result _ c.all_parts.result
       c.number-2.ensures.same c.all_parts.ensures c.zero.ensures.words c.args.self.now.tracks_parts;
+  rewound = not_rewound c.args.self.now.first.block.frames _ c.args.self.now.words.items;
 }
