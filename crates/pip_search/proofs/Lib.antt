@@ -7,6 +7,8 @@ pub mod Telling
 pub mod Tracing
 pub mod Running
 pub mod Chains
+pub mod Placed
+pub mod Probed
 pub mod Hashing
 pub mod Packed
 pub mod Walking

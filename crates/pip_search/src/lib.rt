@@ -7,12 +7,12 @@
 //! state is `IsTold` of specs/Summary: a way is a list of choices, the last one first, and comes before another by
 //! `IsBefore` of specs/Orders. This requires that no state has two keys; without that, `Tells` (specs/Reached) explains
 //! what was found, and `Ends` (specs/Ending) why the search ended. Keys are kept as bytes, one to five a word
-//! (specs/Packing), one key after another (specs/Storing). Keys and labels are found by their hashes (specs/Filing); it
-//! is proved that the table has none twice, whatever the hash is.
+//! (specs/Packing), one key after another (specs/Storing). Keys and labels are found by their hashes in a table
+//! (specs/Cells); it is proved that it has none twice, whatever the hash is.
 //!
 //! Of a search that closed [`come_again`] says whether a label can come again wherever choices lead, by some of the
 //! choices alone (`CanComeAgain` of specs/Again), or after which state it can't. It spreads marks against the choices,
-//! from those that show the label (specs/Graphs).
+//! from those that show the label (specs/Graphs); choices are found by where they lead, on chains (specs/Filing).
 //!
 //! A search that is too large for one process is a certificate of parts (specs/Certificates). [`check_part`] checks a
 //! part by itself: it begins where a way leads, makes every choice at every key of the part, and a mark for each choice
@@ -24,6 +24,7 @@
 mod again;
 mod found;
 mod graph;
+mod hash_table;
 mod hashes;
 mod index;
 mod key_store;

@@ -10,7 +10,7 @@ ghost use Rattle.pip_search.specs.Systems.{IsKey};
 ghost use Rattle.pip_search.specs.declared.parts.Part.{Part};
 
 use crate::found::{Found, tell};
-use crate::index::Index;
+use crate::hash_table::HashTable;
 use crate::names::{is_same, kept};
 use crate::packing::{pack, unpack};
 use crate::searching::Buffers;
@@ -26,7 +26,7 @@ pub struct Part {
     pub keys: Vec<Reached>,
     pub asked: Vec<Reached>,
     pub found: Vec<Found>,
-    pub(crate) labels: Index,
+    pub(crate) labels: HashTable,
 }
 
 /// The words of a key as bytes, and how many choices lead to a state of it. The only error is that memory is out.
@@ -236,7 +236,7 @@ fn first_part(alloc: Global, buffers: &mut Buffers, depth: u32) -> Result<Part, 
         keys,
         asked: Vec::new(alloc),
         found: Vec::new(alloc),
-        labels: Index::new(alloc)?,
+        labels: HashTable::new(alloc)?,
     })
 }
 

@@ -13,8 +13,8 @@ ghost use Rattle.pip_search.specs.Ways.{AreTraced, is_covered, witnesses_of};
 ghost use Rattle.pip_search.specs.declared.searching.Extent.TheVariants.{Closed};
 
 use crate::found::{Found, tell};
+use crate::hash_table::HashTable;
 use crate::hashes::hash_bytes;
-use crate::index::Index;
 use crate::key_store::KeyStore;
 use crate::names::Names;
 use crate::packing::{pack, unpack};
@@ -53,8 +53,8 @@ pub struct Search {
     pub found: Vec<Found>,
     // Per visit: its key.
     pub(crate) store: KeyStore,
-    pub(crate) keys: Index,
-    pub(crate) labels: Index,
+    pub(crate) keys: HashTable,
+    pub(crate) labels: HashTable,
 }
 
 /// Buffers that each choice uses again: the words of the key from which it is made, those of the next key, its bytes,
@@ -89,7 +89,7 @@ fn begin(alloc: Global, start: &[u32], buffers: &mut Buffers) -> Result<Search, 
     pack(start, &mut buffers.bytes)?;
     let mut store = KeyStore::new(alloc);
     store.push(&buffers.bytes)?;
-    let mut keys = Index::new(alloc)?;
+    let mut keys = HashTable::new(alloc)?;
     keys.add(alloc, hash_bytes(&buffers.bytes))?;
     let mut visits = Vec::new(alloc);
     visits.push(Visit {
@@ -99,7 +99,7 @@ fn begin(alloc: Global, start: &[u32], buffers: &mut Buffers) -> Result<Search, 
         run: 0,
     })?;
     let found = Vec::new(alloc);
-    let labels = Index::new(alloc)?;
+    let labels = HashTable::new(alloc)?;
     Ok(Search {
         visits,
         found,
