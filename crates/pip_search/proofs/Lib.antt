@@ -21,6 +21,7 @@ pub mod Done
 pub mod Once
 pub mod Certified
 pub mod Parting
+pub mod Following
 pub mod Answered
 pub mod Rising
 pub mod Spreading

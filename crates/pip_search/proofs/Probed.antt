@@ -23,7 +23,7 @@ unlike_more names name tag cells from at u full unlike = record {
 }
 
 module _ (names : List (List ℕ)) (x : HashTable) (name : List ℕ) (hash from own size : ℕ) (n : AreNamed names x)
-    (is : hash ≡ hash_of name) (counted : size ≡ length x.cells.items) (begins : from ≡ home hash size)
+    (is : hash ≡ hash_of x.seed name) (counted : size ≡ length x.cells.items) (begins : from ≡ home hash size)
     (tagged : own ≡ tag hash size) where
   abbrev cells : List ℕ
   cells = x.cells.items

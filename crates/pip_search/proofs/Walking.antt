@@ -10,17 +10,19 @@ use Rattle.pip_search.proofs.Places.{get-back, get-below}
 
 -- one more list, with its hash
 pub named_more : (names : List (List ℕ)) (x y : HashTable) (name : List ℕ) (hash : ℕ) → AreNamed names x
-    → hash ≡ hash_of name → IsAbsent names name → HasHashes y → y.hashes.items ≡ x.hashes.items ++ hash ∷ []
-    → AreNamed (names ++ name ∷ []) y
-named_more names x y name hash n is none filled more = record {
+    → hash ≡ hash_of x.seed name → IsAbsent names name → HasHashes y → y.hashes.items ≡ x.hashes.items ++ hash ∷ []
+    → y.seed ≡ x.seed → AreNamed (names ++ name ∷ []) y
+named_more names x y name hash n is none filled more same = record {
   filled = filled;
   count = ap length more ∙ length-append x.hashes.items (hash ∷ []) ∙ ap (λ k. k + 1) n.count
       ∙ sym (length-append names (name ∷ []));
   hashed = λ j m e. elim (get-back names name j m e) [
     | inl old ↦ let b : j < length names = get-below names j m old in let q = n.count in
         ap (λ ks. get_or ks j 0) more ∙ get_or-append x.hashes.items (hash ∷ []) 0 j (omega arith) ∙ n.hashed j m old
+        ∙ ap (λ s. hash_of s m) (sym same)
     | inr new ↦ ap (λ ks. get_or ks j 0) more ∙ ap (λ k. get_or (x.hashes.items ++ hash ∷ []) k 0)
-        (new.0 ∙ sym n.count) ∙ get_or-append_seam x.hashes.items hash [] 0 ∙ is ∙ ap hash_of (sym new.1)
+        (new.0 ∙ sym n.count) ∙ get_or-append_seam x.hashes.items hash [] 0 ∙ is ∙ ap (hash_of x.seed) (sym new.1)
+        ∙ ap (λ s. hash_of s m) (sym same)
   ];
   distinct = λ i j m e f. elim (get-back names name i m e) [
     | inl old ↦ elim (get-back names name j m f) [
@@ -63,8 +65,9 @@ module _ {X : Type 0} (f : X → List ℕ) where
 
   -- one more of them, with its hash
   pub named_push_more : (xs ys : List X) (x y : HashTable) (one : X) (hash : ℕ) → AreNamed (map f xs) x
-      → hash ≡ hash_of (f one) → IsAbsent (map f xs) (f one) → HasHashes y
-      → y.hashes.items ≡ x.hashes.items ++ hash ∷ [] → ys ≡ xs ++ one ∷ [] → AreNamed (map f ys) y
-  named_push_more xs ys x y one hash n is none filled more whole =
+      → hash ≡ hash_of x.seed (f one) → IsAbsent (map f xs) (f one) → HasHashes y
+      → y.hashes.items ≡ x.hashes.items ++ hash ∷ [] → y.seed ≡ x.seed → ys ≡ xs ++ one ∷ []
+      → AreNamed (map f ys) y
+  named_push_more xs ys x y one hash n is none filled more same whole =
       subst (λ z. AreNamed z y) (sym (ap (map f) whole ∙ named_push xs one))
-      (named_more (map f xs) x y (f one) hash n is none filled more)
+      (named_more (map f xs) x y (f one) hash n is none filled more same)

@@ -26,9 +26,9 @@ hash_by_eights sum (a ∷ b ∷ c ∷ d ∷ e ∷ f ∷ g ∷ h ∷ ks) =
     hash_by_eights (hash_step sum (from_le_bytes w64 (a ∷ b ∷ c ∷ d ∷ e ∷ f ∷ g ∷ h ∷ []))) ks
 hash_by_eights sum ks = hash_after sum ks
 
--- the hash of bytes: the lower half of the sum
-abbrev pub hash_of : List ℕ → ℕ
-hash_of bytes = hash_by_eights 0xcbf29ce484222325 bytes % 2 ^ 32
+-- the hash of bytes, which begins with a seed: the lower half of the sum
+abbrev pub hash_of : ℕ → List ℕ → ℕ
+hash_of seed bytes = hash_by_eights seed bytes % 2 ^ 32
 
 -- no two of these are the same
 abbrev pub AreDistinct : List (List ℕ) → Type 0
@@ -42,7 +42,8 @@ IsAbsent names name = (j : ℕ) → slice_get names j ≢ Some name
 pub record AreNamed (names : List (List ℕ)) (x : HashTable) : Type 0 where
   pub filled : HasHashes x
   pub count : length x.hashes.items ≡ length names
-  pub hashed : (j : ℕ) (name : List ℕ) → slice_get names j ≡ Some name → slice_index x.hashes.items j ≡ hash_of name
+  pub hashed : (j : ℕ) (name : List ℕ) → slice_get names j ≡ Some name → slice_index x.hashes.items j
+      ≡ hash_of x.seed name
   pub distinct : AreDistinct names
 
 -- a cell with these contents has the name of no place, where the name's hash has this tag

@@ -45,7 +45,7 @@ pub(crate) fn tell(
     if label.is_empty() {
         return Ok(());
     }
-    let hash = hash_bytes(label);
+    let hash = hash_bytes(table.seed, label);
     if find(found, table, label, hash).is_some() {
         return Ok(());
     }

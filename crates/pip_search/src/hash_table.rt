@@ -8,9 +8,10 @@ use std::alloc::{AllocError, Global};
 
 /// Hashes, numbered from 0. Each is in a cell of a table: in the first that was empty from the hash's home on, round
 /// the end. This is open addressing with linear probing. A cell has bits of the hash itself, so that mostly one cell is
-/// read to find a hash, and one to see that it isn't there.
+/// read to find a hash, and one to see that it isn't there. All hashes begin with one seed.
 #[derive(Drop)]
 pub struct HashTable {
+    pub(crate) seed: u64,
     pub(crate) hashes: Vec<u32>,
     // 0 if the cell is empty; else the tag of a hash, plus its number, plus 1. Their count is a power of two.
     pub(crate) cells: Vec<u32>,
@@ -92,12 +93,14 @@ fn place_all(hashes: &[u32], cells: &mut [u32])
 }
 
 impl HashTable {
-    /// No hashes. The only error is that memory is out.
-    pub(crate) fn new(alloc: Global) -> Result<HashTable, AllocError>
+    /// No hashes. Those to come begin with a seed. The only error is that memory is out.
+    pub(crate) fn new(alloc: Global, seed: u64) -> Result<HashTable, AllocError>
         ensures filled { IfOk result HasHashes }
         ensures hashes { IfOk result (λ x. x.hashes.items ≡ []) }
+        ensures seed { IfOk result (λ x. x.seed ≡ seed) }
     {
         Ok(HashTable {
+            seed,
             hashes: Vec::new(alloc),
             cells: vec![in alloc; 0u32; 16]?,
         })
@@ -109,6 +112,7 @@ impl HashTable {
         requires filled { HasHashes self.old }
         ensures filled { IfOk result (λ _. HasHashes self.new) }
         ensures hashes { IfOk result (λ _. self.new.hashes.items ≡ self.old.hashes.items ++ hash ∷ []) }
+        ensures seed { self.new.seed ≡ self.old.seed }
     {
         let at = self.hashes.len();
         if at >= 0x80000000 {

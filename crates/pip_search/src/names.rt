@@ -99,7 +99,7 @@ fn look_from<N: Names>(
 pub(crate) fn find<N: Names>(list: &N, table: &HashTable, name: &[u8], hash: u32) -> Option<usize>
     requires can { N.can_name list.now }
     requires named { AreNamed (N.names_of list.now) table.now }
-    requires hash { hash ≡ hash_of name.now }
+    requires hash { hash ≡ hash_of table.now.seed name.now }
     ensures { MatchOption result (IsAbsent (N.names_of list.now) name.now)
         (λ j. slice_get (N.names_of list.now) j ≡ Some name.now) }
 {

@@ -79,8 +79,13 @@ impl Buffers {
     }
 }
 
-// A search that has visited the first state.
-fn begin(alloc: Global, start: &[u32], buffers: &mut Buffers) -> Result<Search, AllocError>
+// A search that has visited the first state. Its hashes begin with a seed.
+fn begin(
+    alloc: Global,
+    start: &[u32],
+    seed: u64,
+    buffers: &mut Buffers,
+) -> Result<Search, AllocError>
     ensures begun { IfOk result (λ s. HasBegun start.now (visits_of s) s.found.items) }
     ensures keys { IfOk result (λ s. HaveKeys s.visits.items s.store s.keys) }
     ensures labels { IfOk result (λ s. AreNamed (labels s.found.items) s.labels) }
@@ -89,8 +94,8 @@ fn begin(alloc: Global, start: &[u32], buffers: &mut Buffers) -> Result<Search, 
     pack(start, &mut buffers.bytes)?;
     let mut store = KeyStore::new(alloc);
     store.push(&buffers.bytes)?;
-    let mut keys = HashTable::new(alloc)?;
-    keys.add(alloc, hash_bytes(&buffers.bytes))?;
+    let mut keys = HashTable::new(alloc, seed)?;
+    keys.add(alloc, hash_bytes(seed, &buffers.bytes))?;
     let mut visits = Vec::new(alloc);
     visits.push(Visit {
         parent: 0,
@@ -99,7 +104,7 @@ fn begin(alloc: Global, start: &[u32], buffers: &mut Buffers) -> Result<Search, 
         run: 0,
     })?;
     let found = Vec::new(alloc);
-    let labels = HashTable::new(alloc)?;
+    let labels = HashTable::new(alloc, seed)?;
     Ok(Search {
         visits,
         found,
@@ -240,7 +245,7 @@ pub fn explore<S: System>(
     ensures base { S.base system.new ≡ S.base system.old }
 {
     let mut buffers = Buffers::new(alloc);
-    let mut search = begin(alloc, start, &mut buffers)?;
+    let mut search = begin(alloc, start, system.seed(), &mut buffers)?;
     let mut i = 0;
     while (i as usize) < search.visits.len() {
         let depth = search.visits[i as usize].depth;

@@ -66,7 +66,7 @@ pub(crate) fn reach(
     ensures grows { vec_len visits.old ≤ vec_len visits.new }
     ensures room { IfOk result (λ x. vec_len visits.old ≤ limit → vec_len visits.new ≤ limit) }
 {
-    let hash = hash_bytes(key);
+    let hash = hash_bytes(table.seed, key);
     if find(store, table, key, hash).is_some() {
         return Ok(true);
     }

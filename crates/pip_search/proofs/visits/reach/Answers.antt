@@ -53,7 +53,7 @@ returns-clause-keyed c =
       named = subst (λ zs. AreNamed zs c.add.new.self) (sym added)
           (named_more ks c.args.table.now c.add.new.self key c.hash_bytes-hash.result h.named c.hash_bytes-hash.ensures
           (is_absent ks key c.find.result c.find.ensures (sym c.is_some.ensures ∙ c.if-is_some.false))
-          c.in_ok-add.ensures.filled c.in_ok-add.ensures.hashes);
+          c.in_ok-add.ensures.filled c.in_ok-add.ensures.hashes c.in_ok-add.ensures.seed);
     }
 
 pub returns-clause-grew : goal.returns-clause-grew
