@@ -559,19 +559,13 @@ def main() -> None:
     parser.add_argument("--image", metavar="OUT", help="assemble it, and write the image there")
     parser.add_argument("--against", metavar="OUT",
                         help="the same, and after the image its menu, the lines .may and .again, for against")
-    parser.add_argument("--line", type=int, metavar="N", help="where line N of the assembly text comes from")
     calling.take_program(parser)
     calling.started(parser, work)
 
 
 def work(given: argparse.Namespace) -> None:
     lines, text = processed(given.file)
-    if given.line is not None:
-        if not 1 <= given.line <= len(lines):
-            raise Failed(f"the assembly text has {len(lines)} lines")
-        place, line = lines[given.line - 1]
-        print(f"{place.file}:{place.line}: {line}")
-    elif given.image:
+    if given.image:
         calling.write(given.image, assembled(given.program, lines))
     elif given.against:
         calling.write(given.against, assembled(given.program, lines) + text_of(text.menu))

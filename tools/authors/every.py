@@ -1,5 +1,5 @@
-"""What can happen to an image or a source over all interleavings: each line in words, and its way as a trace, a script,
-a run or a page.
+"""What can happen to an image or a source over all interleavings: each line in words, and its way as a trace or a
+script.
 
     tools/every FILE STATES [FROM [DEPTH]] [--after STEPS SEED]
     tools/every FILE STATES [FROM [DEPTH]] [--after STEPS SEED] --trace N
@@ -12,19 +12,17 @@ proved, and what it shows at its end is compared with the line.
 from __future__ import annotations
 
 import argparse
-import os
 import re
 import subprocess
 import sys
 from typing import NamedTuple
 
-from ..common import calling, meanings, plans
+from ..common import calling, meanings
 from ..common.calling import Failed
 from ..common.progress import Progress
 from ..reference import against, image as images, script
 from ..reference.every import AT_FIRST, After
 from ..reference.image import Image
-from ..step import page, states
 from . import asmx, trace, ways, why
 from .ways import Menu, Way
 
@@ -179,17 +177,6 @@ def scripted(program: str, image: Image, line: Line, way: Way, menu: Menu, after
     return 0
 
 
-def planned(program: str, data: bytes, line: Line, way: Way) -> tuple[bytes, ways.Run]:
-    """An image with plans of its lines by which a run of a seed goes this way."""
-    image = images.read(data)
-    run = ways.run_of(image, way)
-    built = plans.with_plans(data, run.plans)
-    lines = calling.text_of(program, ["run", str(run.steps), str(run.seed)], built)
-    if lines[-2] != f"{run.steps - 1} {line.cpu} {line.text}":
-        raise Failed(f"the program's run ends with {lines[-2]!r}, where the reference has '{line.text}'")
-    return built, run
-
-
 def main() -> None:
     parser = argparse.ArgumentParser(
         description="What can happen to an image over all interleavings, with the shortest way to each line.",
@@ -210,9 +197,6 @@ def main() -> None:
     one = parser.add_mutually_exclusive_group()
     one.add_argument("--trace", metavar="N", help="the way to line N, choice by choice")
     one.add_argument("--script", metavar="N", help="the way to line N as a script for ./pip script")
-    one.add_argument("--plan", metavar=("N", "OUT"), nargs=2,
-                     help="write the image with plans of lines by which a run goes this way, and say which run")
-    one.add_argument("--page", metavar="N", help="that run as a page of tools/step/step")
     calling.take_program(parser)
     calling.started(parser, work)
 
@@ -254,7 +238,7 @@ def work(given: argparse.Namespace) -> int | None:
              *(str(number) for number in (given.states, given.first, given.depth) if number is not None),
              *(["after", *map(str, asked.after)] if given.after else [])]
     search = read(searched(given.program, words, asked.data + asked.text))
-    number = given.trace or given.script or given.page or (given.plan and given.plan[0])
+    number = given.trace or given.script
     if number is None:
         print("\n".join(told_of(search, given.trouble, asked.menu.deeds)))
         return None
@@ -263,22 +247,10 @@ def work(given: argparse.Namespace) -> int | None:
     return shown(given, asked, search.lines[calling.number(number, 1, len(search.lines), "N") - 1])
 
 
-def shown(given: argparse.Namespace, asked: Given, line: Line) -> int | None:
+def shown(given: argparse.Namespace, asked: Given, line: Line) -> int:
     """The way to a line, as it was asked for."""
     image, menu, after = images.read(asked.data), asked.menu.deeds, asked.after
     way = ways.read(image, line.way, menu)
     if given.trace:
         return traced(image, line, way, menu, after, asked.source)
-    if given.script:
-        return scripted(given.program, image, line, way, menu, after)
-    if menu:
-        raise Failed("a run makes no deeds: --trace and --script show a way with a menu")
-    built, run = planned(given.program, asked.data, line, ways.before(image, after) + way)
-    if given.page:
-        first = max(0, run.steps + 1 - states.MOST_STATES)
-        found = states.of_image(given.program, built, first, run.steps, run.seed, None, asked.source)
-        print(page.written(f"{os.path.basename(given.file)}: {line.text}", found), end="")
-        return None
-    calling.write(given.plan[1], built)
-    print(f"./pip run {run.steps} {run.seed} < {given.plan[1]}    # {', '.join(map(str, run.plans)) or 'no line'}")
-    return None
+    return scripted(given.program, image, line, way, menu, after)

@@ -2,7 +2,7 @@
 # processor and the child on the other. Where one comes between the load and the store of the other, a count is lost.
 #
 #     tools/asmx tools/authors/race.asmx --image race.img
-#     tools/explore race.img 600 1 200 --outs
+#     seq 1 200 | parallel --tag './pip run 600 {} < race.img | grep -o " out .*" | xargs' | sort -k2 -k1,1n | uniq -c -f1
 #
 # The groups show which counts the root saw at the end. 0x28, twenty of each, is what is meant, and comes only where neither
 # is ever between the load and the store of the other: among the seeds 1 to 3000 it doesn't come. In the largest group the

@@ -7,10 +7,10 @@ import tempfile
 import unittest
 from collections.abc import Iterator
 
-from ..common import calling, plans
+from ..common import calling
 from ..common.blocks import blocks, escaped
 from ..reference import against, assembly
-from . import asmx, explore, why
+from . import asmx, why
 
 CASES = blocks("cases.txt", __file__)
 HEAD = ".frames 64\n.cpus 1\n.page 0x400000\n"
@@ -83,21 +83,3 @@ class Reasons(unittest.TestCase):
                 place, _, cause = next(why.bad_lines(kind, judge, lines))
                 self.assertEqual(place, len(lines))
                 self.assertTrue(f"{cause.name} {cause.column}: {cause.here}".startswith(due), (line, due))
-
-
-class Groups(unittest.TestCase):
-    def test_the_end_of_a_trace(self) -> None:
-        end = explore.End("image 64 2 0 1")
-        for line in ("1 0 call 8 switch 1 13 64", "2 0 switch 13 1 14", "3 1 park 13 14",
-                     "4 0 call 1 reply 14 0x00000000", "5 0 out 0x00000001"):
-            end.take(line)
-        self.assertEqual(end.told(["part 1 depth"], True).split("; "),
-                         ["processor 0 runs partition 1", "processor 1 runs nothing (parked: 13, vector 14)",
-                          "faults: vector 14 of 13", "parks: vector 14 of 13",
-                          "refused: call 1 status 14", "tree: 1 (b151e0b3)", "shown: 0x00000001 x 1"])
-
-    def test_plans(self) -> None:
-        told = [str(plan) for plan in plans.of_words(["3", "400..402", "40..50/10"])]
-        self.assertEqual(told, [f".line 3 {first} {period}" for first in (400, 401, 402) for period in (40, 50)])
-        for words in ("16 1 1", "0 2..1 1", "0 1.. 1", "0 1..2/0 1", "0 1..1000 1..1000", "0 x 1"):
-            self.assertRaises(calling.Failed, plans.of_words, words.split())

@@ -5,9 +5,9 @@ from __future__ import annotations
 import os
 import unittest
 
-from ..common import calling, plans
+from ..common import calling
 from ..common.calling import Failed
-from ..reference import against, assembly, commands, every as searches, generate_every, image as images, runs, script
+from ..reference import against, assembly, commands, every as searches, generate_every, image as images, script
 from ..reference.image import Image
 from . import asmx, every, ways
 
@@ -29,7 +29,7 @@ class Ways(unittest.TestCase):
         for text in ("2", "x2", "0 x1", "raise", "0  1", "1x", "0x1000001", ""):
             self.assertRaises(Failed, ways.read, race, text)
 
-    def test_generated_ways_are_made_again_and_are_scripts_and_runs(self) -> None:
+    def test_generated_ways_are_made_again_and_are_scripts(self) -> None:
         for seed in (2, 4, 5, 13, 14, 21, 32):
             words, data = generate_every.case(seed)
             asked = commands.search_of(words)
@@ -42,19 +42,11 @@ class Ways(unittest.TestCase):
                 cpu, text = found.label
                 self.assertEqual(list(ways.made(image, way, (), after))[-1].lines, [f"{len(way) - 1} {cpu} {text}"])
                 self.is_script(image, way, after)
-                if image.cpus == 1:
-                    self.is_run(image, ways.before(image, after) + way, f"{cpu} {text}")
 
     def is_script(self, image: Image, way: ways.Way, after: searches.After = searches.AT_FIRST) -> None:
         text, answers = ways.script(image, way, (), after)
         told, status = script.run(text.encode())
         self.assertEqual((told.decode().splitlines(), status), (answers, 0))
-
-    def is_run(self, image: Image, way: ways.Way, line: str) -> None:
-        run = ways.run_of(image, way)
-        planned = image._replace(plans=run.plans)
-        told, _ = runs.run(planned, run.steps, run.seed)
-        self.assertEqual(told[-2], f"{run.steps - 1} {line}")
 
     def test_ways_with_deeds(self) -> None:
         image, menu = source("every/served.asmx"), against.menu_of(b"each trap 63 0 0\n28 st 0xfffff0fc 0\n").deeds
@@ -69,12 +61,6 @@ class Ways(unittest.TestCase):
             self.assertEqual(script.run(told.encode()), ("".join(answer + "\n" for answer in answers).encode(), 0))
         self.assertRaises(Failed, ways.read, image, "0:d3", menu)
         self.assertRaises(Failed, ways.read, image, "0:d1")
-
-    def test_lines_that_no_plan_raises(self) -> None:
-        turns = source("every/turns.asmx")
-        way = ways.read(turns, "raise0 0x89 raise0 0x9 raise0 0x3")
-        with self.assertRaisesRegex(Failed, "--script tells it"):
-            ways.run_of(turns, way)
 
     def test_a_root_that_parks_while_it_is_masked(self) -> None:
         image = images.read(assembly.assemble(MASKED))
@@ -102,9 +88,3 @@ class Told(unittest.TestCase):
         for lines in ([], [end], [first, "end 0"], [first, *rest], [first, "2 0 out 0x00000007", end],
                       [first, end, "again 1 x"]):
             self.assertRaises(Failed, every.read, lines)
-
-    def test_several_plans(self) -> None:
-        race = source("every/race.asmx")
-        built = plans.with_plans(images.written(race), [plans.Plan(1, 2, 3), plans.Plan(4, 5, 6)])
-        self.assertEqual(images.read(built), race._replace(plans=[images.Plan(1, 2, 3), images.Plan(4, 5, 6)]))
-        self.assertEqual(images.read(plans.with_plans(built, [])), race._replace(plans=[]))

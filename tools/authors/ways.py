@@ -1,18 +1,15 @@
-"""Ways of the commands `every` and `against`: choice by choice, as a script, and as a run by a seed.
+"""Ways of the commands `every` and `against`: choice by choice, and as a script.
 
 They are made again by tools/reference, of which nothing is proved.
 """
 
 from __future__ import annotations
 
-import functools
 import re
-from array import array
 from collections.abc import Callable, Iterator, Sequence
 from typing import NamedTuple
 
 from ..common.calling import Failed
-from ..common.plans import Plan
 from ..reference import against, every as searches, image as images, runs, script as scripts
 from ..reference.against import Deed
 from ..reference.every import AT_FIRST, After
@@ -23,7 +20,6 @@ from . import trace
 
 CHOICES = re.compile(r"(\d(?::d[1-9]\d*)?|raise\d+)(?:x(\d+))?")
 MOST_CHOICES = 1_000_000
-MOST_DRAWS = 1 << 22             # so many states of the generator are tried
 BLOCK = 17                       # words of a block: a pc and 16 registers
 
 
@@ -74,10 +70,17 @@ def before(image: Image, after: After) -> Way:
     world, way = images.world(image), list[Choice]()
     for step, cpu, raised in runs.drawn(image, world, after.steps, after.seed):
         way += [Choice(line, True) for line in raised]
-        if str(cpu) not in idle_of(world):
+        if not is_idle(world, cpu):
             way.append(Choice(cpu))
             runs.Turn(world, cpu, step, lambda line: None).take()
     return way
+
+
+def is_idle(world: World, cpu: int) -> bool:
+    """Whether a turn of this processor would change nothing now: it runs nothing, and takes no line."""
+    root = world.tree.nodes[ROOT]
+    takes = ROOT not in world.running() and any(world.tree.handler(root, 32 + line) for line in root.pending)
+    return world.processors[cpu] is None and not takes
 
 
 def text_of(way: Way) -> str:
@@ -287,98 +290,3 @@ def ends_as_the_way(world: Told) -> None:
         other.nodes[ROOT].masked = root.masked
     if runs.core_lines(world.tree) != runs.core_lines(other):
         raise Failed("the frames after the script aren't those after the way")
-
-
-# As a run by a seed
-
-
-class Turn(NamedTuple):
-    """A turn of a way, the processors whose turns would change nothing before it, and the lines raised before it."""
-
-    cpu: int
-    idle: str
-    raised: list[int]
-
-
-class Run(NamedTuple):
-    """A run of an image with these plans in the place of its own."""
-
-    steps: int
-    seed: int
-    plans: list[Plan]
-
-
-def turns_of(image: Image, way: Way) -> list[Turn]:
-    world = images.world(image)
-    turns: list[Turn] = []
-    raised: list[int] = []
-    for choice in way:
-        if choice.raises:
-            world.raise_line(choice.number)
-            raised.append(choice.number)
-            continue
-        turns.append(Turn(choice.number, idle_of(world), raised))
-        raised = []
-        runs.Turn(world, choice.number, 0, lambda line: None).take()
-    return turns
-
-
-def idle_of(world: World) -> str:
-    """The processors whose turn would change nothing now: they run nothing, and take no line."""
-    root = world.tree.nodes[ROOT]
-    takes = ROOT not in world.running() and any(world.tree.handler(root, 32 + line) for line in root.pending)
-    return "" if takes else "".join(str(cpu) for cpu, at in enumerate(world.processors) if at is None)
-
-
-def run_of(image: Image, way: Way) -> Run:
-    """A run that goes this way, by a seed and plans."""
-    turns = turns_of(image, way)
-    for seed, steps in schedules(image.cpus, turns):
-        found = plans_of(turns, steps)
-        if found is not None:
-            return Run(steps[-1] + 1, seed, found)
-    raise Failed("no seed and plans were found by which a run goes this way: --script tells it")
-
-
-def plans_of(turns: Sequence[Turn], steps: Sequence[int]) -> list[Plan] | None:
-    """Plans that raise each line right after the turn before, or None where a line would come once more."""
-    raised: dict[int, list[int]] = {}
-    for at, turn in enumerate(turns):
-        for line in turn.raised:
-            raised.setdefault(line, []).append(steps[at - 1] + 1 if at else 0)
-    found = []
-    for line, at_steps in sorted(raised.items()):
-        period = at_steps[1] - at_steps[0] if len(at_steps) > 1 else 0
-        due = [at_steps[0] + k * period for k in range(len(at_steps))]
-        if due != at_steps or period and due[-1] + period <= steps[-1]:
-            return None
-        found.append(Plan(line, at_steps[0], period))
-    return found
-
-
-def schedules(cpus: int, turns: Sequence[Turn]) -> Iterator[tuple[int, list[int]]]:
-    """Seeds by which the generator draws these turns, and the step of each. Other draws between are of idle processors.
-    The generator goes through all its states in one ring, so that each state is a seed.
-    """
-    if cpus == 1:
-        yield 1, list(range(len(turns)))
-        return
-    states, drawn = draws(cpus)
-    first, *later = turns
-    others = "".join(f"([{turn.idle}]*?{turn.cpu})" if turn.idle else f"({turn.cpu})" for turn in later)
-    for found in re.compile(f"(?={first.cpu}{others})").finditer(drawn, 1):
-        begin = found.start()
-        yield states[begin - 1], [0, *(found.end(place) - 1 - begin for place in range(1, len(turns)))]
-
-
-@functools.lru_cache(maxsize=1)
-def draws(cpus: int) -> tuple[Sequence[int], str]:
-    """States of the generator, and what is drawn by the step to each, as digits."""
-    states, s = array("I"), 1
-    for _ in range(MOST_DRAWS):
-        states.append(s)
-        s ^= s << 13 & 0xFFFFFFFF
-        s ^= s >> 17
-        s ^= s << 5 & 0xFFFFFFFF
-    digits = "01234"
-    return states, "".join([digits[state % cpus] for state in states])

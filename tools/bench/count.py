@@ -1,17 +1,11 @@
-"""Counts the instructions of the built program over an input, as callgrind counts them.
-
-    bench/count FILE [WORD..]      with these words, or with `script`
-
-The run has to end with status 0. Build the program first, by ./pip."""
+"""Counts the instructions of the built program over an input, as callgrind counts them."""
 
 import os
 import re
 import shutil
 import subprocess
-import sys
 import tempfile
 
-from ..common import calling
 from ..common.calling import REPOSITORY, Failed
 
 PROGRAM = os.path.join(REPOSITORY, "crates", "pip", "out", "pip")
@@ -55,14 +49,3 @@ class Counted:
     def written(self, text: bytes, *words: str) -> bytes:
         """What the program writes."""
         return subprocess.run([self.path, *words], input=text, stdout=subprocess.PIPE, check=True).stdout
-
-
-def main() -> None:
-    if len(sys.argv) < 2 or sys.argv[1] in ("-h", "--help"):
-        sys.exit((__doc__ or "").strip())
-    calling.guarded("count", show)
-
-
-def show() -> None:
-    path, *words = sys.argv[1:]
-    print(Counted().instructions(calling.contents(path), *words))

@@ -7,6 +7,8 @@ import re
 
 ROOT_PAGES = [0x400000 + 4096 * k for k in range(1, 2000)]
 CHILD_PAGES = [0xFFC00000 + 4096 * k for k in range(1000)]
+SIZES = (0, 1, 2, 5, 10, 20, 50, 100, 200, 500, 1000)
+GROWTH = {"chain": SIZES[1:8], "children": SIZES[:9], "tables": SIZES[:8], "rows": SIZES}     # what is drawn
 
 
 def call(number: int, *arguments: int) -> str:

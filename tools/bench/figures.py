@@ -80,6 +80,11 @@ class Figures:
         """The instructions of one line after the others."""
         return self.more(script(setup, "", 0), script(setup, line, 1))
 
+    def deleted(self, case: str) -> int:
+        """The instructions of the line that deletes."""
+        before, with_it = deletions.scripts(case)
+        return self.more(before.encode(), with_it.encode())
+
     def step(self, image: bytes, *words: str, few: str = "10000", many: str = "110000") -> int:
         """The instructions of a step, by a run of few and one of a hundred thousand more; `STEPS` is how many."""
         less, more = (self.program.instructions(image, *(count if word == "STEPS" else word for word in words))
@@ -111,8 +116,7 @@ class Figures:
             self.more(creations(100), creations(700)) // 600
         yield "the same by a child of the root", self.once(FAMILY, deletions.call(0, *deletions.CHILD_PAGES[:5]))
         for case, name in DELETED.items():
-            before, with_it = deletions.scripts(case)
-            yield name, self.more(before.encode(), with_it.encode())
+            yield name, self.deleted(case)
 
     def of_switches(self) -> Iterator[Figure]:
         yield "a switch: half of a yield to a child and one back, each of which saves the caller", \

@@ -15,63 +15,44 @@ import subprocess
 import sys
 import time
 from collections import defaultdict
-from pathlib import Path
 
-Used = defaultdict[tuple[str, str], dict[int, float]]      # by crate and kind: the seconds of each process
+Used = defaultdict[tuple[str, str], dict[int, int]]      # by crate and kind: the seconds of each process
+Rows = dict[int, tuple[int, int, str]]                   # by process: the one that it came from, seconds, and its words
 KINDS = ("proof", "tests", "edits")
-TICKS = os.sysconf("SC_CLK_TCK")
-NAME = re.compile(rb"\0--crate-name\0([^\0]+)\0")
+NAME = re.compile("--crate-name (\\S+)")
 
 
 def main() -> None:
     if len(sys.argv) < 2 or sys.argv[1] in ("-h", "--help"):
         sys.exit((__doc__ or "").strip())
     begun, used = time.monotonic(), Used(dict)
-    child = subprocess.Popen(sys.argv[1:])
-    while True:
-        try:
-            status = child.wait(1)
-            break
-        except subprocess.TimeoutExpired:
-            look(child.pid, used)
+    with subprocess.Popen(sys.argv[1:]) as child:
+        while child.poll() is None:
+            rows = processes()
+            for pid, (_, seconds, _) in rows.items():
+                if key := key_of(pid, child.pid, rows):
+                    used[key][pid] = seconds
+            time.sleep(1)
     show(used, time.monotonic() - begun)
-    sys.exit(status)
+    sys.exit(child.returncode)
 
 
-def look(top: int, used: Used) -> None:
-    """Notes the seconds of each process of the prover below `top`, under its crate and kind."""
-    stats = {int(at.name): read(at / "stat").rpartition(b")")[2].split() for at in Path("/proc").glob("[0-9]*")}
-    parents = {pid: int(stat[1]) for pid, stat in stats.items() if stat}
-    for pid in parents:
-        above = chain(pid, parents)
-        if top in above and (key := next(filter(None, map(key_of, above)), None)):
-            spent = (int(stats[pid][11]) + int(stats[pid][12])) / TICKS
-            used[key][pid] = max(used[key].get(pid, 0), spent)
+def processes() -> Rows:
+    told = subprocess.run(["ps", "-eo", "pid=,ppid=,cputimes=,args="], stdout=subprocess.PIPE, check=True).stdout
+    lines = (line.split(maxsplit=3) for line in told.decode(errors="replace").splitlines())
+    return {int(pid): (int(parent), int(seconds), "".join(words)) for pid, parent, seconds, *words in lines}
 
 
-def chain(pid: int, parents: dict[int, int]) -> list[int]:
-    """A process, and those that it came from."""
-    return [pid, *chain(parents[pid], parents)] if pid in parents else []
-
-
-def key_of(pid: int) -> tuple[str, str] | None:
-    """The crate and the kind of a process of the prover."""
-    line = read(Path("/proc", str(pid), "cmdline"))
-    name = NAME.search(line)
-    if name is None:
-        return None
-    try:
-        is_edit = "/rt-edit-" in os.readlink(f"/proc/{pid}/cwd")
-    except OSError:
-        is_edit = line.split(b"\0")[1:2] != [b"build"]
-    return name[1].decode(), "tests" if b"\0--test\0" in line else "edits" if is_edit else "proof"
-
-
-def read(path: Path) -> bytes:
-    try:
-        return path.read_bytes()
-    except OSError:
-        return b""
+def key_of(pid: int, top: int, rows: Rows) -> tuple[str, str] | None:
+    """The crate and the kind of a process below `top` that is of the prover, or came from one that is."""
+    key = None
+    while pid in rows and pid != top:
+        parent, _, words = rows[pid]
+        if not key and (name := NAME.search(words)):
+            is_edit = "/rt-edit-" in os.path.realpath(f"/proc/{pid}/cwd")
+            key = name[1], "tests" if " --test" in words else "edits" if is_edit else "proof"
+        pid = parent
+    return key if pid == top else None
 
 
 def show(used: Used, wall: float) -> None:

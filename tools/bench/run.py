@@ -1,12 +1,13 @@
 """Prints the instructions that the program takes for many things, and beside them those of another one.
 
-    bench/run [--program PATH] [--plain | --beside PATH] [--tables]
+    bench/run [--program PATH] [--plain | --beside PATH] [--tables | --growth]
 
 They are of its start, of a line of each kind, of partitions that are made and deleted, of events that switch, of
 assembly texts, of the steps of runs, of texts of frames, and of a generated load. The program is the built one, unless
 PATH is given: build it first, by ./pip. --plain builds the plain program of bench/plain by cargo, and puts its figures
 beside; --beside does so for any program of the same commands. --tables prints the rows of the tables of
-docs/PERFORMANCE.md, with times and worst inputs, too; it takes half an hour."""
+docs/PERFORMANCE.md, with times and worst inputs, too; it takes half an hour. --growth writes the figures of deletions
+that bench/growth.gp draws."""
 
 from __future__ import annotations
 
@@ -17,7 +18,7 @@ import subprocess
 
 from ..common import calling
 from ..common.calling import REPOSITORY, Failed
-from . import timing
+from . import deletions, timing
 from .count import PROGRAM, Counted
 from .figures import Figures
 
@@ -45,6 +46,9 @@ def shown(what: str, ours: int, other: int | None) -> str:
 def show(given: argparse.Namespace) -> None:
     path = plain_program() if given.plain else given.beside
     program = Counted(given.program)
+    if given.growth:
+        growth(Figures(program))
+        return
     if given.tables:
         if path is None:
             raise Failed("the tables have two programs: add --plain or --beside PATH")
@@ -77,6 +81,16 @@ def tables(ours: Counted, plain: Counted) -> None:
         print(timing.row_of_worst(*key, ours, plain), flush=True)
 
 
+def growth(figures: Figures) -> None:
+    """How the instructions of a deletion grow: a block for each curve of bench/growth.gp."""
+    print("# The line call 0 1, which deletes a child: how many the child has, and the instructions. Written by "
+          "bench/run --growth.")
+    for kind, sizes in deletions.GROWTH.items():
+        print(f"\n\n# {kind}")
+        for size in sizes:
+            print(size, figures.deleted(f"{kind}{size}"), flush=True)
+
+
 def main() -> None:
     parser = argparse.ArgumentParser(description=__doc__, usage=argparse.SUPPRESS,
                                      formatter_class=argparse.RawDescriptionHelpFormatter)
@@ -84,6 +98,8 @@ def main() -> None:
     other = parser.add_mutually_exclusive_group()
     other.add_argument("--plain", action="store_true", help="beside the plain program")
     other.add_argument("--beside", metavar="PATH", help="beside this program")
-    parser.add_argument("--tables", action="store_true", help="the rows of the tables of docs/PERFORMANCE.md")
+    kind = parser.add_mutually_exclusive_group()
+    kind.add_argument("--tables", action="store_true", help="the rows of the tables of docs/PERFORMANCE.md")
+    kind.add_argument("--growth", action="store_true", help="the figures that bench/growth.gp draws")
     given = parser.parse_args()
     calling.guarded("run", lambda: show(given))

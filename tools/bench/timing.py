@@ -10,6 +10,7 @@ from collections.abc import Callable
 from ..authors import asmx
 from ..common import calling
 from ..common.calling import REPOSITORY, Failed
+from ..reference import parts
 from . import worst
 from .count import Counted
 from .figures import BOOT, FIVE, HEAD, script
@@ -47,12 +48,24 @@ def image_of(*words: str) -> Input:
     return lambda program: program.written(generated(*words)(program), "asm")
 
 
-def macros(name: str) -> Input:
-    """The image of a text with macros, of the folder bench."""
+def macros(*name: str) -> Input:
+    """The image of a text with macros, by its path from the top of the repository."""
     def image(program: Counted) -> bytes:
-        lines, _ = asmx.processed(os.path.join(REPOSITORY, "bench", name))
+        lines, _ = asmx.processed(os.path.join(REPOSITORY, *name))
         return asmx.assembled(program.path, lines)
     return image
+
+
+def with_way(image: Input, turns: int) -> Input:
+    """An image, and a part whose way has that many turns of processor 0."""
+    return lambda program: image(program) + parts.written(parts.Part([], [0] * turns, []))
+
+
+def lines(keys: int) -> Input:
+    """The lines of one part that has that many keys and asks none."""
+    told = [f"{k:040x} + {k % 1000:08x}\n" for k in range(keys)]
+    end = f"part 16 1 0 1 0 {0:016x} {0:08x} {keys:08x} {0:08x}\n"
+    return lambda program: "".join([*told, end]).encode()
 
 
 def guarded(program: Counted) -> bytes:
@@ -124,8 +137,9 @@ WORST: dict[tuple[str, str], Input] = {
     ("tree 0 1", "the first of these images"): full_image("addi r10 r11 -12"),
     ("core 0 1", "the same"): full_image("addi r10 r11 -12"),
     ("every 20000", "`fill`: an image that stores a word in one place after the other"): image_of("fill"),
-    ("every 200000", "`bench/collide.asmx`, chosen against hashes without folded products"): macros("collide.asmx"),
-    ("every 200000", "`bench/spread.asmx`, the same with other registers"): macros("spread.asmx"),
+    ("every 200000", "`bench/collide.asmx`, chosen against hashes without folded products"):
+        macros("bench", "collide.asmx"),
+    ("every 200000", "`bench/spread.asmx`, the same with other registers"): macros("bench", "spread.asmx"),
     ("every 1000000", "`examples/monitor.s`"): example("monitor.s"),
     ("every 1000000", "`examples/retry.s`, on two processors"): example("retry.s"),
     ("every 1000000 after 2100 1", "`examples/two_guests.s`: 224,536 states, where `apart` has 508 + 442 in less than "
@@ -135,6 +149,10 @@ WORST: dict[tuple[str, str], Input] = {
                             "each guest, where all orders of both have 12,000,000,000"): guests(32768, 4096),
     ("apart 300000 2100 1", "the same, of which it shows 4,096: as many lines of each guest, with ways of up to "
                             "221,000 turns"): guests(32768, 8),
+    ("part", "`examples/every/race.asmx` and a way of 10,000,000 turns"):
+        with_way(macros("examples", "every", "race.asmx"), 10000000),
+    ("part", "`fill` and a way of 80,000 turns"): with_way(image_of("fill"), 80000),
+    ("merge", "4,000,001 lines, 208 MB"): lines(4000000),
 }
 
 

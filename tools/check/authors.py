@@ -1,7 +1,6 @@
-"""The tools for authors of monitors beside the program: asmx, why, trace, explore and every."""
+"""The tools for authors of monitors beside the program: asmx, why, trace and every."""
 
 import os
-import re
 import tempfile
 
 from ..authors import why
@@ -38,6 +37,9 @@ def preprocessor(program: str) -> None:
         trace, _ = run([program, "run", "60", "1"], contents(built))
         if b"out 0x0000002a" not in trace or b"out 0xffc00008" not in trace:
             raise Differs(f"tools/asmx: the program doesn't show 42 and the child's address of its name: {trace!r}")
+        says(program, ("asmx", "tools/authors/race.asmx", "--image", built))
+        traces = [run([program, "run", "600", seed], contents(built))[0] for seed in ("2", "3")]
+        same("what race.asmx shows", [b"out 0x00000020" in traces[0], b"out 0x0000001f" in traces[1]], [True, True])
     session("asmx", program)
 
 
@@ -72,48 +74,8 @@ def traces(program: str) -> None:
         session("trace", program, IMAGE=built)
 
 
-def timers(program: str, place: str) -> None:
-    """A monitor that loses a request by its timer alone: its groups by the plan, and the image of one."""
-    source, lossy, built = (os.path.join(place, name) for name in ("lossy.s", "lossy.img", "one.img"))
-    text = contents("examples/timer_and_services.s")
-    write(text.replace(b"\nbeq r7 r10 next_turn\n", b"\nbeq r10 r10 next_turn\n"), source)
-    says(program, ("asmx", source, "--image", lossy))
-    alone = says(program, ("explore", lossy, "900", "1", "3")).splitlines()
-    told = says(program, ("explore", lossy, "900", "1", "1", "--line", "0", "431..440", "50..60/10", "--outs"), 0,
-                "first seed 1 with .line 0 43")
-    lines = told.splitlines()
-    if len(alone) != 1 or len(lines) < 2 or sum(int(line.split()[0]) for line in lines) != 20:
-        raise Differs(f"tools/explore --line: {lines}, and without it {alone}")
-    found = re.search(r" with \.line 0 (\d+) (\d+) \(step (\d+): (.*?)\)", told)
-    if found is None:
-        raise Differs(f"tools/explore --line: no group has the step of its first trouble: {lines}")
-    first, period, step, what = found.groups()
-    says(program, ("explore", lossy, "900", "1", "1", "--line", "0", first, period, "--write", built), 0,
-         f"(step {step}: ")
-    says(program, ("trace", built, "900", "1", "--from", step, "--source", source), 0, f"{step} 0 ", what)
-    same("tools/explore --merge of timers", says(program, ("explore", "--merge", write(told, place, "timers"))), told)
-    session("timers", program, IMAGE=lossy)
-
-
-def groups(program: str) -> None:
-    """The race is found, with its first seed, and parts put together are the whole."""
-    with tempfile.TemporaryDirectory() as place:
-        built = os.path.join(place, "race.img")
-        source = os.path.join(REPOSITORY, "tools", "authors", "race.asmx")
-        says(program, ("asmx", source, "--image", built))
-        whole = says(program, ("explore", built, "600", "1", "60", "--outs", "--jobs", "4"), 0, "first seed 1")
-        counts = [int(line.split()[0]) for line in whole.splitlines()]
-        if len(counts) < 2 or sum(counts) != 60 or counts != sorted(counts, reverse=True):
-            raise Differs(f"tools/explore doesn't find the race, or other groups: {whole!r}")
-        parts = [write(says(program, ("explore", built, "600", first, last, "--outs")), place, first)
-                 for first, last in (("1", "25"), ("26", "60"))]
-        same("tools/explore --merge", says(program, ("explore", "--merge", *parts)), whole)
-        timers(program, place)
-        session("explore", program, IMAGE=built)
-
-
 def interleavings(program: str) -> None:
-    """The race's lines with their ways: as a trace, as a script, and as a run that shows the same."""
+    """The race's lines with their ways: as a trace, and as a script."""
     race = os.path.join(REPOSITORY, "examples", "every", "race.asmx")
     session("ways", program)
     lost = number_of(says(program, ("every", race, "10000")), " out 0x00000002: ")
@@ -136,15 +98,11 @@ def ways_with_a_menu(program: str, built: str) -> None:
 
 
 def ways_of_an_image(program: str, race: str, lost: str, place: str) -> None:
-    """The same of an image: with the names of its source, and as an image with another plan."""
-    built, planned = (os.path.join(place, name) for name in ("race.img", "planned.img"))
+    """The same of an image, with the names of its source."""
+    built = os.path.join(place, "race.img")
     says(program, ("asmx", race, "--image", built))
     says(program, ("every", built, "10000", "--source", race, "--trace", lost), 0, "line 0 is raised", "child+1",
          "the program has this line, too", "processor 1 runs partition 1")
-    told = says(program, ("every", built, "10000", "--plan", lost, planned), 0, "./pip run ", ".line 0 ")
-    trace, _ = run([program, *told.split(" < ")[0].split()[1:]], contents(planned))
-    if not trace.splitlines()[-2].endswith(b" 1 out 0x00000002"):
-        raise Differs(f"tools/every --plan: the run ends with {trace[-200:]!r}")
     says(liar(program, place, "s/out 0x00000002:/out 0x00000007:/"), ("every", built, "10000", "--trace", lost), 1,
          "the reference differs from the program")
     session("every", program, IMAGE=built)

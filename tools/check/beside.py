@@ -6,6 +6,7 @@ in a copy of the sources counts_program.txt stands in the place of crates/pip/sr
 proofs. The cases are those generated, the scripts of examples/, and one whose pages share places."""
 
 import os
+import random
 import shutil
 import subprocess
 import tempfile
@@ -13,11 +14,12 @@ from collections.abc import Iterator
 
 from ..bench.run import plain_program
 from ..reference import commands, generate
+from . import certificates
 from .exporting import need_cargo
 from .running import Case, Differs, agree, contents, copied, generated, paths, run, told_path, write
 
 CASES = 20               # of each command
-NOT_THERE = ("part", "merge")                # it has no certificates
+MOST_CERTIFIED = 600     # states of an example of which certificates are compared
 FIRST_SEED = 700_000     # no other check has these
 # What is made of the image of each program of examples/
 OF_IMAGES = (["dis"], ["run", "3000", "7"], ["tree", "1500", "1"], ["core", "1500", "1"], ["every", "300"],
@@ -25,10 +27,10 @@ OF_IMAGES = (["dis"], ["run", "3000", "7"], ["tree", "1500", "1"], ["core", "150
 
 
 def plain(program: str) -> None:
-    """On the scripts and programs of examples/, and on some generated cases of each command."""
+    """On the scripts, programs and certificates of examples/, and on some generated cases of each command."""
     need_cargo()
     agree("the plain program", [plain_program()], program,
-          [*examples(program), *generated(FIRST_SEED, CASES, without=NOT_THERE)])
+          [*examples(program), *certified(program), *generated(FIRST_SEED, CASES)])
 
 
 def examples(program: str) -> Iterator[Case]:
@@ -41,6 +43,19 @@ def examples(program: str) -> Iterator[Case]:
         yield from ((f"{' '.join(words)} of {name}", list(words), image) for words in OF_IMAGES)
         core = run([program, "core", "1500", "1"], image)[0]
         yield f"audit of {name}", ["audit", str(int.from_bytes(image[8:12], "little"))], core
+
+
+def certified(program: str) -> Iterator[Case]:
+    """The parts of examples and their merges, right ones and such with one thing wrong."""
+    for name, image, first, _, texts in certificates.cut(program, MOST_CERTIFIED):
+        words = ["part", str(first)]
+        wrong = certificates.wrong_parts(random.Random(name), image, texts)
+        yield from ((f"a part of {name}", words, image + text) for text in texts)
+        yield from ((f"a part of {name} ({what})", words, image + text) for what, _, text in wrong)
+        lines = [certificates.checked(program, name, first, image + text) for text in texts]
+        yield f"the merge of {name}", ["merge"], b"".join(certificates.together(lines))
+        for what, told in certificates.wrong_certificates(program, name, first, image, texts, lines):
+            yield f"a merge of {name} ({what})", ["merge"], b"".join(told)
 
 
 # What the caches count

@@ -24,15 +24,9 @@ MOST_CHECKED = 60                # parts with a wrong mark, a wrong way or a wro
 
 def certificates(program: str) -> None:
     """Each NAME.every that closes, part by part; the text of each part of a small one is the reference's."""
-    engine, tried = built(), 0
-    for name, image, words, told in closing(program):
-        first = int((words[2:] or ["0"])[0])
+    tried = 0
+    for name, image, first, told, texts in cut(program):
         states = int(told[-1].split()[1])
-        with tempfile.TemporaryDirectory() as folder:
-            size = str(max(states // 5, 2))
-            same(f"{name}: the end of the cut",
-                 run([engine, "cut", str(first), size, "1000000", "3", folder], image)[1], 0)
-            texts = [path.read_bytes() for path in sorted(Path(folder).iterdir())]
         lines = [checked(program, name, first, image + text) for text in texts]
         merged = together(lines)
         expect(f"{name}: the merge", run([program, "merge"], b"".join(merged)), (said(told), 0))
@@ -68,6 +62,19 @@ def built() -> str:
         return ENGINE.path()
     except Failed as failed:
         raise Differs(str(failed)) from None
+
+
+def cut(program: str, most: int = 1000000) -> Iterator[tuple[str, bytes, int, list[str], list[bytes]]]:
+    """Each of these examples of at most so many states: the name, the image, FROM, the text, and some five parts."""
+    engine = built()
+    for name, image, words, told in closing(program):
+        first, states = int((words[2:] or ["0"])[0]), int(told[-1].split()[1])
+        if states <= most:
+            with tempfile.TemporaryDirectory() as folder:
+                size = str(max(states // 5, 2))
+                same(f"{name}: the end of the cut",
+                     run([engine, "cut", str(first), size, "1000000", "3", folder], image)[1], 0)
+                yield name, image, first, told, [path.read_bytes() for path in sorted(Path(folder).iterdir())]
 
 
 def closing(program: str) -> Iterator[tuple[str, bytes, list[str], list[str]]]:

@@ -40,7 +40,7 @@ CHECKS: dict[str, Check | tuple[Check, ...]] = {
     "wrapper": (wrapper.wrapper, wrapper.in_turn, ended.nothing_is_proved),
     "unit-tests": tools.unit_tests,
     "pictures": tools.pictures,
-    "authors": (authors.preprocessor, authors.reasons, authors.traces, authors.groups, authors.interleavings),
+    "authors": (authors.preprocessor, authors.reasons, authors.traces, authors.interleavings),
     "debugger": (tools.debugger, tools.language_server),
     "shell": (shells.through_a_pipe, shells.on_a_terminal),
     "exercises": exercises.solutions,
@@ -111,7 +111,7 @@ def checked() -> int:
     parser.add_argument("--write-calls", action="store_true",
                         help="write public_calls.txt as the sources have its calls")
     parser.add_argument("--write-meanings", action="store_true",
-                        help="write meanings.json as docs/FORMATS.md has its rows")
+                        help="write meanings.json as the documents have its rows")
     given = parser.parse_args()
     if given.list:
         print("\n".join(CHECKS))

@@ -57,8 +57,8 @@ PARTS = ("tools", "examples", "docs", "pip", "crates.txt", "README.md", "crates/
 IMAGE = b"PIPIMG2\n"
 # Each tool that needs a program, with words and an input with which it comes to need it.
 NEEDING = (("asmx", "examples/monitor.s", "--image", "/dev/null"), ("why", "examples/first.pip"),
-           ("trace", "-", "10", "1"), ("explore", "-", "10", "1", "2"), ("every", "-", "10"),
-           ("shell", "examples/first.pip"), ("debug", "examples/monitor.s"), ("step/step", "examples/first.pip"),
+           ("trace", "-", "10", "1"), ("every", "-", "10"), ("shell", "examples/first.pip"),
+           ("debug", "examples/monitor.s"), ("step/step", "examples/first.pip"),
            ("check/run.py", "--only", "endings"))
 README = "from tools.check import documents; documents.readme_sessions({program!r})"
 RT = "#!/bin/sh\necho begun >> \"$PROOFS\"\nexit 1\n"

@@ -1,13 +1,15 @@
-"""The words that the tools show are those of docs/FORMATS.md: tools/common/meanings.json has the rows of its tables."""
+"""The words that the tools show are those of docs/FORMATS.md and of tools/README.md: tools/common/meanings.json has the
+rows of their tables."""
 
 import json
+import re
 from typing import Any
 
 from ..common import meanings
-from ..common.meanings import rows
 from .running import Differs, text_of, write
 
 PAGE = "docs/FORMATS.md"
+TOOLS = "tools/README.md"        # it has the lines of tools/asmx
 # numbers that need a row
 STATUSES, CALLS, ENDS = range(19), range(12), ("0", "1", "2", "3", "4", "5", "6", "8", "9", "10", "11")
 # Causes for which a line of a script is bad, by how the first cell of its row begins
@@ -58,7 +60,35 @@ def of_page(text: str) -> dict[str, Any]:
     return {"statuses": {k: told for k, told in statuses.items() if k.isdigit()},
             "calls": {k: told for k, told in calls.items() if told[0] != "none"},
             "vectors": {row[0]: row[1] for row in rows(text, "## Vectors, and what a handler gets")
-                        if row[0].isdigit()}, "ends": ends, "causes": causes(text)}
+                        if row[0].isdigit()}, "ends": ends, "causes": causes(text),
+            "forms": first_words(rows(text, "### Forms")), "assembly": assembly(text)}
+
+
+def rows(page: str, heading: str) -> list[list[str]]:
+    """The cells of the table rows of a page below a heading, up to the next one, without links."""
+    _, _, below = page.partition(f"\n{heading}\n")
+    lines = [line for line in below.split("\n#", 1)[0].split("\n") if line.startswith("| ")]
+    return [[meanings.plain(cell.strip("| ")) for cell in line.split(" | ")] for line in lines]
+
+
+def first_words(table: list[list[str]]) -> dict[str, str]:
+    """What each first word of a line means, where rows begin with such lines."""
+    found: dict[str, str] = {}
+    for row in table:
+        meaning = f"{row[0]}: {'; '.join(cell for cell in row[1:] if cell)}"
+        for code in re.findall(r"`([^`]+)`", row[0]) if row[0].startswith("`") else []:
+            name = code.split()[0]
+            found[name] = found[name] + "\n\n" + meaning if name in found else meaning
+    return found
+
+
+def assembly(text: str) -> dict[str, str]:
+    """The same of assembly texts, with the lines of tools/asmx."""
+    found = {**first_words(rows(text_of(TOOLS), "## asmx")), **first_words(rows(text, "## Assembly"))}
+    for row in rows(text, "## Instructions"):
+        if row[0].startswith("0x"):
+            found[row[1].strip("`").split()[0]] = f"{row[1]}, {row[0]}: {row[3] if len(row) > 3 else ''}"
+    return found
 
 
 def causes(text: str) -> dict[str, list[str]]:

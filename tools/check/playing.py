@@ -1,5 +1,5 @@
 """The page of tools/step and the page that runs, in a headless Chromium: what data/playing.txt does and tests there,
-that the second loads nothing, that a long file doesn't hold it up, sizes and colours."""
+that a long file doesn't hold the second up, sizes and colours."""
 
 import json
 import os
@@ -14,7 +14,7 @@ from ..exercises import judging
 from . import pages, playground
 from .authors import built_of
 from .browser import PAUSE, Browser, Failed, found
-from .running import REPOSITORY, Differs, Skipped, contents, paths, text_of, write
+from .running import REPOSITORY, Differs, Skipped, paths, text_of, write
 
 LONG_LINES = 1_100_000           # of "ld 0 0x400000": nearly as many bytes as an input may have
 LONGEST_WAIT = 2.0               # seconds in which the page has to answer while the worker is at that
@@ -61,7 +61,6 @@ def in_browser(program: str) -> None:
     if not found():
         raise Skipped("no Chromium")
     path = playground.page_of(playground.made())
-    loads_nothing(path)
     answered = [script for script in playground.scripts() if playground.answers_of(script)]
     checked = len(answered) + len(paths("examples/*.run"))
     names = {**NAMES, "COUNT": str(checked), "NO_TABLE": meanings.of_status(9),
@@ -81,47 +80,6 @@ def in_browser(program: str) -> None:
                 shown.value("localStorage.clear()")
     except Failed as failed:
         raise Differs(f"the page in a browser: {failed}") from None
-
-
-# What would load something. A name that is followed by `=` is one of an element, or of the page's own code.
-LOADS = re.compile(r"""\b(?:src|srcset|href|poster)\s*=|url\(|@import|\bimport\b|\b(?:https?|wss?):|\bfetch\(
-    |XMLHttpRequest|WebSocket|EventSource|sendBeacon
-    |importScripts|new Image\b|<(?:link|iframe|object|embed|base|form)\b""", re.VERBOSE)
-OWN_ADDRESS = "link.href = URL.createObjectURL("      # of what is saved
-PLANTED = ('<img src="a.png">', "<img srcset=a.png>", '<link rel="stylesheet" href="a.css">', '<link rel="icon">',
-           '<script src="a.js"></script>', '<iframe></iframe>',
-           "<style>p { background: url(a.png) }</style>", '<style>@import "a.css";</style>',
-           "<script>fetch('a')</script>", "<script>import('a')</script>",
-           "<script type=module>import 'a'</script>", "<script>new Worker('https://a.example/a.js')</script>",
-           "<script>new WebSocket(a)</script>",
-           "<script>new Image().src = 'a'</script>", "<script>navigator.sendBeacon('a')</script>",
-           "<script>link.href = a</script>", "<form></form>")
-PLANTED_IN_WORKER = ("importScripts('a.js');", "fetch('a');", "new XMLHttpRequest();", "new EventSource('a');")
-
-
-def loads_nothing(path: str) -> None:
-    """But for the texts that it shows, the page names no other place. That the check sees what does is tried on planted
-    faults."""
-    page = contents(path).decode()
-    for fault in PLANTED:
-        must_load(fault, page.replace("</body>", fault + "</body>"))
-    for fault in PLANTED_IN_WORKER:
-        must_load(fault, page.replace("onmessage = ", fault + "onmessage = "))
-    if found := what_loads(page):
-        raise Differs(f"the page loads something from elsewhere: {found!r}")
-
-
-def must_load(fault: str, page: str) -> None:
-    if fault not in page or not what_loads(page):
-        raise Differs(f"a planted fault, {fault}, isn't seen")
-
-
-def what_loads(page: str) -> str:
-    """What is around the first thing that loads something; nothing where there is none."""
-    content = '<script type="(application/json|text/plain)" id="(documents|examples|module)">.*?</script>'
-    code = re.sub(content, "", page, flags=re.S)
-    found = LOADS.search(code.replace(OWN_ADDRESS, ""))
-    return found.string[max(0, found.start() - 40):found.end() + 40] if found else ""
 
 
 def meanings_of_answers(shown: Browser, scripts: list[str]) -> None:

@@ -1,5 +1,5 @@
-"""What answers and faults mean, in the words of docs/FORMATS.md: meanings.json, which the check `documents` compares
-with that page."""
+"""What answers, faults and words of lines mean, in the words of the documents: meanings.json, which the check
+`documents` compares with them."""
 
 from __future__ import annotations
 
@@ -17,13 +17,6 @@ LINK = re.compile(r"\[([^\]]*)\]\([^)]*\)")
 def plain(text: str) -> str:
     """A text of the documents without its links."""
     return LINK.sub(r"\1", text)
-
-
-def rows(page: str, heading: str) -> list[list[str]]:
-    """The cells of the table rows of a page below a heading, up to the next one, without links."""
-    _, _, below = page.partition(f"\n{heading}\n")
-    lines = [line for line in below.split("\n#", 1)[0].split("\n") if line.startswith("| ")]
-    return [[plain(cell.strip("| ")) for cell in line.split(" | ")] for line in lines]
 
 
 @functools.lru_cache(maxsize=None)
@@ -56,6 +49,12 @@ def causes() -> dict[str, list[str]]:
 def ends() -> dict[str, str]:
     """When the program ends with each status."""
     found: dict[str, str] = data()["ends"]
+    return found
+
+
+def words(kind: str) -> dict[str, str]:
+    """What each first word of a line means, of a script's (`forms`) or of an assembly text's (`assembly`)."""
+    found: dict[str, str] = data()[kind]
     return found
 
 

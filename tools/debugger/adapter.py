@@ -23,7 +23,6 @@ from typing import IO, Any
 
 from ..common import calling
 from ..common.calling import Failed
-from ..draw import frames
 from ..reference.model import PAGE
 from . import building, sources, wire
 from .client import At, States, Stopped
@@ -43,6 +42,7 @@ PAUSING = ("pause", "disconnect", "terminate")
 SHOWING = ("registers", "processors", "words", "print", "translate", "tree", "ancestors", "list", "changed", "trace",
            "check", "stops", "every", "kept", "where", "help")
 CHANGING = ("seed", "plan", "raise", "set", "store")
+DESCRIPTOR = ("descriptor", "MMU directory", "first shadow directory", "second shadow directory", "first list page")
 MOST_LINES = 50                  # trace lines that are told after a run
 MOST_LOOKED = 20_000             # steps before the end of a run of which they are told
 
@@ -408,7 +408,7 @@ class Adapter:
 
     def descriptor(self, part: int) -> list[Variable]:
         words = self.on.states.words(part, 0, 16)
-        names = [name + where for name in frames.DESCRIPTOR for where in (" in the parent", "")]
+        names = [name + where for name in DESCRIPTOR for where in (" in the parent", "")]
         names += ["", "parent", "tables", "", "masked", "pending lines"]
         return [variable(name, f"0x{word:08x}", memoryReference=f"f{part}:{index}", watched=f"f{part}:{index}")
                 for index, (name, word) in enumerate(zip(names, words)) if name]

@@ -8,7 +8,6 @@ name is defined, and what can be typed. Where no program is built, what is wrong
 from __future__ import annotations
 
 import argparse
-import functools
 import os
 import re
 import sys
@@ -26,8 +25,6 @@ from .wire import Message
 
 WORD = re.compile(r"[<>]?[.A-Za-z0-9_]+:?")
 NAME_IN = re.compile(r"[A-Za-z_][A-Za-z0-9_]*")
-FORMATS = os.path.join(calling.REPOSITORY, "docs", "FORMATS.md")
-TOOLS = os.path.join(calling.REPOSITORY, "tools", "README.md")
 KEYWORD, NAME, CONSTANT, REGISTER = 14, 6, 21, 10        # kinds of completions, by the protocol's numbers
 
 
@@ -96,36 +93,14 @@ def told(cause: why.Cause) -> str:
 
 # What words mean
 
-def rows(path: str, heading: str) -> list[list[str]]:
-    return meanings.rows(calling.contents(path).decode(), heading)
-
-
-@functools.lru_cache(maxsize=None)
 def forms() -> dict[str, str]:
     """Of each first word of a script's line: its form and what it does."""
-    return first_words(rows(FORMATS, "### Forms"))
+    return meanings.words("forms")
 
 
-@functools.lru_cache(maxsize=None)
 def assembly_words() -> dict[str, str]:
     """The same of assembly texts, with the lines of tools/asmx."""
-    found = first_words(rows(TOOLS, "## asmx"))
-    found.update(first_words(rows(FORMATS, "## Assembly")))
-    for row in rows(FORMATS, "## Instructions"):
-        if row[0].startswith("0x"):
-            name = row[1].strip("`").split()[0]
-            found[name] = f"{row[1]}, {row[0]}: {row[3] if len(row) > 3 else ''}"
-    return found
-
-
-def first_words(table: list[list[str]]) -> dict[str, str]:
-    found: dict[str, str] = {}
-    for row in table:
-        meaning = f"{row[0]}: {'; '.join(cell for cell in row[1:] if cell)}"
-        for code in re.findall(r"`([^`]+)`", row[0]) if row[0].startswith("`") else []:
-            name = code.split()[0]
-            found[name] = found[name] + "\n\n" + meaning if name in found else meaning
-    return found
+    return meanings.words("assembly")
 
 
 def of_call(number: str, values: list[str]) -> str:

@@ -17,7 +17,7 @@ from types import FrameType
 from typing import Any
 
 from ..authors import trace
-from ..common import calling, meanings, plans
+from ..common import calling, meanings
 from ..common.calling import Failed
 from ..reference.model import PAGE
 from . import building, sources
@@ -296,8 +296,8 @@ class Terminal(cmd.Cmd):
         if words[1:] == ["off"]:
             self.debugger.states.edit("no_plan", int(words[0]))
         elif words:
-            plan = plans.read(f".line {text}")
-            self.debugger.states.edit("plan", plan.line, plan.first, plan.period)
+            line, first, period = (calling.number(word, 0, 0xFFFFFFFF, "a number of a plan") for word in words)
+            self.debugger.states.edit("plan", line, first, period)
         for line, first, period in self.debugger.states.plans:
             print(f".line {line} {first} {period}")
 

@@ -5,7 +5,7 @@ The words are those of docs/FORMATS.md."""
 from __future__ import annotations
 
 from ..step import walk
-from ..step.walk import LEVELS, PAGE, Role
+from ..step.walk import PAGE, Role
 from .texts import Memory
 
 TABLE_OF_HANDLERS = 0xFFFFF000
@@ -48,22 +48,3 @@ def given(shadow: int) -> str:
 def came(shadow: int) -> str:
     """What a word of a second shadow table says."""
     return f"the parent has it at 0x{shadow - 1:08x}" if shadow else "the root's own"
-
-
-DESCRIPTOR = ("descriptor", "MMU directory", "first shadow directory", "second shadow directory", "first list page")
-
-
-def meaning(role: Role, index: int, value: int) -> str:
-    """What a word of a frame with this role says, for descriptors, directories and list pages."""
-    if role.kind == "descriptor":
-        if index < 10:
-            return DESCRIPTOR[index // 2] + (": its address in the parent" if index % 2 == 0 else f": frame {value}")
-        named = {11: f"the parent's descriptor: frame {value}", 12: f"number of tables: {value}",
-                 14: "masked", 15: f"pending lines: {walk.lines(value)}"}
-        return named.get(index, "")
-    if role.kind == "directory":
-        return f"{LEVELS[role.level]} in frame {value // PAGE}, for 0x{index << 22:08x} and above"
-    if index < 2:
-        return f"next list page: frame {value}" if index == 0 else "next list page: its address in the parent"
-    slot, part = divmod(index - 2, 6)
-    return f"slot {slot}, {LEVELS[part // 2]}: " + ("its address in the parent" if part % 2 == 0 else f"frame {value}")

@@ -1,7 +1,7 @@
 """Draws what the commands `tree` and `core` write, as SVG.
 
     pip tree STEPS SEED < IMAGE | tools/draw/draw.py tree > tree.svg
-    pip core STEPS SEED < IMAGE | tools/draw/draw.py frame 18 > frame.svg
+    pip core STEPS SEED < IMAGE | tools/draw/draw.py table 18 > table.svg
     pip core STEPS SEED < IMAGE | tools/draw/draw.py handler 1 65 > handler.svg
     pip core STEPS SEED < IMAGE | tools/draw/draw.py address 13 0xffc13008 > translation.svg"""
 
@@ -12,7 +12,7 @@ import re
 import sys
 
 from ..common import calling
-from ..step.walk import LEVELS, PAGE, USES, Role
+from ..step.walk import PAGE, USES
 from . import frames, texts, translation
 from .svg import INK, PALE, PAPER, Drawing
 
@@ -98,20 +98,10 @@ def draw_legend(drawing: Drawing, top: int) -> None:
                  "A line begins at its address; a page is 0x1000 further to the right.", size=10, colour=PALE)
 
 
-# The words of one frame
+# A page table
 
 LINE = 22
 BITS = ((16, "x", "#f8dfab"), (8, "w", "#f8dfab"), (4, "r", "#f8dfab"), (2, "u", "#c9dcf6"), (1, "p", "#e3f1e1"))
-
-
-def draw_frame(memory: texts.Memory, frame: int) -> str:
-    role = frames.roles(memory).get(frame)
-    drawing = Drawing()
-    if role and role.kind == "table" and role.level == 0:
-        draw_page_table(drawing, memory, frame, role)
-    else:
-        draw_words(drawing, memory, frame, role)
-    return drawing.written()
 
 
 def heading(drawing: Drawing, title: str, words: str) -> None:
@@ -119,8 +109,11 @@ def heading(drawing: Drawing, title: str, words: str) -> None:
     drawing.text(16, 50, words, size=11, colour=PALE)
 
 
-def draw_page_table(drawing: Drawing, memory: texts.Memory, frame: int, role: Role) -> None:
+def draw_page_table(memory: texts.Memory, frame: int) -> str:
     """One line for each page of a page table, with its words in both shadows."""
+    role, drawing = frames.roles(memory).get(frame), Drawing()
+    if role is None or role.kind != "table" or role.level:
+        raise calling.Failed(f"frame {frame} is no page table; tools/step/step shows the words of every frame")
     index = role.place
     shadows = [frames.table(memory, role.partition, level, index) for level in (1, 2)]
     heading(drawing, f"Frame {frame}: a page table of partition {role.partition}",
@@ -145,6 +138,7 @@ def draw_page_table(drawing: Drawing, memory: texts.Memory, frame: int, role: Ro
         y += LINE
     drawing.text(16, y + 20, "x execute, w write, r read, u visible to users, p present. A bit that is 0 is pale; "
                  "without u the page is hidden: configuration of some partition.", size=10, colour=PALE)
+    return drawing.written()
 
 
 def draw_leaf(drawing: Drawing, x: float, y: float, leaf: int) -> None:
@@ -155,37 +149,6 @@ def draw_leaf(drawing: Drawing, x: float, y: float, leaf: int) -> None:
         left = x + 100 + 20 * place
         drawing.rectangle(left, y + 2, 20, LINE - 5, colour if leaf & bit else "#ffffff", "#9aa5b1")
         drawing.text(left + 10, y + 15, letter, anchor="middle", mono=True, colour=INK if leaf & bit else "#c5ccd3")
-
-
-def draw_words(drawing: Drawing, memory: texts.Memory, frame: int, role: Role | None) -> None:
-    """One line for each word that isn't 0."""
-    kind = "a page that is nobody's configuration" if role is None else title(role)
-    heading(drawing, f"Frame {frame}: {kind}", "its words that aren't 0")
-    y = 64
-    for index, value in sorted(memory.get(frame, {}).items()):
-        drawing.text(60, y + 15, str(index), anchor="end", mono=True)
-        drawing.text(76, y + 15, f"0x{value:08x}", mono=True)
-        drawing.text(180, y + 15, words_of(role, index, value))
-        y += LINE
-    drawing.reach(560, y)
-
-
-def title(role: Role) -> str:
-    what = {"descriptor": "the descriptor", "list page": f"list page {role.place}"}.get(role.kind)
-    if role.kind == "directory":
-        what = "the directory of the " + ("page tables", "first shadow", "second shadow")[role.level]
-    if role.kind == "table":
-        what = f"the {LEVELS[role.level]} of directory index {role.place}"
-    return f"{what} of partition {role.partition}"
-
-
-def words_of(role: Role | None, index: int, value: int) -> str:
-    if role is None:
-        return ""
-    if role.kind != "table":
-        return frames.meaning(role, index, value)
-    address = (role.place << 22) + (index << 12)
-    return f"for 0x{address:08x}: " + (frames.given, frames.came)[role.level - 1](value)
 
 
 # A handler: the entry of a vector, and the block to which it points
@@ -250,13 +213,13 @@ def drawn(words: list[str]) -> str:
     """The picture for the words of the command line."""
     if words == ["tree"]:
         return draw_tree(texts.partitions(sys.stdin.read()))
-    if len(words) == 2 and words[0] == "frame" and words[1].isdecimal():
-        return draw_frame(texts.memory(sys.stdin.read()), int(words[1]))
+    if len(words) == 2 and words[0] == "table" and words[1].isdecimal():
+        return draw_page_table(texts.memory(sys.stdin.read()), int(words[1]))
     if len(words) == 3 and words[0] == "handler" and all(map(str.isdecimal, words[1:])) and int(words[2]) < 256:
         return draw_handler(texts.memory(sys.stdin.read()), int(words[1]), int(words[2]))
     if len(words) == 3 and words[0] == "address" and words[1].isdecimal() and ADDRESS.fullmatch(words[2]):
         return translation.draw_address(texts.memory(sys.stdin.read()), int(words[1]), int(words[2], 16))
-    raise calling.Failed("usage: draw.py tree | frame FRAME | handler PARTITION VECTOR | address PARTITION 0xADDRESS")
+    raise calling.Failed("usage: draw.py tree | table FRAME | handler PARTITION VECTOR | address PARTITION 0xADDRESS")
 
 
 def main() -> None:

@@ -4,6 +4,7 @@
 import unittest
 import xml.dom.minidom
 
+from ..common import calling
 from ..reference import runs, script
 from . import frames, pictures, texts, translation
 
@@ -46,6 +47,6 @@ class Draw(unittest.TestCase):
                               (0x10000008, "frame 21, rw-, visible")):
             self.assertIn(told, words(translation.draw_address(texts.memory(CORE), 13, address)))
 
-    def test_every_frame_can_be_drawn(self) -> None:
-        for frame in range(32):
-            words(pictures.draw_frame(texts.memory(CORE), frame))
+    def test_a_page_table_alone_is_drawn(self) -> None:
+        self.assertIn("page table of partition 13", " ".join(words(pictures.draw_page_table(texts.memory(CORE), 18))))
+        self.assertRaises(calling.Failed, pictures.draw_page_table, texts.memory(CORE), 17)

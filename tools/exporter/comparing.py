@@ -97,10 +97,9 @@ def pass_tests(found: list[Word], at: int, slot: Slot, report: Report) -> tuple[
     macro = "assert" if slot.unsafe else "debug_assert"
     begin, tested = at, []
     while [word.text for word in found[at:at + 3]] == [macro, "!", "("]:
-        end = at + 3
-        while end < len(found) and found[end].text != ";":
-            end += 1
-        tested.append(condition([word.text for word in found[at + 3:end - 1]]))
+        end = next((place for place in range(at + 3, len(found)) if found[place].text == ";"), len(found))
+        inside = slice(at + 3, end - 1) if found[end - 1].text == ")" else slice(at + 2, end)
+        tested.append(condition([word.text for word in found[inside]]))
         at = end + 1
     conditions = [conditions_of(clause) for clause in slot.clauses]
     wrong = [test for test in tested if not any(test in those for those in conditions)]

@@ -19,6 +19,7 @@ PUBLIC = {
     "byteorder": '{ version = "1", default-features = false }',
     "itoa": '"1"',
     "memchr": '{ version = "2", default-features = false }',
+    "sha2": '{ version = "0.10", default-features = false }',
     "thiserror": '{ version = ">=1, <3", default-features = false }',
 }
 

@@ -14,13 +14,13 @@ MARK = "UNPROVED"            # a file by which ./pip sees that a release is unpr
 TEXTS = blocks("proof.txt", __file__)
 
 
-def text(version: str, record: Record | None, found: Checkout, is_again: bool, page_sum: str) -> str:
+def text(version: str, record: Record | None, found: Checkout, page_sum: str) -> str:
     """That of a release, for which no gate was run where there is no record of one."""
     program = PROGRAM if record else repository.UNPROVED
     told = {"version": version, "page": PAGE, "commit": found.commit(), "tree": found.tree()}
     if record:
         told.update(vars(record), closing="\n".join(f"          {line}" for line in record.closing),
-                    again=TEXTS["built twice" if is_again else "built once"].rstrip("\n"), trusted=trusted(found))
+                    trusted=trusted(found))
     sums = [(repository.sum_of(found.place / program), program), (page_sum, PAGE)]
     sums += [(repository.sum_of(found.place / name), name) for name in found.files()]
     return (TEXTS["proved" if record else "unproved"].format_map({**told, "program": program}) + "\n"

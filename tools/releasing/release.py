@@ -36,9 +36,6 @@ def main() -> None:
     parser.add_argument("--to", type=Path, metavar="FOLDER",
                         help="where the folder and the tarball go, outside the checkout; without it pip-release beside "
                              "it")
-    parser.add_argument("--again", type=Path, metavar="CHECKOUT",
-                        help="another checkout of the commit, in which ./pip has built, too: the programs have to be "
-                             "the same")
     module.take_module(parser)
     calling.started(parser, lambda given: work(given, Checkout(Path(calling.REPOSITORY))))
 
@@ -48,8 +45,6 @@ def work(given: argparse.Namespace, found: Checkout) -> int:
         if given.version:
             raise Failed("--gate needs no version: it runs the gate, and a release comes after it")
         return gate.run(found)
-    if given.unproved and given.again:
-        raise Failed("--again compares programs that were proved")
     if not given.version or not VERSION.fullmatch(given.version):
         raise Failed(f"a version is numbers with points between them, as 1.2, and not {given.version!r}"
                      if given.version else "which version?")
@@ -76,8 +71,6 @@ def made(given: argparse.Namespace, found: Checkout, to: Path) -> Path:
     found.need_clean()
     record = None if given.unproved else gate.passed(found)
     program = found.need_unproved() if record is None else found.program
-    if given.again:
-        need_same(found, Checkout(given.again))
     to.mkdir(parents=True, exist_ok=True)
     with tempfile.TemporaryDirectory(dir=to) as place:
         top = Path(place) / name
@@ -86,23 +79,12 @@ def made(given: argparse.Namespace, found: Checkout, to: Path) -> Path:
         documents(top)
         export(found, top / EXPORT)
         run("the judge", found, "tools/judge/make_judge", "--to", str(top / "tools" / "judge" / "pip_judge"))
-        told = proof.text(given.version, record, found, bool(given.again), repository.sum_of(top / proof.PAGE))
+        told = proof.text(given.version, record, found, repository.sum_of(top / proof.PAGE))
         (top / "PROOF").write_text(told, encoding="utf-8")
         packed(top, Path(place) / tarball.name, found.seconds())
         os.rename(top, folder)
         os.rename(Path(place) / tarball.name, tarball)
     return tarball
-
-
-def need_same(found: Checkout, other: Checkout) -> None:
-    """Refuses another build of the same sources that has other bytes."""
-    other.need_clean()
-    if other.place.resolve() == found.place.resolve():
-        raise Failed("--again is another checkout than this one")
-    if other.tree() != found.tree():
-        raise Failed(f"{other.place} has another commit")
-    if repository.sum_of(other.need_program()) != repository.sum_of(found.program):
-        raise Failed(f"the program in {other.place} has other bytes than the one here")
 
 
 # The parts

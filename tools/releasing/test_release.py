@@ -33,47 +33,42 @@ class Releases(unittest.TestCase):
         self.addCleanup(setattr, repository, "kit", repository.kit)
         self.use_kit(KIT)
         self.place = Path(place.name)
-        self.found = self.checkout("here")
+        self.found = Checkout(self.place / "here")
+        for path, text in FILES.items():
+            self.write(path, text)
+        for path in (".ci/run", "pip"):
+            (self.found.place / path).chmod(0o755)
+        self.found.git("init", "-q")
+        self.commit()
 
     def use_kit(self, kit: str | None) -> None:
         repository.kit = lambda: kit
 
-    def checkout(self, name: str) -> Checkout:
-        found = Checkout(self.place / name)
-        for path, text in FILES.items():
-            self.write(path, text, found)
-        for path in (".ci/run", "pip"):
-            (found.place / path).chmod(0o755)
-        found.git("init", "-q")
-        self.commit(found)
-        return found
-
-    def write(self, path: str, text: str, found: Checkout | None = None) -> None:
-        whole = (found or self.found).place / path
+    def write(self, path: str, text: str) -> None:
+        whole = self.found.place / path
         whole.parent.mkdir(parents=True, exist_ok=True)
         whole.write_text(text)
 
-    def commit(self, found: Checkout) -> None:
-        found.git("add", "-A")
+    def commit(self) -> None:
+        self.found.git("add", "-A")
         when = {"GIT_AUTHOR_DATE": "2026-01-01T00:00:00Z", "GIT_COMMITTER_DATE": "2026-01-01T00:00:00Z"}
-        subprocess.run(["git", "-C", str(found.place), "-c", "user.name=a", "-c", "user.email=a@b", "commit", "-qm",
-                        "all"], check=True, env={**os.environ, **when})
+        subprocess.run(["git", "-c", "user.name=a", "-c", "user.email=a@b", "commit", "-qm", "all"], check=True,
+                       cwd=self.found.place, env={**os.environ, **when})
 
     def gate_of(self, path: str, text: str) -> None:
         """The gate of a commit in which a file is another."""
         self.write(path, text)
-        self.commit(self.found)
+        self.commit()
         self.pass_gate()
 
-    def pass_gate(self, found: Checkout | None = None) -> int:
+    def pass_gate(self) -> int:
         with contextlib.redirect_stdout(io.TextIOWrapper(io.BytesIO())):
-            return gate.run(found or self.found)
+            return gate.run(self.found)
 
-    def made(self, version: str = "1.2", again: Path | None = None, to: str | None = "to",
-             unproved: bool = False) -> Path:
+    def made(self, version: str = "1.2", to: str | None = "to", unproved: bool = False) -> Path:
         """Makes a release, and answers its folder; where `to` is None it goes beside the checkout."""
-        given = argparse.Namespace(version=version, gate=False, unproved=unproved, again=again, module=None,
-                                   debian=None, to=None if to is None else self.place / to)
+        given = argparse.Namespace(version=version, gate=False, unproved=unproved, module=None, debian=None,
+                                   to=None if to is None else self.place / to)
         with contextlib.redirect_stdout(io.StringIO()):
             release.work(given, self.found)
         return self.place / (release.BESIDE if to is None else to) / f"pip-{version}{'-unproved' if unproved else ''}"
@@ -99,7 +94,7 @@ class Releases(unittest.TestCase):
             "crates/pip/out/pip", "tools/judge/pip_judge"})
         told = (made / "PROOF").read_text()
         for part in ("pip 1.2\n", self.found.commit(), KIT, "3 passed, 0 failed", "check: 2 of 2 checks pass",
-                     "- The kit.", "built once"):
+                     "- The kit."):
             self.assertIn(part, told)
         self.assertIn('<a href="docs/PROVED.html#trusted">', (made / "README.html").read_text())
         one, two = (path.with_name(path.name + ".tar.gz").read_bytes() for path in (made, beside))
@@ -107,7 +102,6 @@ class Releases(unittest.TestCase):
 
     def test_an_unproved_one_needs_no_gate_and_says_so(self) -> None:
         self.refused("say ./pip --unproved script", unproved=True)
-        self.refused("--again compares programs that were proved", unproved=True, again=self.found.place)
         self.found.unproved.parent.mkdir(parents=True)
         self.found.unproved.write_text("by cargo\n")
         made = self.made(unproved=True)
@@ -117,20 +111,6 @@ class Releases(unittest.TestCase):
         self.assertTrue(told.startswith("pip 1.2, unproved\n\nNothing is proved of the program "
                                         "out/rust/target/release/pip"), told)
         self.assertNotIn("passed", told)
-
-    def test_two_builds_have_to_be_the_same(self) -> None:
-        self.pass_gate()
-        other = self.checkout("other")
-        self.pass_gate(other)
-        self.assertIn("It was built twice, in two folders",
-                      (self.made(again=other.place, to="twice") / "PROOF").read_text())
-        other.program.write_text("another\n")
-        self.refused("has other bytes", again=other.place)
-        self.refused("is another checkout than this one", again=self.found.place)
-        self.write("README.md", "# Another\n", other)
-        self.refused("isn't clean", again=other.place)
-        self.commit(other)
-        self.refused("has another commit", again=other.place)
 
     def test_a_gate_that_never_ends_leaves_no_record(self) -> None:
         self.pass_gate()
@@ -159,7 +139,7 @@ class Releases(unittest.TestCase):
 
 def other_files(test: Releases) -> None:
     test.write("README.md", "# Another\n")
-    test.commit(test.found)
+    test.commit()
 
 
 def no_kit(test: Releases) -> None:

@@ -29,7 +29,6 @@ def main() -> None:
     parser.add_argument("--to", dest="last", metavar="LINE", help="of a script: the page ends with this line",
                         type=calling.within(1, 1 << 24, "--to"))
     calling.take_source(parser)
-    parser.add_argument("--title", help="the page's title; without it the file's name")
     calling.take_jobs(parser)
     calling.take_program(parser)
     calling.started(parser, write)
@@ -48,5 +47,4 @@ def write(given: argparse.Namespace) -> None:
         image, source = asmx.image_of(given.program, given.file)
         found = states.of_image(given.program, image, first, given.steps, given.seed, given.jobs,
                                 source or given.source)
-    title = given.title or os.path.basename(given.file)
-    sys.stdout.write(page.written(title, found))
+    sys.stdout.write(page.written(os.path.basename(given.file), found))

@@ -14,7 +14,8 @@ pub fn apart(input: &mut Input, output: &mut Output, states: u32, count: u32, se
     steps(&mut loaded, count, seed, |_, _, _| Ok(()))?;
     let mut searches = Vec::new();
     for guest in guests(&loaded.world) {
-        let mut search = Search::new(loaded.clone(), Menu::default(), Bounds { states, from: 0, depth: None, begin: (0, 1) })?;
+        let mut search =
+            Search::new(loaded.clone(), Menu::default(), Bounds { states, from: 0, depth: None, begin: (0, 1) })?;
         search.guest = Some(guest);
         search.search()?;
         searches.push(search);

@@ -5,7 +5,7 @@ use crate::dump;
 use crate::frames::*;
 use crate::output::{Input, Output};
 use crate::sound;
-use crate::texts::{newline, number};
+use crate::texts::{digits, newline, number};
 use crate::Stop;
 
 /// Bytes of a line of an accepted text.
@@ -127,27 +127,6 @@ fn decimal(text: &[u8]) -> Option<u32> {
     } else {
         number(text)
     }
-}
-
-/// The values of hexadecimal digits; of other bytes more than 15.
-static DIGITS: [u8; 256] = {
-    let (mut values, mut digit) = ([0xff; 256], 0);
-    while digit < 16 {
-        values[b"0123456789abcdef"[digit] as usize] = digit as u8;
-        digit += 1;
-    }
-    values
-};
-
-#[inline]
-fn digits(text: &[u8]) -> Option<u32> {
-    let (mut word, mut all) = (0, 0);
-    for &digit in text {
-        let value = DIGITS[digit as usize];
-        all |= value;
-        word = word << 4 | u32::from(value & 15);
-    }
-    (all < 16).then_some(word)
 }
 
 // The tree

@@ -5,10 +5,11 @@ use std::collections::HashSet;
 
 use crate::calls::YIELD;
 use crate::cpu::{put_line, Line};
+use crate::explorer::{Explorer, KeyList};
 use crate::frames::{PARENT, ROOT};
 use crate::hash::Keys;
-use crate::image::{load, load_first, put_head, Loaded, Plan, Reader};
-use crate::machine::{Access, Context, Machine, Processor, PROCESSORS};
+use crate::image::{load, load_first, put_head, Loaded, Reader};
+use crate::machine::{Access, Machine, Processor};
 use crate::menu::{menu, Menu};
 use crate::output::{Input, Output};
 use crate::runs::steps;
@@ -51,10 +52,9 @@ enum End {
     Stopped,
 }
 
-/// The states that were reached. The key of each is a row of bytes; equal states have equal keys.
+/// The states that were reached.
 struct States {
-    bytes: Vec<u8>,
-    starts: Vec<u64>,
+    list: KeyList,
     /// From which state by which choice each was reached first.
     parents: Vec<u32>,
     choices: Vec<u16>,
@@ -72,7 +72,7 @@ enum Reached {
 impl States {
     fn new() -> Self {
         let keys = Keys::default();
-        States { bytes: vec![], starts: vec![0], parents: vec![], choices: vec![], places: vec![0; 1024], keys }
+        States { list: KeyList::new(), parents: vec![], choices: vec![], places: vec![0; 1024], keys }
     }
 
     fn count(&self) -> u32 {
@@ -80,7 +80,7 @@ impl States {
     }
 
     fn key(&self, state: u32) -> &[u8] {
-        &self.bytes[self.starts[state as usize] as usize..self.starts[state as usize + 1] as usize]
+        self.list.key(state as usize)
     }
 
     /// The state of a key, or a free place of the table.
@@ -117,12 +117,9 @@ impl States {
     }
 
     fn add(&mut self, key: &[u8], parent: u32, choice: u16) -> Result<(), Stop> {
-        self.bytes.try_reserve(key.len())?;
-        self.starts.try_reserve(1)?;
         self.parents.try_reserve(1)?;
         self.choices.try_reserve(1)?;
-        self.bytes.extend_from_slice(key);
-        self.starts.push(self.bytes.len() as u64);
+        self.list.push(key)?;
         self.parents.push(parent);
         self.choices.push(choice);
         Ok(())
@@ -157,24 +154,14 @@ impl States {
 }
 
 pub struct Search {
-    world: Machine<true>,
-    plans: Vec<Plan>,
-    menu: Menu,
+    explorer: Explorer,
     bounds: Bounds,
     pub guest: Option<Guest>,
-    /// The words with which those of a state are compared.
-    base: Vec<u32>,
     states: States,
     found: Vec<Found>,
     shown: HashSet<(u32, Line, bool), Keys>,
     /// How the search ended, and the depth of that.
     end: (End, u32),
-    /// Of the state whose choices are made: turns, processors, the words that differ, and how the key says these.
-    turns: u32,
-    processors: [Processor; PROCESSORS],
-    differing: Vec<(u32, u32)>,
-    tail: Vec<u8>,
-    key: Vec<u8>,
 }
 
 pub fn every(input: &mut Input, output: &mut Output, bounds: Bounds) -> Result<(), Stop> {
@@ -228,51 +215,10 @@ impl Search {
         base.try_reserve_exact(world.frames.words().len())?;
         base.extend_from_slice(world.frames.words());
         world.frames.undo();
-        world.empty_caches();
-        let mut differing = Vec::new();
-        for (place, (&word, &later)) in (0..).zip(world.frames.words().iter().zip(&base)) {
-            if word != later {
-                differing.push((place, word));
-            }
-        }
-        let mut tail = Vec::new();
-        put_words(&mut tail, &differing);
-        let states = States::new();
-        let (found, shown, key) = (Vec::new(), HashSet::default(), Vec::new());
-        let (turns, guest, end) = (0, None, (End::Stopped, 0));
-        Ok(Search {
-            world,
-            plans,
-            menu,
-            bounds,
-            guest,
-            base,
-            states,
-            found,
-            shown,
-            end,
-            turns,
-            processors,
-            differing,
-            tail,
-            key,
-        })
-    }
-
-    /// How many choices there are before the deeds.
-    fn usual(&self) -> usize {
-        self.world.count + self.plans.len()
-    }
-
-    /// What a choice after those is: a processor, and a deed.
-    fn deed(&self, choice: usize) -> Option<(usize, usize)> {
-        let deed = choice.checked_sub(self.usual())?;
-        Some((deed % self.world.count, deed / self.world.count))
-    }
-
-    fn is_hostile(&self, cpu: usize) -> bool {
-        let part = self.processors[cpu].part;
-        part != 0 && self.menu.deeds.iter().any(|deed| deed.is_of(part))
+        world.processors = processors;
+        let explorer = Explorer::new(world, plans, menu, bounds.from, base, 0);
+        let (states, found, shown) = (States::new(), Vec::new(), HashSet::default());
+        Ok(Search { explorer, bounds, guest: None, states, found, shown, end: (End::Stopped, 0) })
     }
 
     pub fn search(&mut self) -> Result<(), Stop> {
@@ -287,14 +233,12 @@ impl Search {
 
     /// How many choices there are.
     fn choices(&self) -> usize {
-        let all = self.usual() + self.world.count * self.menu.deeds.len();
-        self.guest.as_ref().map_or(all, |guest| guest.cpus.len())
+        self.guest.as_ref().map_or(self.explorer.choices(), |guest| guest.cpus.len())
     }
 
     fn searched(&mut self) -> Result<(End, u32), Stop> {
-        self.world.processors = self.processors;
-        self.put_key(0);
-        self.states.reach(&self.key, 0, 0, self.bounds.states)?;
+        self.explorer.put_own_key();
+        self.reach(0, 0)?;
         let (mut state, mut depth, mut level) = (0, 0, 1);
         while state < self.states.count() {
             if state == level {
@@ -303,7 +247,7 @@ impl Search {
             if Some(depth) == self.bounds.depth {
                 return Ok((End::Within, depth));
             }
-            self.visit(state);
+            self.explorer.visit(self.states.key(state));
             for choice in 0..self.choices() {
                 if !self.choose(state, choice, depth)? {
                     return Ok((End::Stopped, depth));
@@ -314,90 +258,42 @@ impl Search {
         Ok((End::Closed, depth))
     }
 
-    /// The world becomes that of a state.
-    fn visit(&mut self, state: u32) {
-        for &(place, _) in &self.differing {
-            self.world.frames.set_word(place, self.base[place as usize]);
-        }
-        let mut key = Key(self.states.key(state));
-        self.turns = key.number();
-        for cpu in 0..self.world.count {
-            self.processors[cpu] = key.processor();
-        }
-        self.tail.clear();
-        self.tail.extend_from_slice(key.0);
-        self.differing.clear();
-        let mut place = 0u32;
-        while !key.0.is_empty() {
-            place = place.wrapping_add(key.number());
-            let word = key.number();
-            self.differing.push((place, word));
-            self.world.frames.set_word(place, word);
-        }
-        self.world.frames.log.clear();
-    }
-
     /// Makes a choice of a state. False if it leads to one state more than there may be.
     #[inline]
     fn choose(&mut self, state: u32, choice: usize, depth: u32) -> Result<bool, Stop> {
-        self.world.processors = self.processors;
-        self.world.empty_caches();
         if self.guest.is_some() {
             return self.choose_alone(state, choice, depth);
         }
-        let Some(shown) = self.made(choice) else { return Ok(true) };
+        let Some(shown) = self.explorer.made(choice) else { return Ok(true) };
         if let Some((cpu, line)) = shown {
             self.note(Found { cpu, line, leaves: false, state, choice: choice as u16, depth });
         }
         self.reach(state, choice)
     }
 
-    /// Makes a choice, and the key after it: what it shows. None if it changes nothing.
-    #[inline]
-    fn made(&mut self, choice: usize) -> Option<Option<(u32, Line)>> {
-        let (cpu, deed) = self.deed(choice).map_or((choice, None), |(cpu, deed)| (cpu, Some(&self.menu.deeds[deed])));
-        if cpu >= self.world.count {
-            if self.turns < self.bounds.from {
-                return None;
-            }
-            self.world.raise(self.plans[choice - self.world.count].line);
-            self.put_key(self.turns);
-            return Some(None);
-        }
-        let part = self.processors[cpu].part;
-        if deed.is_some_and(|deed| part == 0 || !deed.is_of(part)) {
-            return None;
-        }
-        let is_hostile = deed.is_some() || self.is_hostile(cpu);
-        let line = if is_hostile { self.world.hostile_turn(cpu, deed) } else { self.world.turn(cpu) };
-        let is_idle = part == 0 && self.world.processors[cpu].part == 0;
-        self.put_key(if is_idle { self.bounds.from } else { self.bounds.from.min(self.turns + 1) });
-        Some(line.map(|line| (cpu as u32, line)))
-    }
-
     /// Makes a turn of a guest. One in which it leaves leads nowhere.
     fn choose_alone(&mut self, state: u32, choice: usize, depth: u32) -> Result<bool, Stop> {
         let Some(Guest { top, ref cpus }) = self.guest else { return Ok(true) };
         let cpu = cpus[choice];
-        let asks = asks(&mut self.world, top, cpu);
-        let line = self.world.turn(cpu);
-        let leaves = asks || guest_on(&self.world, cpu) != Some(top);
+        self.explorer.restart();
+        let world = &mut self.explorer.world;
+        let asks = asks(world, top, cpu);
+        let line = world.turn(cpu);
+        let leaves = asks || guest_on(world, cpu) != Some(top);
+        if !leaves {
+            self.explorer.put_key(0);
+        }
+        self.explorer.world.frames.undo();
         if let Some(line) = line {
             self.note(Found { cpu: cpu as u32, line, leaves, state, choice: choice as u16, depth });
         }
-        if leaves {
-            self.world.frames.undo();
-            return Ok(true);
-        }
-        self.put_key(0);
-        self.reach(state, choice)
+        Ok(leaves || self.reach(state, choice)?)
     }
 
     /// Notes the state that a choice leads to.
     #[inline]
     fn reach(&mut self, state: u32, choice: usize) -> Result<bool, Stop> {
-        self.world.frames.undo();
-        let reached = self.states.reach(&self.key, state, choice as u16, self.bounds.states)?;
+        let reached = self.states.reach(&self.explorer.key, state, choice as u16, self.bounds.states)?;
         Ok(!matches!(reached, Reached::Full))
     }
 
@@ -405,42 +301,6 @@ impl Search {
         if self.shown.insert((found.cpu, found.line, found.leaves)) {
             self.found.push(found);
         }
-    }
-
-    /// The key of the world after a choice.
-    fn put_key(&mut self, turns: u32) {
-        let key = &mut self.key;
-        key.clear();
-        put_number(key, turns);
-        for cpu in 0..self.world.count {
-            put_processor(key, &self.world.processors[cpu]);
-        }
-        if self.world.frames.log.is_empty() {
-            key.extend_from_slice(&self.tail);
-        } else {
-            self.put_changed();
-        }
-    }
-
-    /// The words that differ now: those that did, and those that were changed.
-    fn put_changed(&mut self) {
-        let mut changed: Vec<u32> = self.world.frames.log.iter().map(|&(place, _)| place).collect();
-        changed.sort_unstable();
-        changed.dedup();
-        let mut words = Vec::with_capacity(self.differing.len() + changed.len());
-        let mut before = self.differing.iter().copied().peekable();
-        for place in changed {
-            while let Some(kept) = before.next_if(|kept| kept.0 < place) {
-                words.push(kept);
-            }
-            before.next_if(|kept| kept.0 == place);
-            let word = self.world.frames.word(place);
-            if word != self.base[place as usize] {
-                words.push((place, word));
-            }
-        }
-        words.extend(before);
-        put_words(&mut self.key, &words);
     }
 
     /// The lines that were found, and the last line.
@@ -477,10 +337,10 @@ impl Search {
         for same in way.chunk_by(|one, next| one == next) {
             let choice = usize::from(same[0]);
             let choice = self.guest.as_ref().map_or(choice, |guest| guest.cpus[choice]);
-            match (self.deed(choice), choice.checked_sub(self.world.count)) {
+            match (self.explorer.deed(choice), choice.checked_sub(self.explorer.world.count)) {
                 (Some((cpu, deed)), _) => output.text(" ").number(cpu as u32).text(":d").number(deed as u32 + 1),
                 (None, None) => output.text(" ").number(choice as u32),
-                (None, Some(plan)) => output.text(" raise").number(self.plans[plan].line),
+                (None, Some(plan)) => output.text(" raise").number(self.explorer.plans[plan].line),
             };
             if same.len() > 1 {
                 output.text("x").number(same.len() as u32);
@@ -491,7 +351,7 @@ impl Search {
     /// Of each label of the menu, the first state from which it can't come by choices without deeds, if there is one. A
     /// line that was never found can't from the first on.
     fn lost(&mut self, output: &mut Output) -> Result<Vec<Option<u32>>, Stop> {
-        if self.menu.labels.is_empty() || !matches!(self.end.0, End::Closed) {
+        if self.explorer.menu.labels.is_empty() || !matches!(self.end.0, End::Closed) {
             return Ok(vec![]);
         }
         let texts: Vec<Vec<u8>> = (self.found.iter())
@@ -501,24 +361,22 @@ impl Search {
                 })
             })
             .collect();
-        let lines: Vec<Option<(u32, Line)>> = (self.menu.labels.iter())
+        let lines: Vec<Option<(u32, Line)>> = (self.explorer.menu.labels.iter())
             .map(|label| texts.iter().position(|text| text == label))
             .map(|at| at.map(|at| (self.found[at].cpu, self.found[at].line)))
             .collect();
-        let (count, width) = (self.states.count() as usize, self.usual());
+        let (count, width) = (self.states.count() as usize, self.explorer.usual());
         let (mut edges, mut can) = (Vec::new(), vec![vec![false; count]; lines.len()]);
         edges.try_reserve_exact(count * width)?;
         for state in 0..count {
-            self.visit(state as u32);
+            self.explorer.visit(self.states.key(state as u32));
             for choice in 0..width {
-                self.world.processors = self.processors;
-                self.world.empty_caches();
-                let Some(shown) = self.made(choice) else {
+                let Some(shown) = self.explorer.made(choice) else {
                     edges.push(state as u32);
                     continue;
                 };
-                self.world.frames.undo();
-                edges.push(self.states.find(&self.key, self.states.keys.hash(&self.key) >> 32).unwrap_or(0));
+                let key = &self.explorer.key;
+                edges.push(self.states.find(key, self.states.keys.hash(key) >> 32).unwrap_or(0));
                 for (line, can) in lines.iter().zip(&mut can) {
                     can[state] |= shown.is_some() && *line == shown;
                 }
@@ -530,7 +388,7 @@ impl Search {
 
     /// What is said of each label.
     fn put_lost(&self, output: &mut Output, lost: &[Option<u32>]) -> Result<(), Stop> {
-        for (at, label) in self.menu.labels.iter().enumerate() {
+        for (at, label) in self.explorer.menu.labels.iter().enumerate() {
             output.text("again ").bytes(label).text(match lost.get(at) {
                 None => ": unknown",
                 Some(None) => ": yes",
@@ -577,74 +435,5 @@ impl Edges {
             }
         }
         can.iter().position(|&can| !can).map(|state| state as u32)
-    }
-}
-
-// Keys
-
-/// A number in groups of seven bits, the lowest first.
-#[inline]
-fn put_number(key: &mut Vec<u8>, mut number: u32) {
-    while number >= 0x80 {
-        key.push(number as u8 | 0x80);
-        number >>= 7;
-    }
-    key.push(number as u8);
-}
-
-/// The name, and if it isn't 0 the pc and the registers that aren't 0.
-fn put_processor(key: &mut Vec<u8>, at: &Processor) {
-    put_number(key, at.part);
-    if at.part == 0 {
-        return;
-    }
-    put_number(key, at.context.pc);
-    let registers = &at.context.registers;
-    let mask = registers.iter().rev().fold(0, |mask, &word| mask << 1 | u16::from(word != 0));
-    key.extend_from_slice(&mask.to_le_bytes());
-    registers.iter().filter(|&&word| word != 0).for_each(|&word| put_number(key, word));
-}
-
-/// Words with their places, each by its distance to the one before.
-fn put_words(key: &mut Vec<u8>, words: &[(u32, u32)]) {
-    let mut last = 0;
-    for &(place, word) in words {
-        put_number(key, place - last);
-        put_number(key, word);
-        last = place;
-    }
-}
-
-/// What is left of a key.
-struct Key<'a>(&'a [u8]);
-
-impl Key<'_> {
-    #[inline]
-    fn number(&mut self) -> u32 {
-        let (mut number, mut shift) = (0, 0);
-        loop {
-            let byte = self.0[0];
-            self.0 = &self.0[1..];
-            number |= u32::from(byte & 0x7f) << shift;
-            shift += 7;
-            if byte < 0x80 {
-                return number;
-            }
-        }
-    }
-
-    fn processor(&mut self) -> Processor {
-        let part = self.number();
-        if part == 0 {
-            return Processor::default();
-        }
-        let mut context = Context { pc: self.number(), registers: [0; 16] };
-        let mut mask = u16::from_le_bytes([self.0[0], self.0[1]]);
-        self.0 = &self.0[2..];
-        while mask != 0 {
-            context.registers[mask.trailing_zeros() as usize] = self.number();
-            mask &= mask - 1;
-        }
-        Processor { part, context }
     }
 }

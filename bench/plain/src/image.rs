@@ -32,30 +32,33 @@ impl Plan {
     }
 }
 
-pub fn bad(kind: &str, at: usize) -> Stop {
-    Stop::Bad(format!("bad image {kind} {at}"))
-}
-
-/// An image on its way. What the output holds is written before more is read.
+/// An image on its way, or what comes after one. What the output holds is written before more is read.
 pub struct Reader<'a> {
     input: &'a mut Input,
     pub output: &'a mut Output,
-    at: usize,
+    /// Where in the input the next byte is.
+    pub at: usize,
+    /// What is read: an image, or a part.
+    pub what: &'static str,
     /// The pages of the root that were named: those from 0x400 on, and that of the handler table at the end.
     seen: Vec<bool>,
 }
 
 impl<'a> Reader<'a> {
     pub fn new(input: &'a mut Input, output: &'a mut Output) -> Self {
-        Reader { input, output, at: 0, seen: vec![false; 4097] }
+        Reader { input, output, at: 0, what: "image", seen: vec![false; 4097] }
     }
 
-    /// The next so many bytes.
-    fn part(&mut self, count: usize) -> Result<&[u8], Stop> {
+    pub fn bad(&self, kind: &str, at: usize) -> Stop {
+        Stop::Bad(format!("bad {} {kind} {at}", self.what))
+    }
+
+    /// The next so many bytes, no more than a page.
+    pub fn part(&mut self, count: usize) -> Result<&[u8], Stop> {
         while self.input.held().len() < count {
             self.output.flush()?;
             if self.input.read(usize::MAX)? == 0 {
-                return Err(bad("short", self.at + self.input.held().len()));
+                return Err(self.bad("short", self.at + self.input.held().len()));
             }
         }
         self.at += count;
@@ -63,7 +66,7 @@ impl<'a> Reader<'a> {
         Ok(self.input.taken(count))
     }
 
-    fn number(&mut self) -> Result<u32, Stop> {
+    pub fn number(&mut self) -> Result<u32, Stop> {
         Ok(word_of(self.part(4)?))
     }
 
@@ -73,14 +76,15 @@ impl<'a> Reader<'a> {
         if (least..=most).contains(&value) {
             Ok(value)
         } else {
-            Err(bad(kind, at))
+            Err(self.bad(kind, at))
         }
     }
 
     pub fn head(&mut self) -> Result<Head, Stop> {
         let magic = self.part(8)?;
         if magic != MAGIC {
-            return Err(bad(if magic == OLD_MAGIC { "oldversion" } else { "magic" }, 0));
+            let kind = if magic == OLD_MAGIC { "oldversion" } else { "magic" };
+            return Err(self.bad(kind, 0));
         }
         Ok(Head {
             frames: self.field("frames", 16, 4096)?,
@@ -95,7 +99,7 @@ impl<'a> Reader<'a> {
         let part = self.part(12)?;
         let plan = Plan { line: word_of(part), first: word_of(&part[4..]), period: word_of(&part[8..]) };
         if plan.line > 15 || before.is_some_and(|before| plan.line <= before.line) {
-            return Err(bad("plan", at));
+            return Err(self.bad("plan", at));
         }
         Ok(plan)
     }
@@ -112,10 +116,10 @@ impl<'a> Reader<'a> {
     pub fn page(&mut self, head: &Head) -> Result<(u32, u32), Stop> {
         let at = self.at;
         let vpage = self.number()?;
-        let page = root_page(head.frames, vpage).ok_or_else(|| bad("page", at))?;
+        let page = root_page(head.frames, vpage).ok_or_else(|| self.bad("page", at))?;
         let place = if vpage == HANDLER_PAGE { 4096 } else { vpage - 0x400 } as usize;
         if self.seen[place] {
-            return Err(bad("twice", at));
+            return Err(self.bad("twice", at));
         }
         self.seen[place] = true;
         Ok((vpage, page))
@@ -126,7 +130,7 @@ impl<'a> Reader<'a> {
         self.part(BYTES)
     }
 
-    /// Nothing comes after the last page.
+    /// Nothing comes after this.
     pub fn end(&mut self) -> Result<(), Stop> {
         if self.input.held().is_empty() {
             self.output.flush()?;
@@ -135,7 +139,7 @@ impl<'a> Reader<'a> {
         if self.input.held().is_empty() {
             Ok(())
         } else {
-            Err(bad("long", self.at))
+            Err(self.bad("long", self.at))
         }
     }
 }

@@ -9,14 +9,17 @@ mod cpu;
 mod dis;
 mod dump;
 mod every;
+mod explorer;
 mod frames;
 mod hash;
 mod image;
 mod isa;
 mod machine;
 mod menu;
+mod merge;
 mod native;
 mod output;
+mod part;
 mod runs;
 mod script;
 mod slots;
@@ -32,7 +35,7 @@ use output::{Input, Output};
 const USAGE: &str = "usage: pip script | run STEPS SEED | asm | dis | tree STEPS SEED | core STEPS SEED | \
     soak COUNT SEED | native N STEPS | slots N TURNS ROUNDS | slots N ROUNDS K:TURNS .. | \
     audit FRAMES | every STATES [FROM [DEPTH]] [after STEPS SEED] | \
-    against STATES [FROM [DEPTH]] [after STEPS SEED] | apart STATES STEPS SEED";
+    against STATES [FROM [DEPTH]] [after STEPS SEED] | apart STATES STEPS SEED | part [FROM] | merge";
 pub const MOST_STEPS: u32 = 10_000_000;
 const MOST_COUNT: u32 = 1_000_000;
 const MOST_STATES: u32 = 100_000_000;
@@ -118,6 +121,8 @@ enum Command {
     Every(every::Bounds),
     Against(every::Bounds),
     Apart(u32, u32, u32),
+    Part(u32),
+    Merge,
 }
 
 fn done(command: Command, output: &mut Output) -> Result<(), Stop> {
@@ -136,6 +141,8 @@ fn done(command: Command, output: &mut Output) -> Result<(), Stop> {
         Command::Every(bounds) => every::every(input, output, bounds),
         Command::Against(bounds) => every::against(input, output, bounds),
         Command::Apart(states, steps, seed) => apart::apart(input, output, states, steps, seed),
+        Command::Part(from) => part::part(input, output, from),
+        Command::Merge => merge::merge(input, output),
     }
 }
 
@@ -167,6 +174,9 @@ fn numbered(words: &[String]) -> Option<Command> {
         ("apart", &[states @ 1..=MOST_STATES, steps @ 0..=MOST_STEPS, seed @ 1..=u32::MAX]) => {
             Command::Apart(states, steps, seed)
         }
+        ("part", []) => Command::Part(0),
+        ("part", &[from @ 0..=MOST_STEPS]) => Command::Part(from),
+        ("merge", []) => Command::Merge,
         _ => return None,
     })
 }

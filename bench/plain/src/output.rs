@@ -27,10 +27,29 @@ impl Output {
         written.map_err(|_| Stop::Write)
     }
 
-    /// Writes many bytes, which aren't copied.
+    /// Writes bytes. Many aren't copied.
     pub fn write(&mut self, bytes: &[u8]) -> Result<(), Stop> {
+        if self.held.len() + bytes.len() <= HELD {
+            self.held.extend_from_slice(bytes);
+            return Ok(());
+        }
         self.flush()?;
         self.file.write_all(bytes).map_err(|_| Stop::Write)
+    }
+
+    /// Writes two hexadecimal digits of each byte.
+    pub fn pairs(&mut self, bytes: &[u8]) -> Result<&mut Self, Stop> {
+        for piece in bytes.chunks(HELD / 4) {
+            if self.held.len() + 2 * piece.len() > HELD {
+                self.flush()?;
+            }
+            let start = self.held.len();
+            self.held.resize(start + 2 * piece.len(), 0);
+            for (pair, byte) in self.held[start..].chunks_exact_mut(2).zip(piece) {
+                (pair[0], pair[1]) = (digit(byte >> 4), digit(byte & 15));
+            }
+        }
+        Ok(self)
     }
 
     /// Ends a line, and writes what is held if that is enough.
@@ -95,6 +114,12 @@ impl Output {
         self.held.extend_from_slice(&text);
         self
     }
+}
+
+/// A hexadecimal digit, without a table, so that many are made at once.
+#[inline]
+fn digit(value: u8) -> u8 {
+    value + if value < 10 { b'0' } else { b'a' - 10 }
 }
 
 #[inline]

@@ -50,7 +50,8 @@ fn is_boot_root(tree: &Tree) -> bool {
         table.index == index && (0..).zip(table.pairs).all(is_pair)
     };
     let rights = PRESENT | READ | WRITE | EXECUTE;
-    let is_row = |(vpage, row): (u32, u32)| root_page(count, vpage) == Some(row / PAGE) && row % PAGE & !USER == rights;
+    let is_row =
+        |(vpage, row): (u32, u32)| root_page(count, vpage) == Some(row / PAGE) && (row % PAGE) & !USER == rights;
     is_base
         && root.tables.len() as u32 == tables + 1
         && (0..).zip(&root.tables).all(is_slot)

@@ -39,6 +39,28 @@ fn decimal(digits: &[u8]) -> Option<u32> {
     })
 }
 
+/// The values of hexadecimal digits; of other bytes more than 15.
+static DIGITS: [u8; 256] = {
+    let (mut values, mut digit) = ([0xff; 256], 0);
+    while digit < 16 {
+        values[b"0123456789abcdef"[digit] as usize] = digit as u8;
+        digit += 1;
+    }
+    values
+};
+
+/// The number that hexadecimal digits are, with leading zeros or not.
+#[inline]
+pub fn digits(text: &[u8]) -> Option<u32> {
+    let (mut word, mut all) = (0, 0);
+    for &digit in text {
+        let value = DIGITS[digit as usize];
+        all |= value;
+        word = word << 4 | u32::from(value & 15);
+    }
+    (all < 16).then_some(word)
+}
+
 /// The words of a line that come after its first, between spaces.
 pub struct Words<'a> {
     rest: Option<&'a [u8]>,

@@ -17,7 +17,7 @@ ghost use Rattle.pip_apart.specs.Tops.{processors_of};
 use crate::guests::processors_of;
 use pip_base::{Ctx, Frame, Outcome, Steps};
 use pip_cpu::{Effect, effect_of, turn};
-use pip_every::{Label, add_processors, read_processors};
+use pip_every::{Label, add_processors, read_processors, seed_of};
 use pip_frames::Frames;
 use pip_isa::decode;
 use pip_journal::{First, Journal};
@@ -43,6 +43,7 @@ pub struct Guest<F: First, L: Ledger> {
     top: Frame,
     cpus: Vec<u32>,
     label: Label,
+    seed: u64,
     steps: Steps<L>,
     ghost shape: { IsMemory F.words },
     ghost there: { All (λ cpu. cpu < length machine.cpus) cpus.items },
@@ -78,11 +79,14 @@ impl<F: First, L: Ledger> Guest<F, L> {
         ensures top { result.top ≡ top }
         ensures cpus { result.cpus ≡ cpus }
     {
+        let mut steps = steps;
+        let seed = seed_of(machine.mem(), &mut steps);
         Guest {
             machine,
             top,
             cpus,
             label: Label::new(alloc),
+            seed,
             steps,
         }
     }
@@ -230,6 +234,10 @@ impl<F: First, L: Ledger> System for Guest<F, L> {
 
     fn count(&self) -> u32 {
         self.cpus.len() as u32
+    }
+
+    fn seed(&self) -> u64 {
+        self.seed
     }
 
     fn make(

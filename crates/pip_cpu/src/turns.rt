@@ -19,8 +19,8 @@ use std::sync::ledger::Ledger;
 
 /// The turn that a processor has at step `t`: a poll, one instruction fetched and run, and the trace lines of both
 /// (docs/MODEL.md, "A turn"). Fails only if a write failed; all was done then up to the line that was not written
-/// whole. `W` is a type that names the caller, so each caller has a turn of its own: LLVM compiles a function into its
-/// only caller, however long it is.
+/// whole. `W` is a type that names the caller, with the caller's own type parameters, so each caller has a turn of its
+/// own: LLVM compiles a function into its only caller, however long it is.
 pub fn turn<W, P: Port, K: Sink, L: Ledger>(
     port: &mut P,
     cpu: u32,

@@ -24,10 +24,15 @@ use Rattle.pip_every.specs.declared.menus.Deed.{Deed}
 use Rattle.pip_every.proofs.Unseen.{IsBut, acts_same, end_same, hostile_same, other, turn_same}
 
 -- frames and processors that stand for a world stand for one that differs in its caches
-pub but_stands : (n : Memory) (cs : List (Option Occupant)) (v w : World) → IsBut v w → StandsFor n cs w
+but_stands : (n : Memory) (cs : List (Option Occupant)) (v w : World) → IsBut v w → StandsFor n cs w
     → StandsFor n cs v
 but_stands n cs v w b s = subst (StandsFor n cs) (other w v (record { tree = sym b.tree; cpus = sym b.cpus }))
     (bare_with n cs w v.caches s)
+
+-- and a machine that is at a world is at one that differs in its caches
+but_at : (q : State) (v w : World) → IsBut v w → StandsAs q w → IsAtWorld q v
+but_at q v w b s = subst (λ ks. StandsAs q (record v { caches = ks })) s.caches
+    (subst (StandsAs q) (sym (other v w b)) s)
 
 pub turn_chosen : (g : Scope) (m : Moment) (k : ℕ) → k < g.cpus → choice_acts g m k ≡ turn m.world k 0
 turn_chosen g m k lt = ap (λ b. if b then turn m.world k 0
@@ -69,14 +74,18 @@ nothing_chosen g m k le early =
     )
 
 -- a machine that stands for the world after the acts of a choice, from a world with other caches
-stands_after : (g : Scope) (m : Moment) (k : ℕ) (q : State) (v : World) (acts : List Act) → IsBut m.world v
-    → choice_acts g m k ≡ acts → StandsAs q (after_acts v acts) → StandsFor q.memory q.cpus (moment_after g m k).world
-stands_after g m k q v acts b are s =
-    subst (λ es. StandsFor q.memory q.cpus (after_acts m.world es)) (sym are)
-    (but_stands q.memory q.cpus (after_acts m.world acts) (after_acts v acts) (acts_same acts m.world v b) s.bare)
+at_after : (g : Scope) (m : Moment) (k : ℕ) (q : State) (v : World) (acts : List Act) → IsBut m.world v
+    → choice_acts g m k ≡ acts → StandsAs q (after_acts v acts) → IsAtWorld q (moment_after g m k).world
+at_after g m k q v acts b are s =
+    subst (λ es. IsAtWorld q (after_acts m.world es)) (sym are)
+    (but_at q (after_acts m.world acts) (after_acts v acts) (acts_same acts m.world v b) s)
 
-pub bare : (m : Moment) (p : State) → IsBut m.world (record m.world { caches = p.caches })
+bare : (m : Moment) (p : State) → IsBut m.world (record m.world { caches = p.caches })
 bare m p = record { tree = refl; cpus = refl }
+
+-- the frames and processors of a machine that is at a world stand for it
+pub at_bare : (m : Moment) (p : State) → IsAtWorld p m.world → StandsFor p.memory p.cpus m.world
+at_bare m p at = but_stands p.memory p.cpus m.world (record m.world { caches = p.caches }) (bare m p) at.bare
 
 -- a line was raised
 pub chosen_raise : (g : Scope) (m : Moment) (k : ℕ) (p q : State) (turns line : ℕ) (label : List ℕ) (o : Outcome)
@@ -87,7 +96,7 @@ chosen_raise g m k p q turns line label o le open_now same is none follows at =
     let are : choice_acts g m k ≡ Makes (E.Raise line) ∷ [] = raise_chosen g m k le open_at ∙
     ap (λ v. Makes (E.Raise v) ∷ []) (sym is) in
     record {
-      world = stands_after g m k q (record m.world { caches = p.caches }) (Makes (E.Raise line) ∷ []) (bare m p) are
+      world = at_after g m k q (record m.world { caches = p.caches }) (Makes (E.Raise line) ∷ []) (bare m p) are
           (follows (record m.world { caches = p.caches }) at).1;
       turns_are = same ∙ sym (same_turns g m k le);
       label_is = none ∙ sym (ap text_of are);
@@ -104,7 +113,7 @@ chosen_turn g m k p q turns after old new e lt same is none ended made =
     let are : choice_acts g m k ≡ turn v k 0 = turn_chosen g m k lt ∙ turn_same m.world v k 0 (bare m p) in
     let (front, grew, whole) = made.text.sends in
     record {
-      world = stands_after g m k q v (turn v k 0) (bare m p) are made.world;
+      world = at_after g m k q v (turn v k 0) (bare m p) are made.world;
       turns_are = is ∙ (ap (λ n. turns_after g.from n e) same ∙ (ap (turns_after g.from m.turns)
           (ended ∙ sym (end_same m.world v k (bare m p))) ∙ sym (more_turns g m k lt)));
       label_is = grew ∙ (ap (λ v. v ++ front) none ∙ (sym (append-nil front) ∙ (whole ∙ ap text_of (sym are))));
@@ -121,10 +130,8 @@ chosen_from_menu g m k p q cpu d turns after old new same is none made =
     let are : hostile_acts m.world cpu d ≡ acts = hostile_same m.world v cpu d (bare m p) in
     let (front, grew, whole) = made.text.sends in
     record {
-      world = subst (λ es. StandsFor q.memory q.cpus (after_acts m.world es)) (sym are)
-          (but_stands q.memory q.cpus (after_acts m.world acts) (after_acts v acts) (acts_same acts m.world v
-          (bare m p))
-          made.world.bare);
+      world = subst (λ es. IsAtWorld q (after_acts m.world es)) (sym are)
+          (but_at q (after_acts m.world acts) (after_acts v acts) (acts_same acts m.world v (bare m p)) made.world);
       turns_are = is ∙ ap (λ n. turns_after g.scope.from n N.Ran) same;
       label_is = grew ∙ (ap (λ x. x ++ front) none ∙ (sym (append-nil front) ∙ (whole ∙ ap text_of (sym are))));
     }

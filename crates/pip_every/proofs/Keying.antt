@@ -21,6 +21,7 @@ use Rattle.pip_every.specs.Moments.{Moment, Scope, moment_at}
 use Rattle.pip_every.specs.Menus.{Menu}
 use Rattle.pip_every.specs.Reading.{StartsWithAll}
 use Rattle.pip_every.specs.declared.menus.May.{May}
+use Rattle.pip_every.proofs.Choosing.{at_bare}
 use Rattle.pip_every.proofs.Runnable.{all_may_run}
 
 -- the parts of a key
@@ -135,10 +136,11 @@ pub keyed : (first : Memory) (g : Scope) (n : Moment) (shown : List ℕ) (q : St
     → IsMade n shown q turns label → length q.memory ≡ length first → length q.cpus ≡ g.cpus
     → key ≡ key_words first turns q.cpus q.memory → IsKeyOf first g key n
 keyed first g n shown q turns label key h frames count is =
-    let cpus_are : n.world.cpus ≡ q.cpus = h.world.shows.cpus in
+    let stands : StandsFor q.memory q.cpus n.world = at_bare n q h.world in
+    let cpus_are : n.world.cpus ≡ q.cpus = stands.shows.cpus in
     record {
       memory = q.memory;
-      stands = subst (λ v. StandsFor q.memory v n.world) (sym cpus_are) h.world;
+      stands = subst (λ v. StandsFor q.memory v n.world) (sym cpus_are) stands;
       frames = frames;
       cpus = ap length cpus_are ∙ count;
       whole = is ∙ (ap (λ v. key_words first v q.cpus q.memory) h.turns_are ∙
@@ -183,3 +185,9 @@ menu_is s t ds es one two =
 pub if_ok : {T E : Type 0} (r : Result T E) (P Q : T → Type 0) → ((x : T) → P x → Q x) → IfOk r P → IfOk r Q
 if_ok (Ok x) P Q f h = f x h
 if_ok (Err e) P Q f h = tt
+
+-- and by two facts
+pub if_both : {T E : Type 0} (r : Result T E) (P Q R : T → Type 0) → ((x : T) → P x → Q x → R x) → IfOk r P → IfOk r Q
+    → IfOk r R
+if_both (Ok x) P Q R f h k = f x h k
+if_both (Err e) P Q R f h k = tt

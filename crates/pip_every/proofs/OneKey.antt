@@ -1,5 +1,5 @@
 -- A key stands for one moment, but for its caches and the order of its nodes, and each moment has one.
-use Rattle.std.proofs.Common.{◌≡◌, ℕ, suc, ◌<◌, List, [], ◌∷◌, ◌++◌, length, take, drop, Option, Some, None}
+use Rattle.std.proofs.Common.{◌≡◌, ℕ, suc, ◌<◌, List, [], ◌∷◌, ◌++◌, length, drop, Option, Some, None}
 use Rattle.std.proofs.Common.{slice_index, refl, sym, ap, ap₂, subst, ◌∙◌, arith, append_assoc}
 use Rattle.pip_base.specs.Memory.{Memory}
 use Rattle.pip_base.proofs.Memory.{same_words}

@@ -13,7 +13,7 @@ use Rattle.pip_every.specs.Menus.{Hostile, Menu, Nothing, Pick, Usual, deed_at, 
 use Rattle.pip_every.specs.Menus.{name_on, pick_acts, pick_after, picked, picked_by, usual_choices}
 use Rattle.pip_every.specs.Moments.{Moment}
 use Rattle.pip_every.specs.declared.menus.May.{May}
-use Rattle.pip_every.proofs.Choosing.{bare, but_stands, nothing_chosen}
+use Rattle.pip_every.proofs.Choosing.{nothing_chosen}
 
 -- ---- the numbers of deeds
 
@@ -88,7 +88,7 @@ as_picked g m k p q turns label e h = subst (λ x. HasPicked g m k x q turns lab
 pub nothing_made : (g : Menu) (m : Moment) (k : ℕ) (p : State) (turns : ℕ) (label : List ℕ) → IsAtWorld p m.world
     → turns ≡ m.turns → label ≡ [] → HasPicked g m k Nothing p turns label
 nothing_made g m k p turns label at same none = record {
-  world = but_stands p.memory p.cpus m.world (record m.world { caches = p.caches }) (bare m p) at.bare;
+  world = at;
   turns_are = same;
   label_is = none;
 }

@@ -2,7 +2,7 @@
 use Rattle.std.specs.Prelude.{◌≡◌, ℕ, List, [], length}
 use Rattle.pip_model.specs.Acts.{text_of}
 use Rattle.pip_model.specs.Worlds.{World}
-use Rattle.pip_switch.specs.Standing.{StandsAs, StandsFor, State}
+use Rattle.pip_switch.specs.Standing.{StandsAs, State}
 use Rattle.pip_every.specs.Menus.{Menu, Pick, menu_after, menu_label, pick_acts, pick_after}
 use Rattle.pip_every.specs.Moments.{Moment, Scope, moment_after, choice_label}
 use Rattle.pip_every.specs.declared.menus.May.{May}
@@ -19,10 +19,9 @@ machine_menu p lines from may = record { scope = machine_scope p lines from; may
 abbrev pub IsAtWorld : State → World → Type 0
 IsAtWorld p w = StandsAs p (record w { caches = p.caches })
 
--- the frames and processors of a machine stand for the world of a moment; by then this many turns were made, and this
--- was shown
+-- a machine is at the world of a moment; by then this many turns were made, and this was shown
 pub record IsMade (m : Moment) (shown : List ℕ) (p : State) (turns : ℕ) (label : List ℕ) : Type 0 where
-  pub world : StandsFor p.memory p.cpus m.world
+  pub world : IsAtWorld p m.world
   pub turns_are : turns ≡ m.turns
   pub label_is : label ≡ shown
 

@@ -8,8 +8,8 @@ ghost use Rattle.pip_search.specs.Systems.{IsKey};
 ghost use Rattle.pip_every.specs.Choosing.{ChangesNothing, HasChosen, HasPicked, IsAtWorld};
 ghost use Rattle.pip_every.specs.Choosing.{machine_scope};
 ghost use Rattle.pip_every.specs.Keys.{AreChanged, IsKeyOf, key_words, processor_words};
-ghost use Rattle.pip_every.specs.Menus.{Hostile, Nothing, deed_at, deed_cpu, is_hostile, menu_model, name_on, picked};
-ghost use Rattle.pip_every.specs.Menus.{usual_choices};
+ghost use Rattle.pip_every.specs.Menus.{Hostile, Nothing, deed_at, deed_cpu, is_hostile, menu_after, menu_model};
+ghost use Rattle.pip_every.specs.Menus.{name_on, picked, usual_choices};
 ghost use Rattle.pip_every.specs.Moments as moments;
 ghost use Rattle.pip_every.specs.Moments.{Moment};
 
@@ -17,6 +17,7 @@ use crate::deeds::act_from_menu;
 use crate::label::Label;
 use crate::menus::{Deed, May, is_hostile, is_its};
 use crate::processors::{add_processors, name_at, read_processors};
+use crate::seed::seed_of;
 use pip_base::{Outcome, Steps};
 use pip_cpu::{TurnEnd, turn};
 use pip_journal::{First, Journal};
@@ -35,6 +36,7 @@ pub(crate) struct Explorer<F: First, L: Ledger> {
     from: u32,
     may: Vec<May>,
     label: Label,
+    seed: u64,
     steps: Steps<L>,
     ghost shape: { IsMemory F.words },
     ghost below: { All (λ line. line < 16) lines.items },
@@ -75,12 +77,15 @@ impl<F: First, L: Ledger> Explorer<F, L> {
         ensures from { result.from ≡ from }
         ensures may { result.may ≡ may }
     {
+        let mut steps = steps;
+        let seed = seed_of(machine.mem(), &mut steps);
         Explorer {
             machine,
             lines,
             from,
             may,
             label: Label::new(alloc),
+            seed,
             steps,
         }
     }
@@ -208,6 +213,26 @@ impl<F: First, L: Ledger> Explorer<F, L> {
         is_its(&name, &self.deed(choice))
     }
 
+    // Makes a choice after `turns` turns, unless it is a line before its time, and answers how many were made then. The
+    // only error is that memory is out.
+    fn go_on(&mut self, choice: u32, turns: u32) -> Result<u32, AllocError>
+        requires choice { choice < usual_choices (explored self.old)
+            + length self.old.machine.cpus * length self.old.may.items }
+        ensures at { IfOk result (λ n. (m : Moment) → IsAtWorld self.old.machine m.world → turns ≡ m.turns
+            → IsAtWorld self.new.machine (menu_after (explored self.old) m choice).world
+            × (n ≡ (menu_after (explored self.old) m choice).turns)) }
+        ensures count { length self.new.machine.cpus ≡ length self.old.machine.cpus }
+        ensures lines { self.new.lines ≡ self.old.lines }
+        ensures from { self.new.from ≡ self.old.from }
+        ensures may { self.new.may ≡ self.old.may }
+    {
+        if turns < self.from && choice >= self.machine.cpus() && choice < self.usual_choices() {
+            Ok(turns)
+        } else {
+            self.choose(choice, turns)
+        }
+    }
+
     // Makes a choice after `turns` turns, and answers how many were made then. What it shows is in the label. The only
     // error is that memory is out.
     fn choose(&mut self, choice: u32, turns: u32) -> Result<u32, AllocError>
@@ -215,7 +240,6 @@ impl<F: First, L: Ledger> Explorer<F, L> {
             + length self.old.machine.cpus * length self.old.may.items }
         requires opened { length self.old.machine.cpus ≤ choice → choice < usual_choices (explored self.old)
             → self.old.from ≤ turns }
-        requires empty { self.old.label.bytes.items ≡ [] }
         ensures made { IfOk result (λ n. (m : Moment) → IsAtWorld self.old.machine m.world → turns ≡ m.turns
             → HasPicked (explored self.old) m choice (picked (explored self.old) m.world choice) self.new.machine n
             self.new.label.bytes.items) }
@@ -224,6 +248,7 @@ impl<F: First, L: Ledger> Explorer<F, L> {
         ensures from { self.new.from ≡ self.old.from }
         ensures may { self.new.may ≡ self.old.may }
     {
+        self.label.clear();
         if choice >= self.usual_choices() {
             return self.choose_deed(choice, turns);
         }
@@ -340,6 +365,10 @@ impl<F: First, L: Ledger> System for Explorer<F, L> {
         self.usual_choices() + self.machine.cpus() * self.may.len() as u32
     }
 
+    fn seed(&self) -> u64 {
+        self.seed
+    }
+
     fn make(
         &mut self,
         from: &[u32],
@@ -353,9 +382,24 @@ impl<F: First, L: Ledger> System for Explorer<F, L> {
             return to.extend_from_slice(from);
         }
         let (turns, words) = self.go_to(from);
-        self.label.clear();
         let turns = self.choose(choice, turns)?;
         shown.extend_from_slice(self.label.bytes())?;
         self.add_next(words, turns, to)
+    }
+
+    fn follow(
+        &mut self,
+        _alloc: Global,
+        from: &[u32],
+        way: &[u32],
+        to: &mut Vec<u32>,
+    ) -> Result<(), AllocError> {
+        let (first, _) = self.go_to(from);
+        let mut turns = first;
+        for choice in way {
+            turns = self.go_on(*choice, turns)?;
+        }
+        to.clear();
+        self.add_key(turns, to)
     }
 }

@@ -21,6 +21,7 @@ mod menus;
 mod parts;
 mod processors;
 mod searching;
+mod seed;
 
 pub use again::{Again, MAX_LABEL, MAX_LABELS};
 pub use label::Label;
@@ -30,3 +31,4 @@ pub use menus::{Deed, MAX_DEEDS, May};
 pub use parts::part;
 pub use processors::{add_processors, read_processors};
 pub use searching::{search, search_against, search_on};
+pub use seed::seed_of;

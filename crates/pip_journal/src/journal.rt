@@ -20,7 +20,8 @@ use std::sync::ledger::Ledger;
 const NOTED: usize = 4096;
 
 /// Frames beside their first words. A frame, or a part of one, that wasn't opened since the last rewinding has its
-/// first words. In a new journal all are opened. While nothing is written after a rewinding, its words are known.
+/// first words. In a new journal all are opened. The words of a rewinding, if there are at most 4096, are known while
+/// nothing is written after it.
 #[derive(Drop)]
 pub struct Journal<F: First> {
     frames: RawFrames,

@@ -61,7 +61,7 @@ fn run_scheduled<P: Port, K: Sink, F: Callback, S: Schedule, L: Ledger>(
     for i in 0..count {
         let t = i as u64;
         raise_due(port, lines, t, steps);
-        turn::<S, P, K, L>(port, schedule.next(), t, sink, steps)?;
+        turn::<(S, F), P, K, L>(port, schedule.next(), t, sink, steps)?;
     }
     Ok(())
 }

@@ -7,6 +7,8 @@ pub mod Telling
 pub mod Tracing
 pub mod Running
 pub mod Chains
+pub mod Placed
+pub mod Probed
 pub mod Hashing
 pub mod Packed
 pub mod Walking
@@ -19,6 +21,7 @@ pub mod Done
 pub mod Once
 pub mod Certified
 pub mod Parting
+pub mod Following
 pub mod Answered
 pub mod Rising
 pub mod Spreading

@@ -128,11 +128,6 @@ reached_next m s x c next shown can leads r = record {
   stands = (leads (after_choices m s r.choices) r.stands).0;
 }
 
-pub reached_on : (m : Model) (start : List ℕ) (x : Stop) (c : ℕ) (next shown : List ℕ)
-    → LeadsOn m x.key c next shown → c < m.choices → IsReachedFrom m start x
-    → IsReachedFrom m start (stop_at next (x.depth + 1))
-reached_on m start x c next shown leads can r s stands = reached_next m s x c next shown can leads (r s stands)
-
 module _ (m : Model) (start : List ℕ) (p q : Part) (i c : ℕ) (h : IsGrowing m start p i c) (x : Stop)
     (at : slice_get (stops p.keys.items) i ≡ Some x) (can : c < m.choices) (next shown : List ℕ)
     (leads : LeadsOn m x.key c next shown) (depth : ℕ) (told : Told p.found.items q.found.items shown i c depth)
@@ -232,10 +227,6 @@ pub key_reached : (m : Model) (start : List ℕ) (p : Part) (i c : ℕ) → IsGr
     → (x : Stop) → slice_get (stops p.keys.items) i ≡ Some x → IsKey m x.key
 key_reached m start p i c h (s, stands) x at = let r = (h.reached s stands).keys i x at in
     (after_choices m s r.choices, r.stands)
-
--- and so does one to which a way leads
-pub key_from : (m : Model) (start : List ℕ) (x : Stop) → IsReachedFrom m start x → IsKey m start → IsKey m x.key
-key_from m start x h (s, stands) = let r = h s stands in (after_choices m s r.choices, r.stands)
 
 pub old_words : (p q : Part) (i : ℕ) (y : Stop) → i < length p.keys.items
     → AddsAtMostOne (stops p.keys.items) (stops q.keys.items) y

@@ -4,7 +4,7 @@ use Rattle.pip_search.specs.Naming.{AreNamed}
 use Rattle.pip_search.specs.Packing.{packed_key, unpacked_key}
 use Rattle.pip_search.specs.Storing.{IsStored, listed}
 use Rattle.pip_search.specs.declared.key_store.KeyStore.{KeyStore}
-use Rattle.pip_search.specs.declared.index.Index.{Index}
+use Rattle.pip_search.specs.declared.hash_table.HashTable.{HashTable}
 use Rattle.pip_search.specs.declared.searching.Search.{Search}
 use Rattle.pip_search.specs.declared.visits.Visit.{Visit}
 use Rattle.pip_search.specs.declared.found.Found.{Found}
@@ -52,10 +52,10 @@ abbrev pub key_bytes : List Keyed → List (List ℕ)
 key_bytes vs = map (λ v. v.key) vs
 
 -- visits have as many keys, no two of which are the same, and each is found by its hash
-pub record HaveKeys (vs : List Visit) (x : KeyStore) (index : Index) : Type 0 where
+pub record HaveKeys (vs : List Visit) (x : KeyStore) (table : HashTable) : Type 0 where
   pub stored : IsStored x
   pub count : length (listed x) ≡ length vs
-  pub named : AreNamed (listed x) index
+  pub named : AreNamed (listed x) table
 
 -- each visit keeps the bytes of its key, and no other bytes of the same words
 abbrev pub AreKept : List Keyed → Type 0

@@ -1,5 +1,6 @@
 pub mod Systems
 pub mod Filing
+pub mod Cells
 pub mod Naming
 pub mod Packing
 pub mod Storing

@@ -1,9 +1,11 @@
 -- Lists of bytes that are found by their hashes.
-use Rattle.std.specs.Prelude.{◌≡◌, ◌≢◌, ℕ, ◌+◌, ◌*◌, ◌/◌, ◌%◌, ◌^◌, ◌≤◌, List, [], ◌∷◌, length, Some, slice_get}
+use Rattle.std.specs.Prelude.{◌≡◌, ◌≢◌, ℕ, ◌+◌, ◌*◌, ◌/◌, ◌%◌, ◌^◌, ◌<◌, ◌≤◌, List, [], ◌∷◌, length, Some, slice_get}
 use Rattle.std.specs.Prelude.{slice_index, bit_xor}
 use Rattle.std.specs.Int.{from_le_bytes, w64}
-use Rattle.pip_search.specs.Filing.{IsFiled}
-use Rattle.pip_search.specs.declared.index.Index.{Index}
+use Rattle.pip_search.specs.Cells.{HasHashes}
+use Rattle.pip_search.specs.declared.hash_table.HashTable.{HashTable}
+use Rattle.pip_search.specs.declared.names.Probe.{Probe}
+use Rattle.pip_search.specs.declared.names.Probe.TheVariants.{Empty, Further, Here}
 
 -- a number whose lower half of 32 bits is mixed with the upper one
 abbrev pub folded : ℕ → ℕ
@@ -24,9 +26,9 @@ hash_by_eights sum (a ∷ b ∷ c ∷ d ∷ e ∷ f ∷ g ∷ h ∷ ks) =
     hash_by_eights (hash_step sum (from_le_bytes w64 (a ∷ b ∷ c ∷ d ∷ e ∷ f ∷ g ∷ h ∷ []))) ks
 hash_by_eights sum ks = hash_after sum ks
 
--- the hash of bytes: the lower half of the sum
-abbrev pub hash_of : List ℕ → ℕ
-hash_of bytes = hash_by_eights 0xcbf29ce484222325 bytes % 2 ^ 32
+-- the hash of bytes, which begins with a seed: the lower half of the sum
+abbrev pub hash_of : ℕ → List ℕ → ℕ
+hash_of seed bytes = hash_by_eights seed bytes % 2 ^ 32
 
 -- no two of these are the same
 abbrev pub AreDistinct : List (List ℕ) → Type 0
@@ -36,15 +38,26 @@ AreDistinct names = (i j : ℕ) (name : List ℕ) → slice_get names i ≡ Some
 abbrev pub IsAbsent : List (List ℕ) → List ℕ → Type 0
 IsAbsent names name = (j : ℕ) → slice_get names j ≢ Some name
 
--- the index has the hash of each, and no two are the same
-pub record AreNamed (names : List (List ℕ)) (x : Index) : Type 0 where
-  pub filed : IsFiled x
+-- the table has the hash of each, and no two are the same
+pub record AreNamed (names : List (List ℕ)) (x : HashTable) : Type 0 where
+  pub filled : HasHashes x
   pub count : length x.hashes.items ≡ length names
-  pub hashed : (j : ℕ) (name : List ℕ) → slice_get names j ≡ Some name → slice_index x.hashes.items j ≡ hash_of name
+  pub hashed : (j : ℕ) (name : List ℕ) → slice_get names j ≡ Some name → slice_index x.hashes.items j
+      ≡ hash_of x.seed name
   pub distinct : AreDistinct names
 
--- a walk along a chain is before the list with this number, less one: it is none of those from there on
-pub record IsWalk (names : List (List ℕ)) (x : Index) (name : List ℕ) (hash at : ℕ) : Type 0 where
-  pub within : at ≤ length x.hashes.items
-  pub rest : (p : ℕ) → at ≡ p + 1 → slice_index x.hashes.items p % length x.heads.items ≡ hash % length x.heads.items
-  pub absent : (j : ℕ) → at ≤ j → slice_get names j ≢ Some name
+-- a cell with these contents has the name of no place, where the name's hash has this tag
+abbrev pub IsUnlike : List (List ℕ) → List ℕ → ℕ → ℕ → Type 0
+IsUnlike names name tag contents = (j : ℕ) → contents ≡ tag + j + 1 → slice_get names j ≢ Some name
+
+-- cells from one on, before `end`: none is empty, and none has the name
+pub record AreUnlike (names : List (List ℕ)) (name : List ℕ) (tag : ℕ) (cells : List ℕ) (from end : ℕ) : Type 0 where
+  pub full : (c : ℕ) → from ≤ c → c < end → slice_index cells c ≢ 0
+  pub unlike : (c : ℕ) → from ≤ c → c < end → IsUnlike names name tag (slice_index cells c)
+
+-- what is found there
+unfoldable pub HasProbed : List (List ℕ) → List ℕ → ℕ → List ℕ → ℕ → ℕ → Probe → Type 0
+HasProbed names name tag cells from end (Here p) = slice_get names p ≡ Some name
+HasProbed names name tag cells from end Empty =
+    (c : ℕ) × ((from ≤ c) × ((c < end) × ((slice_index cells c ≡ 0) × AreUnlike names name tag cells from c)))
+HasProbed names name tag cells from end Further = AreUnlike names name tag cells from end

@@ -54,7 +54,7 @@ fn look<S: System>(
         &mut buffers.shown,
     )?;
     pack(&buffers.to, &mut buffers.bytes)?;
-    let hash = hash_bytes(&buffers.bytes);
+    let hash = hash_bytes(search.keys.seed, &buffers.bytes);
     match find(&search.store, &search.keys, &buffers.bytes, hash) {
         Some(to) => Ok((to as u32, is_same(&buffers.shown, label))),
         None => unreachable!(),

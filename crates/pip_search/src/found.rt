@@ -4,8 +4,8 @@ ghost use Rattle.pip_search.specs.Growing.{Told};
 ghost use Rattle.pip_search.specs.Keys.{labels};
 ghost use Rattle.pip_search.specs.Naming.{AreNamed};
 
+use crate::hash_table::HashTable;
 use crate::hashes::hash_bytes;
-use crate::index::Index;
 use crate::names::{Names, find, kept};
 use crate::visits::MadeChoice;
 use std::alloc::{AllocError, Global};
@@ -33,20 +33,20 @@ impl Names for Vec<Found> {
 /// Adds the label that a step showed, unless it is empty or was found before.
 pub(crate) fn tell(
     found: &mut Vec<Found>,
-    index: &mut Index,
+    table: &mut HashTable,
     alloc: Global,
     label: &[u8],
     step: MadeChoice,
 ) -> Result<(), AllocError>
-    requires named { AreNamed (labels found.old.items) index.old }
-    ensures named { IfOk result (λ x. AreNamed (labels found.new.items) index.new) }
+    requires named { AreNamed (labels found.old.items) table.old }
+    ensures named { IfOk result (λ x. AreNamed (labels found.new.items) table.new) }
     ensures told { IfOk result (λ x. Told found.old.items found.new.items label.now step.at step.choice step.depth) }
 {
     if label.is_empty() {
         return Ok(());
     }
-    let hash = hash_bytes(label);
-    if find(found, index, label, hash).is_some() {
+    let hash = hash_bytes(table.seed, label);
+    if find(found, table, label, hash).is_some() {
         return Ok(());
     }
     let label = kept(alloc, label)?;
@@ -56,6 +56,6 @@ pub(crate) fn tell(
         choice: step.choice,
         depth: step.depth,
     })?;
-    index.add(alloc, hash)?;
+    table.add(alloc, hash)?;
     Ok(())
 }

@@ -35,9 +35,9 @@ fn stir_eights(start: u64, bytes: &[u8]) -> u64
     stir_bytes(sum, rest)
 }
 
-/// The hash of bytes.
-pub(crate) fn hash_bytes(bytes: &[u8]) -> u32
-    ensures { result ≡ hash_of bytes.now }
+/// The hash of bytes, which begins with a seed.
+pub(crate) fn hash_bytes(seed: u64, bytes: &[u8]) -> u32
+    ensures { result ≡ hash_of seed bytes.now }
 {
-    (stir_eights(0xcbf29ce484222325, bytes) % 0x100000000) as u32
+    (stir_eights(seed, bytes) % 0x100000000) as u32
 }

@@ -10,7 +10,7 @@ ghost use Rattle.pip_search.specs.Systems.{IsKey};
 ghost use Rattle.pip_search.specs.declared.parts.Part.{Part};
 
 use crate::found::{Found, tell};
-use crate::index::Index;
+use crate::hash_table::HashTable;
 use crate::names::{is_same, kept};
 use crate::packing::{pack, unpack};
 use crate::searching::Buffers;
@@ -26,7 +26,7 @@ pub struct Part {
     pub keys: Vec<Reached>,
     pub asked: Vec<Reached>,
     pub found: Vec<Found>,
-    pub(crate) labels: Index,
+    pub(crate) labels: HashTable,
 }
 
 /// The words of a key as bytes, and how many choices lead to a state of it. The only error is that memory is out.
@@ -190,6 +190,7 @@ fn meet_all<S: System>(
 // Makes the words at hand those of the key to which a way leads. False where a choice of it can't be made.
 fn walk<S: System>(
     system: &mut S,
+    alloc: Global,
     start: &[u32],
     way: &[u32],
     buffers: &mut Buffers,
@@ -201,29 +202,26 @@ fn walk<S: System>(
     ensures can { IfOk result (λ can. All (λ c. c < (S.model (S.base system.old)).choices) way.now → IsTrue can) }
     ensures base { S.base system.new ≡ S.base system.old }
 {
-    buffers.from.clear();
-    buffers.from.extend_from_slice(start)?;
-    let count = system.count();
-    for choice in way {
-        if *choice >= count {
-            return Ok(false);
-        }
-        buffers.to.clear();
-        buffers.shown.clear();
-        system.make(
-            buffers.from.as_slice(),
-            *choice,
-            &mut buffers.to,
-            &mut buffers.shown,
-        )?;
+    if way.is_empty() {
         buffers.from.clear();
-        buffers.from.extend_from_slice(&buffers.to)?;
+        buffers.from.extend_from_slice(start)?;
+        return Ok(true);
     }
+    let count = system.count();
+    if !way.iter().all(|choice| *choice < count) {
+        return Ok(false);
+    }
+    system.follow(alloc, start, way, &mut buffers.from)?;
     Ok(true)
 }
 
-// A part with one key, whose words are at hand, and no choice made.
-fn first_part(alloc: Global, buffers: &mut Buffers, depth: u32) -> Result<Part, AllocError>
+// A part with one key, whose words are at hand, and no choice made. The hashes of its labels begin with a seed.
+fn first_part(
+    alloc: Global,
+    seed: u64,
+    buffers: &mut Buffers,
+    depth: u32,
+) -> Result<Part, AllocError>
     ensures keys { IfOk result (λ p. stops p.keys.items ≡ stop_at buffers.old.from.items depth ∷ []) }
     ensures count { IfOk result (λ p. vec_len p.keys ≡ 1) }
     ensures found { IfOk result (λ p. p.found.items ≡ []) }
@@ -236,7 +234,7 @@ fn first_part(alloc: Global, buffers: &mut Buffers, depth: u32) -> Result<Part, 
         keys,
         asked: Vec::new(alloc),
         found: Vec::new(alloc),
-        labels: Index::new(alloc)?,
+        labels: HashTable::new(alloc, seed)?,
     })
 }
 
@@ -266,10 +264,10 @@ pub fn check_part<S: System>(
     ensures base { S.base system.new ≡ S.base system.old }
 {
     let mut buffers = Buffers::new(alloc);
-    if !walk(system, start, way, &mut buffers)? {
+    if !walk(system, alloc, start, way, &mut buffers)? {
         return Ok(None);
     }
-    let mut part = first_part(alloc, &mut buffers, way.len() as u32)?;
+    let mut part = first_part(alloc, system.seed(), &mut buffers, way.len() as u32)?;
     let mut i = 0;
     let mut at = 0;
     while (i as usize) < part.keys.len() {

@@ -13,8 +13,8 @@ ghost use Rattle.pip_search.specs.Ways.{AreTraced, is_covered, witnesses_of};
 ghost use Rattle.pip_search.specs.declared.searching.Extent.TheVariants.{Closed};
 
 use crate::found::{Found, tell};
+use crate::hash_table::HashTable;
 use crate::hashes::hash_bytes;
-use crate::index::Index;
 use crate::key_store::KeyStore;
 use crate::names::Names;
 use crate::packing::{pack, unpack};
@@ -53,8 +53,8 @@ pub struct Search {
     pub found: Vec<Found>,
     // Per visit: its key.
     pub(crate) store: KeyStore,
-    pub(crate) keys: Index,
-    pub(crate) labels: Index,
+    pub(crate) keys: HashTable,
+    pub(crate) labels: HashTable,
 }
 
 /// Buffers that each choice uses again: the words of the key from which it is made, those of the next key, its bytes,
@@ -79,8 +79,13 @@ impl Buffers {
     }
 }
 
-// A search that has visited the first state.
-fn begin(alloc: Global, start: &[u32], buffers: &mut Buffers) -> Result<Search, AllocError>
+// A search that has visited the first state. Its hashes begin with a seed.
+fn begin(
+    alloc: Global,
+    start: &[u32],
+    seed: u64,
+    buffers: &mut Buffers,
+) -> Result<Search, AllocError>
     ensures begun { IfOk result (λ s. HasBegun start.now (visits_of s) s.found.items) }
     ensures keys { IfOk result (λ s. HaveKeys s.visits.items s.store s.keys) }
     ensures labels { IfOk result (λ s. AreNamed (labels s.found.items) s.labels) }
@@ -89,8 +94,8 @@ fn begin(alloc: Global, start: &[u32], buffers: &mut Buffers) -> Result<Search, 
     pack(start, &mut buffers.bytes)?;
     let mut store = KeyStore::new(alloc);
     store.push(&buffers.bytes)?;
-    let mut keys = Index::new(alloc)?;
-    keys.add(alloc, hash_bytes(&buffers.bytes))?;
+    let mut keys = HashTable::new(alloc, seed)?;
+    keys.add(alloc, hash_bytes(seed, &buffers.bytes))?;
     let mut visits = Vec::new(alloc);
     visits.push(Visit {
         parent: 0,
@@ -99,7 +104,7 @@ fn begin(alloc: Global, start: &[u32], buffers: &mut Buffers) -> Result<Search, 
         run: 0,
     })?;
     let found = Vec::new(alloc);
-    let labels = Index::new(alloc)?;
+    let labels = HashTable::new(alloc, seed)?;
     Ok(Search {
         visits,
         found,
@@ -240,7 +245,7 @@ pub fn explore<S: System>(
     ensures base { S.base system.new ≡ S.base system.old }
 {
     let mut buffers = Buffers::new(alloc);
-    let mut search = begin(alloc, start, &mut buffers)?;
+    let mut search = begin(alloc, start, system.seed(), &mut buffers)?;
     let mut i = 0;
     while (i as usize) < search.visits.len() {
         let depth = search.visits[i as usize].depth;

@@ -6,8 +6,8 @@ ghost use Rattle.pip_search.specs.Keys.{HaveKeys, keyed_visits};
 ghost use Rattle.pip_search.specs.Packing.{packed_key, unpacked_key};
 ghost use Rattle.pip_search.specs.Storing.{listed};
 
+use crate::hash_table::HashTable;
 use crate::hashes::hash_bytes;
-use crate::index::Index;
 use crate::key_store::KeyStore;
 use crate::names::find;
 use crate::packing::pack;
@@ -49,14 +49,14 @@ pub(crate) fn run_from(from: &Visit, at: u32, choice: u32) -> u32
 pub(crate) fn reach(
     visits: &mut Vec<Visit>,
     store: &mut KeyStore,
-    index: &mut Index,
+    table: &mut HashTable,
     alloc: Global,
     key: &[u8],
     step: MadeChoice,
     limit: u32,
 ) -> Result<bool, AllocError>
-    requires keyed { HaveKeys visits.old.items store.old index.old }
-    ensures keyed { IfOk result (λ x. HaveKeys visits.new.items store.new index.new) }
+    requires keyed { HaveKeys visits.old.items store.old table.old }
+    ensures keyed { IfOk result (λ x. HaveKeys visits.new.items store.new table.new) }
     ensures grew { IfOk result (λ room. IsTrue room → Grew (keyed_visits (listed store.old) visits.old.items)
         (keyed_visits (listed store.new) visits.new.items) key.now step.at step.choice step.depth step.run) }
     ensures stays { IfOk result (λ room. room ≡ false → keyed_visits (listed store.new) visits.new.items
@@ -66,8 +66,8 @@ pub(crate) fn reach(
     ensures grows { vec_len visits.old ≤ vec_len visits.new }
     ensures room { IfOk result (λ x. vec_len visits.old ≤ limit → vec_len visits.new ≤ limit) }
 {
-    let hash = hash_bytes(key);
-    if find(store, index, key, hash).is_some() {
+    let hash = hash_bytes(table.seed, key);
+    if find(store, table, key, hash).is_some() {
         return Ok(true);
     }
     if visits.len() >= limit as usize {
@@ -80,7 +80,7 @@ pub(crate) fn reach(
         depth: step.depth,
         run: step.run,
     })?;
-    index.add(alloc, hash)?;
+    table.add(alloc, hash)?;
     Ok(true)
 }
 
@@ -89,7 +89,7 @@ pub(crate) fn reach(
 pub(crate) fn reach_next(
     visits: &mut Vec<Visit>,
     store: &mut KeyStore,
-    index: &mut Index,
+    table: &mut HashTable,
     alloc: Global,
     bytes: &mut Vec<u8>,
     from: &[u32],
@@ -97,9 +97,9 @@ pub(crate) fn reach_next(
     step: MadeChoice,
     limit: u32,
 ) -> Result<bool, AllocError>
-    requires keyed { HaveKeys visits.old.items store.old index.old }
+    requires keyed { HaveKeys visits.old.items store.old table.old }
     requires from { WasVisited (keyed_visits (listed store.old) visits.old.items) from.now }
-    ensures keyed { IfOk result (λ x. HaveKeys visits.new.items store.new index.new) }
+    ensures keyed { IfOk result (λ x. HaveKeys visits.new.items store.new table.new) }
     ensures back { IfOk result (λ x. unpacked_key (packed_key to.now) ≡ to.now) }
     ensures grew { IfOk result (λ room. IsTrue room → Grew (keyed_visits (listed store.old) visits.old.items)
         (keyed_visits (listed store.new) visits.new.items) (packed_key to.now) step.at step.choice step.depth
@@ -115,5 +115,5 @@ pub(crate) fn reach_next(
         return Ok(true);
     }
     pack(to, bytes)?;
-    reach(visits, store, index, alloc, bytes, step, limit)
+    reach(visits, store, table, alloc, bytes, step, limit)
 }

@@ -10,10 +10,11 @@ mod searches;
 use pip_search::System;
 use std::alloc::AllocError;
 
-/// Two counters below a bound. Each choice counts one of them up.
+/// Two counters below a bound. Each choice counts one of them up. Hashes begin with the seed.
 #[derive(Drop)]
 pub struct Counters {
     pub bound: u32,
+    pub seed: u64,
 }
 
 // Counts one up, and to 0 at the bound.
@@ -33,6 +34,10 @@ impl System for Counters {
 
     fn count(&self) -> u32 {
         2
+    }
+
+    fn seed(&self) -> u64 {
+        self.seed
     }
 
     fn make(

@@ -12,6 +12,7 @@ use std::test::Fail;
 fn search_counters(
     alloc: Global,
     bound: u32,
+    seed: u64,
     most: u32,
     limit: u32,
 ) -> Result<(Search, Extent, Vec<Run>), AllocError>
@@ -19,7 +20,7 @@ fn search_counters(
     requires limit { 0 < limit }
 {
     let start = [0u32, 0];
-    let mut system = Counters { bound };
+    let mut system = Counters { bound, seed };
     let (search, verdict) = explore(&mut system, alloc, &start, most, limit)?;
     if search.found.len() == 0 {
         return Ok((search, verdict, Vec::new(alloc)));
@@ -30,7 +31,7 @@ fn search_counters(
 
 #[test]
 fn two_counters_are_closed(rt: HostRuntime) -> Result<(), Fail> {
-    let (search, verdict, way) = search_counters(rt.alloc(), 3, 100, 100)?;
+    let (search, verdict, way) = search_counters(rt.alloc(), 3, 0, 100, 100)?;
     assert_eq!(rt; verdict, Extent::Closed { depth: 4 });
     assert_eq!(rt; search.visits.len(), 9usize);
     assert_eq!(rt; search.found.len(), 2usize);
@@ -52,11 +53,11 @@ fn two_counters_are_closed(rt: HostRuntime) -> Result<(), Fail> {
 
 #[test]
 fn a_search_ends_at_its_depth_and_at_its_limit(rt: HostRuntime) -> Result<(), Fail> {
-    let (search, verdict, _) = search_counters(rt.alloc(), 3, 2, 100)?;
+    let (search, verdict, _) = search_counters(rt.alloc(), 3, 1, 2, 100)?;
     assert_eq!(rt; verdict, Extent::Within { depth: 2 });
     assert_eq!(rt; search.visits.len(), 6usize);
     assert!(rt; verdict.covers(2) && !verdict.covers(3));
-    let (search, verdict, _) = search_counters(rt.alloc(), 3, 100, 5)?;
+    let (search, verdict, _) = search_counters(rt.alloc(), 3, 0xffffffffffffffff, 100, 5)?;
     assert_eq!(rt; verdict, Extent::Stopped { depth: 1 });
     assert_eq!(rt; search.visits.len(), 5usize);
     Ok(())
@@ -64,7 +65,13 @@ fn a_search_ends_at_its_depth_and_at_its_limit(rt: HostRuntime) -> Result<(), Fa
 
 #[test]
 fn words_of_two_bytes_are_kept(rt: HostRuntime) -> Result<(), Fail> {
-    let (search, verdict, way) = search_counters(rt.alloc(), 150, 1000, 22_500)?;
+    let (search, verdict, way) = search_counters(
+        rt.alloc(),
+        150,
+        0x123456789abcdef0,
+        1000,
+        22_500,
+    )?;
     assert_eq!(rt; verdict, Extent::Closed { depth: 298 });
     assert_eq!(rt; search.visits.len(), 22_500usize);
     let both = [
@@ -87,7 +94,7 @@ fn check_counters(alloc: Global, way: &[u32], marks: &[u8]) -> Result<Option<Par
     requires marks { length marks.now < 99 }
 {
     let start = [0u32, 0];
-    let mut system = Counters { bound: 3 };
+    let mut system = Counters { bound: 3, seed: 0 };
     check_part(&mut system, alloc, &start, way, marks)
 }
 
@@ -109,6 +116,11 @@ fn parts_of_two_counters_are_merged(rt: HostRuntime) -> Result<(), Fail> {
         (6usize, 7usize, 2usize)
     );
     assert_eq!(rt; rest.keys[5].depth, 4u32);
+    let far = check_counters(rt.alloc(), &[0, 1, 1], &[])?.expect(&rt, "a part");
+    let end = key_of(rt.alloc(), 1, 2, 3)?;
+    assert_eq!(rt; far.keys.len(), 1usize);
+    assert_eq!(rt; far.keys[0].key.as_slice(), end.key.as_slice());
+    assert_eq!(rt; far.keys[0].depth, end.depth);
     assert!(rt; check_counters(rt.alloc(), &[0, 2], &[])?.is_none());
     let mut keys = Vec::new(rt.alloc());
     keys.push(key_of(rt.alloc(), 0, 1, 1)?)?;
@@ -132,7 +144,7 @@ fn lost_by(alloc: Global, label: &[u8], width: u32) -> Result<Option<(usize, Vec
     requires width { width ≤ 2 }
 {
     let start = [0u32, 0];
-    let mut system = Counters { bound: 3 };
+    let mut system = Counters { bound: 3, seed: 0 };
     let (search, verdict) = explore(&mut system, alloc, &start, 100, 100)?;
     let Extent::Closed { .. } = verdict else {
         return Ok(None);

@@ -34,7 +34,7 @@ pub enum Timer {
     /// By the plans of the text.
     Own,
     /// This line alone, first at a step and then at distances that are drawn between two bounds; and, where it strikes,
-    /// also at some of the steps that follow the entry of the root by a trap or a yield.
+    /// also within a few steps after some of the entries of the root by a trap or a yield.
     Drawn { line: u32, first: u32, least: u32, most: u32, strikes: bool, seed: u64 },
 }
 
@@ -133,15 +133,18 @@ impl Image {
 // The lines that are raised.
 enum Lines {
     Plans(Vec<Plan>),
-    Drawn { line: u32, next: u32, least: u32, most: u32, strikes: bool, random: Random },
+    Drawn { line: u32, next: u32, least: u32, most: u32, strikes: bool, left: Option<u32>, random: Random },
 }
+
+// A strike comes after this many instructions of the root at most.
+const LATEST_STRIKE: u32 = 3;
 
 impl Lines {
     fn new(timer: &Timer, plans: Vec<Plan>) -> Lines {
         match *timer {
             Timer::Own => Lines::Plans(plans),
             Timer::Drawn { line, first, least, most, strikes, seed } => {
-                Lines::Drawn { line, next: first, least, most, strikes, random: Random::new(seed) }
+                Lines::Drawn { line, next: first, least, most, strikes, left: None, random: Random::new(seed) }
             }
         }
     }
@@ -162,14 +165,19 @@ impl Lines {
         }
     }
 
-    // Raises the line at some of the steps that follow the entry of the root by a child's own act.
+    // Raises the line soon after some of the entries of the root by a child's own act: before the root's first
+    // instruction, or after a few of them.
     fn strike(&mut self, world: &mut World, known: usize) {
-        let Lines::Drawn { line, strikes: true, random, .. } = self else { return };
+        let Lines::Drawn { line, strikes: true, left, random, .. } = self else { return };
         let entered = world.events.get(known).and_then(|event| event.moved.as_ref());
         let is_act = entered.is_some_and(|moved| moved.to == Some(ROOT) && matches!(moved.why, Why::Trap | Why::Yield));
         if is_act && random.within(0, 2) == 0 {
+            *left = Some(random.within(0, LATEST_STRIKE));
+        }
+        if *left == Some(0) {
             world.raise(*line, &mut steps());
         }
+        *left = left.and_then(|left| left.checked_sub(1));
     }
 
     // Whether no line can wake a processor any more.

@@ -192,7 +192,7 @@ fn timer_told(timer: &Timer) -> String {
     match timer {
         Timer::Own => "your timer".into(),
         Timer::Drawn { line, first, least, most, strikes, .. } => {
-            let more = if *strikes { ", and at times right after a child's trap or yield" } else { "" };
+            let more = if *strikes { ", and at times soon after a child's trap or yield" } else { "" };
             format!("line {line} from step {first} on at distances of {least} to {most} steps{more}")
         }
     }

@@ -1,5 +1,5 @@
 -- The registers are tested from the last one on.
-use Rattle.std.proofs.Common.{◌≤◌, ◌∙◌, sym, ap, arith, take, length}
+use Rattle.std.proofs.Common.{◌≤◌, ◌∙◌, ap, arith, length}
 use Rattle.std.proofs.lemmas.List.{take_all}
 use Rattle.pip_every.specs.Keys.{used}
 use Rattle.pip_every.proofs.Words.{used_before, used_here}

@@ -29,10 +29,11 @@ returns-clause-named c =
     } in
     let absent = is_absent (labels fs) label c.find.result c.find.ensures
     (sym c.is_some.ensures ∙ c.if-is_some.false) in
-    named_push_more (λ (f : Found). f.label.items) fs c.push.new.self.items c.args.index.now c.add.new.self one
-    c.hash_bytes-hash.result c.requires.named (c.hash_bytes-hash.ensures ∙ ap hash_of (sym c.in_ok-label.ensures))
-    (subst (λ k. IsAbsent (labels fs) k) (sym c.in_ok-label.ensures) absent) c.in_ok-add.ensures.filed
-    c.in_ok-add.ensures.hashes c.in_ok-push.ensures.items
+    named_push_more (λ (f : Found). f.label.items) fs c.push.new.self.items c.args.table.now c.add.new.self one
+    c.hash_bytes-hash.result c.requires.named (c.hash_bytes-hash.ensures ∙ ap (hash_of c.args.table.now.seed)
+    (sym c.in_ok-label.ensures))
+    (subst (λ k. IsAbsent (labels fs) k) (sym c.in_ok-label.ensures) absent) c.in_ok-add.ensures.filled
+    c.in_ok-add.ensures.hashes c.in_ok-add.ensures.seed c.in_ok-push.ensures.items
 
 pub returns-clause-told : goal.returns-clause-told
 returns-clause-told c = inr (record {

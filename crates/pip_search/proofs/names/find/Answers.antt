@@ -1,41 +1,42 @@
-use Rattle.std.proofs.Common.{arith, ◌≡◌, ◌+◌, ◌-◌, ◌<◌, ◌%◌, subst, length, get_or}
-use Rattle.std.proofs.lemmas.List.{get_or_read}
-use Rattle.pip_search.proofs.Walking.{walk_begins, walk_falls, walk_goes}
+use Rattle.std.proofs.Common.{◌≡◌, inl, inr, arith, length, subst}
+use Rattle.pip_search.specs.Naming.{HasProbed}
+use Rattle.pip_search.proofs.Probed.{absent_early, absent_everywhere, absent_late}
 use Rattle.pip_search.proofs.names.find.Goals as goal
 
-pub loop-at-init : goal.loop-at-init
-loop-at-init g c =
-    let x = c.args.index.now in
-    let at = c.index-at.result.now in
-    let count : c.len.result ≡ length x.heads.items = omega (arith, x.heads.ok.0, c.len.ensures) in
-    let some = c.requires.named.filed.some in
-    let low : c.args.hash % c.len.result < length x.heads.items = omega arith in
-    walk_begins (g.N.Names.names_of c.args.list.now) x c.args.name.now c.args.hash c.requires.named
-    c.requires.hash at
-    (subst (λ n. at ≡ get_or x.heads.items (c.args.hash % n) 0) count
-    (get_or_read x.heads.items (c.args.hash % c.len.result) at low c.index-at.ensures 0))
+pub returns-in-Here : goal.returns-in-Here
+unfolding HasProbed
+returns-in-Here g c = c.in-Here.ensures
 
-pub loop-at-preserved : goal.loop-at-preserved
-loop-at-preserved g c =
-    let x = c.args.index.now in
-    let next = c.index-at-in-loop-at.result.now in
-    let here : c.loop-at.at ≡ c.loop-at.at - 1 + 1 = omega (arith, c.loop-at-test.true) in
-    let count = c.requires.named.filed.count in
-    let within = c.loop-at.invariant.within in
-    let low : c.loop-at.at - 1 < length x.chains.items = omega (arith, c.loop-at-test.true) in
-    walk_goes (g.N.Names.names_of c.args.list.now) x c.args.name.now c.args.hash c.requires.named
-    c.requires.hash c.loop-at.at (c.loop-at.at - 1) next c.loop-at.invariant here
-    (c.has_name.ensures.other c.if-has_name.false)
-    (get_or_read x.chains.items (c.loop-at.at - 1) next low c.index-at-in-loop-at.ensures 0)
+pub returns-in-Empty : goal.returns-in-Empty
+unfolding HasProbed
+returns-in-Empty g c =
+    let x = c.args.table.now in
+    let count : c.len-count.result ≡ length x.cells.items = omega (arith, x.cells.ok.0, c.len-count.ensures) in
+    let (cell, (late, (low, (empty, unlike)))) = c.in-Empty.ensures in
+    absent_late (g.N.Names.names_of c.args.list.now) x c.args.name.now c.args.hash c.home-from.result c.tag-tag.result
+    c.len-count.result c.requires.named c.requires.hash count c.home-from.ensures.home c.tag-tag.ensures cell late low
+    empty unlike
 
-pub loop-at-smaller : goal.loop-at-smaller
-loop-at-smaller g c =
-    let x = c.args.index.now in
-    let next = c.index-at-in-loop-at.result.now in
-    let here : c.loop-at.at ≡ c.loop-at.at - 1 + 1 = omega (arith, c.loop-at-test.true) in
-    let count = c.requires.named.filed.count in
-    let within = c.loop-at.invariant.within in
-    let low : c.loop-at.at - 1 < length x.chains.items = omega (arith, c.loop-at-test.true) in
-    walk_falls (g.N.Names.names_of c.args.list.now) x c.args.name.now c.args.hash c.requires.named
-    c.requires.hash c.loop-at.at (c.loop-at.at - 1) next c.loop-at.invariant here
-    (get_or_read x.chains.items (c.loop-at.at - 1) next low c.index-at-in-loop-at.ensures 0)
+pub returns-in-Here-look_from : goal.returns-in-Here-look_from
+unfolding HasProbed
+returns-in-Here-look_from g c = c.in-Here-look_from.ensures
+
+pub returns-in-Empty-look_from : goal.returns-in-Empty-look_from
+unfolding HasProbed
+returns-in-Empty-look_from g c =
+    let x = c.args.table.now in
+    let names = g.N.Names.names_of c.args.list.now in
+    let count : c.len-count.result ≡ length x.cells.items = omega (arith, x.cells.ok.0, c.len-count.ensures) in
+    let low = c.home-from.ensures.low in
+    elim c.in-Empty-look_from.is [
+      | inl e ↦
+          let (cell, (_, (early, (empty, unlike)))) = subst (HasProbed names c.args.name.now c.tag-tag.result
+          x.cells.items 0 c.home-from.result) e c.look_from-in-Further.ensures in
+          absent_early names x c.args.name.now c.args.hash c.home-from.result c.tag-tag.result c.len-count.result
+          c.requires.named c.requires.hash count c.home-from.ensures.home c.tag-tag.ensures cell early
+          (omega (arith, low)) empty c.in-Further.ensures unlike
+      | inr e ↦ absent_everywhere names x c.args.name.now c.args.hash c.home-from.result c.tag-tag.result
+          c.len-count.result c.requires.named c.requires.hash count c.home-from.ensures.home c.tag-tag.ensures
+          c.in-Further.ensures (subst (HasProbed names c.args.name.now c.tag-tag.result x.cells.items 0
+          c.home-from.result) e c.look_from-in-Further.ensures)
+    ]

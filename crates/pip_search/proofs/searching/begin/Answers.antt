@@ -25,7 +25,7 @@ returns-clause-begun c =
 
 pub returns-clause-labels : goal.returns-clause-labels
 returns-clause-labels c = subst (λ z. AreNamed z c.in_ok-labels.labels) (sym (ap labels c.new-found.ensures.items))
-    (none_named c.in_ok-labels.labels c.in_ok-labels.ensures.filed c.in_ok-labels.ensures.hashes)
+    (none_named c.in_ok-labels.labels c.in_ok-labels.ensures.filled c.in_ok-labels.ensures.hashes)
 
 pub returns-clause-kept : goal.returns-clause-kept
 returns-clause-kept c =

@@ -51,9 +51,9 @@ returns-clause-keyed c =
       count = ap length added ∙ length-append ks (key ∷ []) ∙ ap (λ n. n + 1) h.count
           ∙ sym (ap length c.in_ok-push-2.ensures.items ∙ length-append vs (one ∷ []));
       named = subst (λ zs. AreNamed zs c.add.new.self) (sym added)
-          (named_more ks c.args.index.now c.add.new.self key c.hash_bytes-hash.result h.named c.hash_bytes-hash.ensures
+          (named_more ks c.args.table.now c.add.new.self key c.hash_bytes-hash.result h.named c.hash_bytes-hash.ensures
           (is_absent ks key c.find.result c.find.ensures (sym c.is_some.ensures ∙ c.if-is_some.false))
-          c.in_ok-add.ensures.filed c.in_ok-add.ensures.hashes);
+          c.in_ok-add.ensures.filled c.in_ok-add.ensures.hashes c.in_ok-add.ensures.seed);
     }
 
 pub returns-clause-grew : goal.returns-clause-grew
