@@ -24,8 +24,8 @@ pub trait System {
     /// that nobody can choose a system whose keys have equal hashes. What a search says doesn't depend on it.
     fn seed(&self) -> u64;
 
-    /// Makes a choice in the state for which a key stands. `to` and `shown` are empty before; afterwards `to` is a key
-    /// of the next state, and `shown` what was shown. The only error is that memory is out.
+    /// Makes a choice in the state for which a key stands. Afterwards `to` is a key of the next state, and `shown` what
+    /// was shown, whatever they had before. The only error is that memory is out.
     fn make(
         &mut self,
         from: &[u32],
