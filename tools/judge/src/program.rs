@@ -136,7 +136,7 @@ enum Lines {
     Drawn { line: u32, next: u32, least: u32, most: u32, strikes: bool, left: Option<u32>, random: Random },
 }
 
-// A strike comes after this many instructions of the root at most.
+// A strike comes this many steps after the entry at most.
 const LATEST_STRIKE: u32 = 3;
 
 impl Lines {
