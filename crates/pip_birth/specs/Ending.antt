@@ -1,16 +1,17 @@
 -- A child that ends with all below it: the tree without them, and what holds on the way there.
-use Rattle.std.specs.Prelude.{◌≡◌, ◌+◌, ◌<◌, ◌/◌, ◌^◌, ℕ, true, Option, List, ◌++◌, Some}
+use Rattle.std.specs.Prelude.{◌≡◌, ◌+◌, ◌*◌, ◌<◌, ◌≤◌, ◌/◌, ◌^◌, ℕ, true, Option, List, ◌++◌, Some, flat_map, is_some, length}
 use Rattle.pip_base.specs.declared.types.Pair.{Pair}
 use Rattle.pip_base.specs.Memory.{Memory, word_at}
 use Rattle.pip_model.specs.Answers.{pair_frames}
 use Rattle.pip_model.specs.DeletePartition.{tree_without_subtree}
 use Rattle.pip_model.specs.FullRows.{FullRow}
 use Rattle.pip_model.specs.Layout.{LaysOut}
-use Rattle.pip_model.specs.Lists.{In, has}
+use Rattle.pip_model.specs.Lists.{Distinct, In, has}
 use Rattle.pip_model.specs.Midway.{Midway, PagesStay, find_other, tree_rows}
 use Rattle.pip_model.specs.declared.level.Level.TheVariants.{Mmu}
 use Rattle.pip_model.specs.Sound.{IsSound}
-use Rattle.pip_model.specs.Tree.{Node, Tree, find_node, held_pages, hidden, holds, vpage}
+use Rattle.pip_model.specs.Tree.{Node, Tree, below, chain, config, find_node, held_pages, hidden, holds, node, table_at}
+use Rattle.pip_model.specs.Tree.{vpage}
 use Rattle.pip_space.specs.Levels.{table_frame_at}
 use Rattle.pip_birth.specs.Newborn.{zero_frames}
 use Rattle.pip_kern.specs.Taking.{CanTakeEach, HasTaken, rows_taken}
@@ -111,3 +112,61 @@ abbrev pub ClearsPages : ℕ → List Pair → Memory → Memory → Type 0
 ClearsPages parent ps m n = (t : Tree) (rows : ℕ → ℕ → Option FullRow) (gs : List ℕ) → CanTakeEach t parent ps
     → Midway m t (rows_taken rows parent gs)
     → HasCleared t rows parent (gs ++ pair_frames ps) (pair_frames ps) m n
+
+-- ---- how many pages are cleared
+
+-- in how many steps a page of configuration is found, taken back and zeroed: 7 for each partition from the parent of y
+-- up to the root, and 67
+abbrev pub page_work : Tree → Node → ℕ
+page_work t y = 7 * length (chain (without t y) y.up) + 67
+
+-- pages of configuration that y holds, and that its parent has below vpage k, each once
+pub record AreCleared (t : Tree) (y : Node) (k : ℕ) (gs : List ℕ) : Type 0 where
+  pub once : Distinct gs
+  pub held : (g : ℕ) → In g gs → In g (held_pages y) × (hidden t g ≡ true)
+  pub place : (g : ℕ) → In g gs → (v : ℕ) × (v < k) × (r : FullRow) × (tree_rows t y.up v ≡ Some r) × (r.frame ≡ g)
+
+-- for each such child, from one number of steps to the other, some more of these pages are cleared, in so many steps
+-- each
+abbrev pub CountsCleared : ℕ → ℕ → ℕ → ℕ → Memory → ℕ → ℕ → Type 0
+CountsCleared parent born k q m before after = (t : Tree) (y : Node) (start : Memory) (gs : List ℕ) → CanEnd t y
+    → y.up ≡ parent → vpage y.born ≡ born → IsEndingAt t y start k m → AreCleared t y k gs
+    → (hs : List ℕ) × AreCleared t y q hs
+    × (after + page_work t y * length gs ≤ before + page_work t y * length hs)
+
+-- for each such child that page comes back, too, in so many steps
+abbrev pub EndsPageIn : ℕ → ℕ → ℕ → Memory → ℕ → ℕ → Type 0
+EndsPageIn parent leaves v m before after = (t : Tree) (y : Node) (start : Memory) → CanEnd t y → y.up ≡ parent
+    → IsConfiguration t y leaves v → IsEndingAt t y start v m
+    → after ≤ before + 7 * length (chain (without t y) y.up) + 3
+
+-- directory indexes below k for which the node has tables, each once
+pub record AreWalked (x : Node) (k : ℕ) (ws : List ℕ) : Type 0 where
+  pub once : Distinct ws
+  pub small : (i : ℕ) → In i ws → i < k
+  pub tabled : (i : ℕ) → In i ws → is_some (table_at x.tables i) ≡ true
+
+-- for each such child, whose parent is x, 102 steps for each of some of these tables, and those of each page of
+-- configuration that was cleared below them
+abbrev pub CountsWalked : ℕ → ℕ → ℕ → Memory → ℕ → ℕ → Type 0
+CountsWalked parent born k m before after = (t : Tree) (y : Node) (start : Memory) (x : Node) → CanEnd t y
+    → find_node t y.up ≡ Some x → y.up ≡ parent → vpage y.born ≡ born → IsEndingAt t y start 0 m
+    → (ws : List ℕ) × (hs : List ℕ) × AreWalked x k ws × AreCleared t y (1024 * k) hs
+    × (after ≤ before + 102 * length ws + page_work t y * length hs)
+
+-- at most how many steps it takes to end a child with all below it: 7 for each partition from the caller up to the
+-- root, and 67, for each page of configuration of what ends, and 102 for each table of the caller
+abbrev pub ending_work : Tree → ℕ → ℕ → ℕ
+ending_work t caller child =
+    35 + 102 * length (node t caller).tables
+    + (7 * length (chain t caller) + 67) * length (flat_map config (below t child))
+
+-- and by the number of frames alone
+abbrev pub most_ending_work : ℕ → ℕ
+most_ending_work n = 104483 + (7 * n + 67) * n
+
+-- for each such child it takes no more
+abbrev pub EndsChildIn : ℕ → ℕ → ℕ → Memory → ℕ → ℕ → Type 0
+EndsChildIn parent child born m before after = (t : Tree) (y : Node) → CanEnd t y → LaysOut t m → y.name ≡ child
+    → y.up ≡ parent → vpage y.born ≡ born
+    → (after ≤ before + ending_work t parent child) × (after ≤ before + most_ending_work t.frames)

@@ -4,10 +4,10 @@ ghost use Rattle.std.specs.Prelude.{◌≡◌, ◌≢◌, ◌↔◌, ◌+◌, �
 ghost use Rattle.pip_model.specs.NodeIn.{HasNode, HasTableFor};
 ghost use Rattle.pip_model.specs.Tree.{base_pairs};
 ghost use Rattle.pip_space.specs.Nodes.{InEachNode};
-ghost use Rattle.pip_birth.specs.Ending.{ClearsPages, EndsChild, EndsPage, EndsEachChild, HasChild, HasConfiguration};
-ghost use Rattle.pip_birth.specs.Ending.{HasEnding};
+ghost use Rattle.pip_birth.specs.Ending.{ClearsPages, CountsCleared, CountsWalked, EndsChild, EndsPage, EndsEachChild, HasChild, HasConfiguration};
+ghost use Rattle.pip_birth.specs.Ending.{EndsChildIn, EndsPageIn, HasEnding};
 ghost use Rattle.pip_birth.specs.Freeing.{AreFreedIn, AreFreedTo, IsHiddenLeaf};
-ghost use Rattle.pip_kern.specs.Taking.{CanTakePages};
+ghost use Rattle.pip_kern.specs.Taking.{CanTakePages, TakesPagesIn};
 
 use crate::newborn::zero_pages;
 use pip_base::{Frame, Pair, Steps, VPage};
@@ -66,6 +66,7 @@ fn free_between<M: Frames, L: Ledger>(
     requires place { born ≢ 0 }
     ensures count { length (M.memory mem.new) ≡ length (M.memory mem.old) }
     ensures freed { AreFreedIn (M.memory mem.old) leaves shadow born k result (M.memory mem.new) }
+    ensures steps { steps.new ≡ steps.old + 64 }
 {
     let (leaves, given) = mem.pair(leaves, shadow, steps);
     free_open(leaves, given, born, k)
@@ -82,6 +83,7 @@ fn clear_page<M: Frames, L: Ledger>(
     requires { HasConfiguration (M.memory mem.old) caller leaves v }
     ensures count { length (M.memory mem.new) ≡ length (M.memory mem.old) }
     ensures ended { EndsPage caller leaves v (M.memory mem.old) (M.memory mem.new) }
+    ensures steps { EndsPageIn caller leaves v (M.memory mem.old) steps.old steps.new }
 {
     let page = mem.word(leaves, v.number() % 1024, steps) / 4096;
     take_page(mem, caller, v, steps);
@@ -102,6 +104,8 @@ fn take_table<M: Frames, L: Ledger>(
     requires tables { HasTableFor (M.memory mem.old) caller (1024 * i) }
     ensures count { length (M.memory mem.new) ≡ length (M.memory mem.old) }
     ensures ended { EndsEachChild caller born (1024 * i) (1024 * i + 1024) (M.memory mem.old) (M.memory mem.new) }
+    ensures steps { CountsCleared caller born (1024 * i) (1024 * i + 1024) (M.memory mem.old)
+        (steps.old + 68) steps.new }
 {
     let first = VPage::new(1024 * i);
     let leaves = table_for(mem, caller, Level::Mmu, first, steps);
@@ -118,6 +122,7 @@ fn take_tables<M: Frames, L: Ledger>(mem: &mut M, caller: Frame, born: VPage, st
     requires { HasEnding (M.memory mem.old) caller born 0 }
     ensures count { length (M.memory mem.new) ≡ length (M.memory mem.old) }
     ensures ended { EndsEachChild caller born 0 (1024 * 1024) (M.memory mem.old) (M.memory mem.new) }
+    ensures steps { CountsWalked caller born 1024 (M.memory mem.old) (steps.old + 34) steps.new }
 {
     let mut from = 0;
     while let Some(i) = next_tables(mem, caller, from, steps) {
@@ -131,7 +136,8 @@ fn take_tables<M: Frames, L: Ledger>(mem: &mut M, caller: Frame, born: VPage, st
 // The five pages of a partition's base.
 fn base_of<M: Frames, L: Ledger>(mem: &M, part: Frame, steps: &mut Steps<L>) -> [Pair; 5]
     requires { HasNode (M.memory mem.now) part }
-    ensures { InEachNode (M.memory mem.now) part (λ x cells. result ≡ base_pairs x.base) }
+    ensures base { InEachNode (M.memory mem.now) part (λ x cells. result ≡ base_pairs x.base) }
+    ensures steps { steps.new ≡ steps.old + 10 }
 {
     [
         read_pair(mem, part, SELF_VA, steps),
@@ -152,6 +158,7 @@ fn clear_pages<M: Frames, L: Ledger>(
     requires { CanTakePages (M.memory mem.old) caller pages.now }
     ensures count { length (M.memory mem.new) ≡ length (M.memory mem.old) }
     ensures cleared { ClearsPages caller pages.now (M.memory mem.old) (M.memory mem.new) }
+    ensures steps { TakesPagesIn caller pages.now (length pages.now) (M.memory mem.old) steps.old steps.new }
 {
     take_pages(mem, caller, pages, steps);
     zero_pages(mem, pages);
@@ -172,6 +179,7 @@ pub(crate) fn end_child<M: Frames, L: Ledger>(
     requires { HasChild (M.memory mem.old) caller child born }
     ensures count { length (M.memory mem.new) ≡ length (M.memory mem.old) }
     ensures tree { EndsChild caller child born (M.memory mem.old) (M.memory mem.new) }
+    ensures steps { EndsChildIn caller child born (M.memory mem.old) steps.old steps.new }
 {
     if mem.word(child, TABLES, steps) == 0 {
         let base = base_of(mem, child, steps);

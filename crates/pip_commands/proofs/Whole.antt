@@ -6,8 +6,7 @@ use Rattle.std.specs.Io.KnownBytes.{Consumes, prepend_known}
 use Rattle.std.proofs.KnownBytes.{Consumes-nil, Consumes-trans, prepend_known-nil}
 use Rattle.pip_core_text.specs.CoreRead.{AreWholeLines}
 use Rattle.pip_input.specs.Held.{Held}
-use Rattle.pip_input.specs.Lines.{IsLineless}
-use Rattle.pip_io.specs.Causes.{RoseByOne}
+use Rattle.pip_input.specs.Lines.{HasNoNewline, IsLineless}
 use Rattle.pip_io.specs.Taken.{Taken, Appends, Keeps, SendsPart}
 use Rattle.pip_io.proofs.Taken.{Appends-kept, Appends-nil, Appends-trans, Keeps-trans, SendsPart-after}
 use Rattle.pip_model.specs.Grammar.{lines_of}
@@ -15,8 +14,7 @@ use Rattle.pip_model.specs.Text.{Ending, Transcript, bad_at, text_before}
 use Rattle.pip_model.specs.Text.{finished, script_text, transcript, script_world, transcript_from}
 use Rattle.pip_switch.specs.Standing.{State}
 use Rattle.pip_commands.specs.Dues.{IsJudged, max_input, script_answer, script_due}
-use Rattle.pip_due.specs.EndsBy.{EndsBy, IsAnswered, IsDueLast, plainly}
-use Rattle.pip_due.specs.Machines.{StandsIfAny}
+use Rattle.pip_due.specs.EndsBy.{EndsBy, IsAnswered, IsDueLast, IsSoFar, plainly}
 use Rattle.pip_due.specs.Pacing.{Waits}
 use Rattle.pip_commands.specs.Progress.{EndsHere, EndsTurn, HasFinished, HasRun, IsUncut, IsUnread, IsUnwritten}
 use Rattle.pip_commands.specs.Progress.{LacksMemoryToBoot, Overruns, TakesLast, TurnDoes, bytes_coming}
@@ -39,9 +37,8 @@ begins_run i a nil room = record {
   lines = [];
   text = [];
   world = None;
-  taken = subst (λ held. Consumes a.left (prepend_known held a.left) []) (sym nil)
-      (subst (λ l. Consumes a.left l []) (sym (prepend_known-nil a.left)) (Consumes-nil a.left));
-  count = let size : length i.bytes ≡ 0 = ap length nil in omega (arith, size, room);
+  taken = rw nil (subst (λ l. Consumes a.left l []) (sym (prepend_known-nil a.left)) (Consumes-nil a.left));
+  count = let size : length i.bytes ≡ 0 = rw nil in omega arith;
   whole = inl refl;
   goes = record { told = λ rest. refl; fresh = λ none. (refl, refl) };
   wrote = Appends-nil a.written;
@@ -65,12 +62,12 @@ runs_on a b c i j machine machine' n run turn =
       text = run.text ++ on.text;
       world = on.world;
       taken = Consumes-trans a.left (bytes_coming i b) (bytes_coming j c) run.lines line run.taken on.taken;
-      count = omega (arith, count, more, size);
+      count = omega arith;
       whole = inr (run.lines ++ on.line, sym (append_assoc run.lines on.line (10 ∷ [])));
       goes = goes_both None run.world on.world 1 n (n + 1) run.lines line run.text on.text run.goes on.goes;
       wrote = Appends-trans a.written b.written c.written run.text on.text run.wrote on.wrote;
       stands = on.stands;
-      number = omega (arith, number, size, some);
+      number = omega arith;
       calm = calm_both a b c run.calm turn.0;
     }
 
@@ -79,7 +76,7 @@ held_read : (a b : Option (List ℕ)) (held bytes : List ℕ) → Consumes a b b
     → Consumes (prepend_known held a) b (held ++ bytes)
 held_read None b held bytes read = tt
 held_read (Some xs) None held bytes read = absurd read
-held_read (Some xs) (Some ys) held bytes read = ap (λ b. held ++ b) read ∙ sym (append_assoc held bytes ys)
+held_read (Some xs) (Some ys) held bytes read = rw (read, ← append_assoc held bytes ys)
 
 -- ---- the end
 
@@ -96,37 +93,53 @@ module _ (a b c : Streams) (i : Held) (machine : Option State) (n : ℕ) (run : 
   read_all : (bytes beyond : List ℕ) → TakesLast i b c bytes beyond
       → Consumes a.left c.left ((run.lines ++ bytes) ++ beyond)
   read_all bytes beyond takes =
-      subst (Consumes a.left c.left) (sym (append_assoc run.lines bytes beyond))
-      (Consumes-trans a.left (bytes_coming i b) c.left run.lines (bytes ++ beyond) run.taken takes.read)
+      rw (append_assoc run.lines bytes beyond) (Consumes-trans a.left (bytes_coming i b) c.left run.lines (bytes ++ beyond) run.taken takes.read)
 
   few_all : (bytes beyond : List ℕ) → TakesLast i b c bytes beyond → length (run.lines ++ bytes) ≤ max_input
   few_all bytes beyond takes =
       let size : length (run.lines ++ bytes) ≡ length run.lines + length bytes = length-append run.lines bytes in
-      let count = run.count in let few = takes.few in omega (arith, size, count, few)
+      omega arith
 
   told_all : (bytes : List ℕ) (t : Transcript) → transcript_from run.world n (lines_of bytes) ≡ t
       → transcript (run.lines ++ bytes) ≡ text_before run.text t
-  told_all bytes t is = run.goes.told bytes ∙ ap (text_before run.text) is
+  told_all bytes t is = rw (run.goes.told bytes, is)
 
   -- the lines that were run are a script of their own
   pub told_lines : transcript run.lines ≡ record { text = run.text; ending = finished; world = run.world }
   told_lines =
-      ap transcript (sym (append-nil run.lines)) ∙ told_all [] (record
-      { text = []; ending = finished; world = run.world }) refl
-      ∙ ap (λ t. record { text = t; ending = finished; world = run.world }) (append-nil run.text)
+      rw (← append-nil run.lines, told_all [] (record { text = []; ending = finished; world = run.world }) refl, append-nil run.text)
 
   -- the text of what was run and of what is told after it
   text_all : (bytes : List ℕ) (t : Transcript) → transcript_from run.world n (lines_of bytes) ≡ t
       → Appends b.written c.written t.text
       → Appends a.written c.written (script_text (run.lines ++ bytes))
   text_all bytes t is wrote =
-      subst (Appends a.written c.written) (sym (ap (λ t. t.text) (told_all bytes t is)))
+      subst (Appends a.written c.written) (cc (told_all bytes t is))
       (Appends-trans a.written b.written c.written run.text t.text run.wrote wrote)
 
   -- and that of the lines alone
   text_lines : Keeps b.written c.written → Appends a.written c.written (script_text run.lines)
   text_lines kept = subst (Appends a.written c.written) (sym (ap (λ t. t.text) told_lines))
       (Appends-kept a.written b.written c.written run.text run.wrote kept)
+
+  -- what is told so far, where a part of a line stands behind the lines that were run
+  told_so_far : (rest : List ℕ) → HasNoNewline rest → length rest ≤ 120 → length (run.lines ++ rest) ≤ max_input
+      → Keeps b.written c.written → IsSoFar script_due (run.lines ++ rest) a c
+  told_so_far rest plain short limit kept = record {
+    text = script_text run.lines;
+    due = record {
+      lines = run.lines;
+      rest = rest;
+      all = refl;
+      whole = run.whole;
+      plain = plain;
+      short = short;
+      good = ap (λ t. t.ending) told_lines;
+      same = refl;
+    };
+    limit = limit;
+    wrote = text_lines kept;
+  }
 
   -- a part of a line was read after what was run, all that was given is out, and no call failed
   pub lines_wait : c.written.held ≡ [] → Keeps b.written c.written → NoneFailed b c → (bytes : List ℕ)
@@ -136,39 +149,23 @@ module _ (a b c : Streams) (i : Held) (machine : Option State) (n : ℕ) (run : 
       let all : length rest ≡ length i.bytes + length bytes = length-append i.bytes bytes in
       let room = is.room in
       let takes : TakesLast i b c rest [] = record {
-        read = subst (Consumes (bytes_coming i b) c.left) (sym (append-nil rest))
-            (held_read b.left c.left i.bytes bytes read);
-        few = omega (arith, all, room);
+        read = rw (append-nil rest) (held_read b.left c.left i.bytes bytes read);
+        few = omega arith;
       } in
       record {
         bytes = run.lines ++ rest;
-        read = subst (Consumes a.left c.left) (append-nil (run.lines ++ rest)) (read_all rest [] takes);
-        so_far = record {
-          text = script_text run.lines;
-          due = record {
-            lines = run.lines;
-            rest = rest;
-            all = refl;
-            whole = run.whole;
-            plain = is.plain;
-            short = is.short;
-            good = ap (λ t. t.ending) told_lines;
-            same = refl;
-          };
-          limit = few_all rest [] takes;
-          wrote = text_lines kept;
-        };
+        read = rw (← append-nil (run.lines ++ rest)) (read_all rest [] takes);
+        so_far = told_so_far rest is.plain is.short (few_all rest [] takes) kept;
         out = out;
         reads = calm.reads ∙ run.calm.reads;
         writes = calm.writes ∙ run.calm.writes;
       }
 
   whole_after : (xs ys : List ℕ) → AreWholeLines xs → AreWholeLines ys → AreWholeLines (xs ++ ys)
-  whole_after xs ys whole (inl nil) = subst AreWholeLines (sym (ap (λ y. xs ++ y) nil ∙ append-nil xs)) whole
+  whole_after xs ys whole (inl nil) = rw (nil, append-nil xs) whole
   whole_after xs ys whole (inr last) = inr (
     xs ++ last.0,
-    ap (λ y. xs ++ y) last.1 ∙ sym
-        (append_assoc xs last.0 (10 ∷ [])),
+    rw (last.1, ← append_assoc xs last.0 (10 ∷ [])),
   )
 
   -- what can be judged after whole lines can be judged with them
@@ -177,7 +174,7 @@ module _ (a b c : Streams) (i : Held) (machine : Option State) (n : ℕ) (run : 
   judged_after xs ys whole (inr long) = inr (record {
     lines = xs ++ long.lines;
     rest = long.rest;
-    all = ap (λ y. xs ++ y) long.all ∙ sym (append_assoc xs long.lines long.rest);
+    all = rw (long.all, ← append_assoc xs long.lines long.rest);
     whole = whole_after xs long.lines whole long.whole;
     plain = long.plain;
     long = long.long;
@@ -194,7 +191,7 @@ module _ (a b c : Streams) (i : Held) (machine : Option State) (n : ℕ) (run : 
         let bytes = run.lines ++ d.bytes in
         let told = told_all d.bytes _ d.told in
         by_answer script_due code machine' a c calm settled apart bytes
-        (subst (Consumes a.left c.left) (append-nil bytes) (read_all d.bytes [] d.takes)) (inl (omega (arith, is)))
+        (rw (← append-nil bytes) (read_all d.bytes [] d.takes)) (inl (omega arith))
         (record {
           answer = plainly 0 (script_text bytes) (script_world bytes);
           due = record {
@@ -204,7 +201,7 @@ module _ (a b c : Streams) (i : Held) (machine : Option State) (n : ℕ) (run : 
           };
           status = is;
           wrote = text_all d.bytes _ d.told d.wrote;
-          machine = subst (StandsIfAny machine') (sym (ap (λ t. t.world) told)) d.stands;
+          machine = rw told d.stands;
         })
 
     -- a line is bad
@@ -217,16 +214,15 @@ module _ (a b c : Streams) (i : Held) (machine : Option State) (n : ℕ) (run : 
 
       bad_answer : (bytes : List ℕ) → transcript bytes ≡ end → plainly 2 end.text None
           ≡ script_answer (transcript bytes).ending (transcript bytes).text (transcript bytes).world
-      bad_answer bytes told = sym (ap (λ t. script_answer t.ending t.text t.world) told
-          ∙ ap (λ ending. script_answer ending end.text end.world) d.bad)
+      bad_answer bytes told = sym (rw (told, d.bad))
 
       ends_bad : code ≡ 2 → EndsBy script_due code None a c
       ends_bad is = elim d.told [
         | inl all ↦
             let told : (rest : List ℕ) → transcript (first ++ rest) ≡ end =
-            λ rest. ap transcript (append_assoc run.lines d.bytes rest) ∙ told_all (d.bytes ++ rest) d.end (all.1 rest)
+            λ rest. rw (append_assoc run.lines d.bytes rest, told_all (d.bytes ++ rest) d.end (all.1 rest))
             in
-            let alone : transcript first ≡ end = ap transcript (sym (append-nil first)) ∙ told [] in
+            let alone : transcript first ≡ end = rw (← append-nil first, told []) in
             ends (first ++ d.beyond) (read_all d.bytes d.beyond d.takes) (record {
               is = bad_answer (first ++ d.beyond) (told d.beyond);
               decided = inl (record {
@@ -236,13 +232,12 @@ module _ (a b c : Streams) (i : Held) (machine : Option State) (n : ℕ) (run : 
                 limit = few_all d.bytes d.beyond d.takes;
                 judged = judged_after run.lines d.bytes run.whole all.0;
                 number = n;
-                bad = ap (λ t. t.ending) alone ∙ d.bad;
-                fixed = λ rest. told rest ∙ sym alone;
+                bad = rw (alone, d.bad);
+                fixed = λ rest. cc (told rest);
               });
             })
         | inr at ↦
-            ends first (subst (Consumes a.left c.left) (ap (λ z. first ++ z) at.1 ∙ append-nil first)
-            (read_all d.bytes d.beyond d.takes))
+            ends first (rw (← append-nil first, ← at.1) (read_all d.bytes d.beyond d.takes))
             (record {
               is = bad_answer first (told_all d.bytes d.end at.0);
               decided = inr
@@ -254,7 +249,7 @@ module _ (a b c : Streams) (i : Held) (machine : Option State) (n : ℕ) (run : 
               → IsAnswered script_due bytes (plainly 2 end.text None) c.left
               → EndsBy script_due code None a c
           ends bytes read due = by_answer script_due code None a c calm settled apart bytes read
-              (inl (omega (arith, is))) (record {
+              (inl (omega arith)) (record {
                 answer = plainly 2 end.text None;
                 due = due;
                 status = is;
@@ -267,21 +262,8 @@ module _ (a b c : Streams) (i : Held) (machine : Option State) (n : ℕ) (run : 
     ends_unread is d =
         let bytes = run.lines ++ d.rest in
         by_read_fault script_due code None a c calm settled apart bytes
-        (subst (Consumes a.left c.left) (append-nil bytes) (read_all d.rest [] d.takes)) refl is (record {
-          text = script_text run.lines;
-          due = record {
-            lines = run.lines;
-            rest = d.rest;
-            all = refl;
-            whole = run.whole;
-            plain = d.plain;
-            short = d.short;
-            good = ap (λ t. t.ending) told_lines;
-            same = refl;
-          };
-          limit = few_all d.rest [] d.takes;
-          wrote = text_lines d.wrote;
-        }) (subst (λ k. RoseByOne k c.reads) run.calm.reads d.rose)
+        (rw (← append-nil bytes) (read_all d.rest [] d.takes)) refl is
+        (told_so_far d.rest d.plain d.short (few_all d.rest [] d.takes) d.wrote) (rw (← run.calm.reads) d.rose)
 
     -- a write failed
     module _ (start : a.written.held ≡ []) (is : code ≡ 4) (d : IsUnwritten run.world n i b c) where
@@ -301,7 +283,7 @@ module _ (a b c : Streams) (i : Held) (machine : Option State) (n : ℕ) (run : 
         due = due;
         out = past_nothing a.written c.written (script_text taken) start part;
         part = part;
-      }) (subst (λ k. RoseByOne k c.writes) run.calm.writes d.rose)
+      }) (rw (← run.calm.writes) d.rose)
 
       at_line : IsJudged taken → EndsBy script_due code None a c
       at_line judged = ends_cut (taken ++ d.beyond) (read_all d.bytes d.beyond d.takes) (inr (record {
@@ -326,8 +308,7 @@ module _ (a b c : Streams) (i : Held) (machine : Option State) (n : ℕ) (run : 
       ends_unwritten (inl judged) = at_line (judged_after run.lines d.bytes run.whole judged)
       ends_unwritten (inr at) =
           let e = (transcript taken).ending in
-          ends_cut taken (subst (Consumes a.left c.left) (ap (λ z. taken ++ z) at.0 ∙ append-nil taken)
-          (read_all d.bytes d.beyond d.takes))
+          ends_cut taken (rw (← append-nil taken, ← at.0) (read_all d.bytes d.beyond d.takes))
           (inl (
             script_answer e (script_text taken) (script_world taken),
             record { is = refl; decided = inr (at.1, few_all d.bytes d.beyond d.takes) },
@@ -337,7 +318,7 @@ module _ (a b c : Streams) (i : Held) (machine : Option State) (n : ℕ) (run : 
 
     -- there was no memory at the boot line
     nothing_written : (x y z : Taken) (text : List ℕ) → text ≡ [] → Appends x y text → Keeps y z → Keeps x z
-    nothing_written x y z text nil h k = Keeps-trans x y z (subst (Appends x y) nil h) k
+    nothing_written x y z text nil h k = Keeps-trans x y z (rw (← nil) h) k
 
     ends_memory : code ≡ 5 → LacksMemoryToBoot run.world i b c → EndsBy script_due code None a c
     ends_memory is d =
@@ -354,8 +335,7 @@ module _ (a b c : Streams) (i : Held) (machine : Option State) (n : ℕ) (run : 
           limit = few_all (d.line ++ d.newline) d.beyond d.takes;
           ended = d.ended;
           whole = run.whole;
-          blank = told_lines ∙ ap (λ t. record { text = t; ending = finished; world = run.world }) fresh.1
-              ∙ ap (λ v. record { text = []; ending = finished; world = v }) d.first;
+          blank = rw (told_lines, fresh.1, d.first);
           boots = d.boots.meaning;
         }) (nothing_written a.written b.written c.written run.text fresh.1 run.wrote d.wrote)
 
@@ -366,28 +346,14 @@ module _ (a b c : Streams) (i : Held) (machine : Option State) (n : ℕ) (run : 
         in
         let count = run.count in
         let limit = d.limit in
-        let all : length (run.lines ++ d.bytes) ≡ max_input = omega (arith, size, count, limit) in
+        let all : length (run.lines ++ d.bytes) ≡ max_input = omega arith in
         by_limit script_due code None a c calm settled apart ((run.lines ++ d.bytes) ++ d.last ∷ [])
         (read_all d.bytes (d.last ∷ []) d.takes) refl is (record {
           first = run.lines ++ d.bytes;
           beyond = d.last;
           all = refl;
-          limit = ap Some (sym all);
-          so_far = record {
-            text = script_text run.lines;
-            due = record {
-              lines = run.lines;
-              rest = d.bytes;
-              all = refl;
-              whole = run.whole;
-              plain = d.plain;
-              short = d.short;
-              good = ap (λ t. t.ending) told_lines;
-              same = refl;
-            };
-            limit = omega (arith, all);
-            wrote = text_lines d.wrote;
-          };
+          limit = rw (← all);
+          so_far = told_so_far (d.bytes) d.plain d.short (omega (arith, all)) d.wrote;
         })
 
     -- the other ends have no machine
@@ -412,5 +378,5 @@ pub script_ends : (e : End) (a b c : Streams) (i j : Held) (machine machine' : O
     (run : HasRun a b i machine n) → a.written.held ≡ [] → (status ≢ 4 → c.written.held ≡ []) → e ≢ Finished
     → status ≡ status_of e → TurnDoes (Some e) machine machine' n i j b c → EndsBy script_due status None a c
 script_ends e a b c i j machine machine' n status run start settled other is turn =
-    ends_as a b c i machine n run status (subst (λ k. IsCalm k b c) (sym is) turn.0) settled start e machine' other is
+    ends_as a b c i machine n run status (rw is turn.0) settled start e machine' other is
     (turn.1 run.world run.stands)

@@ -21,6 +21,7 @@ pub(crate) fn page_at<M: Frames, L: Ledger>(
     ensures inside { result < length (M.memory mem.now) }
     ensures frame { (more : List Pair) (slot : ℕ → Table) → PagesIn (M.memory mem.now) first more slot →
         k ≤ length more → result ≡ list_frame first more k }
+    ensures steps { steps.new ≡ steps.old + k }
 {
     let mut page = first;
     for _ in 0..k {
@@ -54,6 +55,7 @@ pub fn append_page<M: Frames, L: Ledger>(
         length more + 1 ≡ pages → IsFresh (M.memory mem.old) first more p.frame →
         ListIn (M.memory mem.new) first (more ++ p ∷ []) ts
         × ListStays first more (M.memory mem.old) (M.memory mem.new) }
+    ensures steps { steps.new ≤ steps.old + pages }
 {
     let last = page_at(mem, first, pages - 1, steps);
     set_link(mem, last, p);
@@ -76,6 +78,7 @@ pub fn pop_page<M: Frames, L: Ledger>(
         ListIn (M.memory mem.old) first (more ++ p ∷ []) ts → length more + 2 ≡ pages →
         lists (length ts) ≤ length more + 1 → ListIn (M.memory mem.new) first more ts
         × ListStays first more (M.memory mem.old) (M.memory mem.new) }
+    ensures steps { steps.new ≤ steps.old + pages }
 {
     let page = page_at(mem, first, pages - 2, steps);
     let frame = Frame::new(mem.word(page, NEXT_FRAME, steps));

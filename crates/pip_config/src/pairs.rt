@@ -25,6 +25,7 @@ pub fn read_pair<M: Frames, L: Ledger>(mem: &M, page: Frame, at: u32, steps: &mu
     requires small { word_at (M.memory mem.now) page (at + 1) < 2 ^ 20 }
     ensures va { result.va ≡ word_at (M.memory mem.now) page at }
     ensures frame { result.frame ≡ word_at (M.memory mem.now) page (at + 1) }
+    ensures steps { steps.new ≡ steps.old + 2 }
 {
     Pair {
         va: mem.word(page, at, steps),

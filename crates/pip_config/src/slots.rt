@@ -48,6 +48,7 @@ fn write_slot<M: Frames, L: Ledger>(
         PagesIn (M.memory mem.old) first more slot → k / SLOTS ≤ length more → table_pairs t ≡ s.now →
         PagesIn (M.memory mem.new) first more (put_slot slot k t)
         × ListStays first more (M.memory mem.old) (M.memory mem.new) }
+    ensures steps { steps.new ≡ steps.old + k / SLOTS }
 {
     let page = page_at(mem, first, k / SLOTS, steps);
     write_words(mem, page, FIRST_SLOT + SLOT_WORDS * (k % SLOTS), s);
@@ -63,8 +64,9 @@ pub fn slot_at<M: Frames, L: Ledger>(
 ) -> Slot
     requires list { HasList (M.memory mem.now) first m }
     requires place { k < m }
-    ensures { (more : List Pair) (ts : List Table) → ListIn (M.memory mem.now) first more ts →
+    ensures slot { (more : List Pair) (ts : List Table) → ListIn (M.memory mem.now) first more ts →
         length ts ≡ m → result ≡ table_pairs (slots ts k) }
+    ensures steps { steps.new ≡ steps.old + k / SLOTS + 6 }
 {
     let page = page_at(mem, first, k / SLOTS, steps);
     let at = FIRST_SLOT + SLOT_WORDS * (k % SLOTS);
@@ -80,6 +82,7 @@ fn page_of_slot<M: Frames, L: Ledger>(mem: &M, page: Frame, k: u32, steps: &mut 
     requires link { word_at (M.memory mem.now) page NEXT_FRAME < 2 ^ 20 }
     ensures same { (k - 1) / SLOTS ≡ k / SLOTS → result ≡ page }
     ensures next { (k - 1) / SLOTS < k / SLOTS → result ≡ word_at (M.memory mem.now) page NEXT_FRAME }
+    ensures steps { steps.new + (k - 1) / SLOTS ≡ steps.old + k / SLOTS }
 {
     if k > 0 && k % SLOTS == 0 {
         Frame::new(mem.word(page, NEXT_FRAME, steps))
@@ -97,8 +100,9 @@ pub fn find<M: Frames, L: Ledger>(
     steps: &mut Steps<L>,
 ) -> Option<u32>
     requires { HasList (M.memory mem.now) first m }
-    ensures { (more : List Pair) (ts : List Table) → ListIn (M.memory mem.now) first more ts →
+    ensures place { (more : List Pair) (ts : List Table) → ListIn (M.memory mem.now) first more ts →
         length ts ≡ m → result ≡ position (λ (t : Table). t.mmu.frame == table) ts }
+    ensures steps { steps.new ≤ steps.old + m + m / SLOTS }
 {
     let mut page = first;
     for k in 0..m {
@@ -125,6 +129,7 @@ pub fn push_slot<M: Frames, L: Ledger>(
         ListIn (M.memory mem.old) first more ts → length ts ≡ m → lists (m + 1) ≤ length more + 1 →
         table_pairs t ≡ s.now → ListIn (M.memory mem.new) first more (ts ++ t ∷ [])
         × ListStays first more (M.memory mem.old) (M.memory mem.new) }
+    ensures steps { steps.new ≡ steps.old + m / SLOTS }
 {
     write_slot(mem, first, m, s, steps);
 }
@@ -156,6 +161,7 @@ pub fn swap_remove<M: Frames, L: Ledger>(
         ListIn (M.memory mem.old) first more (ts ++ t ∷ []) → length ts + 1 ≡ m →
         ListIn (M.memory mem.new) first more (slice_set ts k t)
         × ListStays first more (M.memory mem.old) (M.memory mem.new) }
+    ensures steps { steps.new ≤ steps.old + 3 * (m / SLOTS) + 6 }
 {
     let last = slot_at(mem, first, m, m - 1, steps);
     write_slot(mem, first, k, &last, steps);

@@ -1,5 +1,5 @@
 //! The chain of pages that prepare follows, and what it tests on the way. Nothing here writes.
-ghost use Rattle.std.specs.Prelude.{◌≡◌, ◌<◌, ◌≤◌, [], IfOk, Option, Some, length, ⊤};
+ghost use Rattle.std.specs.Prelude.{◌≡◌, ◌+◌, ◌<◌, ◌≤◌, [], IfOk, Option, Some, length, ⊤};
 ghost use Rattle.pip_model.specs.Answers.{pair_at};
 ghost use Rattle.pip_model.specs.Partitions.{HasPartition, InEach};
 ghost use Rattle.pip_model.specs.Prepare.{page_refusals};
@@ -64,6 +64,7 @@ fn check_page<M: Frames, L: Ledger>(
     ensures page { InEach (M.memory mem.now) caller (λ t x.
         Tested (page_refusals t caller seen.now va) (λ g. g ≡ pair_at t caller va) result) }
     ensures inside { IfOk result (λ g. g.frame < length (M.memory mem.now)) }
+    ensures steps { steps.new ≤ steps.old + 9 }
 {
     check_address(seen, va)?;
     let row = row_at(mem, caller, va, steps).ok_or(Status::NotMapped)?;
@@ -86,7 +87,8 @@ pub(crate) fn check_chain<M: Frames, L: Ledger>(
     requires stands { HasPartition (M.memory mem.now) caller }
     requires least { 3 ≤ count }
     requires most { count ≤ 4 }
-    ensures { InEach (M.memory mem.now) caller (λ t x. ChainAnswer t caller count first result) }
+    ensures chain { InEach (M.memory mem.now) caller (λ t x. ChainAnswer t caller count first result) }
+    ensures steps { steps.new ≤ steps.old + 39 }
 {
     let mmu = check_page(mem, caller, &[], first, steps)?;
     let second = mem.word(mmu.frame, 0, steps);

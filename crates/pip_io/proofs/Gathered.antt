@@ -9,27 +9,24 @@ pub between_joined : (xs : List ℕ) (s p e : ℕ) → s ≤ p → p ≤ e → b
 between_joined xs s p e low high =
     let place : s + (p - s) ≡ p = omega arith in
     let size : (p - s) + (e - p) ≡ e - s = omega arith in
-    ap (λ l. between xs s p ++ take (e - p) l) (sym (drop-drop (p - s) s xs ∙ ap (λ k. drop k xs) place))
-    ∙ sym (take-add (p - s) (e - p) (drop s xs))
-    ∙ ap (λ k. take k (drop s xs)) size
+    cc (drop-drop (p - s) s xs, take-add (p - s) (e - p) (drop s xs))
 
 pub between_front : (xs : List ℕ) (p e n : ℕ) → n ≤ e - p → take n (between xs p e) ≡ between xs p (p + n)
 between_front xs p e n few =
     let size : n ≡ p + n - p = omega arith in
-    take-take n (e - p) (drop p xs) few ∙ ap (λ k. take k (drop p xs)) size
+    cc (take-take n (e - p) (drop p xs) few)
 
 pub between_size : (xs : List ℕ) (s e : ℕ) → e ≤ length xs → length (between xs s e) ≡ e - s
-between_size xs s e fits = let d = length-drop s xs in length-take-le (e - s) (drop s xs) (omega (arith, d))
+between_size xs s e fits = let d = length-drop s xs in length-take-le (e - s) (drop s xs) (omega arith)
 
 pub between_none : (xs : List ℕ) (s e : ℕ) → s ≡ e → between xs s e ≡ []
-between_none xs s e same = let none : e - s ≡ 0 = omega arith in ap (λ k. take k (drop s xs)) none
+between_none xs s e same = let none : e - s ≡ 0 = omega arith in rw none
 
 -- a part whose buffer stayed as it was up to its end
 pub between_same : (xs ys : List ℕ) (s e : ℕ) → s ≤ e → take e xs ≡ take e ys → between xs s e ≡ between ys s e
 between_same xs ys s e order same =
     let size : s + (e - s) ≡ e = omega arith in
-    sym (drop-take s (e - s) xs) ∙ ap (λ k. drop s (take k xs)) size ∙ ap (drop s) same
-    ∙ ap (λ k. drop s (take k ys)) (sym size) ∙ drop-take s (e - s) ys
+    cc (drop-take s (e - s) xs, drop-take s (e - s) ys)
 
 -- a piece that was put into a buffer, of which the front stayed as it was
 module _ (xs piece : List ℕ) (a n : ℕ) (fits : a ≤ length xs) (size : length piece ≡ n) where
@@ -40,11 +37,7 @@ module _ (xs piece : List ℕ) (a n : ℕ) (fits : a ≤ length xs) (size : leng
   put_part =
       let front : length (take a xs) ≡ a = length-take-le a xs fits in
       let count : a + n - a ≡ length piece = omega arith in
-      ap (λ k. take k (drop a (put_mid a n xs piece))) count
-      ∙ ap (λ k. take (length piece) (drop k (take a xs ++ (piece ++ post_of a n xs)))) (sym front)
-      ∙ ap (take (length piece)) (drop-append_seam (take a xs) (piece ++ post_of a n xs))
-      ∙ take-append_seam piece (post_of a n xs)
+      cc (drop-append_seam (take a xs) (piece ++ post_of a n xs), take-append_seam piece (post_of a n xs))
 
 pub between_some : (xs : List ℕ) (s e : ℕ) → e ≤ length xs → s < e → between xs s e ≢ []
-between_some xs s e fits few = λ none. absurd (let size = between_size xs s e fits in let l = ap length none in
-    omega (arith, few, size, l))
+between_some xs s e fits few = λ none. absurd (omega (arith, between_size xs s e fits, ap length none))

@@ -12,5 +12,4 @@ pub paced_after : (allows : Streams → Type 0) (P Q : List ℕ → Type 0) (a b
     (front : List ℕ) → n ≡ m → Consumes a b front → ((bytes : List ℕ) → Q bytes → P (front ++ bytes))
     → MayRead allows P (beside a m w) → MayRead allows Q (beside b n w)
 paced_after allows P Q a b m n w front same read more paced = λ bytes left taken is.
-    subst (λ n. allows (beside left n w)) (sym same)
-    (paced (front ++ bytes) left (Consumes-trans _ _ _ _ _ read taken) (more bytes is))
+    rw same (paced (front ++ bytes) left (Consumes-trans _ _ _ _ _ read taken) (more bytes is))

@@ -23,9 +23,8 @@ sends_trans (Some xs) None z a b c t u p q = absurd p
 sends_trans (Some xs) (Some ys) None a b c t u p q = absurd q
 sends_trans (Some xs) (Some ys) (Some zs) a b c t u p q = (
   p.0 ++ q.0,
-  q.1 ∙ ap (λ l. l ++ q.0) p.1 ∙ append_assoc xs p.0 q.0,
-  append_assoc p.0 q.0 c ∙ ap (λ l. p.0 ++ l) q.2 ∙ sym (append_assoc p.0 b u) ∙ ap (λ l. l ++ u) p.2
-      ∙ append_assoc a t u,
+  rw (q.1, p.1, append_assoc xs p.0 q.0),
+  rw (append_assoc p.0 q.0 c, q.2, ← append_assoc p.0 b u, p.2, append_assoc a t u),
 )
 
 part_after : (x y z : Option (List ℕ)) (a b t u : List ℕ) → Sends x y (a ++ t) b → GrowsInPart y z (b ++ u)
@@ -36,9 +35,8 @@ part_after (Some xs) (Some ys) None a b t u p q = absurd q
 part_after (Some xs) (Some ys) (Some zs) a b t u p q = (
   p.0 ++ q.0,
   q.1,
-  q.2 ∙ ap (λ l. l ++ q.0) p.1 ∙ append_assoc xs p.0 q.0,
-  append_assoc p.0 q.0 q.1 ∙ ap (λ l. p.0 ++ l) q.3 ∙ sym (append_assoc p.0 b u) ∙ ap (λ l. l ++ u) p.2
-      ∙ append_assoc a t u,
+  rw (q.2, p.1, append_assoc xs p.0 q.0),
+  rw (append_assoc p.0 q.0 q.1, q.3, ← append_assoc p.0 b u, p.2, append_assoc a t u),
   q.4,
 )
 
@@ -49,7 +47,7 @@ part_more (Some xs) (Some ys) a t more p = (
   p.0,
   p.1 ++ more,
   p.2,
-  sym (append_assoc p.0 p.1 more) ∙ ap (λ l. l ++ more) p.3 ∙ append_assoc a t more,
+  rw (← append_assoc p.0 p.1 more, p.3, append_assoc a t more),
   left_more p.1 more p.4,
 )
 
@@ -61,7 +59,7 @@ part_taken (Some xs) (Some ys) a b front rest p some = (
   p.0,
   b ++ rest,
   p.1,
-  sym (append_assoc p.0 b rest) ∙ ap (λ l. l ++ rest) p.2 ∙ append_assoc a front rest,
+  rw (← append_assoc p.0 b rest, p.2, append_assoc a front rest),
   more_left b rest some,
 )
 
@@ -85,7 +83,7 @@ pub Keeps-trans : (a b c : Taken) → Keeps a b → Keeps b c → Keeps a c
 Keeps-trans a b c p q = Appends-trans a b c [] [] p q
 
 pub Appends-kept : (a b c : Taken) (t : List ℕ) → Appends a b t → Keeps b c → Appends a c t
-Appends-kept a b c t p q = subst (Appends a c) (append-nil t) (Appends-trans a b c t [] p q)
+Appends-kept a b c t p q = rw (← append-nil t) (Appends-trans a b c t [] p q)
 
 -- a text after one that was taken
 pub SendsPart-after : (a b c : Taken) (t u : List ℕ) → Appends a b t → SendsPart b c u → SendsPart a c (t ++ u)
@@ -98,7 +96,7 @@ SendsPart-more a b t more p = record { grows = part_more a.out b.out a.held t mo
 -- a part was taken
 pub part_sent : (a b : Taken) (t : List ℕ) → AppendsPart a b t → SendsPart a b t
 part_sent a b t p =
-    subst (SendsPart a b) p.3 (record { grows = part_taken a.out b.out a.held b.held p.0 p.1 p.2.sends p.4 })
+    rw (← p.3) (record { grows = part_taken a.out b.out a.held b.held p.0 p.1 p.2.sends p.4 })
 
 -- all of it was taken, and then not all that was held went out
 pub cut_sent : (a b c : Taken) (t : List ℕ) → Appends a b t → Keeps b c → c.held ≢ [] → SendsPart a c t
@@ -112,8 +110,7 @@ past_part (Some xs) None z a b t u p none q = absurd p
 past_part (Some xs) (Some ys) None a b t u p none q = absurd q
 past_part (Some xs) (Some ys) (Some zs) a b t u p none q = (
   q.0,
-  q.2 ∙ ap (λ l. l ++ q.0) p.1 ∙ append_assoc xs p.0 q.0
-      ∙ ap (λ l. xs ++ (l ++ q.0)) (sym (append-nil p.0) ∙ ap (λ l. p.0 ++ l) (sym none) ∙ p.2),
+  rw (q.2, p.1, append_assoc xs p.0 q.0, ← append-nil p.0, ← none, p.2),
 )
 
 past_after : (x y z : Option (List ℕ)) (a b t u : List ℕ) → Sends x y (a ++ t) b → GrowsPast y z (b ++ u)
@@ -123,9 +120,7 @@ past_after (Some xs) None z a b t u p q = absurd p
 past_after (Some xs) (Some ys) None a b t u p q = absurd q
 past_after (Some xs) (Some ys) (Some zs) a b t u p q = (
   q.0,
-  q.1 ∙ ap (λ l. l ++ ((b ++ u) ++ q.0)) p.1 ∙ append_assoc xs p.0 ((b ++ u) ++ q.0)
-      ∙ ap (λ l. xs ++ l) (sym (append_assoc p.0 (b ++ u) q.0)
-      ∙ ap (λ l. l ++ q.0) (sym (append_assoc p.0 b u) ∙ ap (λ l. l ++ u) p.2 ∙ append_assoc a t u)),
+  rw (q.1, p.1, append_assoc xs p.0 ((b ++ u) ++ q.0), ← append_assoc p.0 (b ++ u) q.0, ← append_assoc p.0 b u, p.2, append_assoc a t u),
 )
 
 -- a part of a text went out after one that had gone out whole
@@ -171,8 +166,7 @@ moved (Some xs) None a b part rest bytes p same = absurd p
 moved (Some xs) (Some ys) a b part rest bytes p same = (
   p.0,
   p.1,
-  sym (append_assoc p.0 b rest) ∙ ap (λ l. l ++ rest) p.2 ∙ append_assoc a part rest
-      ∙ ap (λ l. a ++ l) same ∙ sym (append-nil (a ++ bytes)),
+  rw (← append_assoc p.0 b rest, p.2, append_assoc a part rest, same) (sym (append-nil (a ++ bytes))),
 )
 
 -- that one took a part of the bytes
@@ -188,11 +182,11 @@ grown (Some xs) a bytes piece = ([], sym (append-nil xs), sym (append_assoc a by
 pub over_grown : (a : Taken) (bytes piece bytes' : List ℕ) → bytes' ≡ bytes ++ piece
     → Appends (over a bytes) (over a bytes') piece
 over_grown a bytes piece bytes' same =
-    subst (λ l. Appends (over a bytes) (over a l) piece) (sym same) (record { sends = grown a.out a.held bytes piece })
+    rw same (record { sends = grown a.out a.held bytes piece })
 
 -- there are none
 pub over_none : (held bytes : List ℕ) → held ≡ [] → bytes ≡ [] → held ++ bytes ≡ []
-over_none held bytes h b = ap (λ l. l ++ bytes) h ∙ b
+over_none held bytes h b = rw (h, b)
 
 pub over_some : (held bytes : List ℕ) → bytes ≢ [] → held ++ bytes ≢ []
 over_some held bytes some = more_left held bytes some

@@ -6,7 +6,7 @@ use Rattle.pip_model.specs.FullRows.{cells_of, full_rows}
 use Rattle.pip_model.specs.Midway.{OnChain, here}
 use Rattle.pip_model.specs.Partitions.{HasPartition}
 use Rattle.pip_model.specs.Sound.{IsSound}
-use Rattle.pip_model.specs.Tree.{Node, Tree, find_node, nodes}
+use Rattle.pip_model.specs.Tree.{Node, Tree, chain, find_node}
 use Rattle.pip_model.proofs.Trees.Chains.{chain-trans, chain_parent, chain_up, root_chain}
 use Rattle.pip_model.proofs.Trees.Depth.{depth, depth_few, depth_some, depth_up, few_nodes, own_parent}
 use Rattle.pip_model.proofs.Frames.Laid.{laid_space}
@@ -53,12 +53,12 @@ pub record Climb (t : Tree) (part top at steps : ℕ) : Type 0 where
   pub x : Node
   pub x_is : find_node t at ≡ Some x
   pub from_part : OnChain t at part
-  pub short : steps + depth t at ≤ length (nodes t)
+  pub long : steps + depth t at ≡ depth t part
   pub passed : OnChain t top part → OnChain t top at
 
 pub climb_start : (t : Tree) (part top : ℕ) (p : Node) → find_node t part ≡ Some p → Climb t part top part 0
 climb_start t part top p is =
-    record { x = p; x_is = is; from_part = here; short = (let h = depth_few t part in omega arith); passed = λ r. r }
+    record { x = p; x_is = is; from_part = here; long = omega arith; passed = λ r. r }
 
 pub climb_on : (t : Tree) → IsSound t → (part top at up steps : ℕ) (c : Climb t part top at steps) → (at ≡ top → ⊥)
     → up ≡ c.x.up → (up ≡ at → ⊥) → Climb t part top up (steps + 1)
@@ -68,14 +68,14 @@ climb_on t s part top at up steps c not_top up_is moved = elim (root_or_other t 
   | inr o ↦
       let q = up_found t s at c.x c.x_is in
       let low = depth_up t s at c.x o in
-      let short = c.short in
+      let long = c.long in
       let same : depth t up ≡ depth t c.x.up = ap (depth t) up_is in
       record {
         x = q.0;
         x_is = ap (find_node t) up_is ∙ q.1;
         from_part = subst (λ k. OnChain t k part) (sym up_is)
             (chain-trans t c.x.up at part (chain_parent t at c.x o) c.from_part);
-        short = omega arith;
+        long = omega arith;
         passed = λ r. subst (OnChain t top) (sym up_is)
             (elim (chain_up t top at c.x o (c.passed r)) [ inl e ↦ absurd (not_top (sym e)) | inr u ↦ u ]);
       }
@@ -83,8 +83,14 @@ climb_on t s part top at up steps c not_top up_is moved = elim (root_or_other t 
 
 -- no climb takes as many steps as there are frames
 pub climb_full : (t : Tree) → IsSound t → (part top at steps : ℕ) → Climb t part top at steps → steps ≡ t.frames → ⊥
-climb_full t s part top at steps c e = let few = few_nodes t s in let short = c.short in
-    let some = depth_some t s at c.x c.x_is in omega arith
+climb_full t s part top at steps c e = let few = few_nodes t s in let long = c.long in
+    let all = depth_few t part in let some = depth_some t s at c.x c.x_is in omega arith
+
+-- nor more than there are partitions from here up to the root
+pub climb_chain : (t : Tree) → IsSound t → (part top at steps : ℕ) → Climb t part top at steps
+    → steps + 1 ≤ length (chain t part)
+unfolding depth
+climb_chain t s part top at steps c = let long = c.long in let some = depth_some t s at c.x c.x_is in omega arith
 
 -- where top is met, it is on the chain
 pub climb_met : (t : Tree) (part top at steps : ℕ) → Climb t part top at steps → at ≡ top → OnChain t top part

@@ -1,5 +1,5 @@
 -- Pages given to a child: hidden up the chain, and named in the giver's first shadow.
-use Rattle.std.proofs.Common.{◌≡◌, ℕ, ◌+◌, ◌<◌, ◌≤◌, false, List, [], ◌∷◌, ◌++◌, get_or, length, take, sym, subst}
+use Rattle.std.proofs.Common.{◌≡◌, ℕ, ◌+◌, ◌*◌, ◌<◌, ◌≤◌, arith, false, List, [], ◌∷◌, ◌++◌, get_or, length, take, sym, subst}
 use Rattle.pip_model.specs.Answers.{pair_frames}
 use Rattle.std.proofs.lemmas.List.{take_all}
 use Rattle.pip_base.specs.declared.types.Pair.{Pair}
@@ -8,15 +8,15 @@ use Rattle.pip_base.specs.Memory.{Memory}
 use Rattle.pip_model.specs.Layout.{LaysOut}
 use Rattle.pip_model.specs.Midway.{Midway, tree_rows}
 use Rattle.pip_model.specs.Sound.{IsSound}
-use Rattle.pip_model.specs.Tree.{Node, Tree, vpage}
+use Rattle.pip_model.specs.Tree.{Node, Tree, chain, vpage}
 use Rattle.pip_model.proofs.Frames.Midway.{laid_midway}
 use Rattle.pip_space.specs.Rows.{HasRow}
-use Rattle.pip_kern.specs.Hiding.{CanSetUser, SetsUser}
+use Rattle.pip_kern.specs.Hiding.{CanSetUser, OnEachChain, SetsUser}
 use Rattle.pip_kern.specs.Giving.{CanGive, CanGiveEach, CanGivePage, CanGivePages, HasGiven, rows_given, given_to}
-use Rattle.pip_kern.specs.Giving.{GivesPage, GivesFurtherPages}
+use Rattle.pip_kern.specs.Giving.{GivesPage, GivesFurtherPages, GivesPageIn, GivesPagesIn}
 use Rattle.pip_kern.specs.Marking.{CanMark}
 use Rattle.pip_kern.proofs.Marking.{NameSays, OthersSay, can_name, can_set, marking_start, one_more, page_marked}
-use Rattle.pip_kern.proofs.Marking.{set_said}
+use Rattle.pip_kern.proofs.Marking.{said, set_said}
 
 -- before the first page is given, these are the tree's own rows
 pub giving_start : (t : Tree) → IsSound t → (m : Memory) → LaysOut t m → (y : Node) → Midway m t (rows_given t y [])
@@ -60,6 +60,17 @@ give_gives m n l caller v w t y gs g can up k =
     (set_said t y.up v g (can_mark t y v w g can) (tree_rows t) false (given_to y) gs m k n (says t)) l
     (subst (NameSays n l y.up v) can.word named) others)
 
+-- in so many steps
+pub gives_in : (m : Memory) (caller v w before hidden after : ℕ)
+    → OnEachChain m caller v (λ t rows r. hidden ≤ before + 7 * length (chain t caller)) → after ≤ hidden + 2
+    → GivesPageIn caller v w m before after
+gives_in m caller v w before hidden after says then t y gs g can up k =
+    let one = subst (λ p. OnEachChain m p v (λ t rows r. hidden ≤ before + 7 * length (chain t p))
+    → hidden ≤ before + 7 * length (chain t p)) up
+    (λ on. said t y.up v g (can_mark t y v w g can) (tree_rows t) false (given_to y) gs m k
+    (hidden ≤ before + 7 * length (chain t y.up)) (on t)) says in
+    omega (arith, one, then)
+
 -- ---- pages one after another
 
 module _ (m n : Memory) (caller born : ℕ) (ps : List Pair) (i v : ℕ) (p : Pair) (low : i < length ps)
@@ -91,6 +102,17 @@ module _ (m n : Memory) (caller born : ℕ) (ps : List Pair) (i v : ℕ) (p : Pa
       let old = so_far t y gs each up k in
       let new = says t y (gs ++ pair_frames (take i ps)) p.frame (can_next t y each) up old.midway in
       one_more t (tree_rows t) y.up false (given_to y) gs ps i p m n l low at old new
+
+  -- in so many steps
+  pub next_in : (before between after : ℕ) → GivesPagesIn caller born ps i m before between
+      → GivesPageIn caller v (shadow1_word as_configuration born) n between after
+      → GivesPagesIn caller born ps (i + 1) m before after
+  unfolding can_next
+  next_in before between after so one t y gs each up k =
+      let old = so_far t y gs each up k in
+      let first = so t y gs each up k in
+      let last = one t y (gs ++ pair_frames (take i ps)) p.frame (can_next t y each) up old.midway in
+      omega (arith, first, last)
 
 -- in the end all are
 pub all_given : (m n : Memory) (caller born : ℕ) (ps : List Pair) (i : ℕ) → length ps ≤ i → GivesFurtherPages caller

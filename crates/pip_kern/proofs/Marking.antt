@@ -176,6 +176,11 @@ module _ (t : Tree) (p v g : ℕ) (can : CanMark t p v g) (base : ℕ → ℕ �
   set_said n says = subst (λ f. UserSet t rows p f user m n) row_now.2
       (says rows x now can.sound (midway_chain m t p rows k) can.found row_now.1)
 
+  -- and anything else that it says
+  pub said : (S : Type 0) → ((rows : ℕ → ℕ → Option FullRow) (z : Node) (r : FullRow) → IsSound t
+      → MidwayOnChain m t p rows → find_node t p ≡ Some z → rows p v ≡ Some r → S) → S
+  said S says = says rows x now can.sound (midway_chain m t p rows k) can.found row_now.1
+
   set_stays : (o : Option FullRow) → ((r : FullRow) → o ≡ Some r → r.frame ≡ g → r.user ≡ user) → o ≡ user_at g user o
   set_stays None is = refl
   set_stays (Some r) is = elim (cases_eq r.frame g) [

@@ -1,5 +1,5 @@
 -- Pages taken back from a child: opened up the chain, and named in the taker's first shadow as nobody's.
-use Rattle.std.proofs.Common.{◌≡◌, ℕ, ◌+◌, ◌<◌, ◌≤◌, true, List, [], ◌∷◌, ◌++◌, get_or, length, take, sym, subst}
+use Rattle.std.proofs.Common.{◌≡◌, ℕ, ◌+◌, ◌*◌, ◌<◌, ◌≤◌, arith, true, List, [], ◌∷◌, ◌++◌, get_or, length, take, sym, subst}
 use Rattle.std.proofs.Common.{Option}
 use Rattle.pip_model.specs.Answers.{pair_frames}
 use Rattle.std.proofs.lemmas.List.{take_all}
@@ -7,13 +7,13 @@ use Rattle.pip_base.specs.declared.types.Pair.{Pair}
 use Rattle.pip_base.specs.Memory.{Memory}
 use Rattle.pip_model.specs.FullRows.{FullRow}
 use Rattle.pip_model.specs.Midway.{Midway}
-use Rattle.pip_model.specs.Tree.{Tree, vpage}
+use Rattle.pip_model.specs.Tree.{Tree, chain, vpage}
 use Rattle.pip_space.specs.Rows.{HasRow}
-use Rattle.pip_kern.specs.Hiding.{CanSetUser, SetsUser}
+use Rattle.pip_kern.specs.Hiding.{CanSetUser, OnEachChain, SetsUser}
 use Rattle.pip_kern.proofs.Marking.{NameSays, OthersSay, can_name, can_set, marking_start, one_more, page_marked}
-use Rattle.pip_kern.proofs.Marking.{set_said}
+use Rattle.pip_kern.proofs.Marking.{said, set_said}
 use Rattle.pip_kern.specs.Taking.{CanTake, CanTakeEach, CanTakePage, CanTakePages, HasTaken, rows_taken, TakesPage}
-use Rattle.pip_kern.specs.Taking.{TakesPages}
+use Rattle.pip_kern.specs.Taking.{TakesPages, TakesPageIn, TakesPagesIn}
 
 -- no page is taken back yet
 pub taking_start : (t : Tree) (m : Memory) (rows : ℕ → ℕ → Option FullRow) (p : ℕ) → Midway m t rows
@@ -38,6 +38,14 @@ pub page_taken : (t : Tree) (p v g : ℕ) → CanTake t p v g → (rows : ℕ �
     → OthersSay n l p → HasTaken t rows p (gs ++ g ∷ []) m l
 page_taken t p v g can rows gs m k n says l named others = page_marked t p v g can rows true (λ f. 0) gs m k n
     (set_said t p v g can rows true (λ f. 0) gs m k n (says t)) l named others
+
+-- in so many steps
+pub takes_in : (m : Memory) (caller v before shown after : ℕ)
+    → OnEachChain m caller v (λ t rows r. shown ≤ before + 7 * length (chain t caller)) → after ≤ shown + 2
+    → TakesPageIn caller v m before after
+takes_in m caller v before shown after says then t rows gs g can k =
+    let one = said t caller v g can rows true (λ f. 0) gs m k (shown ≤ before + 7 * length (chain t caller)) (says t) in
+    omega (arith, one, then)
 
 -- ---- pages one after another
 
@@ -66,6 +74,16 @@ module _ (m n : Memory) (caller : ℕ) (ps : List Pair) (i v : ℕ) (q : Pair) (
       let old = so_far t rows gs each k in
       let new = says t rows (gs ++ pair_frames (take i ps)) q.frame (can_next t each) old.midway in
       one_more t rows caller true (λ g. 0) gs ps i q m n l low at old new
+
+  -- in so many steps
+  pub next_in : (before between after : ℕ) → TakesPagesIn caller ps i m before between
+      → TakesPageIn caller v n between after → TakesPagesIn caller ps (i + 1) m before after
+  unfolding can_next
+  next_in before between after so one t rows gs each k =
+      let old = so_far t rows gs each k in
+      let first = so t rows gs each k in
+      let last = one t rows (gs ++ pair_frames (take i ps)) q.frame (can_next t each) old.midway in
+      omega (arith, first, last)
 
 -- in the end all are
 pub all_taken : (m n : Memory) (caller : ℕ) (ps : List Pair) (i : ℕ) → length ps ≤ i

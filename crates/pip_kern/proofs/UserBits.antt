@@ -10,7 +10,7 @@ use Rattle.pip_model.specs.Midway.{Like, Midway, MidwayOnChain, OffChainStays, O
 use Rattle.pip_model.specs.Midway.{user_at}
 use Rattle.pip_model.specs.NodeIn.{Space, put_row}
 use Rattle.pip_model.specs.Sound.{IsSound}
-use Rattle.pip_model.specs.Tree.{Node, Tree, config, find_node, nodes, row_at, row_pages}
+use Rattle.pip_model.specs.Tree.{Node, Tree, chain, config, find_node, row_at, row_pages}
 use Rattle.pip_model.proofs.Trees.Ancestors.{name-config}
 use Rattle.pip_model.proofs.Trees.Chains.{chain-trans, chain_parent, chain_up, config_apart, root_chain}
 use Rattle.pip_model.proofs.Trees.Depth.{chain_differs, depth, depth_few, depth_some, depth_up, few_nodes}
@@ -111,7 +111,7 @@ pub record Setting (t : Tree) (rows : ℕ → ℕ → Option FullRow)
   pub x : Node
   pub x_is : find_node t at ≡ Some x
   pub above : OnChain t at caller
-  pub short : steps + depth t at ≤ length (nodes t)
+  pub long : steps + depth t at ≡ depth t caller
   pub r : FullRow
   pub r_is : rows at v ≡ Some r
   pub page : r.frame ≡ g
@@ -143,7 +143,14 @@ setting_parent t s rows caller g b old m at v steps h = subst (λ w. w < 2 ^ 20)
 pub setting_full : (t : Tree) → IsSound t
     → (rows : ℕ → ℕ → Option FullRow) (caller g : ℕ) (b : Bool) (old m : Memory) (at v steps : ℕ)
     → Setting t rows caller g b old m at v steps → steps ≡ t.frames → ⊥
-setting_full t s rows caller g b old m at v steps h e = let few = few_nodes t s in let short = h.short in
+setting_full t s rows caller g b old m at v steps h e = let few = few_nodes t s in let long = h.long in
+    let all = depth_few t caller in let some = depth_some t s at h.x h.x_is in omega arith
+
+-- nor more than there are partitions from the caller up to the root
+pub setting_chain : (t : Tree) → IsSound t → (rows : ℕ → ℕ → Option FullRow) (caller g : ℕ) (b : Bool)
+    (old m : Memory) (at v steps : ℕ) → Setting t rows caller g b old m at v steps → steps + 1 ≤ length (chain t caller)
+unfolding depth
+setting_chain t s rows caller g b old m at v steps h = let long = h.long in
     let some = depth_some t s at h.x h.x_is in omega arith
 
 module _ (t : Tree) (s : IsSound t) (rows : ℕ → ℕ → Option FullRow)
@@ -155,7 +162,7 @@ module _ (t : Tree) (s : IsSound t) (rows : ℕ → ℕ → Option FullRow)
     x = x;
     x_is = x_is;
     above = here;
-    short = (let few = depth_few t caller in omega arith);
+    long = omega arith;
     r = r;
     r_is = r_is;
     page = page;
@@ -249,13 +256,13 @@ module _ (t : Tree) (s : IsSound t) (rows : ℕ → ℕ → Option FullRow)
         let on : OnChain t h.x.up caller = chain-trans t h.x.up at caller (chain_parent t at h.x o) h.above in
         let (y, y_is, r, r_is, page) = row_above w from on in
         let low = depth_up t s at h.x o in
-        let short = h.short in
+        let long = h.long in
         let same : depth t p ≡ depth t h.x.up = ap (depth t) p_is in
         record {
           x = y;
           x_is = ap (find_node t) p_is ∙ y_is;
           above = subst (λ z. OnChain t z caller) (sym p_is) on;
-          short = omega arith;
+          long = omega arith;
           r = r;
           r_is = ap (λ z. rows z w) p_is ∙ r_is;
           page = page;

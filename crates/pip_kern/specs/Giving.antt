@@ -1,5 +1,5 @@
 -- Pages that a partition gives to a child as configuration, one after another.
-use Rattle.std.specs.Prelude.{◌≡◌, ℕ, Bool, false, List, [], ◌∷◌, ◌++◌, All, Option, Some}
+use Rattle.std.specs.Prelude.{◌≡◌, ℕ, ◌+◌, ◌*◌, ◌≤◌, Bool, false, List, [], ◌∷◌, ◌++◌, All, Option, Some, length}
 use Rattle.pip_model.specs.Accepted.{IsUnheld}
 use Rattle.pip_base.specs.declared.types.Pair.{Pair}
 use Rattle.pip_base.specs.Words.{as_configuration, shadow1_word}
@@ -7,7 +7,7 @@ use Rattle.pip_base.specs.Memory.{Memory}
 use Rattle.pip_model.specs.FullRows.{FullRow, use_of}
 use Rattle.pip_model.specs.Midway.{Midway, tree_rows}
 use Rattle.pip_model.specs.Sound.{IsSound}
-use Rattle.pip_model.specs.Tree.{Node, Row, Tree, find_node, row_at, vpage}
+use Rattle.pip_model.specs.Tree.{Node, Row, Tree, chain, find_node, row_at, vpage}
 use Rattle.pip_kern.specs.Marking.{HasMarked, row_marked, rows_marked}
 
 -- what the giver's first shadow says of a page that y has
@@ -71,3 +71,15 @@ abbrev pub GivesFurtherPages : ℕ → ℕ → List Pair → List ℕ → Memory
 GivesFurtherPages caller born ps fs m n = (t : Tree) (y : Node) (gs : List ℕ) → CanGiveEach t y born ps → y.up ≡ caller
     → Midway m t (rows_given t y gs)
     → HasGiven t y (gs ++ fs) m n
+
+-- ---- in how many steps
+
+-- the page at vpage v is given in 7 steps for each partition from the caller up to the root, and 2
+abbrev pub GivesPageIn : ℕ → ℕ → ℕ → Memory → ℕ → ℕ → Type 0
+GivesPageIn caller v w m before after = (t : Tree) (y : Node) (gs : List ℕ) (g : ℕ) → CanGive t y v w g
+    → y.up ≡ caller → Midway m t (rows_given t y gs) → after ≤ before + 7 * length (chain t caller) + 2
+
+-- and so are these pages, or the first of them
+abbrev pub GivesPagesIn : ℕ → ℕ → List Pair → ℕ → Memory → ℕ → ℕ → Type 0
+GivesPagesIn caller born ps count m before after = (t : Tree) (y : Node) (gs : List ℕ) → CanGiveEach t y born ps
+    → y.up ≡ caller → Midway m t (rows_given t y gs) → after ≤ before + count * (7 * length (chain t caller) + 2)

@@ -1,10 +1,10 @@
 -- Pages that a partition takes back from a child, one after another.
-use Rattle.std.specs.Prelude.{ℕ, true, Bool, List, [], ◌∷◌, ◌++◌, All, Option}
+use Rattle.std.specs.Prelude.{ℕ, ◌+◌, ◌*◌, ◌≤◌, true, Bool, List, [], ◌∷◌, ◌++◌, All, Option, length}
 use Rattle.pip_base.specs.declared.types.Pair.{Pair}
 use Rattle.pip_base.specs.Memory.{Memory}
 use Rattle.pip_model.specs.FullRows.{FullRow}
 use Rattle.pip_model.specs.Midway.{Midway}
-use Rattle.pip_model.specs.Tree.{Tree, vpage}
+use Rattle.pip_model.specs.Tree.{Tree, chain, vpage}
 use Rattle.pip_kern.specs.Marking.{CanMark, HasMarked, row_marked, rows_marked}
 
 -- a row when these pages were taken back: it is open, and the taker's own says that no child has the page
@@ -55,3 +55,16 @@ abbrev pub TakesPages : ℕ → List Pair → List ℕ → Memory → Memory →
 TakesPages caller ps fs m n = (t : Tree) (rows : ℕ → ℕ → Option FullRow) (gs : List ℕ) → CanTakeEach t caller ps
     → Midway m t (rows_taken rows caller gs)
     → HasTaken t rows caller (gs ++ fs) m n
+
+-- ---- in how many steps
+
+-- the page at vpage v is taken back in 7 steps for each partition from the caller up to the root, and 2
+abbrev pub TakesPageIn : ℕ → ℕ → Memory → ℕ → ℕ → Type 0
+TakesPageIn caller v m before after = (t : Tree) (rows : ℕ → ℕ → Option FullRow) (gs : List ℕ) (g : ℕ)
+    → CanTake t caller v g → Midway m t (rows_taken rows caller gs) → after ≤ before + 7 * length (chain t caller) + 2
+
+-- and so are these pages, or the first of them
+abbrev pub TakesPagesIn : ℕ → List Pair → ℕ → Memory → ℕ → ℕ → Type 0
+TakesPagesIn caller ps count m before after = (t : Tree) (rows : ℕ → ℕ → Option FullRow) (gs : List ℕ)
+    → CanTakeEach t caller ps → Midway m t (rows_taken rows caller gs)
+    → after ≤ before + count * (7 * length (chain t caller) + 2)

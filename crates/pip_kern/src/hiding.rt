@@ -1,10 +1,11 @@
 //! Pages hidden from the user, and opened again. Each function here is called in the middle of a call: the memory holds
 //! the caller and its ancestors, with rows that are the tree's but for user bits and for which child a page is given
 //! to.
-ghost use Rattle.std.specs.Prelude.{◌≡◌, ◌<◌, ◌^◌, true, false, Option, Some, length};
+ghost use Rattle.std.specs.Prelude.{◌≡◌, ◌+◌, ◌*◌, ◌<◌, ◌≤◌, ◌^◌, true, false, Option, Some, length};
 ghost use Rattle.pip_base.specs.Memory.{word_at};
 ghost use Rattle.pip_entry.specs.Sh2.{packed_sh2};
-ghost use Rattle.pip_kern.specs.Hiding.{CanSetUser, IsAbove, SetsUser, UserSetIn};
+ghost use Rattle.pip_kern.specs.Hiding.{CanSetUser, IsAbove, OnEachChain, SetsUser, UserSetIn};
+ghost use Rattle.pip_model.specs.Tree.{chain};
 ghost use Rattle.pip_space.specs.Nodes.{InEachRow};
 ghost use Rattle.pip_space.specs.Rows.{HasRow};
 
@@ -33,7 +34,8 @@ fn one_up<M: Frames, L: Ledger>(
 ) -> Option<Above>
     requires frame { part < length (M.memory mem.now) }
     requires parent { word_at (M.memory mem.now) part PARENT < 2 ^ 20 }
-    ensures { IsAbove (word_at (M.memory mem.now) part PARENT) (packed_sh2 from) result }
+    ensures above { IsAbove (word_at (M.memory mem.now) part PARENT) (packed_sh2 from) result }
+    ensures steps { steps.new ≤ steps.old + 1 }
 {
     match from {
         Sh2::Empty => None,
@@ -57,6 +59,7 @@ fn set_user_in<M: Frames, L: Ledger>(
     ensures count { length (M.memory mem.new) ≡ length (M.memory mem.old) }
     ensures user { InEachRow (M.memory mem.old) part v (λ x rows r.
         UserSetIn x rows v r user (M.memory mem.old) (M.memory mem.new) result) }
+    ensures steps { steps.new ≤ steps.old + 7 }
 {
     let above = place_above(mem, part, v, steps);
     let up = one_up(mem, part, above, steps);
@@ -76,6 +79,9 @@ fn set_user_above<M: Frames, L: Ledger>(
     requires { CanSetUser (M.memory mem.old) caller v }
     ensures count { length (M.memory mem.new) ≡ length (M.memory mem.old) }
     ensures user { SetsUser caller v user (M.memory mem.old) (M.memory mem.new) }
+    ensures steps { steps.new ≤ steps.old + 7 * length (M.memory mem.old) }
+    ensures chain { OnEachChain (M.memory mem.old) caller v (λ t rows r.
+        steps.new ≤ steps.old + 7 * length (chain t caller)) }
 {
     let mut at = caller;
     let mut place = v;
@@ -97,6 +103,9 @@ pub fn hide<M: Frames, L: Ledger>(mem: &mut M, caller: Frame, v: VPage, steps: &
     requires { CanSetUser (M.memory mem.old) caller v }
     ensures count { length (M.memory mem.new) ≡ length (M.memory mem.old) }
     ensures user { SetsUser caller v false (M.memory mem.old) (M.memory mem.new) }
+    ensures steps { steps.new ≤ steps.old + 7 * length (M.memory mem.old) }
+    ensures chain { OnEachChain (M.memory mem.old) caller v (λ t rows r.
+        steps.new ≤ steps.old + 7 * length (chain t caller)) }
 {
     set_user_above(mem, caller, v, false, steps);
 }
@@ -107,6 +116,9 @@ pub fn show<M: Frames, L: Ledger>(mem: &mut M, caller: Frame, v: VPage, steps: &
     requires { CanSetUser (M.memory mem.old) caller v }
     ensures count { length (M.memory mem.new) ≡ length (M.memory mem.old) }
     ensures user { SetsUser caller v true (M.memory mem.old) (M.memory mem.new) }
+    ensures steps { steps.new ≤ steps.old + 7 * length (M.memory mem.old) }
+    ensures chain { OnEachChain (M.memory mem.old) caller v (λ t rows r.
+        steps.new ≤ steps.old + 7 * length (chain t caller)) }
 {
     set_user_above(mem, caller, v, true, steps);
 }

@@ -1,10 +1,10 @@
 //! Parents, children and chains of partitions.
-ghost use Rattle.std.specs.Prelude.{◌≡◌, ◌+◌, ◌%◌, ◌≤◌, ◌↔◌, Option, Some, option_map, true};
+ghost use Rattle.std.specs.Prelude.{◌≡◌, ◌+◌, ◌%◌, ◌≤◌, ◌↔◌, Option, Some, length, option_map, true};
 ghost use Rattle.pip_model.specs.FullRows.{FullRow, row_word};
 ghost use Rattle.pip_model.specs.declared.level.Level.TheVariants.{Mmu};
 ghost use Rattle.pip_model.specs.Midway.{OnChain};
 ghost use Rattle.pip_model.specs.Partitions.{HasPartition, InEach};
-ghost use Rattle.pip_model.specs.Tree.{child_at as tree_child_at};
+ghost use Rattle.pip_model.specs.Tree.{chain, child_at as tree_child_at};
 ghost use Rattle.pip_space.specs.Rows.{IsPacked};
 
 use pip_base::{Frame, Steps, VPage, never};
@@ -75,7 +75,9 @@ pub fn is_below<M: Frames, L: Ledger>(
     steps: &mut Steps<L>,
 ) -> bool
     requires { HasPartition (M.memory mem.now) part }
-    ensures { InEach (M.memory mem.now) part (λ t x. (result ≡ true) ↔ OnChain t top part) }
+    ensures below { InEach (M.memory mem.now) part (λ t x. (result ≡ true) ↔ OnChain t top part) }
+    ensures steps { steps.new ≤ steps.old + length (M.memory mem.now) }
+    ensures chain { InEach (M.memory mem.now) part (λ t x. steps.new ≤ steps.old + length (chain t part)) }
 {
     let mut at = part;
     for _i in 0..mem.count() {

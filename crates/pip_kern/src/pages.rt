@@ -1,11 +1,13 @@
 //! Pages that the caller gives to a child as configuration, and takes back. Each function here is called in the middle
 //! of a call: each node of the tree has rows that are its own but for user bits and for which child a page is given to.
 //! No child of the caller has a page that is given or taken back.
-ghost use Rattle.std.specs.Prelude.{◌≡◌, ◌≢◌, length};
+ghost use Rattle.std.specs.Prelude.{◌≡◌, ◌≢◌, ◌+◌, ◌*◌, ◌≤◌, length};
 ghost use Rattle.pip_model.specs.Answers.{pair_frames};
 ghost use Rattle.pip_entry.specs.Sh1.{IsSh1, packed_sh1};
 ghost use Rattle.pip_kern.specs.Taking.{CanTakePage, CanTakePages, TakesPage, TakesPages};
+ghost use Rattle.pip_kern.specs.Taking.{TakesPageIn, TakesPagesIn};
 ghost use Rattle.pip_kern.specs.Giving.{CanGivePage, CanGivePages, GivesPage, GivesFurtherPages};
+ghost use Rattle.pip_kern.specs.Giving.{GivesPageIn, GivesPagesIn};
 
 use crate::hiding::{hide, show};
 use pip_base::{Frame, Pair, Steps, VPage};
@@ -27,6 +29,8 @@ pub fn give_page<M: Frames, L: Ledger>(
     requires given { IsSh1 given }
     ensures count { length (M.memory mem.new) ≡ length (M.memory mem.old) }
     ensures given { GivesPage caller v (packed_sh1 given) (M.memory mem.old) (M.memory mem.new) }
+    ensures steps { steps.new ≤ steps.old + 7 * length (M.memory mem.old) + 2 }
+    ensures chain { GivesPageIn caller v (packed_sh1 given) (M.memory mem.old) steps.old steps.new }
 {
     hide(mem, caller, v, steps);
     set_given(mem, caller, v, given, steps);
@@ -46,6 +50,8 @@ pub fn give_pages<M: Frames, L: Ledger>(
     ensures count { length (M.memory mem.new) ≡ length (M.memory mem.old) }
     ensures given { GivesFurtherPages caller born pages.now (pair_frames pages.now)
         (M.memory mem.old) (M.memory mem.new) }
+    ensures steps { steps.new ≤ steps.old + length pages.now * (7 * length (M.memory mem.old) + 2) }
+    ensures chain { GivesPagesIn caller born pages.now (length pages.now) (M.memory mem.old) steps.old steps.new }
 {
     for page in pages {
         give_page(
@@ -64,6 +70,8 @@ pub fn take_page<M: Frames, L: Ledger>(mem: &mut M, caller: Frame, v: VPage, ste
     requires { CanTakePage (M.memory mem.old) caller v }
     ensures count { length (M.memory mem.new) ≡ length (M.memory mem.old) }
     ensures taken { TakesPage caller v (M.memory mem.old) (M.memory mem.new) }
+    ensures steps { steps.new ≤ steps.old + 7 * length (M.memory mem.old) + 2 }
+    ensures chain { TakesPageIn caller v (M.memory mem.old) steps.old steps.new }
 {
     show(mem, caller, v, steps);
     set_given(mem, caller, v, Sh1::Free, steps);
@@ -80,6 +88,8 @@ pub fn take_pages<M: Frames, L: Ledger>(
     ensures count { length (M.memory mem.new) ≡ length (M.memory mem.old) }
     ensures taken { TakesPages caller pages.now (pair_frames pages.now)
         (M.memory mem.old) (M.memory mem.new) }
+    ensures steps { steps.new ≤ steps.old + length pages.now * (7 * length (M.memory mem.old) + 2) }
+    ensures chain { TakesPagesIn caller pages.now (length pages.now) (M.memory mem.old) steps.old steps.new }
 {
     for page in pages {
         take_page(mem, caller, VPage::of_address(page.va), steps);

@@ -53,6 +53,7 @@ pub fn check_child<M: Frames, L: Ledger>(
     ensures child { InEach (M.memory mem.now) caller (λ t x.
         Tested (child_tests t caller places.now d) (λ c. IsChildAt t caller d c) result) }
     ensures stands { IfOk result (λ c. HasPartition (M.memory mem.now) c) }
+    ensures steps { steps.new ≤ steps.old + 6 }
 {
     check_places(places)?;
     match child_at(mem, caller, d, steps) {

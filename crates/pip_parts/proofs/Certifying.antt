@@ -1,10 +1,10 @@
 -- Lines that could be merged say what their parts say.
-use Rattle.std.specs.Prelude.{◌≡◌, refl, ℕ, zero, suc, ◌+◌, ◌<◌, ◌≤◌, ◌&&◌, ◌==◌, Bool, true, false, List, []}
+use Rattle.std.specs.Prelude.{◌≡◌, refl, ℕ, zero, suc, ◌+◌, ◌<◌, ◌≤◌, true, List, []}
 use Rattle.std.specs.Prelude.{◌∷◌, ◌++◌, length, map, flat_map, Option, Some, Ok, slice_get}
 use Rattle.std.specs.List.{AllByRecursion, Contains, sum_by}
 use Rattle.std.specs.List.Sorted.{IsPermutation}
-use Rattle.std.proofs.Common.{inl, inr, ap, sym, subst, ◌∙◌, arith, cond}
-use Rattle.std.proofs.lemmas.Bool.{cases_lt}
+use Rattle.std.proofs.Common.{inl, inr, ap, sym, ◌∙◌, arith}
+use Rattle.std.proofs.lemmas.Bool.{and_parts, cases_order}
 use Rattle.std.proofs.lemmas.List.{length-map, map-append}
 use Rattle.std.proofs.lemmas.List.Elements.{All-from_recursion, Contains-append_cases, Contains-append_left}
 use Rattle.std.proofs.lemmas.List.Elements.{Contains-append_right}
@@ -19,7 +19,7 @@ use Rattle.pip_search.proofs.Certified.{certificates_count_all, certificates_say
 use Rattle.pip_search.proofs.Picking.{at_map, map_at}
 use Rattle.pip_ways.specs.Texts.{inner}
 use Rattle.pip_parts.specs.Entries.{Asks, Entry, Own, Shows, Tells, entry_line, entry_of, key_digits}
-use Rattle.pip_parts.specs.MergeLaw.{AreChecked, IsSmallPart, IsSmallStop, LinesOfPartsMerge, ToldPart, lines_of_part}
+use Rattle.pip_parts.specs.MergeLaw.{AreChecked, IsSmallPart, LinesOfPartsMerge, ToldPart, lines_of_part}
 use Rattle.pip_parts.specs.Merges.{Merging, is_whole, merge_lines, no_merging}
 use Rattle.pip_parts.proofs.EntryLines.{asks_back, digits_are, own_back, same_digits, shows_back, tells_back}
 use Rattle.pip_parts.proofs.Runs.{IsThere, IsTold, IsWithin, asked_there, begin, deep, has_key, is_own}
@@ -31,51 +31,43 @@ use Rattle.pip_parts.proofs.Steps.{lines_are, merge_all}
 module _ {X : Type 0} where
   -- an element is at some place
   at_place : (xs : List X) (x : X) → Contains xs x → (i : ℕ) × (slice_get xs i ≡ Some x)
-  at_place [] x c = let low = c.1 in absurd (omega (arith, low))
-  at_place (y ∷ xs) x (zero, low, is) = (0, ap (λ z. Some z) is)
-  at_place (y ∷ xs) x (suc k, low, is) = let w = at_place xs x (k, omega (arith, low), is) in (suc w.0, w.1)
+  at_place [] x c = absurd (omega arith)
+  at_place (y ∷ xs) x (zero, low, is) = (0, cc)
+  at_place (y ∷ xs) x (suc k, low, is) = let (j, at) = at_place xs x (k, omega arith, is) in (suc j, at)
 
   -- and what is at a place is an element
   from_place : (xs : List X) (i : ℕ) (x : X) → slice_get xs i ≡ Some x → Contains xs x
   from_place [] i x e = absurd cc
-  from_place (y ∷ xs) zero x e = let same : y ≡ x = cc in (0, omega arith, same)
-  from_place (y ∷ xs) (suc i) x e =
-      let c = from_place xs i x e in let low = c.1 in (suc c.0, omega (arith, low), c.2)
+  from_place (y ∷ xs) zero x e = (0, omega arith, cc)
+  from_place (y ∷ xs) (suc i) x e = let (j, low, is) = from_place xs i x e in (suc j, omega arith, is)
 
   -- what holds of each holds of one
   of_each : (P : X → Type 0) (xs : List X) (x : X) → AllByRecursion P xs → Contains xs x → P x
-  of_each P xs x all c = subst P c.2 (All-from_recursion P xs all c.0 x c.1)
+  of_each P xs x all (k, low, is) = rw is at (All-from_recursion P xs all k x low)
 
   -- two places of which a count takes each are counted twice
   one_counts : (f : X → ℕ) (xs : List X) (i : ℕ) (x : X) → slice_get xs i ≡ Some x → f x ≤ sum_by f xs
   one_counts f [] i x e = absurd cc
-  one_counts f (y ∷ xs) zero x e =
-      let same : f y ≡ f x = let z : y ≡ x = cc in ap f z in
-      let sum = sum_by-cons f y xs in omega (arith, sum, same)
-  one_counts f (y ∷ xs) (suc i) x e =
-      let rest = one_counts f xs i x e in let sum = sum_by-cons f y xs in omega (arith, sum, rest)
+  one_counts f (y ∷ xs) zero x e = grind (arith, sum_by-cons f y xs)
+  one_counts f (y ∷ xs) (suc i) x e = omega (arith, sum_by-cons f y xs, one_counts f xs i x e)
 
   two_count : (f : X → ℕ) (xs : List X) (i j : ℕ) (x y : X) → i < j → slice_get xs i ≡ Some x → slice_get xs j ≡ Some y
       → f x + f y ≤ sum_by f xs
   two_count f [] i j x y low e d = absurd cc
-  two_count f (z ∷ xs) zero zero x y low e d = absurd (omega (arith, low))
-  two_count f (z ∷ xs) zero (suc j) x y low e d =
-      let same : f z ≡ f x = let w : z ≡ x = cc in ap f w in
-      let rest = one_counts f xs j y d in let sum = sum_by-cons f z xs in omega (arith, sum, rest, same)
-  two_count f (z ∷ xs) (suc i) zero x y low e d = absurd (omega (arith, low))
+  two_count f (z ∷ xs) i zero x y low e d = absurd (omega arith)
+  two_count f (z ∷ xs) zero (suc j) x y low e d = grind (arith, sum_by-cons f z xs, one_counts f xs j y d)
   two_count f (z ∷ xs) (suc i) (suc j) x y low e d =
-      let rest = two_count f xs i j x y (omega (arith, low)) e d in
-      let sum = sum_by-cons f z xs in omega (arith, sum, rest)
+      omega (arith, sum_by-cons f z xs, two_count f xs i j x y (omega arith) e d)
 
 module _ {X Y : Type 0} (f : X → Y) where
   sum_mapped : (g : Y → ℕ) (xs : List X) → sum_by g (map f xs) ≡ sum_by (λ x. g (f x)) xs
   sum_mapped g [] = refl
-  sum_mapped g (x ∷ xs) = sum_by-cons g (f x) (map f xs) ∙ ap (λ n. g (f x) + n) (sum_mapped g xs)
-      ∙ sym (sum_by-cons (λ x. g (f x)) x xs)
+  sum_mapped g (x ∷ xs) =
+      omega (arith, sum_by-cons g (f x) (map f xs), sum_mapped g xs, sum_by-cons (λ x. g (f x)) x xs)
 
 sum_ones : {X : Type 0} (xs : List X) → sum_by (λ x. 1) xs ≡ length xs
 sum_ones [] = refl
-sum_ones (x ∷ xs) = let a = sum_by-cons (λ x. 1) x xs in let b = sum_ones xs in omega (arith, a, b)
+sum_ones {X = X} (x ∷ xs) = omega (arith, sum_by-cons {X = X} (λ x. 1) x xs, sum_ones xs)
 
 -- ---- what the lines of parts say
 
@@ -102,52 +94,31 @@ said_all (t ∷ ts) = said_of t ++ said_all ts
 abbrev portions : List ToldPart → List Portion
 portions ts = map (λ t. t.portion) ts
 
-back_own : (xs : List Stop) → ((j : ℕ) (x : Stop) → slice_get xs j ≡ Some x → IsSmallStop x)
-    → map entry_of (map (λ x. entry_line (Own (key_digits x.key) x.depth)) xs) ≡ map said_own xs
-back_own [] small = refl
-back_own (x ∷ xs) small =
-    ap (λ o. o ∷ map entry_of (map (λ x. entry_line (Own (key_digits x.key) x.depth)) xs))
-    (own_back (key_digits x.key) x.depth (digits_are x.key) (small 0 x refl).depth)
-    ∙ ap (λ os. said_own x ∷ os) (back_own xs (λ j y e. small (suc j) y e))
-
-back_asks : (xs : List Stop) → ((j : ℕ) (x : Stop) → slice_get xs j ≡ Some x → IsSmallStop x)
-    → map entry_of (map (λ x. entry_line (Asks (key_digits x.key) x.depth)) xs) ≡ map said_asks xs
-back_asks [] small = refl
-back_asks (x ∷ xs) small =
-    ap (λ o. o ∷ map entry_of (map (λ x. entry_line (Asks (key_digits x.key) x.depth)) xs))
-    (asks_back (key_digits x.key) x.depth (digits_are x.key) (small 0 x refl).depth)
-    ∙ ap (λ os. said_asks x ∷ os) (back_asks xs (λ j y e. small (suc j) y e))
-
-back_labels : (ls : List (List ℕ)) → map entry_of (map (λ label. entry_line (Shows (inner label))) ls)
-    ≡ map said_label ls
-back_labels [] = refl
-back_labels (l ∷ ls) =
-    ap (λ o. o ∷ map entry_of (map (λ label. entry_line (Shows (inner label))) ls)) (shows_back (inner l))
-    ∙ ap (λ os. said_label l ∷ os) (back_labels ls)
+back : {X : Type 0} (f : X → List ℕ) (g : X → Option Entry) (xs : List X)
+    → ((j : ℕ) (x : X) → slice_get xs j ≡ Some x → entry_of (f x) ≡ g x) → map entry_of (map f xs) ≡ map g xs
+back f g [] h = refl
+back f g (x ∷ xs) h = cc (h 0 x refl, back f g xs (λ j y e. h (suc j) y e))
 
 -- the lines of a part say what they are written for
 part_back : (t : ToldPart) → IsSmallPart t → map entry_of (lines_of_part t) ≡ said_of t
-part_back t small =
-    let ks = map (λ x. entry_line (Own (key_digits x.key) x.depth)) t.portion.keys in
-    let bs = map (λ x. entry_line (Asks (key_digits x.key) x.depth)) t.portion.asked in
-    let cs = map (λ label. entry_line (Shows (inner label))) t.portion.labels in
-    let ds = entry_line (Tells t.about t.way (length t.portion.keys) (length t.portion.asked)) ∷ [] in
-    map-append entry_of ks (bs ++ (cs ++ ds))
-    ∙ ap (λ os. os ++ map entry_of (bs ++ (cs ++ ds))) (back_own t.portion.keys small.keys)
-    ∙ ap (λ os. map said_own t.portion.keys ++ os) (map-append entry_of bs (cs ++ ds)
-    ∙ ap (λ os. os ++ map entry_of (cs ++ ds)) (back_asks t.portion.asked small.asked)
-    ∙ ap (λ os. map said_asks t.portion.asked ++ os) (map-append entry_of cs ds
-    ∙ ap (λ os. os ++ map entry_of ds) (back_labels t.portion.labels)
-    ∙ ap (λ o. map said_label t.portion.labels ++ o ∷ [])
-    (tells_back t.about t.way (length t.portion.keys) (length t.portion.asked) small.way small.count small.asks)))
+part_back t small = simp (
+  map-append,
+  back (λ x. entry_line (Own (key_digits x.key) x.depth)) said_own t.portion.keys
+      (λ j x e. own_back (key_digits x.key) x.depth (digits_are x.key) (small.keys j x e).depth),
+  back (λ x. entry_line (Asks (key_digits x.key) x.depth)) said_asks t.portion.asked
+      (λ j x e. asks_back (key_digits x.key) x.depth (digits_are x.key) (small.asked j x e).depth),
+  back (λ label. entry_line (Shows (inner label))) said_label t.portion.labels (λ j l e. shows_back (inner l)),
+  tells_back t.about t.way (length t.portion.keys) (length t.portion.asked) small.way small.count small.asks,
+)
 
 all_back : (ts : List ToldPart) → ((j : ℕ) (t : ToldPart) → slice_get ts j ≡ Some t → IsSmallPart t)
     → map entry_of (flat_map lines_of_part ts) ≡ said_all ts
 all_back [] small = refl
-all_back (t ∷ ts) small =
-    map-append entry_of (lines_of_part t) (flat_map lines_of_part ts)
-    ∙ ap (λ os. os ++ map entry_of (flat_map lines_of_part ts)) (part_back t (small 0 t refl))
-    ∙ ap (λ os. said_of t ++ os) (all_back ts (λ j u e. small (suc j) u e))
+all_back (t ∷ ts) small = rw (
+  map-append entry_of (lines_of_part t) (flat_map lines_of_part ts),
+  part_back t (small 0 t refl),
+  all_back ts (λ j u e. small (suc j) u e),
+)
 
 -- ---- from parts to lines, and back
 
@@ -155,13 +126,12 @@ in_part : (ts : List ToldPart) (j : ℕ) (t : ToldPart) (o : Option Entry) → s
     → Contains (said_of t) o → Contains (said_all ts) o
 in_part [] j t o at c = absurd cc
 in_part (u ∷ ts) zero t o at c =
-    let same : u ≡ t = cc in
-    Contains-append_left (said_of u) (said_all ts) o (subst (λ v. Contains (said_of v) o) (sym same) c)
+    let same : u ≡ t = cc in Contains-append_left (said_of u) (said_all ts) o (rw same c)
 in_part (u ∷ ts) (suc j) t o at c = Contains-append_right (said_of u) (said_all ts) o (in_part ts j t o at c)
 
 of_parts : (ts : List ToldPart) (o : Option Entry) → Contains (said_all ts) o
     → (j : ℕ) × ((t : ToldPart) × ((slice_get ts j ≡ Some t) × Contains (said_of t) o))
-of_parts [] o c = let low = c.1 in absurd (omega (arith, low))
+of_parts [] o c = absurd (omega arith)
 of_parts (u ∷ ts) o c = elim (Contains-append_cases (said_of u) (said_all ts) o c) [
   | inl own ↦ (0, (u, (refl, own)))
   | inr more ↦ let (j, (t, (at, has))) = of_parts ts o more in (suc j, (t, (at, has)))
@@ -274,40 +244,30 @@ stop_in (t ∷ ts) i x e = elim (get_either t.portion.keys (all_stops (portions 
 
 sum_none : {X : Type 0} (g : X → ℕ) (xs : List X) → ((x : X) → g x ≡ 0) → sum_by g xs ≡ 0
 sum_none g [] h = refl
-sum_none g (x ∷ xs) h =
-    let a = sum_by-cons g x xs in let b = sum_none g xs h in let c = h x in omega (arith, a, b, c)
+sum_none g (x ∷ xs) h = omega (arith, sum_by-cons g x xs, sum_none g xs h, h x)
 
 module _ (f : Option Entry → ℕ) (no_asks : (x : Stop) → f (said_asks x) ≡ 0)
     (no_label : (l : List ℕ) → f (said_label l) ≡ 0) (no_part : (t : ToldPart) → f (said_part t) ≡ 0)
   where
     sum_of : (t : ToldPart) → sum_by f (said_of t) ≡ sum_by (λ x. f (said_own x)) t.portion.keys
     sum_of t =
-        let a = sum_by-append f (map said_own t.portion.keys) (after_own t) in
-        let b = sum_by-append f (map said_asks t.portion.asked) (after_asks t) in
-        let c = sum_by-append f (map said_label t.portion.labels) (said_part t ∷ []) in
-        let d = sum_by-cons f (said_part t) [] in
-        let z : sum_by f [] ≡ 0 = refl in
-        let e = sum_mapped said_own f t.portion.keys in
-        let k = sum_mapped said_asks f t.portion.asked ∙ sum_none (λ x. f (said_asks x)) t.portion.asked no_asks in
-        let l = sum_mapped said_label f t.portion.labels ∙ sum_none (λ x. f (said_label x)) t.portion.labels no_label in
-        let n = no_part t in
-        omega (arith, a, b, c, d, z, e, k, l, n)
+        let asks : sum_by f (map said_asks t.portion.asked) ≡ 0 =
+        rw (sum_mapped said_asks f) (sum_none (λ x. f (said_asks x)) t.portion.asked no_asks) in
+        let labels : sum_by f (map said_label t.portion.labels) ≡ 0 =
+        rw (sum_mapped said_label f) (sum_none (λ x. f (said_label x)) t.portion.labels no_label) in
+        simp (sum_by-append, sum_mapped said_own f, asks, labels, no_part) (omega arith)
 
     sum_all : (ts : List ToldPart) → sum_by f (said_all ts) ≡ sum_by (λ x. f (said_own x)) (all_stops (portions ts))
     unfolding all_stops
     sum_all [] = refl
-    sum_all (t ∷ ts) =
-        let a = sum_by-append f (said_of t) (said_all ts) in
-        let b = sum_by-append (λ x. f (said_own x)) t.portion.keys (all_stops (portions ts)) in
-        let c = sum_of t in
-        let d = sum_all ts in
-        omega (arith, a, b, c, d)
+    sum_all (t ∷ ts) = rw (
+      sum_by-append f (said_of t) (said_all ts),
+      sum_by-append (λ x. f (said_own x)) t.portion.keys (all_stops (portions ts)),
+      sum_of t,
+      sum_all ts,
+    )
 
 -- ---- the law
-
-and_left : (a b : Bool) → (a && b) ≡ true → a ≡ true
-and_left true b h = refl
-and_left false b h = absurd cc
 
 module _ (m : Model) (start : List ℕ) (s : m.State) (ts : List ToldPart) (lines : List (List ℕ)) (g : Merging)
     (checked : AreChecked m s start ts) (shuffled : IsPermutation (flat_map lines_of_part ts) lines)
@@ -320,37 +280,37 @@ module _ (m : Model) (start : List ℕ) (s : m.State) (ts : List ToldPart) (line
     ps = portions ts
 
     all : merge_all no_merging os ≡ Ok g
-    all = sym (lines_are no_merging lines) ∙ run
+    all = rw (← lines_are no_merging lines) run
 
     same : IsPermutation (said_all ts) os
-    same = subst (λ xs. IsPermutation xs os) (all_back ts checked.small)
-        (IsPermutation-map entry_of (flat_map lines_of_part ts) lines shuffled)
+    same = rw (← all_back ts checked.small) (IsPermutation-map entry_of (flat_map lines_of_part ts) lines shuffled)
 
     forth : (o : Option Entry) → Contains (said_all ts) o → Contains os o
     forth o c = Contains-permutation (said_all ts) os o same c
 
-    back : (o : Option Entry) → Contains os o → Contains (said_all ts) o
-    back o c = Contains-permutation os (said_all ts) o (IsPermutation-sym (said_all ts) os same) c
+    back_in : (o : Option Entry) → Contains os o → Contains (said_all ts) o
+    back_in o c = Contains-permutation os (said_all ts) o (IsPermutation-sym (said_all ts) os same) c
 
     states_same : length (all_keys ps) ≡ g.keys.states
-    states_same =
-        let a = states_are os no_merging g all in
-        let b = sum_by-IsPermutation is_own (said_all ts) os same in
-        let c = sum_all is_own (λ x. refl) (λ l. refl) (λ t. refl) ts in
-        let d = sum_ones (all_stops ps) in
-        let e = length-map (all_stops ps) (λ x. x.key) in
-        omega (arith, a, b, c, d, e)
+    states_same = omega (
+      arith,
+      states_are os no_merging g all,
+      sum_by-IsPermutation is_own (said_all ts) os same,
+      sum_all is_own (λ x. refl) (λ l. refl) (λ t. refl) ts,
+      sum_ones (all_stops ps),
+      length-map (all_stops ps) (λ x. x.key),
+    )
 
     is_once : (key : List ℕ) → sum_by (λ x. has_key key (said_own x)) (all_stops ps) ≤ 1
-    is_once key =
-        let a = (none_twice os no_merging g key all).once in
-        let b = sum_by-IsPermutation (has_key key) (said_all ts) os same in
-        let c = sum_all (has_key key) (λ x. refl) (λ l. refl) (λ t. refl) ts in
-        omega (arith, a, b, c)
+    is_once key = omega (
+      arith,
+      (none_twice os no_merging g key all).once,
+      sum_by-IsPermutation (has_key key) (said_all ts) os same,
+      sum_all (has_key key) (λ x. refl) (λ l. refl) (λ t. refl) ts,
+    )
 
     counts_one : (x : Stop) (name : List ℕ) → x.key ≡ name → has_key (key_digits name) (said_own x) ≡ 1
-    counts_one x name is =
-        ap (λ b. cond b 1 0) ((bytes_eq-Decides (key_digits x.key) (key_digits name)).1 (ap key_digits is))
+    counts_one x name is = rw ((bytes_eq-Decides (key_digits x.key) (key_digits name)).1 (ap key_digits is))
 
     all_distinct : AreDistinct (all_keys ps)
     all_distinct i j name e d =
@@ -360,12 +320,10 @@ module _ (m : Model) (start : List ℕ) (s : m.State) (ts : List ToldPart) (line
         let a = counts_one x name one in
         let b = counts_one y name two in
         let most = is_once (key_digits name) in
-        elim (cases_lt i j) [
-          | inl less ↦ let n = two_count f (all_stops ps) i j x y less at bt in absurd (omega (arith, a, b, n, most))
-          | inr more ↦ elim (cases_lt j i) [
-            | inl less ↦ let n = two_count f (all_stops ps) j i y x less bt at in absurd (omega (arith, a, b, n, most))
-            | inr other ↦ omega arith
-          ]
+        elim (cases_order i j) [
+          | inl same ↦ same
+          | inr (inl h) ↦ absurd (omega (arith, a, b, most, two_count f (all_stops ps) i j x y h at bt))
+          | inr (inr h) ↦ absurd (omega (arith, a, b, most, two_count f (all_stops ps) j i y x h bt at))
         ]
 
     in_some : (j : ℕ) (t : ToldPart) (key : List ℕ) (n : ℕ) → slice_get ts j ≡ Some t → HasStop t.portion.keys key n
@@ -381,35 +339,32 @@ module _ (m : Model) (start : List ℕ) (s : m.State) (ts : List ToldPart) (line
     start_there = elim (begin os no_merging g all begins) [
       | inl not_yet ↦ absurd cc
       | inr b ↦
-          let (j, (t, (at, none))) = first_of ts b.about b.keys b.asked (back (Some (Tells b.about 0 b.keys b.asked))
+          let (j, (t, (at, none))) = first_of ts b.about b.keys b.asked (back_in (Some (Tells b.about 0 b.keys b.asked))
           b.there) in in_some j t start 0 at (checked.begin j t at none)
     ]
       where
         begins : g.parts.begins ≡ true
-        begins = and_left g.parts.begins (g.keys.states == g.parts.keys)
-            (and_left (g.parts.begins && g.keys.states == g.parts.keys) (g.keys.asked == g.parts.asked) whole)
+        begins = grind (arith, and_parts)
 
     asked_are : (j k : ℕ) (p : Portion) (x : Stop) → slice_get ps j ≡ Some p → slice_get p.asked k ≡ Some x
         → IsInSome ps x.key x.depth
     asked_are j k p x at e =
         let (t, (there, is)) = at_map (λ (u : ToldPart). u.portion) ts j p at in
-        let own : slice_get t.portion.asked k ≡ Some x = ap (λ (q : Portion). slice_get q.asked k) is ∙ e in
+        let own : slice_get t.portion.asked k ≡ Some x = rw is e in
         let c = forth (said_asks x) (in_part ts j t (said_asks x) there (asks_in t k x own)) in
         let small = (checked.small j t there).asked k x own in
         elim (of_each (IsThere no_merging os) os (said_asks x) (asked_there os no_merging g all) c) [
           | inl h ↦
-              let o = own_of ts (key_digits x.key) h.own (back (Some (Own (key_digits x.key) h.own)) h.there) in
-              let soon = h.soon in
-              let d = o.depth in
+              let o = own_of ts (key_digits x.key) h.own (back_in (Some (Own (key_digits x.key) h.own)) h.there) in
               in_some o.place o.told x.key x.depth o.at (record {
                 place = o.index;
                 stop = o.stop;
                 at = o.there;
                 same = same_digits o.stop.key x.key
                     ((checked.small o.place o.told o.at).keys o.index o.stop o.there).words small.words o.digits;
-                soon = omega (arith, soon, d);
+                soon = omega arith;
               })
-          | inr none ↦ let low = none.0 in absurd (omega (arith, low))
+          | inr none ↦ absurd (omega arith)
         ]
 
     are_merged : AreMerged start ps
@@ -421,9 +376,9 @@ module _ (m : Model) (start : List ℕ) (s : m.State) (ts : List ToldPart) (line
       | inl none ↦
           let own = start_there.has in
           let (i, there) = in_all ps start_there.place own.place start_there.part own.stop start_there.at own.at in
-          let soon = own.soon in (i, (own.stop, (there, omega (arith, none, soon))))
+          (i, (own.stop, (there, omega arith)))
       | inr has ↦
-          let o = own_of ts has.0 g.keys.deepest (back (Some (Own has.0 g.keys.deepest)) has.1) in
+          let o = own_of ts has.0 g.keys.deepest (back_in (Some (Own has.0 g.keys.deepest)) has.1) in
           let (i, there) = in_all ps o.place o.index o.told.portion o.stop (map_at (λ (u : ToldPart). u.portion) ts
           o.place o.told o.at) o.there in (i, (o.stop, (there, o.depth)))
     ]

@@ -27,3 +27,6 @@ pub mod Rising
 pub mod Spreading
 pub mod Looking
 pub mod Lost
+pub mod Falling
+pub mod Looping
+pub mod Avoided

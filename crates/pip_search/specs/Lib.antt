@@ -19,3 +19,4 @@ pub mod Parts
 pub mod Merging
 pub mod Graphs
 pub mod Again
+pub mod Comes

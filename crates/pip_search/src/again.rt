@@ -20,7 +20,7 @@ use crate::system::System;
 use std::alloc::{AllocError, Global};
 
 // Makes a choice of visit `i`, whose key is at hand. The visit to which it leads, and whether it shows the label.
-fn look<S: System>(
+pub(crate) fn look<S: System>(
     search: &Search,
     system: &mut S,
     start: &[u32],

@@ -1,5 +1,6 @@
 //! Laws of searches. They compute nothing: what each says is its contract.
 ghost use Rattle.pip_search.specs.Certificates.{CertificatesCountAll, CertificatesSayAll};
+ghost use Rattle.pip_search.specs.Comes.{ComingIsNotAvoided};
 ghost use Rattle.pip_search.specs.Merging.{ListsMerge};
 ghost use Rattle.pip_search.specs.Summary.{SaysOnce};
 
@@ -15,4 +16,9 @@ pub fn law_certificates<S: System>(_system: &S)
     ensures all { CertificatesSayAll (S.model (S.base _system.now)) }
     ensures count { CertificatesCountAll (S.model (S.base _system.now)) }
     ensures merge { ListsMerge }
+{}
+
+/// Where a label comes, no loop of choices that has one of each class avoids it.
+pub fn law_comes<S: System>(_system: &S)
+    ensures { ComingIsNotAvoided (S.model (S.base _system.now)) }
 {}

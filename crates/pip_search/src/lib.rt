@@ -23,6 +23,7 @@
 #![tactic(auto)]
 
 mod again;
+mod coming;
 mod found;
 mod graph;
 mod hash_table;
@@ -34,6 +35,7 @@ mod merging;
 mod names;
 mod packing;
 mod parts;
+mod ranks;
 mod searching;
 mod stops;
 mod system;
@@ -41,8 +43,9 @@ mod visits;
 mod ways;
 
 pub use again::come_again;
+pub use coming::{Coming, must_come};
 pub use found::Found;
-pub use laws::{law_certificates, law_once};
+pub use laws::{law_certificates, law_comes, law_once};
 pub use merging::{are_rising, merged};
 pub use parts::{Part, check_part, reached};
 pub use searching::{Extent, Search, explore};

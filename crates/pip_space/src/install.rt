@@ -1,5 +1,5 @@
 //! Installing and removing tables.
-ghost use Rattle.std.specs.Prelude.{◌≡◌, ℕ, ◌<◌, ◌++◌, Option, length};
+ghost use Rattle.std.specs.Prelude.{◌≡◌, ℕ, ◌<◌, ◌≤◌, ◌+◌, ◌++◌, Option, length};
 ghost use Rattle.pip_base.specs.declared.types.Pair.{Pair};
 ghost use Rattle.pip_base.specs.Memory.{zero_frame};
 ghost use Rattle.pip_model.specs.Collect.{returned_pages};
@@ -8,7 +8,7 @@ ghost use Rattle.pip_model.specs.NodeIn.{OthersStay, Space};
 ghost use Rattle.pip_model.specs.Tree.{Node, Table, table_at, table_pairs};
 ghost use Rattle.pip_model.specs.Prepare.{with_table};
 ghost use Rattle.pip_model.specs.Collect.{without_table};
-ghost use Rattle.pip_space.specs.Nodes.{InEachSpace};
+ghost use Rattle.pip_space.specs.Nodes.{InEachNode, InEachSpace};
 ghost use Rattle.pip_space.specs.Tables.{AreInPages, CanInstall, CanRemove, HasInstall, HasRemove, page_list};
 ghost use Rattle.pip_space.specs.Tables.{rows_beside};
 
@@ -54,6 +54,7 @@ pub fn install_table<M: Frames, L: Ledger>(
         CanInstall (M.memory mem.old) x b (page_list list) →
         Space (M.memory mem.new) (with_table b (page_list list) x) rows
         × OthersStay (with_table b (page_list list) x) (M.memory mem.old) (M.memory mem.new) }
+    ensures steps { steps.new ≤ steps.old + 18 }
 {
     let at = read_table_roots(mem, part, steps);
     zero_slot(mem, s);
@@ -87,6 +88,8 @@ pub fn remove_table<M: Frames, L: Ledger>(
     ensures node { InEachSpace (M.memory mem.old) part (λ x rows.
         CanRemove x rows i → Space (M.memory mem.new) (without_table i x) (rows_beside i rows)
         × OthersStay x (M.memory mem.old) (M.memory mem.new)) }
+    ensures steps { InEachNode (M.memory mem.old) part (λ x cells.
+        steps.new ≤ steps.old + length x.tables + 56) }
 {
     let at = read_table_roots(mem, part, steps);
     match table(mem, part, Level::Mmu, i, steps) {

@@ -1,5 +1,5 @@
 //! The list of a partition's tables, when a table comes or goes.
-ghost use Rattle.std.specs.Prelude.{◌≡◌, ℕ, ◌<◌, ◌+◌, [], ◌++◌, List, Some, length, nat_lt, if◌then◌else◌};
+ghost use Rattle.std.specs.Prelude.{◌≡◌, ℕ, ◌<◌, ◌≤◌, ◌+◌, ◌*◌, ◌/◌, [], ◌++◌, List, Some, length, nat_lt, if◌then◌else◌};
 ghost use Rattle.pip_base.specs.declared.types.Pair.{Pair};
 ghost use Rattle.pip_config.specs.Lists.{ListIn, ListStays, IsPlaceOfTable};
 ghost use Rattle.pip_model.specs.Collect.{front_of, last_pair, swap_out};
@@ -27,6 +27,7 @@ pub(crate) fn add_list_page<M: Frames, L: Ledger>(
         length ts ≡ m → length more + 1 ≡ lists_for m → IsOutsideList first more list →
         ListIn (M.memory mem.new) first (more ++ page_list list) ts
         × ListStays first (more ++ page_list list) (M.memory mem.old) (M.memory mem.new) }
+    ensures steps { steps.new ≤ steps.old + lists_for m }
 {
     match list {
         None => {}
@@ -51,6 +52,7 @@ pub(crate) fn take_slot<M: Frames, L: Ledger>(
         ListIn (M.memory mem.old) first more ts → length ts ≡ m → b.mmu.frame ≡ table → IsPlaceOfTable ts b k →
         (result ≡ table_pairs b) × ListIn (M.memory mem.new) first more (swap_out b.index ts)
         × ListStays first more (M.memory mem.old) (M.memory mem.new) }
+    ensures steps { steps.new ≤ steps.old + m + 5 * (m / 170) + 12 }
 {
     match find(mem, first, m, table, steps) {
         None => never!(),
@@ -77,6 +79,7 @@ pub(crate) fn drop_list_page<M: Frames, L: Ledger>(
         × ListIn (M.memory mem.new) first
         (if nat_lt (lists_for m) (lists_for (m + 1)) then front_of more else more) ts
         × ListStays first more (M.memory mem.old) (M.memory mem.new) }
+    ensures steps { steps.new ≤ steps.old + lists_for (m + 1) }
 {
     let pages = lists(m + 1);
     if lists(m) < pages {

@@ -62,7 +62,8 @@ pub(crate) fn table<M: Frames, L: Ledger>(
 // The number of directory indexes for which `part` has tables. Takes one step.
 fn table_count<M: Frames, L: Ledger>(mem: &M, part: Frame, steps: &mut Steps<L>) -> u32
     requires { HasNode (M.memory mem.now) part }
-    ensures { InEachNode (M.memory mem.now) part (λ x cells. result ≡ length x.tables) }
+    ensures tables { InEachNode (M.memory mem.now) part (λ x cells. result ≡ length x.tables) }
+    ensures step { steps.new ≡ steps.old + 1 }
 {
     mem.word(part, TABLES, steps)
 }
@@ -77,7 +78,8 @@ pub fn next_tables<M: Frames, L: Ledger>(
 ) -> Option<u32>
     requires node { HasNode (M.memory mem.now) part }
     requires index { from ≤ 1024 }
-    ensures { InEachNode (M.memory mem.now) part (λ x cells. IsNextTables x from result) }
+    ensures next { InEachNode (M.memory mem.now) part (λ x cells. IsNextTables x from result) }
+    ensures steps { steps.new ≤ steps.old + 34 }
 {
     if table_count(mem, part, steps) == 0 {
         return None;
@@ -98,6 +100,7 @@ pub fn table_for<M: Frames, L: Ledger>(
     ensures page { InEachNode (M.memory mem.now) part (λ x cells.
         table_frame_at level x (v / 1024) ≡ Some result) }
     ensures inside { result < length (M.memory mem.now) }
+    ensures steps { steps.new ≤ steps.old + 2 }
 {
     match table(mem, part, level, v.number() / 1024, steps) {
         Some(frame) => frame,
@@ -206,7 +209,7 @@ pub fn is_table_empty<M: Frames, L: Ledger>(
     requires index { i < 1024 }
     ensures empty { InEachSpace (M.memory mem.now) part (λ x rows.
         IsTrue result ↔ ((v : ℕ) → v / 1024 ≡ i → rows v ≡ None)) }
-    ensures steps { steps.new ≤ steps.old + 2 + 1024 }
+    ensures steps { steps.new ≤ steps.old + 34 }
 {
     let top = directory(mem, part, Level::Mmu, steps);
     table_is_empty(mem, top, i, steps)

@@ -1,5 +1,5 @@
 //! Where a partition's tables are listed.
-ghost use Rattle.std.specs.Prelude.{◌≡◌, ◌<◌, ◌≤◌, length};
+ghost use Rattle.std.specs.Prelude.{◌≡◌, ◌+◌, ◌<◌, ◌≤◌, length};
 ghost use Rattle.pip_base.specs.Memory.{put_word};
 ghost use Rattle.pip_base.specs.Words.{directory_word};
 ghost use Rattle.pip_model.specs.NodeIn.{HasNode};
@@ -36,6 +36,7 @@ pub(crate) fn read_table_roots<M: Frames, L: Ledger>(
     ensures roots { InEachNode (M.memory mem.now) part (λ x cells. AreTableRoots x result) }
     ensures inside { AreInside (M.memory mem.now) result }
     ensures few { result.tables ≤ 1024 }
+    ensures steps { steps.new ≡ steps.old + 5 }
 {
     TableRoots {
         part,

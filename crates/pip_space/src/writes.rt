@@ -1,5 +1,5 @@
 //! Writing rows.
-ghost use Rattle.std.specs.Prelude.{◌≡◌, ℕ, ◌<◌, Option, length};
+ghost use Rattle.std.specs.Prelude.{◌≡◌, ℕ, ◌+◌, ◌<◌, ◌≤◌, Option, length};
 ghost use Rattle.pip_entry.specs.Sh1.{packed_sh1, IsSh1};
 ghost use Rattle.pip_model.specs.FullRows.{FullRow, row_word};
 ghost use Rattle.pip_model.specs.declared.level.Level.TheVariants.{Mmu, Shadow1, Shadow2};
@@ -31,6 +31,7 @@ fn set_level_word<M: Frames, L: Ledger>(
         NodeIn (M.memory mem.new) x (put_cell cells level v w)
         × OthersStay x (M.memory mem.old) (M.memory mem.new)) }
     ensures room { HasTableFor (M.memory mem.new) part v }
+    ensures steps { steps.new ≤ steps.old + 2 }
 {
     let page = table_for(mem, part, level, v, steps);
     mem.set_word(page, v.number() % 1024, w);
@@ -54,6 +55,7 @@ fn set_words<M: Frames, L: Ledger>(
         Space (M.memory mem.new) x (put_row rows v r) }
     ensures others { InEachNode (M.memory mem.old) part (λ x cells.
         OthersStay x (M.memory mem.old) (M.memory mem.new)) }
+    ensures steps { steps.new ≤ steps.old + 6 }
 {
     set_level_word(mem, part, Level::Mmu, v, word, steps);
     set_level_word(mem, part, Level::Shadow1, v, given, steps);
@@ -77,6 +79,7 @@ pub fn map<M: Frames, L: Ledger>(
         Space (M.memory mem.new) x (put_row rows v (Some (full_of row.now)))) }
     ensures others { InEachNode (M.memory mem.old) part (λ x cells.
         OthersStay x (M.memory mem.old) (M.memory mem.new)) }
+    ensures steps { steps.new ≤ steps.old + 6 }
 {
     let word = pack_leaf(Leaf::Page {
         frame: row.frame,
@@ -96,6 +99,7 @@ pub fn unmap<M: Frames, L: Ledger>(mem: &mut M, part: Frame, v: VPage, steps: &m
         Space (M.memory mem.new) x (put_row rows v None)) }
     ensures others { InEachNode (M.memory mem.old) part (λ x cells.
         OthersStay x (M.memory mem.old) (M.memory mem.new)) }
+    ensures steps { steps.new ≤ steps.old + 6 }
 {
     set_words(mem, part, v, 0, 0, 0, steps);
 }
@@ -114,6 +118,7 @@ pub fn set_user<M: Frames, L: Ledger>(
         Space (M.memory mem.new) x (put_row rows v (Some (record r { user = user })))) }
     ensures others { InEachNode (M.memory mem.old) part (λ x cells.
         OthersStay x (M.memory mem.old) (M.memory mem.new)) }
+    ensures steps { steps.new ≤ steps.old + 3 }
 {
     let page = table_for(mem, part, Level::Mmu, v, steps);
     let i = v.number() % 1024;
@@ -136,6 +141,7 @@ pub fn set_given<M: Frames, L: Ledger>(
         Space (M.memory mem.new) x (put_row rows v (Some (record r { given = packed_sh1 given })))) }
     ensures others { InEachNode (M.memory mem.old) part (λ x cells.
         OthersStay x (M.memory mem.old) (M.memory mem.new)) }
+    ensures steps { steps.new ≤ steps.old + 2 }
 {
     set_level_word(mem, part, Level::Shadow1, v, pack_sh1(given), steps);
 }

@@ -7,7 +7,7 @@ use Rattle.pip_model.specs.Handlers.{handler}
 use Rattle.pip_model.specs.Midway.{find_other}
 use Rattle.pip_model.specs.Lists.{has}
 use Rattle.pip_model.specs.Sound.{IsRooted, IsSound}
-use Rattle.pip_model.specs.Tree.{Node, Tree, chain, chain_in, find_node, nodes}
+use Rattle.pip_model.specs.Tree.{Node, Tree, chain, chain_in, find_node}
 use Rattle.pip_model.specs.Worlds.{World, running}
 use Rattle.pip_base.specs.declared.types.Ctx.{Ctx}
 use Rattle.pip_model.specs.declared.processors.Taker.{Taker}
@@ -45,7 +45,7 @@ chain_first t s a x found = elim (root_or_other t a x found) [
 pub record Rise (t : Tree) (w : World) (k part at steps : ℕ) : Type 0 where
   pub x : Node
   pub x_is : find_node t at ≡ Some x
-  pub short : steps + depth t at ≤ length (nodes t)
+  pub long : steps + depth t at ≡ depth t part
   pub same : nearest_taker w part k ≡ nearest_above w k (chain t at)
 
 module _ (t : Tree) (s : IsSound t) (w : World) (tree : w.tree ≡ t) (k part : ℕ) where
@@ -53,8 +53,7 @@ module _ (t : Tree) (s : IsSound t) (w : World) (tree : w.tree ≡ t) (k part : 
   rise_start x found = record {
     x = x;
     x_is = found;
-    short = (let h = depth_few t part in
-        omega arith);
+    long = omega arith;
     same = ap (λ u. nearest_above w k (chain u part)) tree;
   }
 
@@ -116,12 +115,12 @@ module _ (t : Tree) (s : IsSound t) (w : World) (tree : w.tree ≡ t) (k part : 
           let found : find_node t up ≡ Some q = ap (find_node t) up_is ∙ q_is in
           let (qs, chain_is, is) = next q found in
           let low = depth_up t s at r.x is_other in
-          let short = r.short in
+          let long = r.long in
           let same : depth t up ≡ depth t r.x.up = ap (depth t) up_is in
           record {
             x = q;
             x_is = found;
-            short = omega arith;
+            long = omega arith;
             same =
                 is ∙ passed (has (running w) up) (handler t up k) q r.x.born (nearest_above w k (chain t up)) not_taken;
           }
@@ -138,5 +137,10 @@ module _ (t : Tree) (s : IsSound t) (w : World) (tree : w.tree ≡ t) (k part : 
           ∙ ap₂ (λ n b. Some (record { to = n; handler = h; born = b })) name (sym born_is))
 
     pub rise_full : steps ≡ t.frames → ⊥
-    rise_full e = let few = few_nodes t s in let short = r.short in let some = depth_some t s at r.x r.x_is in
-        omega arith
+    rise_full e = let few = few_nodes t s in let long = r.long in let all = depth_few t part in
+        let some = depth_some t s at r.x r.x_is in omega arith
+
+    -- nor more than there are partitions from here up to the root
+    pub rise_chain : steps + 1 ≤ length (chain t part)
+    unfolding depth
+    rise_chain = let long = r.long in let some = depth_some t s at r.x r.x_is in omega arith

@@ -10,3 +10,4 @@ pub mod Plain
 pub mod Hits
 pub mod Yielding
 pub mod Rewinding
+pub mod Work

@@ -48,7 +48,8 @@ pub(crate) fn read_context<M: Frames, L: Ledger>(
     steps: &mut Steps<L>,
 ) -> Ctx
     requires { HasRoom (M.memory mem.now) block }
-    ensures { result ≡ context_in (word_at (M.memory mem.now) block.frame) block.index }
+    ensures context { result ≡ context_in (word_at (M.memory mem.now) block.frame) block.index }
+    ensures steps { steps.new ≡ steps.old + 32 }
 {
     context_of(mem.frame(block.frame, steps), block.index)
 }
@@ -65,6 +66,7 @@ pub(crate) fn write_context<M: Frames, L: Ledger>(
         (ctx.now.pc ∷ ctx.now.regs) }
     ensures registers { length ctx.now.regs ≡ 16 }
     ensures count { length (M.memory mem.new) ≡ length (M.memory mem.old) }
+    ensures steps { steps.new ≡ steps.old + 32 }
 {
     let words = mem.frame_mut(block.frame, steps);
     put_context(words, block.index, ctx);

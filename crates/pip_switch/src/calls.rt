@@ -1,5 +1,5 @@
 //! Calls of the kernel.
-ghost use Rattle.std.specs.Prelude.{◌≡◌, ◌<◌, ◌&&◌, ℕ, Some, if◌then◌else◌, length};
+ghost use Rattle.std.specs.Prelude.{◌≡◌, ◌+◌, ◌<◌, ◌≤◌, ◌&&◌, ℕ, Some, if◌then◌else◌, length};
 ghost use Rattle.std.specs.List.{AllByRecursion};
 ghost use Rattle.pip_base.specs.Memory.{Memory};
 ghost use Rattle.pip_kern.specs.Calls.{Does, DoesWithValue};
@@ -14,6 +14,7 @@ ghost use Rattle.pip_model.specs.Tree.{Tree};
 ghost use Rattle.pip_model.specs.Worlds.{World};
 ghost use Rattle.pip_switch.specs.Plain.{plain_world};
 ghost use Rattle.pip_switch.specs.Standing.{CameWith, HasWorld, StandsFor};
+ghost use Rattle.pip_switch.specs.Work.{call_work, memory_work};
 
 use crate::caches::{Caches, empty_all};
 use crate::contexts::put_reply;
@@ -76,8 +77,9 @@ fn answer_on_memory<M: Frames, L: Ledger>(
 ) -> (Status, u32)
     requires world { HasWorld (M.memory mem.old) cpus.now.items }
     requires stands { HasPartition (M.memory mem.old) caller }
-    ensures { Does (λ t. model.answer call (plain_world t cpus.now.items) caller (five_of args.now)) caller
+    ensures does { Does (λ t. model.answer call (plain_world t cpus.now.items) caller (five_of args.now)) caller
         result.0 result.1 (M.memory mem.old) (M.memory mem.new) }
+    ensures steps { steps.new ≤ steps.old + memory_work call (length (M.memory mem.old)) }
 {
     let [x0, x1, x2, x3, _] = *args;
     match call {
@@ -140,6 +142,7 @@ pub(crate) fn call<M: Frames, L: Ledger>(
     ensures count { length cpus.new.items ≡ length cpus.old.items }
     ensures each { length caches.new.items ≡ length caches.old.items }
     ensures words { AllByRecursion IsWord (list_of (five_of args.now)) }
+    ensures steps { steps.new ≤ steps.old + call_work (call_named number) (length (M.memory mem.old)) }
 {
     let Some(part) = runner(cpus, cpu) else {
         return Outcome::Idle;

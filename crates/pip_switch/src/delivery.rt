@@ -1,7 +1,8 @@
 //! Faults and traps: who takes them.
-ghost use Rattle.std.specs.Prelude.{◌≡◌, ◌<◌, Some, length};
+ghost use Rattle.std.specs.Prelude.{◌≡◌, ◌+◌, ◌*◌, ◌<◌, ◌≤◌, None, Some, length};
 ghost use Rattle.pip_model.specs.Deliver.{deliver, nearest_taker};
 ghost use Rattle.pip_model.specs.Partitions.{HasPartition, InEach};
+ghost use Rattle.pip_model.specs.Tree.{chain};
 ghost use Rattle.pip_model.specs.declared.processors.Occupant.{Occupant};
 ghost use Rattle.pip_switch.specs.Occupied.{part_on};
 ghost use Rattle.pip_switch.specs.Plain.{plain_world};
@@ -27,7 +28,9 @@ fn free_handler<M: Frames, L: Ledger>(
 ) -> Option<Ctx>
     requires stands { HasPartition (M.memory mem.now) part }
     requires vector { vector < 256 }
-    ensures { InEach (M.memory mem.now) part (λ t x. result ≡ free_handler (plain_world t cpus.now) part vector) }
+    ensures handler { InEach (M.memory mem.now) part (λ t x. result ≡ free_handler (plain_world t cpus.now) part vector) }
+    ensures steps { steps.new ≤ steps.old + 39 }
+    ensures none { result ≡ None → steps.new ≤ steps.old + 7 }
 {
     if is_running(cpus, part) {
         return None;
@@ -45,7 +48,9 @@ pub(crate) fn find_taker<M: Frames, L: Ledger>(
 ) -> Option<Taker>
     requires stands { HasPartition (M.memory mem.now) part }
     requires vector { vector < 256 }
-    ensures { InEach (M.memory mem.now) part (λ t x. result ≡ nearest_taker (plain_world t cpus.now) part vector) }
+    ensures taker { InEach (M.memory mem.now) part (λ t x. result ≡ nearest_taker (plain_world t cpus.now) part vector) }
+    ensures steps { steps.new ≤ steps.old + 8 * length (M.memory mem.now) + 33 }
+    ensures chain { InEach (M.memory mem.now) part (λ t x. steps.new ≤ steps.old + 8 * length (chain t part) + 33) }
 {
     let mut at = part;
     for _i in 0..mem.count() {
@@ -83,6 +88,8 @@ pub(crate) fn deliver<M: Frames, L: Ledger>(
     ensures event { LeadsFrom (M.memory mem.old) cpus.old.items cpu (λ w r. deliver w cpu r vector a b) result
         (M.memory mem.new) cpus.new.items }
     ensures count { length cpus.new.items ≡ length cpus.old.items }
+    ensures steps { steps.new ≤ steps.old + 8 * length (M.memory mem.old) + 76 }
+    ensures chain { InEach (M.memory mem.old) part (λ t x. steps.new ≤ steps.old + 8 * length (chain t part) + 76) }
 {
     let taker = find_taker(mem, cpus.as_slice(), part, vector, steps);
     save(mem, cpus, cpu, steps);

@@ -1,5 +1,5 @@
 //! Loads, stores, fetches and traps of what runs on a processor.
-ghost use Rattle.std.specs.Prelude.{◌≡◌, ◌+◌, ◌<◌, Some, length};
+ghost use Rattle.std.specs.Prelude.{◌≡◌, ◌+◌, ◌*◌, ◌<◌, ◌≤◌, Some, length};
 ghost use Rattle.pip_mmu.specs.Faults.{model_fault};
 ghost use Rattle.pip_model.specs.Events as E;
 ghost use Rattle.pip_model.specs.Events.{below_of};
@@ -85,6 +85,7 @@ fn deliver_fault<M: Frames, L: Ledger>(
     ensures event { LeadsFrom (M.memory mem.old) cpus.old.items cpu
         (λ w r. deliver_fault w cpu r va access (model_fault fault)) result (M.memory mem.new) cpus.new.items }
     ensures count { length cpus.new.items ≡ length cpus.old.items }
+    ensures steps { steps.new ≤ steps.old + 8 * length (M.memory mem.old) + 76 }
 {
     let told = 16 * number_of(access) + kind_of(fault);
     by_parts(deliver(mem, cpus, cpu, part, vector_of(fault), va, told, steps))
@@ -108,6 +109,7 @@ pub(crate) fn load<M: Frames, L: Ledger>(
     ensures count { length cpus.new.items ≡ length cpus.old.items }
     ensures each { length caches.new.items ≡ length caches.old.items }
     ensures hit { HitReadsOne caches.old.items cpus.old.items cpu (λ r. va) result steps.old steps.new }
+    ensures steps { steps.new ≤ steps.old + 8 * length (M.memory mem.old) + 80 }
 {
     let Some(part) = runner(cpus, cpu) else {
         return Outcome::Idle;
@@ -146,6 +148,7 @@ pub(crate) fn store<M: Frames, L: Ledger>(
     ensures count { length cpus.new.items ≡ length cpus.old.items }
     ensures each { length caches.new.items ≡ length caches.old.items }
     ensures hit { HitReadsOne caches.old.items cpus.old.items cpu (λ r. va) result steps.old steps.new }
+    ensures steps { steps.new ≤ steps.old + 8 * length (M.memory mem.old) + 80 }
 {
     let Some(part) = runner(cpus, cpu) else {
         return Outcome::Idle;
@@ -172,6 +175,7 @@ pub(crate) fn fetch<M: Frames, L: Ledger>(
     ensures count { length cpus.new.items ≡ length cpus.old.items }
     ensures each { length caches.new.items ≡ length caches.old.items }
     ensures hit { HitReadsOne caches.old.items cpus.old.items cpu (λ r. r.ctx.pc) result steps.old steps.new }
+    ensures steps { steps.new ≤ steps.old + 8 * length (M.memory mem.old) + 80 }
 {
     let Some(part) = runner(cpus, cpu) else {
         return Outcome::Idle;
@@ -199,6 +203,7 @@ pub(crate) fn trap<M: Frames, L: Ledger>(
     ensures event { Leads (M.memory mem.old) cpus.old.items (λ w. what_happens w (E.Trap cpu vector a b)) result
         (M.memory mem.new) cpus.new.items }
     ensures count { length cpus.new.items ≡ length cpus.old.items }
+    ensures steps { steps.new ≤ steps.old + 8 * length (M.memory mem.old) + 76 }
 {
     let Some(part) = runner(cpus, cpu) else {
         return Outcome::Idle;

@@ -1,5 +1,5 @@
 //! Where partitions handle vectors: blocks of 17 words in their own pages.
-ghost use Rattle.std.specs.Prelude.{◌≡◌, ◌≢◌, ◌<◌, IfSome};
+ghost use Rattle.std.specs.Prelude.{◌≡◌, ◌≢◌, ◌+◌, ◌<◌, ◌≤◌, IfSome, None};
 ghost use Rattle.pip_model.specs.Handlers.{handler, save_place};
 ghost use Rattle.pip_model.specs.Partitions.{HasPartition, InEach};
 ghost use Rattle.pip_model.specs.Reach.{reach};
@@ -38,6 +38,7 @@ fn entry<M: Frames, L: Ledger>(
     requires words { access ≢ Access.Fetch }
     ensures entry { InEach (M.memory mem.now) part (λ t x. IsEntry t part vector access result) }
     ensures begins { IfSome result (λ y. CanBegin y.address) }
+    ensures steps { steps.new ≤ steps.old + 4 }
 {
     match translate(mem, part, TABLE + 4 * vector, access, steps) {
         Err(_) => None,
@@ -69,6 +70,7 @@ fn place<M: Frames, L: Ledger>(
     requires begins { CanBegin at }
     ensures place { InEach (M.memory mem.now) part (λ t x. result ≡ place_of (reach t part at access Size.Word)) }
     ensures room { IfSome result (HasRoom (M.memory mem.now)) }
+    ensures steps { steps.new ≤ steps.old + 3 }
 {
     match translate(mem, part, at, access, steps) {
         Err(_) => None,
@@ -94,6 +96,7 @@ fn place_beside<M: Frames, L: Ledger>(
     requires begins { CanBegin at }
     ensures place { InEach (M.memory mem.now) part (λ t x. result ≡ place_of (reach t part at access Size.Word)) }
     ensures room { IfSome result (HasRoom (M.memory mem.now)) }
+    ensures steps { steps.new ≤ steps.old + 3 }
 {
     if at >= TABLE {
         let index = at % 4096 / 4;
@@ -112,7 +115,9 @@ pub(crate) fn find_handler<M: Frames, L: Ledger>(
 ) -> Option<Ctx>
     requires stands { HasPartition (M.memory mem.now) part }
     requires vector { vector < 256 }
-    ensures { InEach (M.memory mem.now) part (λ t x. result ≡ handler t part vector) }
+    ensures handler { InEach (M.memory mem.now) part (λ t x. result ≡ handler t part vector) }
+    ensures steps { steps.new ≤ steps.old + 39 }
+    ensures none { result ≡ None → steps.new ≤ steps.old + 7 }
 {
     match entry(mem, part, vector, Access::Load, steps) {
         None => None,
@@ -136,6 +141,7 @@ pub(crate) fn find_place<M: Frames, L: Ledger>(
     requires vector { vector < 256 }
     ensures place { InEach (M.memory mem.now) part (λ t x. result ≡ place_of (save_place t part vector)) }
     ensures room { IfSome result (HasRoom (M.memory mem.now)) }
+    ensures steps { steps.new ≤ steps.old + 11 }
 {
     match entry(mem, part, vector, Access::Store, steps) {
         Some(table) => { place_beside(mem, part, table.page, table.address, Access::Store, steps) }
@@ -155,6 +161,7 @@ fn find_by_load<M: Frames, L: Ledger>(
     requires vector { vector < 256 }
     ensures place { InEach (M.memory mem.now) part (λ t x. result ≡ place_of (save_place t part vector)) }
     ensures room { IfSome result (HasRoom (M.memory mem.now)) }
+    ensures steps { steps.new ≤ steps.old + 7 }
 {
     match entry(mem, part, vector, Access::Load, steps) {
         None => None,

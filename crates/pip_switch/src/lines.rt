@@ -1,5 +1,5 @@
 //! Interrupt lines: one becomes pending, and the root takes one.
-ghost use Rattle.std.specs.Prelude.{◌≡◌, ◌+◌, ◌<◌, ℕ, List, true, Some, None, IfSome, length, if◌then◌else◌};
+ghost use Rattle.std.specs.Prelude.{◌≡◌, ◌+◌, ◌*◌, ◌<◌, ◌≤◌, ℕ, List, true, Some, None, IfSome, length, if◌then◌else◌};
 ghost use Rattle.pip_base.specs.declared.outcome.Outcome.TheVariants as Outcome;
 ghost use Rattle.pip_model.specs.Events as E;
 ghost use Rattle.pip_model.specs.Handlers.{handler};
@@ -35,8 +35,9 @@ pub(crate) fn raise<M: Frames, L: Ledger>(
 )
     requires world { HasWorld (M.memory mem.old) cpus.now.items }
     requires line { line < 16 }
-    ensures { Leads (M.memory mem.old) cpus.now.items (λ w. what_happens w (E.Raise line)) Outcome.Done
+    ensures event { Leads (M.memory mem.old) cpus.now.items (λ w. what_happens w (E.Raise line)) Outcome.Done
         (M.memory mem.new) cpus.now.items }
+    ensures steps { steps.new ≡ steps.old + 1 }
 {
     let lines = with_line(pending(mem, steps), line);
     set_pending(mem, lines);
@@ -55,6 +56,7 @@ fn can_take<M: Frames, L: Ledger>(
     ensures can { (w : World) → StandsFor (M.memory mem.now) cpus.now.items w →
         result ≡ may_take w cpu (runs_on w cpu) }
     ensures root { HasPartition (M.memory mem.now) 1 }
+    ensures steps { steps.new ≤ steps.old + 1 }
 {
     let root = Frame::new(ROOT);
     if runs(&cpus.as_slice()[cpu as usize], root) {
@@ -72,8 +74,10 @@ fn line_handler<M: Frames, L: Ledger>(
 ) -> Option<Ctx>
     requires stands { HasPartition (M.memory mem.now) 1 }
     requires line { line < 16 }
-    ensures { (t : Tree) (js : List ℕ) → IsSound t → LaysOut t (M.memory mem.now) → AreLines 0 js →
+    ensures handler { (t : Tree) (js : List ℕ) → IsSound t → LaysOut t (M.memory mem.now) → AreLines 0 js →
         bits ≡ line_bits js → result ≡ (if has js line then handler t t.root.name (32 + line) else None) }
+    ensures steps { steps.new ≤ steps.old + 39 }
+    ensures none { result ≡ None → steps.new ≤ steps.old + 7 }
 {
     if !has_line(bits, line) {
         return None;
@@ -87,6 +91,7 @@ fn find_line<M: Frames, L: Ledger>(mem: &M, bits: u32, steps: &mut Steps<L>) -> 
     ensures chosen { (t : Tree) (js : List ℕ) → IsSound t → LaysOut t (M.memory mem.now) → AreLines 0 js →
         bits ≡ line_bits js → Chosen t js result }
     ensures line { IfSome result (λ y. y.0 < 16) }
+    ensures steps { steps.new ≤ steps.old + 144 }
 {
     for line in 0..16 {
         if let Some(handler) = line_handler(mem, bits, line, steps) {
@@ -112,6 +117,7 @@ fn take<M: Frames, L: Ledger>(
         (λ w. take_line w cpu (runs_on w cpu) line (Some handler.now)) (Outcome.Switched result 1 (32 + line))
         (M.memory mem.new) cpus.new.items }
     ensures count { length cpus.new.items ≡ length cpus.old.items }
+    ensures steps { steps.new ≤ steps.old + 44 }
 {
     let root = Frame::new(ROOT);
     let bits = without_line(pending(mem, steps), line);
@@ -153,6 +159,7 @@ fn take_first<M: Frames, L: Ledger>(
     ensures event { Leads (M.memory mem.old) cpus.old.items (λ w. what_happens w (E.Poll cpu)) result
         (M.memory mem.new) cpus.new.items }
     ensures count { length cpus.new.items ≡ length cpus.old.items }
+    ensures steps { steps.new ≤ steps.old + 188 }
 {
     match find_line(mem, bits, steps) {
         None => untaken(cpus, cpu),
@@ -182,6 +189,7 @@ fn poll_pending<M: Frames, L: Ledger>(
     ensures event { Leads (M.memory mem.old) cpus.old.items (λ w. what_happens w (E.Poll cpu)) result
         (M.memory mem.new) cpus.new.items }
     ensures count { length cpus.new.items ≡ length cpus.old.items }
+    ensures steps { steps.new ≤ steps.old + 189 }
 {
     if !can_take(mem, cpus, cpu, steps) {
         return untaken(cpus, cpu);
@@ -202,6 +210,7 @@ pub(crate) fn poll<M: Frames, L: Ledger>(
     ensures event { Leads (M.memory mem.old) cpus.old.items (λ w. what_happens w (E.Poll cpu)) result
         (M.memory mem.new) cpus.new.items }
     ensures count { length cpus.new.items ≡ length cpus.old.items }
+    ensures steps { steps.new ≤ steps.old + 190 }
 {
     let bits = pending(mem, steps);
     if bits == 0 {

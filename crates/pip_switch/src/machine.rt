@@ -113,13 +113,17 @@ impl<M: Rewind> Machine<M> {
 }
 
 impl<M: Frames> Port for Machine<M> {
-    ghost use Rattle.std.specs.Prelude.{◌≡◌, ◌<◌, ◌≤◌, length};
+    ghost use Rattle.std.specs.Prelude.{◌≡◌, ◌+◌, ◌*◌, ◌<◌, ◌≤◌, length};
     ghost use Rattle.pip_model.specs.Events as E;
+    ghost use Rattle.pip_base.specs.declared.outcome.Outcome.TheVariants as Outcome;
+    ghost use Rattle.pip_model.specs.Answers.{five_of};
     ghost use Rattle.pip_model.specs.Events.{below_of};
+    ghost use Rattle.pip_model.specs.Happens.{call_named};
     ghost use Rattle.pip_model.specs.Port.{Follows};
     ghost use Rattle.pip_switch.specs.Hits.{HitReadsOne};
     ghost use Rattle.pip_switch.specs.Standing.{StandsAs};
     ghost use Rattle.pip_switch.specs.Machines.{machine_sound, machine_world};
+    ghost use Rattle.pip_switch.specs.Work.{call_work};
 
     ghost stands = { λ p w. StandsAs p w };
 
@@ -140,6 +144,7 @@ impl<M: Frames> Port for Machine<M> {
         ensures event { Follows (StandsAs self.old) (StandsAs self.new) (E.Load cpu va size) result }
         ensures count { length self.new.cpus ≡ length self.old.cpus }
         ensures hit { HitReadsOne self.old.caches self.old.cpus cpu (λ r. va) result steps.old steps.new }
+        ensures work { steps.new ≤ steps.old + 8 * length self.old.memory + 80 }
     {
         events::load(
             &mut self.mem,
@@ -166,6 +171,7 @@ impl<M: Frames> Port for Machine<M> {
         ensures event { Follows (StandsAs self.old) (StandsAs self.new) (E.Store cpu va size word) result }
         ensures count { length self.new.cpus ≡ length self.old.cpus }
         ensures hit { HitReadsOne self.old.caches self.old.cpus cpu (λ r. va) result steps.old steps.new }
+        ensures work { steps.new ≤ steps.old + 8 * length self.old.memory + 80 }
     {
         events::store(
             &mut self.mem,
@@ -185,6 +191,7 @@ impl<M: Frames> Port for Machine<M> {
         ensures event { Follows (StandsAs self.old) (StandsAs self.new) (E.Fetch cpu) result }
         ensures count { length self.new.cpus ≡ length self.old.cpus }
         ensures hit { HitReadsOne self.old.caches self.old.cpus cpu (λ r. r.ctx.pc) result steps.old steps.new }
+        ensures work { steps.new ≤ steps.old + 8 * length self.old.memory + 80 }
     {
         events::fetch(&mut self.mem, &mut self.cpus, &mut self.caches, cpu, steps)
     }
@@ -196,7 +203,13 @@ impl<M: Frames> Port for Machine<M> {
         a: u32,
         b: u32,
         steps: &mut Steps<L>,
-    ) -> Outcome {
+    ) -> Outcome
+        requires cpu { cpu < length self.old.cpus }
+        requires vector { vector < 256 }
+        ensures event { Follows (StandsAs self.old) (StandsAs self.new) (E.Trap cpu vector a b) result }
+        ensures count { length self.new.cpus ≡ length self.old.cpus }
+        ensures work { steps.new ≤ steps.old + 8 * length self.old.memory + 76 }
+    {
         events::trap(&mut self.mem, &mut self.cpus, cpu, vector, a, b, steps)
     }
 
@@ -206,7 +219,12 @@ impl<M: Frames> Port for Machine<M> {
         no: u32,
         args: &[u32; 5],
         steps: &mut Steps<L>,
-    ) -> Outcome {
+    ) -> Outcome
+        requires { cpu < length self.old.cpus }
+        ensures event { Follows (StandsAs self.old) (StandsAs self.new) (E.Call cpu no (five_of args.now)) result }
+        ensures count { length self.new.cpus ≡ length self.old.cpus }
+        ensures work { steps.new ≤ steps.old + call_work (call_named no) (length self.old.memory) }
+    {
         calls::call(
             &mut self.mem,
             &mut self.cpus,
@@ -218,12 +236,22 @@ impl<M: Frames> Port for Machine<M> {
         )
     }
 
-    fn raise<L: Ledger>(&mut self, line: u32, steps: &mut Steps<L>) {
+    fn raise<L: Ledger>(&mut self, line: u32, steps: &mut Steps<L>)
+        requires { line < 16 }
+        ensures event { Follows (StandsAs self.old) (StandsAs self.new) (E.Raise line) Outcome.Done }
+        ensures count { length self.new.cpus ≡ length self.old.cpus }
+        ensures work { steps.new ≡ steps.old + 1 }
+    {
         lines::raise(&mut self.mem, &self.cpus, line, steps);
     }
 
     #[inline(always)]
-    fn poll<L: Ledger>(&mut self, cpu: u32, steps: &mut Steps<L>) -> Outcome {
+    fn poll<L: Ledger>(&mut self, cpu: u32, steps: &mut Steps<L>) -> Outcome
+        requires { cpu < length self.old.cpus }
+        ensures event { Follows (StandsAs self.old) (StandsAs self.new) (E.Poll cpu) result }
+        ensures count { length self.new.cpus ≡ length self.old.cpus }
+        ensures work { steps.new ≤ steps.old + 190 }
+    {
         lines::poll(&mut self.mem, &mut self.cpus, cpu, steps)
     }
 

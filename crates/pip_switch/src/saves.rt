@@ -1,5 +1,5 @@
 //! Saves: the context of what runs on a processor goes into a block of its partition.
-ghost use Rattle.std.specs.Prelude.{◌≡◌, ◌<◌, IfSome, Option, Some, length};
+ghost use Rattle.std.specs.Prelude.{◌≡◌, ◌+◌, ◌<◌, ◌≤◌, IfSome, Option, Some, length};
 ghost use Rattle.pip_model.specs.Handlers.{save};
 ghost use Rattle.pip_model.specs.Layout.{LaysOut};
 ghost use Rattle.pip_model.specs.Partitions.{HasPartition, InEach, IsHeld};
@@ -28,6 +28,7 @@ fn save_at<M: Frames, L: Ledger>(
     requires { IfSome place (HasRoom (M.memory mem.old)) }
     ensures tree { SavesAt (M.memory mem.old) place ctx.now (M.memory mem.new) }
     ensures count { length (M.memory mem.new) ≡ length (M.memory mem.old) }
+    ensures steps { steps.new ≤ steps.old + 32 }
 {
     match place {
         None => {}
@@ -48,6 +49,7 @@ fn save_in<M: Frames, L: Ledger>(
     requires context { IsContext ctx.now }
     ensures tree { InEach (M.memory mem.old) part (λ t x. IsHeld (save t part vector ctx.now) (M.memory mem.new)) }
     ensures count { length (M.memory mem.new) ≡ length (M.memory mem.old) }
+    ensures steps { steps.new ≤ steps.old + 43 }
 {
     let place = find_place(mem, part, vector, steps);
     save_at(mem, place, ctx, steps);
@@ -62,8 +64,9 @@ pub(crate) fn save<M: Frames, L: Ledger>(
 )
     requires cpu { cpu < length cpus.now.items }
     requires saves { CanSave (M.memory mem.old) (on_cpu cpus.now.items cpu) }
-    ensures { (t : Tree) → IsSound t → LaysOut t (M.memory mem.old) → IsNamed t (on_cpu cpus.now.items cpu) →
+    ensures tree { (t : Tree) → IsSound t → LaysOut t (M.memory mem.old) → IsNamed t (on_cpu cpus.now.items cpu) →
         IsHeld (save_running t (on_cpu cpus.now.items cpu)) (M.memory mem.new) }
+    ensures steps { steps.new ≤ steps.old + 43 }
 {
     match &cpus.as_slice()[cpu as usize] {
         Some(r) => save_in(mem, r.name, SAVED, &r.ctx, steps),
@@ -81,8 +84,9 @@ pub(crate) fn save_to<M: Frames, L: Ledger>(
 )
     requires cpu { cpu < length cpus.now.items }
     requires room { IfSome place (HasRoom (M.memory mem.old)) }
-    ensures { (r : Occupant) → on_cpu cpus.now.items cpu ≡ Some r →
+    ensures tree { (r : Occupant) → on_cpu cpus.now.items cpu ≡ Some r →
         SavesAt (M.memory mem.old) place r.ctx (M.memory mem.new) }
+    ensures steps { steps.new ≤ steps.old + 32 }
 {
     match &cpus.as_slice()[cpu as usize] {
         Some(r) => save_at(mem, place, &r.ctx, steps),

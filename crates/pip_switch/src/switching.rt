@@ -1,5 +1,5 @@
 //! The call that switches.
-ghost use Rattle.std.specs.Prelude.{◌≡◌, ◌≢◌, ◌<◌, ◌≤◌, ◌%◌, ◌==◌, ◌&&◌, ◌||◌, nat_le, false, not, IfOk, IfSome, Some};
+ghost use Rattle.std.specs.Prelude.{◌≡◌, ◌≢◌, ◌+◌, ◌<◌, ◌≤◌, ◌%◌, ◌==◌, ◌&&◌, ◌||◌, nat_le, false, not, IfOk, IfSome, Some};
 ghost use Rattle.std.specs.Prelude.{length, option_map, if◌then◌else◌};
 ghost use Rattle.std.specs.List.{list_any};
 ghost use Rattle.pip_model.specs.Answers.{five_of};
@@ -30,7 +30,8 @@ use std::sync::ledger::Ledger;
 // The parent of a partition. None for the root.
 fn parent<M: Frames, L: Ledger>(mem: &M, part: Frame, steps: &mut Steps<L>) -> Option<Frame>
     requires { HasPartition (M.memory mem.now) part }
-    ensures { InEach (M.memory mem.now) part (λ t x. result ≡ option_map (λ y. y.name) (parent_of t part)) }
+    ensures parent { InEach (M.memory mem.now) part (λ t x. result ≡ option_map (λ y. y.name) (parent_of t part)) }
+    ensures steps { steps.new ≡ steps.old + 1 }
 {
     let up = parent_of(mem, part, steps);
     if up == part {
@@ -49,7 +50,8 @@ fn find_target<M: Frames, L: Ledger>(
 ) -> Option<Frame>
     requires stands { HasPartition (M.memory mem.now) caller }
     requires place { d ≢ 1 → d % 4096 ≡ 0 }
-    ensures { InEach (M.memory mem.now) caller (λ t x. result ≡ option_map (λ y. y.name) (target_node t caller d)) }
+    ensures target { InEach (M.memory mem.now) caller (λ t x. result ≡ option_map (λ y. y.name) (target_node t caller d)) }
+    ensures steps { steps.new ≤ steps.old + 6 }
 {
     if d == 0 {
         return parent(mem, caller, steps);
@@ -92,6 +94,7 @@ fn find_save<M: Frames, L: Ledger>(
     requires vector { save ≤ 256 }
     ensures place { InEach (M.memory mem.now) caller (λ t x. IsPlace t caller save result) }
     ensures room { IfOk result (λ y. IfSome y (HasRoom (M.memory mem.now))) }
+    ensures steps { steps.new ≤ steps.old + 11 }
 {
     if save == NOT_SAVED {
         return Ok(None);
@@ -114,6 +117,7 @@ fn check_yield<M: Frames, L: Ledger>(
     requires { HasPartition (M.memory mem.now) caller }
     ensures tested { YieldTested (M.memory mem.now) cpus.now.items caller (five_of args.now) result }
     ensures room { IfOk result (λ y. IfSome y.1 (HasRoom (M.memory mem.now))) }
+    ensures steps { steps.new ≤ steps.old + 56 }
 {
     let [d, vector, save, _, _] = *args;
     if is_misplaced(d) {
@@ -164,6 +168,7 @@ pub(crate) fn yield_to<M: Frames, L: Ledger>(
     ensures event { LeadsFrom (M.memory mem.old) cpus.old.items cpu (λ w r. yield w cpu r (five_of args.now)) result
         (M.memory mem.new) cpus.new.items }
     ensures count { length cpus.new.items ≡ length cpus.old.items }
+    ensures steps { steps.new ≤ steps.old + 88 }
 {
     match check_yield(mem, cpus, caller, args, steps) {
         Err(status) => put_reply(cpus, cpu, status, 0),

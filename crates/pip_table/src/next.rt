@@ -148,7 +148,7 @@ pub fn next_table<M: Frames, L: Ledger>(
     requires table { IsDirectory (M.memory mem.now) top }
     requires index { from ≤ 1024 }
     ensures first { IsFirstTable (M.memory mem.now) top from result }
-    ensures steps { steps.new ≤ steps.old + 1024 }
+    ensures steps { steps.new ≤ steps.old + 32 }
 {
     let (i, _) = first_word(mem, top, from, steps)?;
     Some(i)
@@ -165,7 +165,7 @@ pub fn table_is_empty<M: Frames, L: Ledger>(
     requires index { i < 1024 }
     requires has { HasTable (M.memory mem.now) top i }
     ensures empty { IsTrue result ↔ IsEmptyTable (M.memory mem.now) top i }
-    ensures steps { steps.new ≤ steps.old + 1025 }
+    ensures steps { steps.new ≤ steps.old + 33 }
 {
     match dir(mem, top, i, steps) {
         DirWord::Empty => never!(),

@@ -2,8 +2,8 @@ ghost use Rattle.std.specs.Prelude.{◌<◌, ◌≤◌, length};
 
 use crate::Counters;
 use pip_search::{
-    Extent, Part, Reached, Run, Search, are_rising, check_part, come_again, explore, merged,
-    reached, runs, runs_to,
+    Coming, Extent, Part, Reached, Run, Search, are_rising, check_part, come_again, explore,
+    merged, must_come, reached, runs, runs_to,
 };
 use std::alloc::{AllocError, Global};
 use std::test::Fail;
@@ -162,5 +162,69 @@ fn a_label_comes_again_or_is_lost(rt: HostRuntime) -> Result<(), Fail> {
     assert!(rt; lost_by(alloc, &[9], 2)?.is_none());
     assert!(rt; lost_by(alloc, &[9], 1)?.is_some_and(|lost| lost.0 == 0 && lost.1.is_empty()));
     assert!(rt; lost_by(alloc, &[5], 2)?.is_some());
+    Ok(())
+}
+
+// What is said of a label of two counters below 3, where choices have these classes.
+fn coming(alloc: Global, label: &[u8], classes: &[u32]) -> Result<Coming, AllocError>
+    requires classes { length classes.now ≤ 2 }
+{
+    let start = [0u32, 0];
+    let mut system = Counters { bound: 3, seed: 0 };
+    let (search, verdict) = explore(&mut system, alloc, &start, 100, 100)?;
+    let Extent::Closed { .. } = verdict else {
+        return Ok(Coming::Unknown);
+    };
+    must_come(&search, &mut system, alloc, &start, label, classes)
+}
+
+// By how many windows of each class it comes, or none.
+fn windows(alloc: Global, label: &[u8], classes: &[u32]) -> Result<Vec<u32>, AllocError>
+    requires classes { length classes.now ≤ 2 }
+{
+    match coming(alloc, label, classes)? {
+        Coming::Within { counts } => Ok(counts),
+        Coming::Avoided { .. } | Coming::Unknown => Ok(Vec::new(alloc)),
+    }
+}
+
+// The loop that avoids it, and the visit where it begins.
+fn avoided(
+    alloc: Global,
+    label: &[u8],
+    classes: &[u32],
+) -> Result<Option<(usize, Vec<u32>)>, AllocError>
+    requires classes { length classes.now ≤ 2 }
+{
+    match coming(alloc, label, classes)? {
+        Coming::Avoided { place, choices } => Ok(Some((place, choices))),
+        Coming::Within { .. } | Coming::Unknown => Ok(None),
+    }
+}
+
+#[test]
+fn a_label_comes_or_a_loop_avoids_it(rt: HostRuntime) -> Result<(), Fail> {
+    let alloc = rt.alloc();
+    assert_eq!(rt;
+        windows(alloc, &[7], &[1, 2])?.as_slice(),
+        [0, 3, 0].as_slice()
+    );
+    assert_eq!(rt;
+        windows(alloc, &[7], &[1, 1])?.as_slice(),
+        [0, 5].as_slice()
+    );
+    assert_eq!(rt; windows(alloc, &[7], &[0, 0])?.as_slice(), [5].as_slice());
+    assert_eq!(rt; windows(alloc, &[7], &[])?.as_slice(), [5].as_slice());
+    assert_eq!(rt;
+        windows(alloc, &[7], &[0, 1])?.as_slice(),
+        [0, 3].as_slice()
+    );
+    let (place, choices) = avoided(alloc, &[9], &[1, 2])?.expect(&rt, "a loop");
+    assert_eq!(rt; place, 0usize);
+    assert_eq!(rt; choices.as_slice(), [0, 1, 0, 0, 1, 1].as_slice());
+    let (place, choices) = avoided(alloc, &[5], &[1, 0])?.expect(&rt, "a loop");
+    assert_eq!(rt; place, 0usize);
+    assert_eq!(rt; choices.as_slice(), [0, 0, 0].as_slice());
+    assert!(rt; avoided(alloc, &[9], &[0, 0])?.is_some());
     Ok(())
 }

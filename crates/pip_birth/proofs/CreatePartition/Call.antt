@@ -1,5 +1,5 @@
 -- createPartition from one step of the code to the next.
-use Rattle.std.proofs.Common.{◌≡◌, ◌≢◌, ℕ, ◌-◌, ◌/◌, List, [], ◌∷◌, ◌++◌, drop, get_or, length, take, inl, inr, refl}
+use Rattle.std.proofs.Common.{◌≡◌, ◌≢◌, ℕ, ◌+◌, ◌*◌, ◌≤◌, arith, ◌-◌, ◌/◌, List, [], ◌∷◌, ◌++◌, drop, get_or, length, take, inl, inr, refl}
 use Rattle.std.proofs.Common.{sym, ap, ◌∙◌, subst, Some, None}
 use Rattle.pip_base.specs.declared.types.Pair.{Pair}
 use Rattle.pip_base.specs.Words.{as_descriptor, shadow1_word}
@@ -10,9 +10,10 @@ use Rattle.pip_model.specs.Layout.{LaysOut}
 use Rattle.pip_model.specs.Partitions.{HasPartition, IsHeld}
 use Rattle.pip_model.specs.NodeIn.{OthersStay, Space}
 use Rattle.pip_model.specs.Sound.{IsSound}
-use Rattle.pip_model.specs.Tree.{Base, Node, Tree, base_pairs, config, find_node}
+use Rattle.pip_model.specs.Tree.{Base, Node, Tree, base_pairs, chain, config, find_node}
 use Rattle.pip_model.proofs.Frames.Lays.{PagesStay-trans}
 use Rattle.pip_model.proofs.Trees.Lookup.{cases_option, found_is_name}
+use Rattle.pip_kern.specs.Giving.{GivesPageIn, GivesPagesIn}
 use Rattle.pip_kern.specs.Giving.{CanGiveEach, CanGivePage, CanGivePages, HasGiven, GivesPage, GivesFurtherPages}
 use Rattle.pip_birth.specs.Newborn.{AreFrames, bare}
 use Rattle.pip_birth.proofs.CreatePartition.Tree.{create-accepted, are_frames, born_some, can_give_first, can_give_rest}
@@ -99,6 +100,19 @@ module _ (t : Tree) (s : IsSound t) (p : ℕ) (x : Node) (found : find_node t p 
         up = refl;
         midway = first_given.midway;
       }
+
+      -- in so many steps
+      pub created_in : (before between after : ℕ)
+          → GivesPageIn p born (shadow1_word as_descriptor born) m before between
+          → GivesPagesIn p born others (length others) m1 between after → after ≤ before + 35 * length (chain t p) + 10
+      unfolding are each first_given
+      created_in before between after one rest =
+          let four : length others ≡ 4 = ap length are in
+          let first = one t y [] (page_of t p a.x0) (can_give_first t s p x found a tested.0 born place) refl
+          (giving_start t s m lays y) in
+          let then = subst (λ n. after ≤ between + n * (7 * length (chain t p) + 2)) four
+          (rest t y (y.base.descriptor.frame ∷ []) each refl first_given.midway) in
+          omega (arith, first, then)
 
       module _ (m2 : Memory) (gives_say : GivesFurtherPages p born others (pair_frames others) m1 m2) where
         all_given : HasGiven t y (config y) m1 m2

@@ -6,3 +6,4 @@ pub mod Freeing
 pub mod Clearing
 pub mod Whole
 pub mod Base
+pub mod Counting

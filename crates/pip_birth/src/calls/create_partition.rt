@@ -1,12 +1,12 @@
 //! createPartition: its tests, and then what it writes.
-ghost use Rattle.std.specs.Prelude.{◌≡◌, ◌<◌, Option, Some, not, ⊤};
+ghost use Rattle.std.specs.Prelude.{◌≡◌, ◌+◌, ◌*◌, ◌<◌, ◌≤◌, Option, Some, length, not, ⊤};
 ghost use Rattle.std.specs.List.{list_any};
 ghost use Rattle.pip_model.specs.CreatePartition.{create_refusals, newborn, create_partition};
 ghost use Rattle.pip_model.specs.FullRows.{full_rows};
 ghost use Rattle.pip_model.specs.Lists.{repeats};
 ghost use Rattle.pip_model.specs.Partitions.{HasPartition, InEach};
 ghost use Rattle.pip_model.specs.Answers.{five_of};
-ghost use Rattle.pip_model.specs.Tree.{base_pairs};
+ghost use Rattle.pip_model.specs.Tree.{base_pairs, chain};
 ghost use Rattle.pip_space.specs.Rows.{full_of};
 ghost use Rattle.pip_birth.specs.FivePages.{RowsAnswer, five_address_tests, pairs_of, five_row_tests};
 ghost use Rattle.pip_kern.specs.Tested.{Tested, is_ungiven, is_writable};
@@ -53,7 +53,8 @@ fn rows_at<M: Frames, L: Ledger>(
     steps: &mut Steps<L>,
 ) -> Option<[Row; 5]>
     requires { HasPartition (M.memory mem.now) part }
-    ensures { InEach (M.memory mem.now) part (λ t x. RowsAnswer (full_rows t x) pages.now result) }
+    ensures rows { InEach (M.memory mem.now) part (λ t x. RowsAnswer (full_rows t x) pages.now result) }
+    ensures steps { steps.new ≤ steps.old + 45 }
 {
     let [descriptor, mmu, shadow1, shadow2, list] = *pages;
     Some([
@@ -116,8 +117,9 @@ fn check_pages<M: Frames, L: Ledger>(
     steps: &mut Steps<L>,
 ) -> Result<[Pair; 5], Status>
     requires { HasPartition (M.memory mem.now) caller }
-    ensures { InEach (M.memory mem.now) caller (λ t x. Tested (create_refusals t caller (five_of pages.now))
+    ensures tested { InEach (M.memory mem.now) caller (λ t x. Tested (create_refusals t caller (five_of pages.now))
         (λ base. base ≡ base_pairs (newborn t caller (five_of pages.now)).base) result) }
+    ensures steps { steps.new ≤ steps.old + 45 }
 {
     check_addresses(pages)?;
     let rows = rows_at(mem, caller, pages, steps).ok_or(Status::NotMapped)?;
@@ -137,8 +139,11 @@ pub fn create_partition<M: Frames, L: Ledger>(
     steps: &mut Steps<L>,
 ) -> Status
     requires { HasPartition (M.memory mem.old) caller }
-    ensures { Does (λ t. create_partition t caller (five_of pages.now)) caller result 0
+    ensures does { Does (λ t. create_partition t caller (five_of pages.now)) caller result 0
         (M.memory mem.old) (M.memory mem.new) }
+    ensures steps { steps.new ≤ steps.old + 35 * length (M.memory mem.old) + 55 }
+    ensures chain { InEach (M.memory mem.old) caller (λ t x.
+        steps.new ≤ steps.old + 35 * length (chain t caller) + 55) }
 {
     let base = match check_pages(mem, caller, pages, steps) {
         Ok(base) => base,

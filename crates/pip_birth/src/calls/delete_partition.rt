@@ -1,11 +1,12 @@
 //! deletePartition: its tests, and then the end of the subtree.
-ghost use Rattle.std.specs.Prelude.{◌≡◌};
+ghost use Rattle.std.specs.Prelude.{◌≡◌, ℕ, ◌+◌, ◌*◌, ◌≤◌, length};
 ghost use Rattle.pip_model.specs.DeletePartition.{delete_partition, delete_refusals, some_run};
 ghost use Rattle.pip_model.specs.Partitions.{HasPartition, InEach};
 ghost use Rattle.pip_model.specs.Tree.{below};
 ghost use Rattle.pip_kern.specs.Calls.{Does};
 ghost use Rattle.pip_kern.specs.Tested.{IsChildAt, Tested};
 ghost use Rattle.pip_birth.specs.Deleting.{HasPartitions};
+ghost use Rattle.pip_birth.specs.Ending.{ending_work, most_ending_work};
 
 use crate::ending::end_child;
 use arrayvec::ArrayVec;
@@ -24,7 +25,8 @@ fn some_run<M: Frames, L: Ledger>(
     steps: &mut Steps<L>,
 ) -> bool
     requires { HasPartitions (M.memory mem.now) running.now }
-    ensures { InEach (M.memory mem.now) top (λ t x. result ≡ some_run running.now (below t top)) }
+    ensures runs { InEach (M.memory mem.now) top (λ t x. result ≡ some_run running.now (below t top)) }
+    ensures steps { steps.new ≤ steps.old + length running.now * length (M.memory mem.now) }
 {
     for part in running {
         if is_below(mem, *part, top, steps) {
@@ -45,8 +47,9 @@ fn check_delete<M: Frames, L: Ledger>(
 ) -> Result<Frame, Status>
     requires stands { HasPartition (M.memory mem.now) caller }
     requires running { HasPartitions (M.memory mem.now) running.now }
-    ensures { InEach (M.memory mem.now) caller (λ t x.
+    ensures tested { InEach (M.memory mem.now) caller (λ t x.
         Tested (delete_refusals t running.now caller d) (λ c. IsChildAt t caller d c) result) }
+    ensures steps { steps.new ≤ steps.old + 6 + length running.now * length (M.memory mem.now) }
 {
     let child = check_child(mem, caller, &[d], d, steps)?;
     if some_run(mem, running, child, steps) {
@@ -68,8 +71,12 @@ pub fn delete_partition<M: Frames, L: Ledger>(
 ) -> Status
     requires stands { HasPartition (M.memory mem.old) caller }
     requires running { HasPartitions (M.memory mem.old) running.now.items }
-    ensures { Does (λ t. delete_partition t running.now.items caller d) caller result 0
+    ensures does { Does (λ t. delete_partition t running.now.items caller d) caller result 0
         (M.memory mem.old) (M.memory mem.new) }
+    ensures subtree { InEach (M.memory mem.old) caller (λ t x. (c : ℕ) → IsChildAt t caller d c → steps.new ≤ steps.old + 6
+        + 4 * length (M.memory mem.old) + ending_work t caller c) }
+    ensures steps { steps.new ≤ steps.old + 6 + 4 * length (M.memory mem.old)
+        + most_ending_work (length (M.memory mem.old)) }
 {
     let child = match check_delete(mem, caller, d, running.as_slice(), steps) {
         Ok(child) => child,

@@ -1,5 +1,5 @@
 -- A child that is given a table, from one step of the code to the next.
-use Rattle.std.proofs.Common.{◌≡◌, ◌≢◌, ℕ, zero, suc, inl, inr, List, [], ◌++◌, refl, subst, sym, arith, Option, Some}
+use Rattle.std.proofs.Common.{◌≡◌, ◌≢◌, ℕ, zero, suc, inl, inr, List, [], ◌++◌, refl, subst, sym, arith, Option, Some, ◌+◌, ◌*◌, ◌≤◌, length}
 use Rattle.std.proofs.Common.{None}
 use Rattle.pip_model.specs.Answers.{pair_frames}
 use Rattle.pip_base.specs.declared.types.Pair.{Pair}
@@ -12,14 +12,15 @@ use Rattle.pip_model.specs.Midway.{Midway}
 use Rattle.pip_model.specs.NodeIn.{OthersStay, Space}
 use Rattle.pip_model.specs.Prepare.{tree_with_table}
 use Rattle.pip_model.specs.Sound.{IsSound}
-use Rattle.pip_model.specs.Tree.{Node, Table, Tree, find_node, table_pairs, vpage}
+use Rattle.pip_model.specs.Tree.{Node, Table, Tree, find_node, table_pairs, vpage, chain}
 use Rattle.pip_model.proofs.Frames.Laid.{born_place}
 use Rattle.pip_model.proofs.Frames.Lays.{PagesStay-trans}
 use Rattle.pip_model.proofs.Trees.Lookup.{in_other}
 use Rattle.pip_model.proofs.OnLists.Members.{In-append_right}
 use Rattle.pip_model.specs.Prepare.{with_table}
 use Rattle.pip_space.specs.Tables.{CanInstall, HasInstall, page_list}
-use Rattle.pip_kern.specs.Giving.{CanGive, CanGiveEach, CanGivePages, HasGiven, rows_given, GivesFurtherPages}
+use Rattle.pip_kern.specs.Giving.{CanGive, CanGiveEach, CanGivePages, HasGiven, rows_given, GivesFurtherPages, GivesPagesIn}
+use Rattle.std.proofs.lemmas.Nat.{mul-le}
 use Rattle.pip_kern.proofs.Giving.{giving_start}
 use Rattle.pip_grow.specs.Chain.{chain_pages}
 use Rattle.pip_grow.specs.Preparing.{CanPrepare, table_of}
@@ -34,6 +35,11 @@ born_some t s caller child born i g can e =
     let high = (born_place t s c.name c (in_other t s c can.may.child)).1 in
     let place = can.place in
     absurd (omega arith)
+
+-- there is one more page at most
+one_page : (o : Option Pair) → length (page_list o) ≤ 1
+one_page None = omega arith
+one_page (Some p) = omega arith
 
 -- what the code's install_table says
 abbrev pub InstallSays : Memory → Memory → ℕ → ℕ → List Pair → Option Pair → Type 0
@@ -97,6 +103,18 @@ module _ (t : Tree) (s : IsSound t) (caller : ℕ) (x : Node) (found : find_node
     each : CanGiveEach t y born list
     unfolding list_each
     each = subst (CanGiveEach t y born) (sym list_is) list_each
+
+    -- in so many steps
+    pub given_in : (before between after : ℕ)
+        → GivesPagesIn caller born (table_pairs b) (length (table_pairs b)) m before between
+        → GivesPagesIn caller born list (length list) m1 between after → after ≤ before + 28 * length (chain t caller) + 8
+    unfolding tables_each each tables_given
+    given_in before between after one last =
+        let first = one t y [] tables_each can.may.up (giving_start t s m lays y) in
+        let then = last t y (pair_frames (table_pairs b)) each can.may.up tables_given.midway in
+        let most = mul-le (length list) (7 * length (chain t caller) + 2) 1 (7 * length (chain t caller) + 2)
+        (subst (λ l. length l ≤ 1) (sym list_is) (one_page g.list)) (omega arith) in
+        omega (arith, first, then, most)
 
     -- then the list page
     pub list_can : CanGivePages m1 caller born list

@@ -1,5 +1,5 @@
 //! collect: its tests, and then the tables come back.
-ghost use Rattle.std.specs.Prelude.{◌≡◌, ◌<◌, Some, ⊤, length};
+ghost use Rattle.std.specs.Prelude.{◌≡◌, ◌+◌, ◌*◌, ◌<◌, ◌≤◌, Some, ⊤, length};
 ghost use Rattle.pip_model.specs.Partitions.{HasPartition, InEach, IsHeld};
 ghost use Rattle.pip_kern.specs.Tested.{Tested};
 ghost use Rattle.pip_model.specs.Collect.{tree_without_table, first_va, returned_pages, without_table, collect};
@@ -30,7 +30,8 @@ fn check_empty<M: Frames, L: Ledger>(
 ) -> Result<(), Status>
     requires stands { HasPartition (M.memory mem.now) part }
     requires index { i < 1024 }
-    ensures { InEach (M.memory mem.now) part (λ t x. Tested (table_tests x i) (λ u. ⊤) result) }
+    ensures tested { InEach (M.memory mem.now) part (λ t x. Tested (table_tests x i) (λ u. ⊤) result) }
+    ensures steps { steps.new ≤ steps.old + 36 }
 {
     if !has_table(mem, part, i, steps) {
         return Err(Status::NoTable);
@@ -59,6 +60,7 @@ fn remove_pages<M: Frames, L: Ledger>(
     ensures node { InEachSpace (M.memory mem.old) part (λ x rows.
         CanRemove x rows i → Space (M.memory mem.new) (without_table i x) (rows_beside i rows)
         × OthersStay x (M.memory mem.old) (M.memory mem.new)) }
+    ensures steps { steps.new ≤ steps.old + 1080 }
 {
     let (tables, list) = remove_table(mem, part, i, steps);
     let [mmu, shadow1, shadow2] = tables;
@@ -86,6 +88,7 @@ fn take_table<M: Frames, L: Ledger>(
         (result ≡ first_va (returned_pages can.node (Some can.table)))
         × IsHeld (tree_without_table t child i (returned_pages can.node (Some can.table)))
         (M.memory mem.new)) }
+    ensures steps { steps.new ≤ steps.old + 28 * length (M.memory mem.old) + 1088 }
 {
     let pages = remove_pages(mem, child, i, steps);
     let tables = [pages.mmu, pages.shadow1, pages.shadow2];
@@ -108,7 +111,8 @@ pub fn collect<M: Frames, L: Ledger>(
     steps: &mut Steps<L>,
 ) -> Result<u32, Status>
     requires { HasPartition (M.memory mem.old) caller }
-    ensures { DoesWithValue (λ t. collect t caller d cv) caller result (M.memory mem.old) (M.memory mem.new) }
+    ensures does { DoesWithValue (λ t. collect t caller d cv) caller result (M.memory mem.old) (M.memory mem.new) }
+    ensures steps { steps.new ≤ steps.old + 28 * length (M.memory mem.old) + 1130 }
 {
     let child = check_child(mem, caller, &[d, cv], d, steps)?;
     let i = VPage::of_address(cv).number() / 1024;

@@ -1,5 +1,5 @@
 //! countToMap. Nothing here writes.
-ghost use Rattle.std.specs.Prelude.{◌≡◌};
+ghost use Rattle.std.specs.Prelude.{◌≡◌, ◌+◌, ◌≤◌};
 ghost use Rattle.pip_model.specs.CountToMap.{count_to_map, pages_needed};
 ghost use Rattle.pip_model.specs.Partitions.{HasPartition, InEach};
 ghost use Rattle.pip_model.specs.NodeIn.{HasNode};
@@ -22,7 +22,8 @@ pub(crate) fn pages_needed<M: Frames, L: Ledger>(
     steps: &mut Steps<L>,
 ) -> u32
     requires { HasNode (M.memory mem.now) part }
-    ensures { InEachNode (M.memory mem.now) part (λ x cells. result ≡ pages_needed x v) }
+    ensures pages { InEachNode (M.memory mem.now) part (λ x cells. result ≡ pages_needed x v) }
+    ensures steps { steps.new ≤ steps.old + 3 }
 {
     if has_table(mem, part, v.number() / 1024, steps) {
         return 0;
@@ -41,7 +42,8 @@ pub fn count_to_map<M: Frames, L: Ledger>(
     steps: &mut Steps<L>,
 ) -> Result<u32, Status>
     requires { HasPartition (M.memory mem.now) caller }
-    ensures { InEach (M.memory mem.now) caller (λ t x. IsAnswer result (count_to_map t caller d cv)) }
+    ensures answer { InEach (M.memory mem.now) caller (λ t x. IsAnswer result (count_to_map t caller d cv)) }
+    ensures steps { steps.new ≤ steps.old + 9 }
 {
     let child = check_child(mem, caller, &[d, cv], d, steps)?;
     Ok(pages_needed(mem, child, VPage::of_address(cv), steps))

@@ -1,10 +1,11 @@
 //! prepare: the chain is followed and tested, and then its pages are given.
-ghost use Rattle.std.specs.Prelude.{◌≡◌, ◌<◌, length};
+ghost use Rattle.std.specs.Prelude.{◌≡◌, ◌+◌, ◌*◌, ◌<◌, ◌≤◌, length};
 ghost use Rattle.pip_model.specs.Prepare.{tree_with_table, prepare};
 ghost use Rattle.pip_grow.specs.Chain.{chain_pages};
 ghost use Rattle.pip_grow.specs.Preparing.{CanPrepare, HasPrepare};
 ghost use Rattle.pip_model.specs.Partitions.{HasPartition, InEach, IsHeld};
 ghost use Rattle.pip_kern.specs.Calls.{DoesWithValue};
+ghost use Rattle.pip_model.specs.Tree.{chain};
 
 use crate::calls::count_to_map::pages_needed;
 use crate::chain::{TablePages, check_chain};
@@ -32,6 +33,9 @@ fn give_table<M: Frames, L: Ledger>(
     ensures count { length (M.memory mem.new) ≡ length (M.memory mem.old) }
     ensures tree { InEach (M.memory mem.old) caller (λ t x. CanPrepare t caller child born i pages.now →
         IsHeld (tree_with_table t child i (chain_pages pages.now)) (M.memory mem.new)) }
+    ensures steps { steps.new ≤ steps.old + 28 * length (M.memory mem.old) + 26 }
+    ensures chain { InEach (M.memory mem.old) caller (λ t x. CanPrepare t caller child born i pages.now →
+        steps.new ≤ steps.old + 28 * length (chain t caller) + 26) }
 {
     let tables = [pages.mmu, pages.shadow1, pages.shadow2];
     give_pages(mem, caller, born, &tables, steps);
@@ -53,7 +57,10 @@ pub fn prepare<M: Frames, L: Ledger>(
     steps: &mut Steps<L>,
 ) -> Result<u32, Status>
     requires { HasPartition (M.memory mem.old) caller }
-    ensures { DoesWithValue (λ t. prepare t caller d cv first) caller result (M.memory mem.old) (M.memory mem.new) }
+    ensures does { DoesWithValue (λ t. prepare t caller d cv first) caller result (M.memory mem.old) (M.memory mem.new) }
+    ensures steps { steps.new ≤ steps.old + 28 * length (M.memory mem.old) + 74 }
+    ensures chain { InEach (M.memory mem.old) caller (λ t x.
+        steps.new ≤ steps.old + 28 * length (chain t caller) + 74) }
 {
     let child = check_child(mem, caller, &[d, cv], d, steps)?;
     let v = VPage::of_address(cv);

@@ -1,5 +1,5 @@
 //! addVAddr: its tests, the two writes, and the call.
-ghost use Rattle.std.specs.Prelude.{◌≡◌, length, ◌<◌, Some, ⊤};
+ghost use Rattle.std.specs.Prelude.{◌≡◌, length, ◌<◌, ◌≤◌, ◌+◌, Some, ⊤};
 ghost use Rattle.pip_kern.specs.Calls.{Does};
 ghost use Rattle.pip_lend.specs.Lending.{CanLend, HasLoan, loan_row, IsGranted, loan_of, page_tests, room_tests};
 ghost use Rattle.pip_model.specs.AddVAddr.{add_vaddr, tree_with_row, add_refusals};
@@ -46,7 +46,8 @@ fn check_page(row: &Row, rights: u32) -> Result<Rights, Status>
 // Whether a partition has a table for an address.
 fn has_table_at<M: Frames, L: Ledger>(mem: &M, part: Frame, va: u32, steps: &mut Steps<L>) -> bool
     requires { HasPartition (M.memory mem.now) part }
-    ensures { InEach (M.memory mem.now) part (λ t y. result ≡ tree_has_table y (vpage va)) }
+    ensures table { InEach (M.memory mem.now) part (λ t y. result ≡ tree_has_table y (vpage va)) }
+    ensures steps { steps.new ≤ steps.old + 2 }
 {
     has_table(mem, part, va / 4096 / 1024, steps)
 }
@@ -59,7 +60,8 @@ fn check_room<M: Frames, L: Ledger>(
     steps: &mut Steps<L>,
 ) -> Result<(), Status>
     requires { HasPartition (M.memory mem.now) child }
-    ensures { InEach (M.memory mem.now) child (λ t y. Tested (room_tests y (vpage cv)) (λ u. ⊤) result) }
+    ensures tested { InEach (M.memory mem.now) child (λ t y. Tested (room_tests y (vpage cv)) (λ u. ⊤) result) }
+    ensures steps { steps.new ≤ steps.old + 11 }
 {
     if !has_table_at(mem, child, cv, steps) {
         return Err(Status::NoTable);
@@ -81,8 +83,9 @@ fn check_add<M: Frames, L: Ledger>(
     steps: &mut Steps<L>,
 ) -> Result<Loan, Status>
     requires { HasPartition (M.memory mem.now) caller }
-    ensures { InEach (M.memory mem.now) caller (λ t x.
+    ensures tested { InEach (M.memory mem.now) caller (λ t x.
         Tested (add_refusals t caller v d cv rights) (λ loan. loan ≡ loan_of t caller v d cv rights) result) }
+    ensures steps { steps.new ≤ steps.old + 26 }
 {
     let child = check_child(mem, caller, &[v, d, cv], d, steps)?;
     let row = row_at(mem, caller, v, steps).ok_or(Status::NotMapped)?;
@@ -106,6 +109,7 @@ fn lend<M: Frames, L: Ledger>(mem: &mut M, caller: Frame, loan: &Loan, steps: &m
     ensures count { length (M.memory mem.new) ≡ length (M.memory mem.old) }
     ensures tree { (t : Tree) → CanLend t caller loan.now → LaysOut t (M.memory mem.old) →
         LaysOut (tree_with_row t loan.now.child (loan_row loan.now)) (M.memory mem.new) }
+    ensures steps { steps.new ≤ steps.old + 8 }
 {
     let row = Row {
         frame: loan.frame,
@@ -132,8 +136,9 @@ pub fn add_vaddr<M: Frames, L: Ledger>(
     steps: &mut Steps<L>,
 ) -> Status
     requires { HasPartition (M.memory mem.old) caller }
-    ensures { Does (λ t. add_vaddr t caller v d cv rights) caller result 0
+    ensures does { Does (λ t. add_vaddr t caller v d cv rights) caller result 0
         (M.memory mem.old) (M.memory mem.new) }
+    ensures steps { steps.new ≤ steps.old + 34 }
 {
     let loan = match check_add(mem, caller, v, d, cv, rights, steps) {
         Ok(loan) => loan,

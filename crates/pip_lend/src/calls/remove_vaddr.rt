@@ -1,5 +1,5 @@
 //! removeVAddr: its tests, the two writes, and the call.
-ghost use Rattle.std.specs.Prelude.{◌≡◌, length};
+ghost use Rattle.std.specs.Prelude.{◌≡◌, ◌≤◌, ◌+◌, length};
 ghost use Rattle.pip_kern.specs.Calls.{Does};
 ghost use Rattle.pip_kern.specs.Tested.{Tested};
 ghost use Rattle.pip_lend.specs.Lending.{CanRecall, HasRecall, IsRecall};
@@ -27,8 +27,9 @@ fn check_remove<M: Frames, L: Ledger>(
     steps: &mut Steps<L>,
 ) -> Result<Recall, Status>
     requires { HasPartition (M.memory mem.now) caller }
-    ensures { InEach (M.memory mem.now) caller (λ t x.
+    ensures tested { InEach (M.memory mem.now) caller (λ t x.
         Tested (remove_refusals t caller d cv) (λ k. IsRecall t caller d cv k) result) }
+    ensures steps { steps.new ≤ steps.old + 15 }
 {
     let child = check_child(mem, caller, &[d, cv], d, steps)?;
     let row = row_at(mem, child, cv, steps).ok_or(Status::Absent)?;
@@ -55,6 +56,7 @@ fn take_back<M: Frames, L: Ledger>(
     ensures count { length (M.memory mem.new) ≡ length (M.memory mem.old) }
     ensures tree { (t : Tree) → CanRecall t caller recall.now → LaysOut t (M.memory mem.old) →
         LaysOut (tree_without_row t recall.now.child recall.now.at) (M.memory mem.new) }
+    ensures steps { steps.new ≤ steps.old + 8 }
 {
     unmap(mem, recall.child, recall.at, steps);
     set_given(mem, caller, recall.v, Sh1::Free, steps);
@@ -72,7 +74,8 @@ pub fn remove_vaddr<M: Frames, L: Ledger>(
     steps: &mut Steps<L>,
 ) -> Status
     requires { HasPartition (M.memory mem.old) caller }
-    ensures { Does (λ t. remove_vaddr t caller d cv) caller result 0 (M.memory mem.old) (M.memory mem.new) }
+    ensures does { Does (λ t. remove_vaddr t caller d cv) caller result 0 (M.memory mem.old) (M.memory mem.new) }
+    ensures steps { steps.new ≤ steps.old + 23 }
 {
     let recall = match check_remove(mem, caller, d, cv, steps) {
         Ok(recall) => recall,

@@ -10,7 +10,7 @@ is_below-requires g c = let (w, s) = c.requires.stands in
 pub returns-in-Some : goal.returns-in-Some
 returns-in-Some g c w s =
     part_below c.args.machine.now w _ c.args.top c.args.cpu c.in-Some.part c.is_below.result s
-    c.mem.ensures (sym (c.runs.ensures w s) ∙ c.in-Some.is) c.is_below.ensures
+    c.mem.ensures (sym (c.runs.ensures w s) ∙ c.in-Some.is) c.is_below.ensures.below
 
 pub returns-in-None : goal.returns-in-None
 returns-in-None g c w s =

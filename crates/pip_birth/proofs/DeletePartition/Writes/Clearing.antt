@@ -1,5 +1,5 @@
 -- A page of configuration that comes back and is zeroed.
-use Rattle.std.proofs.Common.{◌≡◌, ℕ, ◌+◌, ◌*◌, ◌<◌, ◌/◌, ◌%◌, cond, inl, inr, Bool, true, false, [], ◌∷◌, ◌++◌, sym}
+use Rattle.std.proofs.Common.{◌≡◌, ◌≤◌, ℕ, ◌+◌, ◌*◌, ◌<◌, ◌/◌, ◌%◌, cond, inl, inr, Bool, true, false, [], ◌∷◌, ◌++◌, sym}
 use Rattle.std.proofs.Common.{ap, ◌∙◌, subst, arith, length, refl, Some}
 use Rattle.pip_base.specs.Memory.{Memory, word_at, zero_frame}
 use Rattle.pip_model.specs.FullRows.{FullRow, row_word}
@@ -12,8 +12,9 @@ use Rattle.pip_model.proofs.Frames.Laid.{held_frame}
 use Rattle.pip_model.proofs.Trees.Lookup.{other_found}
 use Rattle.pip_space.specs.Levels.{table_frame_at}
 use Rattle.pip_space.proofs.Tables.{page_inside, row_of_page}
-use Rattle.pip_kern.specs.Taking.{CanTakePage, TakesPage, row_taken}
+use Rattle.pip_kern.specs.Taking.{CanTakePage, TakesPage, TakesPageIn, row_taken}
 use Rattle.pip_kern.proofs.Marking.{marked_frame}
+use Rattle.pip_birth.specs.Ending.{EndsPageIn}
 use Rattle.pip_birth.specs.Ending.{CanEnd, EndsPage, HasCleared, HasConfiguration, IsConfiguration, IsEndingAt, without}
 use Rattle.pip_birth.proofs.DeletePartition.Tree.{parent}
 use Rattle.pip_birth.proofs.DeletePartition.Writes.Pages.{one_more, row_now, space, taking, x_new}
@@ -108,3 +109,11 @@ config_ends n b l parent_name leaves v number w f same word is says written t y 
     page_cleared t y can start n leaves v k c b l (subst (λ p. TakesPage p v n b) (sym up) says) f
     (is ∙ (ap (λ q. q / 4096) word
     ∙ (ap (λ q. word_at n leaves (q % 1024) / 4096) same ∙ frame_is t y can start n leaves v k c))) written
+
+-- in so many steps
+pub config_in : (n : Memory) (parent_name leaves v before read after : ℕ) → read ≡ before + 1
+    → TakesPageIn parent_name v n read after → EndsPageIn parent_name leaves v n before after
+config_in n parent_name leaves v before read after is says t y start can up c k =
+    let one = subst (λ p. TakesPageIn p v n read after) (sym up) says (without t y) (tree_rows t) k.back c.row.frame
+    (taking t y can v c.row c.at c.held) k.ending.midway in
+    omega (arith, is, one)

@@ -420,7 +420,7 @@ abbrev pub NextSays : Memory → ℕ → ℕ → Option ℕ → Type 0
 NextSays n parent_name from o = (z : Node) (cells : Level → ℕ → ℕ) → NodeIn n z cells → z.name ≡ parent_name
     → IsNextTables z from o
 
-next_is : (t : Tree) (y : Node) (can : CanEnd t y) (m : Memory) (k : ℕ) (n : Memory) → IsEndingAt t y m k n
+pub next_is : (t : Tree) (y : Node) (can : CanEnd t y) (m : Memory) (k : ℕ) (n : Memory) → IsEndingAt t y m k n
     → (parent_name : ℕ) → y.up ≡ parent_name → (from : ℕ) (o : Option ℕ) → NextSays n parent_name from o
     → IsNextTables (parent t y can).0 from o
 next_is t y can m k n at parent_name up from o says = says (parent t y can).0 _ (space t y can m n k at).node

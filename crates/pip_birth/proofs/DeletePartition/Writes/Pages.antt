@@ -78,7 +78,7 @@ module _ (t : Tree) (y : Node) (can : CanEnd t y) where
   born_positive e = let b = born_place t s y.name y can.found in let low = b.1 in omega (arith, low, e)
 
   -- a row of its parent is one of the tree's
-  row_back : (v : ℕ) (r : FullRow) → tree_rows t y.up v ≡ Some r
+  pub row_back : (v : ℕ) (r : FullRow) → tree_rows t y.up v ≡ Some r
       → (q : Row) × (row_at x.rows v ≡ Some q) × (r ≡ filled t x q)
   unfolding x_old
   row_back v r e = full_back t x v r (sym (ap (λ z. full_rows t z v) (node_is t y.up x x_old)) ∙ e)

@@ -43,8 +43,8 @@ read_pair-requires-5 g c = let n = c.requires in
       small = small_list (g.M.Frames.memory c.args.mem.now) c.args.part n.node n.cells n.is_in n.name;
     }
 
-pub returns : goal.returns
-returns g c x cells node name =
+pub returns-clause-base : goal.returns-clause-base
+returns-clause-base g c x cells node name =
     base_is (g.M.Frames.memory c.args.mem.now) c.args.part x cells node name c.read_pair.result c.read_pair-2.result
     c.read_pair-3.result c.read_pair-4.result c.read_pair-5.result
     c.read_pair.ensures.va c.read_pair.ensures.frame c.read_pair-2.ensures.va c.read_pair-2.ensures.frame

@@ -1,4 +1,5 @@
-use Rattle.pip_birth.proofs.DeletePartition.Writes.Clearing.{config_can, config_ends, config_inside, leaves_there}
+use Rattle.pip_birth.proofs.DeletePartition.Writes.Clearing.{config_can, config_ends, config_in, config_inside}
+use Rattle.pip_birth.proofs.DeletePartition.Writes.Clearing.{leaves_there}
 use Rattle.pip_birth.proofs.ending.clear_page.Goals as goal
 
 pub word-page-requires-clause-frame : goal.word-page-requires-clause-frame
@@ -18,3 +19,7 @@ returns-clause-ended g c = config_ends (g.M.Frames.memory c.args.mem.now) (g.M.F
     (g.M.Frames.memory c.zero.new.self) c.args.caller c.args.leaves c.args.v c.number.result c.word-page.result
     c.new.result c.number.ensures.same c.word-page.ensures.word c.new.ensures c.take_page.ensures.taken
     c.zero.ensures.words
+
+pub returns-clause-steps : goal.returns-clause-steps
+returns-clause-steps g c = config_in (g.M.Frames.memory c.args.mem.now) c.args.caller c.args.leaves c.args.v _
+    c.word-page.new.steps _ c.word-page.ensures.step c.take_page.ensures.chain

@@ -9,26 +9,26 @@ page_of_slot-page-requires-clause-frame g c =
     let p = c.requires in
     let inside : c.loop-k.k < length p.tables = grind arith in
     before_inside _ c.args.first c.loop-k.k c.loop-k.page p.more p.tables p.is_in
-    inside (c.loop-k.invariant p.more p.tables p.is_in p.count).page
+    inside (c.loop-k.invariant.place p.more p.tables p.is_in p.count).page
 
 pub page_of_slot-page-requires-clause-link : goal.page_of_slot-page-requires-clause-link
 page_of_slot-page-requires-clause-link g c =
     let p = c.requires in
     let inside : c.loop-k.k < length p.tables = grind arith in
     before_small _ c.args.first c.loop-k.k c.loop-k.page p.more p.tables p.is_in
-    inside (c.loop-k.invariant p.more p.tables p.is_in p.count).page (g.met.M.Frames.bounds c.args.mem.now).1
+    inside (c.loop-k.invariant.place p.more p.tables p.is_in p.count).page (g.met.M.Frames.bounds c.args.mem.now).1
 
 pub word-requires-clause-frame : goal.word-requires-clause-frame
 word-requires-clause-frame g c =
     let p = c.requires in
     let inside : c.loop-k.k < length p.tables = grind arith in
     page_of_inside _ c.args.first c.loop-k.k c.loop-k.page p.more p.tables p.is_in
-    inside (c.loop-k.invariant p.more p.tables p.is_in p.count).page c.page_of_slot-page.result
+    inside (c.loop-k.invariant.place p.more p.tables p.is_in p.count).page c.page_of_slot-page.result
     c.page_of_slot-page.ensures.same c.page_of_slot-page.ensures.next
 
-pub returns-then-word-number : goal.returns-then-word-number
-returns-then-word-number g c more ts list count =
-    let l = c.loop-k.invariant more ts list count in
+pub returns-then-word-number-clause-place : goal.returns-then-word-number-clause-place
+returns-then-word-number-clause-place g c more ts list count =
+    let l = c.loop-k.invariant.place more ts list count in
     let inside : c.loop-k.k < length ts = grind arith in
     let read = page_of_word _ c.args.first c.loop-k.k c.loop-k.page more ts list inside l.page
     c.page_of_slot-page.result c.page_of_slot-page.ensures.same c.page_of_slot-page.ensures.next in
@@ -36,21 +36,26 @@ returns-then-word-number g c more ts list count =
     (sym read ∙ (sym c.word.ensures.word ∙ (c.if-word-number.true ∙ c.number.ensures.same))) l.none
 
 pub loop-k-preserved : goal.loop-k-preserved
-loop-k-preserved g c more ts list count =
-    let l = c.loop-k.invariant more ts list count in
-    let inside : c.loop-k.k < length ts = grind arith in
-    let at = page_of _ c.args.first c.loop-k.k c.loop-k.page more ts list inside l.page c.page_of_slot-page.result
-    c.page_of_slot-page.ensures.same c.page_of_slot-page.ensures.next in
-    let read = page_of_word _ c.args.first c.loop-k.k c.loop-k.page more ts list inside l.page
-    c.page_of_slot-page.result c.page_of_slot-page.ensures.same c.page_of_slot-page.ensures.next in
-    let next : c.loop-k.k + 1 - 1 ≡ c.loop-k.k = omega arith in
-    record {
-      page = at ∙ ap (λ j. list_frame c.args.first more (j / 170)) (sym next);
-      none = below_more _ _ l.none
-          (λ e. c.if-word-number.false (c.word.ensures.word ∙ (read ∙ (e ∙ sym c.number.ensures.same))));
-    }
+loop-k-preserved g c = record {
+  place = λ more ts list count.
+      let l = c.loop-k.invariant.place more ts list count in
+      let inside : c.loop-k.k < length ts = grind arith in
+      let at = page_of _ c.args.first c.loop-k.k c.loop-k.page more ts list inside l.page c.page_of_slot-page.result
+      c.page_of_slot-page.ensures.same c.page_of_slot-page.ensures.next in
+      let read = page_of_word _ c.args.first c.loop-k.k c.loop-k.page more ts list inside l.page
+      c.page_of_slot-page.result c.page_of_slot-page.ensures.same c.page_of_slot-page.ensures.next in
+      let next : c.loop-k.k + 1 - 1 ≡ c.loop-k.k = omega arith in
+      record {
+        page = at ∙ ap (λ j. list_frame c.args.first more (j / 170)) (sym next);
+        none = below_more _ _ l.none
+            (λ e. c.if-word-number.false (c.word.ensures.word ∙ (read ∙ (e ∙ sym c.number.ensures.same))));
+      };
+  steps =
+      let next = c.page_of_slot-page.ensures.steps in let read = c.word.ensures.step in
+      let so = c.loop-k.invariant.steps in omega (arith, next, read, so);
+}
 
-pub returns : goal.returns
-returns g c more ts list count =
-    let none = (c.loop-k.invariant more ts list count).none in
+pub returns-clause-place : goal.returns-clause-place
+returns-clause-place g c more ts list count =
+    let none = (c.loop-k.invariant.place more ts list count).none in
     table_absent ts c.args.table (λ j h. none j (grind arith))

@@ -33,8 +33,8 @@ read_pair-shadow2-requires-clause-small g c =
     small_shadow2 (g.M.Frames.memory c.args.mem.now) c.args.first c.args.m c.args.k c.page_at-page.result p.more
     p.tables p.is_in count place (c.page_at-page.ensures.frame p.more (slots p.tables) p.is_in.pages low)
 
-pub returns : goal.returns
-returns g c more ts list count =
+pub returns-clause-slot : goal.returns-clause-slot
+returns-clause-slot g c more ts list count =
     let place = c.requires.place in
     let room = list.room in
     let low : c.args.k / 170 ≤ length more = omega arith in

@@ -17,7 +17,7 @@ write_slot-requires-2 g c =
       mmu = _;
       shadow1 = _;
       shadow2 = _;
-    }) p.is_in.pages (omega arith) (sym (c.slot_at-last.ensures p.more p.tables p.is_in p.count)) in
+    }) p.is_in.pages (omega arith) (sym (c.slot_at-last.ensures.slot p.more p.tables p.is_in p.count)) in
     record { more = p.more; slot = _; is_in = put.0; inside = omega arith }
 
 pub returns-clause-list : goal.returns-clause-list
@@ -27,7 +27,7 @@ returns-clause-list g c more ts t list count =
     let room = list.room in
     let last_place : c.args.m - 1 ≡ length ts = omega arith in
     let last : table_pairs t ≡ c.slot_at-last.result =
-    sym (c.slot_at-last.ensures more (ts ++ t ∷ []) list (omega arith)
+    sym (c.slot_at-last.ensures.slot more (ts ++ t ∷ []) list (omega arith)
     ∙ (ap (λ q. table_pairs (slots (ts ++ t ∷ []) q)) last_place ∙ ap table_pairs (slots_last ts t))) in
     let one = c.write_slot.ensures.pages more (slots (ts ++ t ∷ [])) t list.pages (omega arith) last in
     let two = c.write_slot-2.ensures.pages more (put_slot (slots (ts ++ t ∷ [])) c.args.k t) no_table one.0

@@ -22,11 +22,13 @@ next_tables-requires-clause-index g c = c.loop-i.invariant.high
 
 pub table_words-requires-clause-tables : goal.table_words-requires-clause-tables
 table_words-requires-clause-tables g c =
-    (has_next (g.M.Frames.memory c.args.mem.now) c.args.part c.in-Some.i c.loop-i.from c.requires c.in-Some.ensures).0
+    (has_next (g.M.Frames.memory c.args.mem.now) c.args.part c.in-Some.i c.loop-i.from c.requires
+    c.in-Some.ensures.next).0
 
 pub table_words-requires-clause-index : goal.table_words-requires-clause-index
 table_words-requires-clause-index g c =
-    (has_next (g.M.Frames.memory c.args.mem.now) c.args.part c.in-Some.i c.loop-i.from c.requires c.in-Some.ensures).1
+    (has_next (g.M.Frames.memory c.args.mem.now) c.args.part c.in-Some.i c.loop-i.from c.requires
+    c.in-Some.ensures.next).1
 
 pub overflow_add-count : goal.overflow_add-count
 overflow_add-count g c =
@@ -37,24 +39,24 @@ overflow_add-count g c =
 
 pub overflow_add-from : goal.overflow_add-from
 overflow_add-from g c = let (tables, small, above) =
-    has_next (g.M.Frames.memory c.args.mem.now) c.args.part c.in-Some.i c.loop-i.from c.requires c.in-Some.ensures in
-    omega (arith, small)
+    has_next (g.M.Frames.memory c.args.mem.now) c.args.part c.in-Some.i c.loop-i.from c.requires c.in-Some.ensures.next
+    in omega (arith, small)
 
 pub loop-i-smaller : goal.loop-i-smaller
 loop-i-smaller g c = let (tables, small, above) =
-    has_next (g.M.Frames.memory c.args.mem.now) c.args.part c.in-Some.i c.loop-i.from c.requires c.in-Some.ensures in
-    omega (arith, small, above)
+    has_next (g.M.Frames.memory c.args.mem.now) c.args.part c.in-Some.i c.loop-i.from c.requires c.in-Some.ensures.next
+    in omega (arith, small, above)
 
 pub loop-i-preserved : goal.loop-i-preserved
 loop-i-preserved g c =
     let m = g.M.Frames.memory c.args.mem.now in
-    let (tables, small, above) = has_next m c.args.part c.in-Some.i c.loop-i.from c.requires c.in-Some.ensures in
+    let (tables, small, above) = has_next m c.args.part c.in-Some.i c.loop-i.from c.requires c.in-Some.ensures.next in
     record {
       high = omega (arith, small);
       few = let few = c.loop-i.invariant.few in let more = c.count_words-count.ensures.few in
           omega (arith, few, more, above);
       passed = λ t x s lays found.
-          let next = c.in-Some.ensures x _ (cells_in t s m lays c.args.part x found)
+          let next = c.in-Some.ensures.next x _ (cells_in t s m lays c.args.part x found)
           (name_is t s m lays c.args.part x found) in
           let leaves =
           leaves_of t s m lays c.args.part x found c.in-Some.i c.table_words.result.now c.table_words.ensures in
@@ -71,7 +73,7 @@ pub returns : goal.returns
 returns g c t x s lays found =
     let m = g.M.Frames.memory c.args.mem.now in
     let next =
-    c.in_default.ensures x _ (cells_in t s m lays c.args.part x found) (name_is t s m lays c.args.part x found) in
+    c.in_default.ensures.next x _ (cells_in t s m lays c.args.part x found) (name_is t s m lays c.args.part x found) in
     let none = ap (λ (l : List Row). length l) (rows_over t s m lays c.args.part x found c.loop-i.from next) in
     let old = c.loop-i.invariant.passed t x s lays found in
     omega (arith, none, old)

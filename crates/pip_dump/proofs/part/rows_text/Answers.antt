@@ -24,30 +24,35 @@ next_tables-requires-clause-index g c = c.loop-i.invariant.high
 
 pub table_words-leaves-requires-clause-tables : goal.table_words-leaves-requires-clause-tables
 table_words-leaves-requires-clause-tables g c =
-    (has_next (g.M.Frames.memory c.args.mem.now) c.args.part c.in-Some.i c.loop-i.from c.requires c.in-Some.ensures).0
+    (has_next (g.M.Frames.memory c.args.mem.now) c.args.part c.in-Some.i c.loop-i.from c.requires
+    c.in-Some.ensures.next).0
 
 pub table_words-leaves-requires-clause-index : goal.table_words-leaves-requires-clause-index
 table_words-leaves-requires-clause-index g c =
-    (has_next (g.M.Frames.memory c.args.mem.now) c.args.part c.in-Some.i c.loop-i.from c.requires c.in-Some.ensures).1
+    (has_next (g.M.Frames.memory c.args.mem.now) c.args.part c.in-Some.i c.loop-i.from c.requires
+    c.in-Some.ensures.next).1
 
 pub table_words-given-requires-clause-tables : goal.table_words-given-requires-clause-tables
 table_words-given-requires-clause-tables g c =
-    (has_next (g.M.Frames.memory c.args.mem.now) c.args.part c.in-Some.i c.loop-i.from c.requires c.in-Some.ensures).0
+    (has_next (g.M.Frames.memory c.args.mem.now) c.args.part c.in-Some.i c.loop-i.from c.requires
+    c.in-Some.ensures.next).0
 
 pub table_words-given-requires-clause-index : goal.table_words-given-requires-clause-index
 table_words-given-requires-clause-index g c =
-    (has_next (g.M.Frames.memory c.args.mem.now) c.args.part c.in-Some.i c.loop-i.from c.requires c.in-Some.ensures).1
+    (has_next (g.M.Frames.memory c.args.mem.now) c.args.part c.in-Some.i c.loop-i.from c.requires
+    c.in-Some.ensures.next).1
 
 pub table_text-requires : goal.table_text-requires
 table_text-requires g c =
-    (has_next (g.M.Frames.memory c.args.mem.now) c.args.part c.in-Some.i c.loop-i.from c.requires c.in-Some.ensures).1
+    (has_next (g.M.Frames.memory c.args.mem.now) c.args.part c.in-Some.i c.loop-i.from c.requires
+    c.in-Some.ensures.next).1
 
 pub returns-in_err-table_text-clause-text : goal.returns-in_err-table_text-clause-text
 returns-in_err-table_text-clause-text g c t x s lays found =
     let m = g.M.Frames.memory c.args.mem.now in
-    let (tables, small, above) = has_next m c.args.part c.in-Some.i c.loop-i.from c.requires c.in-Some.ensures in
+    let (tables, small, above) = has_next m c.args.part c.in-Some.i c.loop-i.from c.requires c.in-Some.ensures.next in
     let next =
-    c.in-Some.ensures x _ (cells_in t s m lays c.args.part x found) (name_is t s m lays c.args.part x found) in
+    c.in-Some.ensures.next x _ (cells_in t s m lays c.args.part x found) (name_is t s m lays c.args.part x found) in
     let leaves = leaves_of t s m lays c.args.part x found c.in-Some.i c.table_words-leaves.result.now
     c.table_words-leaves.ensures in
     let given = given_of t s m lays c.args.part x found c.in-Some.i c.table_words-given.result.now
@@ -59,23 +64,23 @@ returns-in_err-table_text-clause-text g c t x s lays found =
 
 pub overflow_add-from : goal.overflow_add-from
 overflow_add-from g c = let (tables, small, above) =
-    has_next (g.M.Frames.memory c.args.mem.now) c.args.part c.in-Some.i c.loop-i.from c.requires c.in-Some.ensures in
-    omega (arith, small)
+    has_next (g.M.Frames.memory c.args.mem.now) c.args.part c.in-Some.i c.loop-i.from c.requires c.in-Some.ensures.next
+    in omega (arith, small)
 
 pub loop-i-smaller : goal.loop-i-smaller
 loop-i-smaller g c = let (tables, small, above) =
-    has_next (g.M.Frames.memory c.args.mem.now) c.args.part c.in-Some.i c.loop-i.from c.requires c.in-Some.ensures in
-    omega (arith, small, above)
+    has_next (g.M.Frames.memory c.args.mem.now) c.args.part c.in-Some.i c.loop-i.from c.requires c.in-Some.ensures.next
+    in omega (arith, small, above)
 
 pub loop-i-preserved : goal.loop-i-preserved
 loop-i-preserved g c =
     let m = g.M.Frames.memory c.args.mem.now in
-    let (tables, small, above) = has_next m c.args.part c.in-Some.i c.loop-i.from c.requires c.in-Some.ensures in
+    let (tables, small, above) = has_next m c.args.part c.in-Some.i c.loop-i.from c.requires c.in-Some.ensures.next in
     record {
       high = omega (arith, small);
       calm = c.in_ok-table_text.ensures.cause.calm ∙ c.loop-i.invariant.calm;
       left = λ t x s lays found.
-          let next = c.in-Some.ensures x _ (cells_in t s m lays c.args.part x found)
+          let next = c.in-Some.ensures.next x _ (cells_in t s m lays c.args.part x found)
           (name_is t s m lays c.args.part x found) in
           let leaves = leaves_of t s m lays c.args.part x found c.in-Some.i c.table_words-leaves.result.now
           c.table_words-leaves.ensures in
@@ -93,6 +98,6 @@ pub returns-clause-text : goal.returns-clause-text
 returns-clause-text g c t x s lays found =
     let m = g.M.Frames.memory c.args.mem.now in
     let next =
-    c.in_default.ensures x _ (cells_in t s m lays c.args.part x found) (name_is t s m lays c.args.part x found) in
+    c.in_default.ensures.next x _ (cells_in t s m lays c.args.part x found) (name_is t s m lays c.args.part x found) in
     left_none _ _ _ (left_same _ _ _ _ _ (ap (flat_map (row_text t x))
     (rows_over t s m lays c.args.part x found c.loop-i.from next)) (c.loop-i.invariant.left t x s lays found))

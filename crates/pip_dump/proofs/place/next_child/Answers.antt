@@ -16,31 +16,31 @@ next_tables-requires-clause-index g c = let high = c.loop-i.invariant.high in om
 
 pub overflow_mul-i : goal.overflow_mul-i
 overflow_mul-i g c = let (tables, small, above) = has_next (g.M.Frames.memory c.args.mem.now) c.args.part c.in-Some.i
-    (c.loop-i.v / 1024) c.requires.part c.in-Some.ensures in omega (arith, small)
+    (c.loop-i.v / 1024) c.requires.part c.in-Some.ensures.next in omega (arith, small)
 
 pub table_words-leaves-requires-clause-tables : goal.table_words-leaves-requires-clause-tables
 table_words-leaves-requires-clause-tables g c = (has_next (g.M.Frames.memory c.args.mem.now) c.args.part c.in-Some.i
-    (c.loop-i.v / 1024) c.requires.part c.in-Some.ensures).0
+    (c.loop-i.v / 1024) c.requires.part c.in-Some.ensures.next).0
 
 pub table_words-leaves-requires-clause-index : goal.table_words-leaves-requires-clause-index
 table_words-leaves-requires-clause-index g c = (has_next (g.M.Frames.memory c.args.mem.now) c.args.part c.in-Some.i
-    (c.loop-i.v / 1024) c.requires.part c.in-Some.ensures).1
+    (c.loop-i.v / 1024) c.requires.part c.in-Some.ensures.next).1
 
 pub table_words-given-requires-clause-tables : goal.table_words-given-requires-clause-tables
 table_words-given-requires-clause-tables g c = (has_next (g.M.Frames.memory c.args.mem.now) c.args.part c.in-Some.i
-    (c.loop-i.v / 1024) c.requires.part c.in-Some.ensures).0
+    (c.loop-i.v / 1024) c.requires.part c.in-Some.ensures.next).0
 
 pub table_words-given-requires-clause-index : goal.table_words-given-requires-clause-index
 table_words-given-requires-clause-index g c = (has_next (g.M.Frames.memory c.args.mem.now) c.args.part c.in-Some.i
-    (c.loop-i.v / 1024) c.requires.part c.in-Some.ensures).1
+    (c.loop-i.v / 1024) c.requires.part c.in-Some.ensures.next).1
 
 pub returns-in-Some-child_in : goal.returns-in-Some-child_in
 returns-in-Some-child_in g c t x s lays found =
     let m = g.M.Frames.memory c.args.mem.now in
     let (tables, small, above) = has_next (g.M.Frames.memory c.args.mem.now) c.args.part c.in-Some.i
-    (c.loop-i.v / 1024) c.requires.part c.in-Some.ensures in
+    (c.loop-i.v / 1024) c.requires.part c.in-Some.ensures.next in
     let next =
-    c.in-Some.ensures x _ (cells_in t s m lays c.args.part x found) (name_is t s m lays c.args.part x found) in
+    c.in-Some.ensures.next x _ (cells_in t s m lays c.args.part x found) (name_is t s m lays c.args.part x found) in
     let leaves = leaves_of t s m lays c.args.part x found c.in-Some.i c.table_words-leaves.result.now
     c.table_words-leaves.ensures in
     let given = given_of t s m lays c.args.part x found c.in-Some.i c.table_words-given.result.now
@@ -53,21 +53,21 @@ returns-in-Some-child_in g c t x s lays found =
 
 pub overflow_add-v : goal.overflow_add-v
 overflow_add-v g c = let (tables, small, above) = has_next (g.M.Frames.memory c.args.mem.now) c.args.part c.in-Some.i
-    (c.loop-i.v / 1024) c.requires.part c.in-Some.ensures in omega (arith, small)
+    (c.loop-i.v / 1024) c.requires.part c.in-Some.ensures.next in omega (arith, small)
 
 pub loop-i-smaller : goal.loop-i-smaller
 loop-i-smaller g c = let (tables, small, above) = has_next (g.M.Frames.memory c.args.mem.now) c.args.part c.in-Some.i
-    (c.loop-i.v / 1024) c.requires.part c.in-Some.ensures in omega (arith, small, above)
+    (c.loop-i.v / 1024) c.requires.part c.in-Some.ensures.next in omega (arith, small, above)
 
 pub loop-i-preserved : goal.loop-i-preserved
 loop-i-preserved g c =
     let m = g.M.Frames.memory c.args.mem.now in
     let (tables, small, above) = has_next (g.M.Frames.memory c.args.mem.now) c.args.part c.in-Some.i
-    (c.loop-i.v / 1024) c.requires.part c.in-Some.ensures in
+    (c.loop-i.v / 1024) c.requires.part c.in-Some.ensures.next in
     record {
       high = omega (arith, small);
       passed = λ t x s lays found.
-          let next = c.in-Some.ensures x _ (cells_in t s m lays c.args.part x found)
+          let next = c.in-Some.ensures.next x _ (cells_in t s m lays c.args.part x found)
           (name_is t s m lays c.args.part x found) in
           let leaves = leaves_of t s m lays c.args.part x found c.in-Some.i c.table_words-leaves.result.now
           c.table_words-leaves.ensures in
@@ -84,6 +84,6 @@ pub returns : goal.returns
 returns g c t x s lays found =
     let m = g.M.Frames.memory c.args.mem.now in
     let next =
-    c.in_default.ensures x _ (cells_in t s m lays c.args.part x found) (name_is t s m lays c.args.part x found) in
+    c.in_default.ensures.next x _ (cells_in t s m lays c.args.part x found) (name_is t s m lays c.args.part x found) in
     next_same t x _ _ None (c.loop-i.invariant.passed t x s lays found)
     (children_over t s m lays c.args.part x found c.loop-i.v next)

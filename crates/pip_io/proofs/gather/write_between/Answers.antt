@@ -14,13 +14,10 @@ loop-place-preserved g c =
     let low = loop.least in
     let bound = c.in-Ok.ensures.bound in
     let few : taken ≤ c.args.end - place = search rules in
-    let high : place + taken ≤ c.args.end = omega (arith, few, loop.most) in
+    let high : place + taken ≤ c.args.end = omega arith in
     record {
-      least = omega (arith, low);
+      least = omega arith;
       most = high;
-      written = subst (Appends (g.K.Sink.told c.args.sink.now).written (g.K.Sink.told c.write.new.self).written)
-          (ap (λ l. between xs c.args.start place ++ l) (between_front xs place c.args.end taken few)
-          ∙ between_joined xs c.args.start place (place + taken) low (omega arith))
-          (Appends-trans _ _ _ _ _ loop.written c.in-Ok.ensures.bytes);
+      written = rw (← between_joined xs c.args.start place (place + taken) low (omega arith), ← between_front xs place c.args.end taken few) (Appends-trans _ _ _ _ _ loop.written c.in-Ok.ensures.bytes);
       calm = c.in-Ok.ensures.cause.calm ∙ loop.calm;
     }

@@ -15,16 +15,15 @@ pub loop-from-preserved : goal.loop-from-preserved
 loop-from-preserved c =
     let rest = take (length c.args.bytes.now - c.loop-from.from) (drop c.loop-from.from c.args.bytes.now) in
     record {
-      inside = omega (arith, c.loop-from-test.true, c.loop-from.invariant.inside);
+      inside = omega arith;
       plain = none_both c.loop-from.from c.args.bytes.now c.loop-from.invariant.plain 32
-          (subst (NoneIn 32) (take_rest c.args.bytes.now c.loop-from.from) (none_near rest
-          (search (rules, arith)) c.newlines-marks.result c.newlines-marks.ensures c.if-marks-ne0.false));
+          (rw (← take_rest c.args.bytes.now c.loop-from.from) (none_near rest (search (rules, arith)) c.newlines-marks.result c.newlines-marks.ensures c.if-marks-ne0.false));
     }
 
 pub returns-in-Some : goal.returns-in-Some
 returns-in-Some c = first_beyond c.loop-from.from c.args.bytes.now c.loop-from.invariant.plain (Some c.in-Some.at)
-    (subst (IsFirstNewline _) c.in-Some.is c.memchr.ensures)
+    (rw c.in-Some.is at c.memchr.ensures)
 
 pub returns-in-None : goal.returns-in-None
 returns-in-None c = first_beyond c.loop-from.from c.args.bytes.now c.loop-from.invariant.plain
-    None (subst (IsFirstNewline _) c.in-None.is c.memchr.ensures)
+    None (rw c.in-None.is at c.memchr.ensures)

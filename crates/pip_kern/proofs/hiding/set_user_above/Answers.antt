@@ -1,7 +1,8 @@
 use Rattle.std.proofs.Common.{◌∙◌, refl, arith, Some, None}
 use Rattle.pip_model.specs.Midway.{here}
 use Rattle.pip_model.proofs.Trees.Lookup.{found_name}
-use Rattle.pip_kern.proofs.UserBits.{setting_end, setting_full, setting_on, setting_parent, setting_row, setting_start}
+use Rattle.pip_kern.proofs.UserBits.{setting_chain, setting_end, setting_full, setting_on, setting_parent}
+use Rattle.pip_kern.proofs.UserBits.{setting_row, setting_start}
 use Rattle.pip_kern.proofs.hiding.set_user_above.Goals as goal
 
 pub loop-i-init : goal.loop-i-init
@@ -9,6 +10,7 @@ loop-i-init g c = record {
   count = refl;
   climb = λ t rows x r s k x_is r_is. setting_start t s rows c.args.caller r.frame c.args.user
       (g.M.Frames.memory c.args.mem.now) k x c.args.v r x_is r_is refl;
+  steps = omega arith;
 }
 
 pub set_user_in-requires-clause-row : goal.set_user_in-requires-clause-row
@@ -32,6 +34,15 @@ returns-in-None-clause-user g c t rows x r s k x_is r_is =
     (g.M.Frames.memory c.loop-i.mem) (g.M.Frames.memory c.set_user_in.new.mem) c.loop-i.at c.loop-i.place
     c.loop-i._i h None set set.above
 
+pub returns-in-None-clause-chain : goal.returns-in-None-clause-chain
+returns-in-None-clause-chain g c t rows x r s k x_is r_is =
+    let h = c.loop-i.invariant.climb t rows x r s k x_is r_is in
+    let long = setting_chain t s rows c.args.caller r.frame c.args.user (g.M.Frames.memory c.args.mem.now)
+    (g.M.Frames.memory c.loop-i.mem) c.loop-i.at c.loop-i.place c.loop-i._i h in
+    let one = c.set_user_in.ensures.steps in
+    let so = c.loop-i.invariant.steps in
+    omega (arith, long, one, so)
+
 pub loop-i-preserved : goal.loop-i-preserved
 loop-i-preserved g c = record {
   count = c.set_user_in.ensures.count ∙ c.loop-i.invariant.count;
@@ -43,6 +54,7 @@ loop-i-preserved g c = record {
       (g.M.Frames.memory c.loop-i.mem) (g.M.Frames.memory c.set_user_in.new.mem) c.loop-i.at c.loop-i.place
       c.loop-i._i h (Some c.in-Some.above) set
       c.in-Some.above.part c.in-Some.above.v set.above.0 set.above.1;
+  steps = let one = c.set_user_in.ensures.steps in let so = c.loop-i.invariant.steps in omega (arith, one, so);
 }
 
 pub never-assert_unchecked-requires : goal.never-assert_unchecked-requires

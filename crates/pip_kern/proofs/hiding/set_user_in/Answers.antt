@@ -13,5 +13,5 @@ returns-clause-user g c x rows r space name r_is = record {
   space = c.set_user.ensures.rows x rows r space name r_is;
   others = c.set_user.ensures.others x (cells_of rows) space.node name;
   above = above_is _ x rows space c.args.part name c.args.v r r_is c.place_above-above.result
-      (c.place_above-above.ensures.word x rows space name) c.one_up-up.result c.one_up-up.ensures;
+      (c.place_above-above.ensures.word x rows space name) c.one_up-up.result c.one_up-up.ensures.above;
 }

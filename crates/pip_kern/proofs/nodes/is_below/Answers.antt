@@ -1,7 +1,7 @@
 use Rattle.std.proofs.Common.{arith, sym, ◌∙◌, ◌≡◌, ◌≢◌, ℕ, Bool, true, false, eq-eqb, eqb-true, refl}
 use Rattle.std.proofs.Math.Dec.{eqb}
 use Rattle.std.proofs.lemmas.Bool.{both_ways}
-use Rattle.pip_kern.proofs.Climb.{climb_full, climb_on, climb_past, climb_start}
+use Rattle.pip_kern.proofs.Climb.{climb_chain, climb_full, climb_on, climb_past, climb_start}
 use Rattle.pip_kern.proofs.nodes.is_below.Goals as goal
 
 -- what the test of two names says
@@ -12,10 +12,14 @@ tested_same : (a b : ℕ) (r : Bool) → r ≡ eqb a b → r ≡ true → a ≡ 
 tested_same a b r is on = eqb-true a b (sym is ∙ on)
 
 pub loop-i-init : goal.loop-i-init
-loop-i-init g c = record { stands = c.requires; climb = λ t x s lays is. climb_start t c.args.part c.args.top x is }
+loop-i-init g c = record {
+  stands = c.requires;
+  climb = λ t x s lays is. climb_start t c.args.part c.args.top x is;
+  steps = omega arith;
+}
 
-pub returns-then-eq-2 : goal.returns-then-eq-2
-returns-then-eq-2 g c t x s lays is =
+pub returns-then-eq-2-clause-below : goal.returns-then-eq-2-clause-below
+returns-then-eq-2-clause-below g c t x s lays is =
     let k = c.loop-i.invariant.climb t x s lays is in
     let ne = tested_apart c.loop-i.at c.args.top c.eq.result c.eq.ensures c.if-eq.false in
     let up = sym (c.parent_of-up.ensures.parent t k.x s lays k.x_is)
@@ -34,6 +38,7 @@ loop-i-preserved g c = record {
       tested_apart c.parent_of-up.result c.loop-i.at c.eq-in-loop-i.result c.eq-in-loop-i.ensures c.if-eq-2.false in
       climb_on t s c.args.part c.args.top c.loop-i.at c.parent_of-up.result c.loop-i._i k ne
       (c.parent_of-up.ensures.parent t k.x s lays k.x_is) moved;
+  steps = let one = c.parent_of-up.ensures.step in let so = c.loop-i.invariant.steps in omega (arith, one, so);
 }
 
 pub never-assert_unchecked-requires : goal.never-assert_unchecked-requires
@@ -45,3 +50,18 @@ never-assert_unchecked-requires g c =
     let count = c.count-i-end.ensures in
     let frames = s.laid.count in
     absurd (climb_full s.tree s.sound c.args.part c.args.top c.loop-i.at c.loop-i._i k (omega arith))
+
+pub returns-then-eq-clause-chain : goal.returns-then-eq-clause-chain
+returns-then-eq-clause-chain g c t x s lays is =
+    let k = c.loop-i.invariant.climb t x s lays is in
+    let long = climb_chain t s c.args.part c.args.top c.loop-i.at c.loop-i._i k in
+    let so = c.loop-i.invariant.steps in
+    omega (arith, long, so)
+
+pub returns-then-eq-2-clause-chain : goal.returns-then-eq-2-clause-chain
+returns-then-eq-2-clause-chain g c t x s lays is =
+    let k = c.loop-i.invariant.climb t x s lays is in
+    let long = climb_chain t s c.args.part c.args.top c.loop-i.at c.loop-i._i k in
+    let one = c.parent_of-up.ensures.step in
+    let so = c.loop-i.invariant.steps in
+    omega (arith, long, one, so)

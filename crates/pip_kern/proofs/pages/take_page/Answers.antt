@@ -1,4 +1,4 @@
-use Rattle.pip_kern.proofs.Taking.{page_taken, take_can_free, take_can_show}
+use Rattle.pip_kern.proofs.Taking.{page_taken, take_can_free, take_can_show, takes_in}
 use Rattle.pip_kern.proofs.pages.take_page.Goals as goal
 
 pub show-requires : goal.show-requires
@@ -13,3 +13,7 @@ returns-clause-taken g c t rows gs f can k =
     page_taken t c.args.caller c.args.v f can rows gs (g.M.Frames.memory c.args.mem.now) k
     (g.M.Frames.memory c.show.new.mem) c.show.ensures.user (g.M.Frames.memory c.set_given.new.mem)
     c.set_given.ensures.rows c.set_given.ensures.others
+
+pub returns-clause-chain : goal.returns-clause-chain
+returns-clause-chain g c = takes_in (g.M.Frames.memory c.args.mem.now) c.args.caller c.args.v _ c.show.new.steps _
+    c.show.ensures.chain c.set_given.ensures.steps

@@ -1,4 +1,4 @@
-use Rattle.std.proofs.Common.{◌∙◌, refl}
+use Rattle.std.proofs.Common.{◌∙◌, refl, arith}
 use Rattle.pip_model.specs.FullRows.{cells_of}
 use Rattle.pip_space.proofs.Packed.{not_both}
 use Rattle.pip_space.proofs.Removing.{can_drop_page, can_take_slot, entries_gone, found_page, lists_done, removed}
@@ -73,3 +73,13 @@ returns-clause-node g c x rows space name can =
           (removed _ x (cells_of rows) n c.args.i c.requires.index can.table can.has can.listed _ _ done.1 done.2 e),
       removed_others _ x (cells_of rows) n c.args.i c.requires.index can.table can.has can.listed _ _ done.1 done.2 e,
     )
+
+pub returns-clause-steps : goal.returns-clause-steps
+returns-clause-steps g c x cells node name =
+    let tables = (c.read_table_roots-at.ensures.roots x cells node name).tables in
+    let few = c.read_table_roots-at.ensures.few in
+    let roots = c.read_table_roots-at.ensures.steps in
+    let table = c.table.ensures.steps in
+    let slot = c.take_slot-slot.ensures.steps in
+    let list = c.drop_list_page-list.ensures.steps in
+    omega (arith, tables, few, roots, table, slot, list)

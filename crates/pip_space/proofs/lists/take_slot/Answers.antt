@@ -9,13 +9,13 @@ pub never-assert_unchecked-requires : goal.never-assert_unchecked-requires
 never-assert_unchecked-requires g c =
     let r = c.requires in
     absurd (not_both c.find.result r.place c.in-None.is (found_place r.tables r.taken r.place c.args.table c.find.result
-    r.is_place r.frame (c.find.ensures r.more r.tables r.is_in r.count)))
+    r.is_place r.frame (c.find.ensures.place r.more r.tables r.is_in r.count)))
 
 pub slot_at-slot-requires-clause-place : goal.slot_at-slot-requires-clause-place
 slot_at-slot-requires-clause-place g c =
     let r = c.requires in
     let k = some_same c.find.result c.in-Some.k r.place c.in-Some.is (found_place r.tables r.taken r.place c.args.table
-    c.find.result r.is_place r.frame (c.find.ensures r.more r.tables r.is_in r.count)) in
+    c.find.result r.is_place r.frame (c.find.ensures.place r.more r.tables r.is_in r.count)) in
     let inside = r.is_place.inside in
     let count = r.count in
     omega arith
@@ -24,7 +24,7 @@ pub swap_remove-requires-clause-place : goal.swap_remove-requires-clause-place
 swap_remove-requires-clause-place g c =
     let r = c.requires in
     let k = some_same c.find.result c.in-Some.k r.place c.in-Some.is (found_place r.tables r.taken r.place c.args.table
-    c.find.result r.is_place r.frame (c.find.ensures r.more r.tables r.is_in r.count)) in
+    c.find.result r.is_place r.frame (c.find.ensures.place r.more r.tables r.is_in r.count)) in
     let inside = r.is_place.inside in
     let count = r.count in
     omega arith
@@ -32,7 +32,19 @@ swap_remove-requires-clause-place g c =
 pub returns-clause-list : goal.returns-clause-list
 returns-clause-list g c more ts b k list count frame place =
     let same = some_same c.find.result c.in-Some.k k c.in-Some.is
-    (found_place ts b k c.args.table c.find.result place frame (c.find.ensures more ts list count)) in
+    (found_place ts b k c.args.table c.find.result place frame (c.find.ensures.place more ts list count)) in
     let here = subst (IsPlaceOfTable ts b) (sym same) place in
     let done = slot_taken _ _ c.args.first c.args.m more ts b c.in-Some.k list count here c.swap_remove.ensures.list in
-    (c.slot_at-slot.ensures more ts list count ∙ ap table_pairs here.is_table, done.0, done.1)
+    (c.slot_at-slot.ensures.slot more ts list count ∙ ap table_pairs here.is_table, done.0, done.1)
+
+pub returns-clause-steps : goal.returns-clause-steps
+returns-clause-steps g c =
+    let r = c.requires in
+    let k = some_same c.find.result c.in-Some.k r.place c.in-Some.is (found_place r.tables r.taken r.place c.args.table
+    c.find.result r.is_place r.frame (c.find.ensures.place r.more r.tables r.is_in r.count)) in
+    let inside = r.is_place.inside in
+    let count = r.count in
+    let find = c.find.ensures.steps in
+    let slot = c.slot_at-slot.ensures.steps in
+    let swap = c.swap_remove.ensures.steps in
+    omega (arith, find, slot, swap)

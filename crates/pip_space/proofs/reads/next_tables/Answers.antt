@@ -10,10 +10,10 @@ next_table-requires-clause-table g c =
     subst (IsDirectory (g.M.Frames.memory c.args.mem.now))
     (sym (c.directory-top.ensures.frame n.node n.cells n.is_in n.name)) (is_table _ n.node n.cells n.is_in Mmu)
 
-pub returns : goal.returns
-returns g c x cells node name = next_index (g.M.Frames.memory c.args.mem.now) x cells node c.directory-top.result
+pub returns-clause-next : goal.returns-clause-next
+returns-clause-next g c x cells node name = next_index (g.M.Frames.memory c.args.mem.now) x cells node c.directory-top.result
     (c.directory-top.ensures.frame x cells node name) c.args.from c.next_table.result c.next_table.ensures.first
 
-pub returns-then-table_count-eq0 : goal.returns-then-table_count-eq0
-returns-then-table_count-eq0 g c x cells node name i low high =
-    none_at_all x.tables (sym (c.if-table_count-eq0.true) ∙ c.table_count.ensures x cells node name) i
+pub returns-then-table_count-eq0-clause-next : goal.returns-then-table_count-eq0-clause-next
+returns-then-table_count-eq0-clause-next g c x cells node name i low high =
+    none_at_all x.tables (sym (c.if-table_count-eq0.true) ∙ c.table_count.ensures.tables x cells node name) i

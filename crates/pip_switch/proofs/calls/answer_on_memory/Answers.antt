@@ -16,51 +16,51 @@ pub delete_partition-requires-clause-running : goal.delete_partition-requires-cl
 delete_partition-requires-clause-running g c =
     are_running _ _ c.requires.world c.names_of.result.items c.names_of.ensures
 
-pub returns-in-CreatePartition : goal.returns-in-CreatePartition
-returns-in-CreatePartition g c =
+pub returns-in-CreatePartition-clause-does : goal.returns-in-CreatePartition-clause-does
+returns-in-CreatePartition-clause-does g c =
     same-does (λ k t. model.answer k (plain_world t c.args.cpus.now.items) c.args.caller (five_of c.args.args.now))
-    c.args.caller c.in-CreatePartition.is _ _ _ _ c.create_partition.ensures
+    c.args.caller c.in-CreatePartition.is _ _ _ _ c.create_partition.ensures.does
 
-pub returns-in-DeletePartition : goal.returns-in-DeletePartition
-returns-in-DeletePartition g c =
+pub returns-in-DeletePartition-clause-does : goal.returns-in-DeletePartition-clause-does
+returns-in-DeletePartition-clause-does g c =
     same-does (λ k t. model.answer k (plain_world t c.args.cpus.now.items) c.args.caller (five_of c.args.args.now))
     c.args.caller c.in-DeletePartition.is _ _ _ _ (subst (λ rs. Does (λ t. delete_partition t rs c.args.caller
     (slice_index c.args.args.now 0)) c.args.caller c.delete_partition.result 0 (g.M.Frames.memory c.args.mem.now)
-    (g.M.Frames.memory c.delete_partition.new.mem)) c.names_of.ensures c.delete_partition.ensures)
+    (g.M.Frames.memory c.delete_partition.new.mem)) c.names_of.ensures c.delete_partition.ensures.does)
 
-pub returns-in-CountToMap : goal.returns-in-CountToMap
-returns-in-CountToMap g c =
+pub returns-in-CountToMap-clause-does : goal.returns-in-CountToMap-clause-does
+returns-in-CountToMap-clause-does g c =
     same-does (λ k t. model.answer k (plain_world t c.args.cpus.now.items) c.args.caller (five_of c.args.args.now))
     c.args.caller c.in-CountToMap.is _ _ _ _ (c.reply.ensures (λ t.
     count_to_map t c.args.caller (slice_index c.args.args.now 0) (slice_index c.args.args.now 1)) c.args.caller _ _
     (asked-gives (λ t. count_to_map t c.args.caller (slice_index c.args.args.now 0) (slice_index c.args.args.now 1))
-    c.args.caller _ _ (λ t. asked_tree t _ _) c.requires.stands c.count_to_map.ensures))
+    c.args.caller _ _ (λ t. asked_tree t _ _) c.requires.stands c.count_to_map.ensures.answer))
 
-pub returns-in-Prepare : goal.returns-in-Prepare
-returns-in-Prepare g c =
+pub returns-in-Prepare-clause-does : goal.returns-in-Prepare-clause-does
+returns-in-Prepare-clause-does g c =
     same-does (λ k t. model.answer k (plain_world t c.args.cpus.now.items) c.args.caller (five_of c.args.args.now))
     c.args.caller c.in-Prepare.is _ _ _ _
     (c.reply-in-Prepare.ensures (λ t. prepare t c.args.caller (slice_index c.args.args.now 0)
-    (slice_index c.args.args.now 1) (slice_index c.args.args.now 2)) c.args.caller _ _ c.prepare.ensures)
+    (slice_index c.args.args.now 1) (slice_index c.args.args.now 2)) c.args.caller _ _ c.prepare.ensures.does)
 
-pub returns-in-Collect : goal.returns-in-Collect
-returns-in-Collect g c =
+pub returns-in-Collect-clause-does : goal.returns-in-Collect-clause-does
+returns-in-Collect-clause-does g c =
     same-does (λ k t. model.answer k (plain_world t c.args.cpus.now.items) c.args.caller (five_of c.args.args.now))
     c.args.caller c.in-Collect.is _ _ _ _ (c.reply-in-Collect.ensures (λ t. collect t c.args.caller
-    (slice_index c.args.args.now 0) (slice_index c.args.args.now 1)) c.args.caller _ _ c.collect.ensures)
+    (slice_index c.args.args.now 0) (slice_index c.args.args.now 1)) c.args.caller _ _ c.collect.ensures.does)
 
-pub returns-in-AddVAddr : goal.returns-in-AddVAddr
-returns-in-AddVAddr g c =
+pub returns-in-AddVAddr-clause-does : goal.returns-in-AddVAddr-clause-does
+returns-in-AddVAddr-clause-does g c =
     same-does (λ k t. model.answer k (plain_world t c.args.cpus.now.items) c.args.caller (five_of c.args.args.now))
-    c.args.caller c.in-AddVAddr.is _ _ _ _ c.add_vaddr.ensures
+    c.args.caller c.in-AddVAddr.is _ _ _ _ c.add_vaddr.ensures.does
 
-pub returns-in-RemoveVAddr : goal.returns-in-RemoveVAddr
-returns-in-RemoveVAddr g c =
+pub returns-in-RemoveVAddr-clause-does : goal.returns-in-RemoveVAddr-clause-does
+returns-in-RemoveVAddr-clause-does g c =
     same-does (λ k t. model.answer k (plain_world t c.args.cpus.now.items) c.args.caller (five_of c.args.args.now))
-    c.args.caller c.in-RemoveVAddr.is _ _ _ _ c.remove_vaddr.ensures
+    c.args.caller c.in-RemoveVAddr.is _ _ _ _ c.remove_vaddr.ensures.does
 
-pub returns-in-MappedInChild : goal.returns-in-MappedInChild
-returns-in-MappedInChild g c =
+pub returns-in-MappedInChild-clause-does : goal.returns-in-MappedInChild-clause-does
+returns-in-MappedInChild-clause-does g c =
     same-does (λ k t. model.answer k (plain_world t c.args.cpus.now.items) c.args.caller (five_of c.args.args.now))
     c.args.caller c.in-MappedInChild.is _ _ _ _
     (c.reply-in-MappedInChild.ensures (λ t. mapped_in_child t c.args.caller (slice_index c.args.args.now 0))

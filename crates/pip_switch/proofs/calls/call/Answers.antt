@@ -25,7 +25,7 @@ pub returns-in-OnMemory-clause-event : goal.returns-in-OnMemory-clause-event
 returns-in-OnMemory-clause-event g c w s k =
     came_call _ _ _ _ w s c.args.cpu c.in-Some.part (sym c.runner.ensures ∙ c.in-Some.is) c.args.number
     (OnMemory c.in-OnMemory.call) (sym c.in-OnMemory.is ∙ c.named.ensures) (λ e. cc) (five_of c.args.args.now)
-    c.answer_on_memory-status.result.0 c.answer_on_memory-status.result.1 c.answer_on_memory-status.ensures
+    c.answer_on_memory-status.result.0 c.answer_on_memory-status.result.1 c.answer_on_memory-status.ensures.does
     c.put_reply.ensures.set _ _ k c.empty_after.ensures _ c.put_reply.ensures.outcome
 
 pub returns-in-Masks-clause-event : goal.returns-in-Masks-clause-event

@@ -19,9 +19,9 @@ returns-in-None-clause-event g c w r s runs =
     c.set_running.new.cpus.items) (sym c.parked.ensures)
     (parked _ _ _ _ w s c.args.cpu r runs c.args.part c.requires.runs c.args.vector c.args.a c.args.b
     c.find_taker-taker.result
-    (c.find_taker-taker.ensures w.tree x.0 s.sound.tree s.shows.laid x.1
+    (c.find_taker-taker.ensures.taker w.tree x.0 s.sound.tree s.shows.laid x.1
     ∙ ap (λ cs. nearest_taker (plain_world w.tree cs) c.args.part c.args.vector) c.as_slice.ensures.value)
-    (c.save.ensures w.tree s.sound.tree s.shows.laid (named_there _ _ c.args.cpu w s)) c.in-None.is
+    (c.save.ensures.tree w.tree s.sound.tree s.shows.laid (named_there _ _ c.args.cpu w s)) c.in-None.is
     c.set_running.ensures.set)
 
 pub returns-in-Some-clause-event : goal.returns-in-Some-clause-event
@@ -31,7 +31,7 @@ returns-in-Some-clause-event g c w r s runs =
     c.set_running-in-Some.new.cpus.items) (sym c.switched.ensures)
     (switched _ _ _ _ w s c.args.cpu r runs c.args.part c.requires.runs c.args.vector c.args.a c.args.b
     c.find_taker-taker.result
-    (c.find_taker-taker.ensures w.tree x.0 s.sound.tree s.shows.laid x.1
+    (c.find_taker-taker.ensures.taker w.tree x.0 s.sound.tree s.shows.laid x.1
     ∙ ap (λ cs. nearest_taker (plain_world w.tree cs) c.args.part c.args.vector) c.as_slice.ensures.value)
-    (c.save.ensures w.tree s.sound.tree s.shows.laid (named_there _ _ c.args.cpu w s)) c.in-Some.y c.in-Some.is
+    (c.save.ensures.tree w.tree s.sound.tree s.shows.laid (named_there _ _ c.args.cpu w s)) c.in-Some.y c.in-Some.is
     c.entering-runs.result c.entering-runs.ensures c.set_running-in-Some.ensures.set)

@@ -1,4 +1,4 @@
-use Rattle.std.proofs.Common.{◌≡◌, Some}
+use Rattle.std.proofs.Common.{◌≡◌, ◌+◌, ◌*◌, ◌≤◌, Some}
 use Rattle.pip_switch.specs.Plain.{plain_world}
 use Rattle.pip_model.specs.Layout.{LaysOut}
 use Rattle.pip_model.specs.Partitions.{HasPartition}
@@ -13,4 +13,5 @@ invariant-loop-i g l = record {
   stands : HasPartition (g.M.Frames.memory l.mem) l.at;
   rise : (t : Tree) (x : Node) → IsSound t → LaysOut t (g.M.Frames.memory l.mem) → find_node t l.fn.part ≡ Some x
       → Rise t (plain_world t l.cpus) l.vector l.fn.part l.at l._i;
+  steps : l.steps ≤ l.fn.steps + 8 * l._i;
 }

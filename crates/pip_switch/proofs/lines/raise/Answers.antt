@@ -9,8 +9,8 @@ pending-requires g c = root_held _ _ c.requires.world
 pub set_pending-requires : goal.set_pending-requires
 set_pending-requires g c = root_held _ _ c.requires.world
 
-pub returns : goal.returns
-returns g c w s = record {
+pub returns-clause-event : goal.returns-clause-event
+returns-clause-event g c w s = record {
   outcome = refl;
   shows = record {
     laid =

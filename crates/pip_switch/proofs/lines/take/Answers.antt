@@ -20,7 +20,7 @@ save-requires-clause-saves g c = can_save _ _ c.args.cpu c.requires.world
 pub set_masked-requires : goal.set_masked-requires
 set_masked-requires g c =
     let k = c.requires.world in
-    let l = c.save.ensures k.world.tree k.stands.sound.tree k.stands.shows.laid
+    let l = c.save.ensures.tree k.world.tree k.stands.sound.tree k.stands.shows.laid
     (named_there _ _ c.args.cpu k.world k.stands) in
     subst (λ p. HasPartition (g.M.Frames.memory c.save.new.mem) p) (sym c.new-root.ensures)
     (root_stands (save_running k.world.tree (on_cpu c.args.cpus.now.items c.args.cpu)) l.0 _ l.1)
@@ -29,7 +29,7 @@ pub set_pending-requires : goal.set_pending-requires
 set_pending-requires g c =
     let k = c.requires.world in
     let t = save_running k.world.tree (on_cpu c.args.cpus.now.items c.args.cpu) in
-    let l = c.save.ensures k.world.tree k.stands.sound.tree k.stands.shows.laid
+    let l = c.save.ensures.tree k.world.tree k.stands.sound.tree k.stands.shows.laid
     (named_there _ _ c.args.cpu k.world k.stands) in
     let m = c.set_masked.ensures.tree t t.root l.0 l.1
     (subst (λ p. find_node t p ≡ Some t.root) (sym c.new-root.ensures) (root_there t l.0)) in
@@ -39,7 +39,7 @@ pub returns-clause-event : goal.returns-clause-event
 returns-clause-event g c w s =
     let t = save_running w.tree (on_cpu c.args.cpus.now.items c.args.cpu) in
     let js = filter (λ i. not (i == c.args.line)) w.tree.root.pending in
-    let l = c.save.ensures w.tree s.sound.tree s.shows.laid (named_there _ _ c.args.cpu w s) in
+    let l = c.save.ensures.tree w.tree s.sound.tree s.shows.laid (named_there _ _ c.args.cpu w s) in
     let m = c.set_masked.ensures.tree t t.root l.0 l.1
     (subst (λ p. find_node t p ≡ Some t.root) (sym c.new-root.ensures) (root_there t l.0)) in
     let laid = (c.set_pending.ensures.tree (with_masked c.new-root.result true t) js m.0 m.1

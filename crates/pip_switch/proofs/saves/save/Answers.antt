@@ -11,12 +11,12 @@ pub save_in-requires-clause-context : goal.save_in-requires-clause-context
 save_in-requires-clause-context g c = (can_some _ _ c.in-Some.r (sym (cell_read _ _ c.as_slice.ensures.value c.args.cpu
     c.requires.cpu c.index-as_slice-cpu.result) ∙ sym c.index-as_slice-cpu.is ∙ c.in-Some.is) c.requires.saves).1
 
-pub returns-in-Some : goal.returns-in-Some
-returns-in-Some g c t s laid named = saved_some _ _ _ c.in-Some.r
+pub returns-in-Some-clause-tree : goal.returns-in-Some-clause-tree
+returns-in-Some-clause-tree g c t s laid named = saved_some _ _ _ c.in-Some.r
     (sym (cell_read _ _ c.as_slice.ensures.value c.args.cpu c.requires.cpu c.index-as_slice-cpu.result)
     ∙ sym c.index-as_slice-cpu.is ∙ c.in-Some.is) c.save_in.ensures.tree t s laid named
 
-pub returns-in-None : goal.returns-in-None
-returns-in-None g c t s laid named =
+pub returns-in-None-clause-tree : goal.returns-in-None-clause-tree
+returns-in-None-clause-tree g c t s laid named =
     saved_none _ _ (sym (cell_read _ _ c.as_slice.ensures.value c.args.cpu c.requires.cpu c.index-as_slice-cpu.result)
     ∙ sym c.index-as_slice-cpu.is ∙ c.in-None.is) t s laid

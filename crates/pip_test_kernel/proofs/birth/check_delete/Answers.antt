@@ -11,4 +11,4 @@ pub returns : goal.returns
 returns g c =
     let s = c.requires in
     delete-stands (g.M.Frames.memory c.args.mem.now) (g.M.Frames.memory c.delete_partition.new.mem) c.args.caller s
-    c.from-running.result.items c.args.d (c.delete_partition.ensures.tree s.tree s.node s.sound s.laid s.found)
+    c.from-running.result.items c.args.d (c.delete_partition.ensures.does.tree s.tree s.node s.sound s.laid s.found)

@@ -36,7 +36,7 @@ pub returns-in-Create : goal.returns-in-Create
 returns-in-Create g c =
     let s = c.requires in
     create-stands (g.M.Frames.memory c.args.mem.now) (g.M.Frames.memory c.create_partition.new.mem) c.args.caller s
-    (five_of c.in-Create.pages) (c.create_partition.ensures.tree s.tree s.node s.sound s.laid s.found)
+    (five_of c.in-Create.pages) (c.create_partition.ensures.does.tree s.tree s.node s.sound s.laid s.found)
 
 pub returns-in-Prepare : goal.returns-in-Prepare
 returns-in-Prepare g c =
@@ -44,8 +44,8 @@ returns-in-Prepare g c =
     let a = c.in-Prepare in
     prepare-stands (g.M.Frames.memory c.args.mem.now) (g.M.Frames.memory c.prepare.new.mem) c.args.caller s a.d a.cv
     a.first (gives-tree (λ t. prepare t c.args.caller a.d a.cv a.first) c.args.caller c.prepare.result
-    (g.M.Frames.memory c.args.mem.now) (g.M.Frames.memory c.prepare.new.mem) c.prepare.ensures s.tree s.node s.sound
-    s.laid s.found)
+    (g.M.Frames.memory c.args.mem.now) (g.M.Frames.memory c.prepare.new.mem) c.prepare.ensures.does s.tree s.node
+    s.sound s.laid s.found)
 
 pub returns-in-Collect : goal.returns-in-Collect
 returns-in-Collect g c =
@@ -53,4 +53,4 @@ returns-in-Collect g c =
     let a = c.in-Collect in
     collect-stands (g.M.Frames.memory c.args.mem.now) (g.M.Frames.memory c.collect.new.mem) c.args.caller s a.d a.cv
     (gives-tree (λ t. collect t c.args.caller a.d a.cv) c.args.caller c.collect.result (g.M.Frames.memory
-    c.args.mem.now) (g.M.Frames.memory c.collect.new.mem) c.collect.ensures s.tree s.node s.sound s.laid s.found)
+    c.args.mem.now) (g.M.Frames.memory c.collect.new.mem) c.collect.ensures.does s.tree s.node s.sound s.laid s.found)

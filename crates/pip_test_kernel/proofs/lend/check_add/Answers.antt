@@ -8,4 +8,4 @@ returns g c =
     let xs = c.args.call.now in
     add-stands (g.M.Frames.memory c.args.mem.now) (g.M.Frames.memory c.add_vaddr.new.mem) c.args.caller (get_or xs 0 0)
     (get_or xs 1 0) (get_or xs 2 0) (get_or xs 3 0) s
-    (c.add_vaddr.ensures.tree s.tree s.node s.sound s.laid s.found)
+    (c.add_vaddr.ensures.does.tree s.tree s.node s.sound s.laid s.found)

@@ -7,4 +7,4 @@ returns g c =
     let s = c.requires in
     let xs = c.args.call.now in
     remove-stands (g.M.Frames.memory c.args.mem.now) (g.M.Frames.memory c.remove_vaddr.new.mem) c.args.caller
-    (get_or xs 0 0) (get_or xs 1 0) s (c.remove_vaddr.ensures.tree s.tree s.node s.sound s.laid s.found)
+    (get_or xs 0 0) (get_or xs 1 0) s (c.remove_vaddr.ensures.does.tree s.tree s.node s.sound s.laid s.found)

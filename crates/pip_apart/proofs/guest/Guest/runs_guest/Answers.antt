@@ -10,7 +10,7 @@ is_below-requires g c = let (w, s) = c.requires.stands in
 pub returns-in-Some-clause-runs : goal.returns-in-Some-clause-runs
 returns-in-Some-clause-runs g c w s =
     part_below c.args.self.now.machine w _ c.args.self.now.top c.args.cpu c.in-Some.part c.is_below.result s
-    c.mem.ensures (sym (c.runs.ensures w s) ∙ c.in-Some.is) c.is_below.ensures
+    c.mem.ensures (sym (c.runs.ensures w s) ∙ c.in-Some.is) c.is_below.ensures.below
 
 pub returns-in-None-clause-runs : goal.returns-in-None-clause-runs
 returns-in-None-clause-runs g c w s =

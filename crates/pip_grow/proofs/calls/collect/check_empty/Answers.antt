@@ -10,8 +10,8 @@ use Rattle.pip_grow.proofs.calls.collect.check_empty.Goals as goal
 pub has_table-requires-clause-node : goal.has_table-requires-clause-node
 has_table-requires-clause-node g c = part_node (g.M.Frames.memory c.args.mem.now) c.args.part c.requires.stands
 
-pub returns-then-not-has_table : goal.returns-then-not-has_table
-returns-then-not-has_table g c t x s lays found =
+pub returns-then-not-has_table-clause-tested : goal.returns-then-not-has_table-clause-tested
+returns-then-not-has_table-clause-tested g c t x s lays found =
     let space = laid_space t s (g.M.Frames.memory c.args.mem.now) lays c.args.part x found in
     no_table_met t s c.args.part x found c.args.i (g.M.Frames.memory c.args.mem.now) lays (sym c.if-not-has_table.true
     ∙ c.has_table.ensures.table x (cells_of (full_rows t x)) space.node (found_name t c.args.part x found))
@@ -21,16 +21,16 @@ is_table_empty-requires-clause-tables g c =
     has_tables (g.M.Frames.memory c.args.mem.now) c.args.part c.args.i (part_node (g.M.Frames.memory c.args.mem.now)
     c.args.part c.requires.stands) c.has_table.result (sym c.if-not-has_table.false) c.has_table.ensures.table
 
-pub returns-then-not-is_table_empty : goal.returns-then-not-is_table_empty
-returns-then-not-is_table_empty g c t x s lays found =
+pub returns-then-not-is_table_empty-clause-tested : goal.returns-then-not-is_table_empty-clause-tested
+returns-then-not-is_table_empty-clause-tested g c t x s lays found =
     let space = laid_space t s (g.M.Frames.memory c.args.mem.now) lays c.args.part x found in
     rows_met t s c.args.part x found c.args.i (g.M.Frames.memory c.args.mem.now) lays (sym c.if-not-has_table.false
     ∙ c.has_table.ensures.table x (cells_of (full_rows t x)) space.node (found_name t c.args.part x found))
     c.is_table_empty.result c.is_table_empty.ensures.empty
     ∙ ap (λ b. cond (not b) (Some S.NotEmpty) None) c.if-not-is_table_empty.true
 
-pub returns : goal.returns
-returns g c t x s lays found =
+pub returns-clause-tested : goal.returns-clause-tested
+returns-clause-tested g c t x s lays found =
     let space = laid_space t s (g.M.Frames.memory c.args.mem.now) lays c.args.part x found in (
       rows_met t s c.args.part x found c.args.i (g.M.Frames.memory c.args.mem.now) lays (sym c.if-not-has_table.false
           ∙ c.has_table.ensures.table x (cells_of (full_rows t x)) space.node (found_name t c.args.part x found))

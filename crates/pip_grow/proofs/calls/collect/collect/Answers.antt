@@ -7,8 +7,8 @@ use Rattle.pip_grow.proofs.CollectTable.Call.{can_collect, is_first, collect-ref
 use Rattle.pip_grow.proofs.CollectTable.Call.{table-never_ok, collect-tree}
 use Rattle.pip_grow.proofs.calls.collect.collect.Goals as goal
 
-pub returns-in_err-child : goal.returns-in_err-child
-returns-in_err-child g c =
+pub returns-in_err-child-clause-does : goal.returns-in_err-child-clause-does
+returns-in_err-child-clause-does g c =
     let p = err_from_is_err_and c.from_residual.result c.from_residual.ensures.1 in
     let a = c.args in
     let r = c.requires in
@@ -20,8 +20,8 @@ returns-in_err-child g c =
           (λ t x s lays found. collect-refused t a.caller a.d a.cv q (c.in_err-child.ensures.child t x s lays found)),
     )
 
-pub returns-in_err-check_empty : goal.returns-in_err-check_empty
-returns-in_err-check_empty g c =
+pub returns-in_err-check_empty-clause-does : goal.returns-in_err-check_empty-clause-does
+returns-in_err-check_empty-clause-does g c =
     let p =
     err_from_is_err_and c.from_residual-in_err-check_empty.result c.from_residual-in_err-check_empty.ensures.1 in
     let a = c.args in
@@ -33,9 +33,9 @@ returns-in_err-check_empty g c =
     let i_is = ap (λ k. k / 1024) (c.number-i.ensures.same ∙ c.of_address.ensures) in
     rw (p.1, p.2) (
       table-never_ok r.tree a.caller a.d a.cv r.sound m r.laid child
-          (c.in_ok-child.ensures.child r.tree r.node r.sound r.laid r.found) i i_is q c.in_err-check_empty.ensures,
+          (c.in_ok-child.ensures.child r.tree r.node r.sound r.laid r.found) i i_is q c.in_err-check_empty.ensures.tested,
       refused-does a.caller (λ t. collect t a.caller a.d a.cv) m q (λ t x s lays found. collect-table_refused t a.caller
-          a.d a.cv s m lays child (c.in_ok-child.ensures.child t x s lays found) i i_is q c.in_err-check_empty.ensures),
+          a.d a.cv s m lays child (c.in_ok-child.ensures.child t x s lays found) i i_is q c.in_err-check_empty.ensures.tested),
     )
 
 pub take_table-requires-clause-can : goal.take_table-requires-clause-can
@@ -47,11 +47,11 @@ take_table-requires-clause-can g c =
       stands = r;
       can = can_collect r.tree c.args.caller c.args.d c.args.cv r.sound (g.M.Frames.memory c.args.mem.now) r.laid
           c.in_ok-child.child (c.in_ok-child.ensures.child r.tree r.node r.sound r.laid r.found) i i_is
-          c.in_ok-check_empty.ensures;
+          c.in_ok-check_empty.ensures.tested;
     }
 
-pub returns : goal.returns
-returns g c =
+pub returns-clause-does : goal.returns-clause-does
+returns-clause-does g c =
     let a = c.args in
     let m = g.M.Frames.memory a.mem.now in
     let child = c.in_ok-child.child in
@@ -60,15 +60,15 @@ returns g c =
     record {
       answer = λ t x s lays found.
           let k = is_first t a.caller a.d a.cv s m lays child (c.in_ok-child.ensures.child t x s lays found) i i_is
-          c.in_ok-check_empty.ensures c.take_table.result
+          c.in_ok-check_empty.ensures.tested c.take_table.result
           (c.take_table.ensures.tree t x s lays found (can_collect t a.caller a.d a.cv s m lays child
-          (c.in_ok-child.ensures.child t x s lays found) i i_is c.in_ok-check_empty.ensures)).0 in
+          (c.in_ok-child.ensures.child t x s lays found) i i_is c.in_ok-check_empty.ensures.tested)).0 in
           (sym k.0, sym k.1);
       tree = λ t x s lays found.
           let done = c.take_table.ensures.tree t x s lays found (can_collect t a.caller a.d a.cv s m lays child
-          (c.in_ok-child.ensures.child t x s lays found) i i_is c.in_ok-check_empty.ensures) in
+          (c.in_ok-child.ensures.child t x s lays found) i i_is c.in_ok-check_empty.ensures.tested) in
           collect-tree t a.caller a.d a.cv s m lays child (c.in_ok-child.ensures.child t x s lays found) i i_is
-          c.in_ok-check_empty.ensures (g.M.Frames.memory c.take_table.new.mem) done.1;
+          c.in_ok-check_empty.ensures.tested (g.M.Frames.memory c.take_table.new.mem) done.1;
       refused = λ ne. absurd (ne refl);
       count = c.take_table.ensures.count;
     }

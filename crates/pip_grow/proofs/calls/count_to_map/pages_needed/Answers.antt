@@ -3,8 +3,8 @@ use Rattle.pip_space.proofs.RootWords.{few_tables, part_inside, read_tables}
 use Rattle.pip_grow.proofs.CountToMap.Call.{needed_none, needed_some}
 use Rattle.pip_grow.proofs.calls.count_to_map.pages_needed.Goals as goal
 
-pub returns-then-has_table : goal.returns-then-has_table
-returns-then-has_table g c x cells node name = needed_none x c.args.v c.number.result c.number.ensures.same
+pub returns-then-has_table-clause-pages : goal.returns-then-has_table-clause-pages
+returns-then-has_table-clause-pages g c x cells node name = needed_none x c.args.v c.number.result c.number.ensures.same
     (sym c.if-has_table.true ∙ c.has_table.ensures.table x cells node name)
 
 pub word-tables-requires-clause-frame : goal.word-tables-requires-clause-frame
@@ -18,8 +18,8 @@ overflow_add-tables g c =
     let word = c.word-tables.ensures.word in
     omega arith
 
-pub returns : goal.returns
-returns g c x cells node name =
+pub returns-clause-pages : goal.returns-clause-pages
+returns-clause-pages g c x cells node name =
     needed_some x c.args.v c.number.result c.number.ensures.same (sym c.if-has_table.false
     ∙ c.has_table.ensures.table x cells node name) c.word-tables.result c.lists.result c.lists-2.result
     (c.word-tables.ensures.word ∙ read_tables _ x cells node c.args.part name) c.lists.ensures c.lists-2.ensures

@@ -1,5 +1,7 @@
+use Rattle.std.proofs.Common.{arith}
 use Rattle.pip_space.proofs.ListChanges.{page_list-slice}
-use Rattle.pip_grow.proofs.PrepareTable.Writes.{born_some, prepare-tree, install_can, list_can, tables_can}
+use Rattle.pip_grow.proofs.PrepareTable.Writes.{born_some, given_in, prepare-tree, install_can, list_can}
+use Rattle.pip_grow.proofs.PrepareTable.Writes.{tables_can}
 use Rattle.pip_grow.proofs.calls.prepare.give_table.Goals as goal
 
 pub give_pages-requires-clause-can : goal.give_pages-requires-clause-can
@@ -46,3 +48,13 @@ returns-clause-tree g c t x s lays found can =
     (page_list-slice c.args.pages.now.list c.as_slice.result.now c.as_slice.ensures)
     (g.M.Frames.memory c.give_pages-2.new.mem) c.give_pages-2.ensures.given
     (g.M.Frames.memory c.install_table.new.mem) c.install_table.ensures.node
+
+pub returns-clause-chain : goal.returns-clause-chain
+returns-clause-chain g c t x s lays found can =
+    let gives = given_in t s c.args.caller x found c.args.child c.args.born c.args.i c.args.pages.now can
+    (g.M.Frames.memory c.args.mem.now) lays
+    (g.M.Frames.memory c.give_pages.new.mem) c.give_pages.ensures.given c.as_slice.result.now
+    (page_list-slice c.args.pages.now.list c.as_slice.result.now c.as_slice.ensures) _ c.give_pages.new.steps _
+    c.give_pages.ensures.chain c.give_pages-2.ensures.chain in
+    let installs = c.install_table.ensures.steps in
+    omega (arith, gives, installs)

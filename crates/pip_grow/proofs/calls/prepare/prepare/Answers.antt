@@ -12,8 +12,8 @@ use Rattle.pip_grow.proofs.PrepareTable.Call.{can_prepare, chain-never_ok, count
 use Rattle.pip_grow.proofs.PrepareTable.Call.{prepare-accepted, prepare-refused, prepare-page_refused}
 use Rattle.pip_grow.proofs.calls.prepare.prepare.Goals as goal
 
-pub returns-in_err-child : goal.returns-in_err-child
-returns-in_err-child g c =
+pub returns-in_err-child-clause-does : goal.returns-in_err-child-clause-does
+returns-in_err-child-clause-does g c =
     let p = err_from_is_err_and c.from_residual.result c.from_residual.ensures.1 in
     let a = c.args in
     let r = c.requires in
@@ -30,8 +30,8 @@ pub pages_needed-count-requires : goal.pages_needed-count-requires
 pages_needed-count-requires g c =
     part_node (g.M.Frames.memory c.args.mem.now) c.in_ok-child.child c.in_ok-child.ensures.stands
 
-pub returns-then-count-eq0 : goal.returns-then-count-eq0
-returns-then-count-eq0 g c =
+pub returns-then-count-eq0-clause-does : goal.returns-then-count-eq0-clause-does
+returns-then-count-eq0-clause-does g c =
     let a = c.args in
     let n = c.pages_needed-count.result in
     accepted-does a.caller (λ t. prepare t a.caller a.d a.cv a.first) 0 (λ t. t) (g.M.Frames.memory a.mem.now)
@@ -39,7 +39,7 @@ returns-then-count-eq0 g c =
     (λ t x s lays found. prepare-nothing t a.caller a.d a.cv a.first c.in_ok-child.child n
     (c.in_ok-child.ensures.child t x s lays found) (child_needs t s (g.M.Frames.memory a.mem.now) lays a.caller a.d
     a.cv c.in_ok-child.child c.of_address-v.result n (c.in_ok-child.ensures.child t x s lays found).1
-    c.of_address-v.ensures c.pages_needed-count.ensures) c.if-count-eq0.true)
+    c.of_address-v.ensures c.pages_needed-count.ensures.pages) c.if-count-eq0.true)
     (λ t x s lays found. prepare-sound t a.caller a.d a.cv a.first s (found_is_name t a.caller x found) (omega arith))
     (λ t x s lays found. lays)
 
@@ -49,7 +49,7 @@ check_chain-requires-clause-least g c =
     let tested = c.in_ok-child.ensures.child r.tree r.node r.sound r.laid r.found in
     let needs = child_needs r.tree r.sound (g.M.Frames.memory c.args.mem.now) r.laid c.args.caller c.args.d c.args.cv
     c.in_ok-child.child c.of_address-v.result c.pages_needed-count.result tested.1 c.of_address-v.ensures
-    c.pages_needed-count.ensures in
+    c.pages_needed-count.ensures.pages in
     (counted_bounds r.tree c.args.caller c.args.d c.args.cv c.pages_needed-count.result needs c.if-count-eq0.false).0
 
 pub check_chain-requires-clause-most : goal.check_chain-requires-clause-most
@@ -58,24 +58,24 @@ check_chain-requires-clause-most g c =
     let tested = c.in_ok-child.ensures.child r.tree r.node r.sound r.laid r.found in
     let needs = child_needs r.tree r.sound (g.M.Frames.memory c.args.mem.now) r.laid c.args.caller c.args.d c.args.cv
     c.in_ok-child.child c.of_address-v.result c.pages_needed-count.result tested.1 c.of_address-v.ensures
-    c.pages_needed-count.ensures in
+    c.pages_needed-count.ensures.pages in
     (counted_bounds r.tree c.args.caller c.args.d c.args.cv c.pages_needed-count.result needs c.if-count-eq0.false).1
 
-pub returns-in_err-pages : goal.returns-in_err-pages
-returns-in_err-pages g c =
+pub returns-in_err-pages-clause-does : goal.returns-in_err-pages-clause-does
+returns-in_err-pages-clause-does g c =
     let p = err_from_is_err_and c.from_residual-in_err-pages.result c.from_residual-in_err-pages.ensures.1 in
     let a = c.args in
     let r = c.requires in
     let n = c.pages_needed-count.result in
     let q = c.in_err-pages.field-0.0 in
     rw (p.1, p.2) (
-      chain-never_ok r.tree a.caller n [] a.first q (c.in_err-pages.ensures r.tree r.node r.sound r.laid r.found),
+      chain-never_ok r.tree a.caller n [] a.first q (c.in_err-pages.ensures.chain r.tree r.node r.sound r.laid r.found),
       refused-does a.caller (λ t. prepare t a.caller a.d a.cv a.first) (g.M.Frames.memory a.mem.now) q
           (λ t x s lays found.
           prepare-page_refused t a.caller a.d a.cv a.first c.in_ok-child.child n (c.in_ok-child.ensures.child t x s lays
           found) (child_needs t s (g.M.Frames.memory a.mem.now) lays a.caller a.d a.cv c.in_ok-child.child
           c.of_address-v.result n (c.in_ok-child.ensures.child t x s lays found).1 c.of_address-v.ensures
-          c.pages_needed-count.ensures) q (c.in_err-pages.ensures t x s lays found)),
+          c.pages_needed-count.ensures.pages) q (c.in_err-pages.ensures.chain t x s lays found)),
     )
 
 pub give_table-requires-clause-can : goal.give_table-requires-clause-can
@@ -84,18 +84,18 @@ give_table-requires-clause-can g c =
     let tested = c.in_ok-child.ensures.child r.tree r.node r.sound r.laid r.found in
     let needs = child_needs r.tree r.sound (g.M.Frames.memory c.args.mem.now) r.laid c.args.caller c.args.d c.args.cv
     c.in_ok-child.child c.of_address-v.result c.pages_needed-count.result tested.1 c.of_address-v.ensures
-    c.pages_needed-count.ensures in
+    c.pages_needed-count.ensures.pages in
     record {
       stands = r;
       can = can_prepare r.tree c.args.caller c.args.d c.args.cv c.args.first c.in_ok-child.child
           c.pages_needed-count.result tested needs r.sound r.node r.found c.in_ok-pages.pages
-          (c.in_ok-pages.ensures r.tree r.node r.sound r.laid r.found) c.number.result
+          (c.in_ok-pages.ensures.chain r.tree r.node r.sound r.laid r.found) c.number.result
           (c.number.result / 1024) c.of_address-born.result
           c.number.ensures.small (c.number.ensures.same ∙ c.of_address-v.ensures) refl c.of_address-born.ensures;
     }
 
-pub returns : goal.returns
-returns g c =
+pub returns-clause-does : goal.returns-clause-does
+returns-clause-does g c =
     let a = c.args in
     let n = c.pages_needed-count.result in
     let i = c.number.result / 1024 in
@@ -105,14 +105,30 @@ returns g c =
     (λ t x s lays found.
     prepare-accepted t a.caller a.d a.cv a.first c.in_ok-child.child n (c.in_ok-child.ensures.child t x s lays found)
     (child_needs t s (g.M.Frames.memory a.mem.now) lays a.caller a.d a.cv c.in_ok-child.child c.of_address-v.result
-    n (c.in_ok-child.ensures.child t x s lays found).1 c.of_address-v.ensures c.pages_needed-count.ensures)
-    c.in_ok-pages.pages (c.in_ok-pages.ensures t x s lays found) i
+    n (c.in_ok-child.ensures.child t x s lays found).1 c.of_address-v.ensures c.pages_needed-count.ensures.pages)
+    c.in_ok-pages.pages (c.in_ok-pages.ensures.chain t x s lays found) i
     (ap (λ k. k / 1024) (c.number.ensures.same ∙ c.of_address-v.ensures)))
     (λ t x s lays found. prepare-sound t a.caller a.d a.cv a.first s (found_is_name t a.caller x found) (omega arith))
     (λ t x s lays found.
     (c.give_table.ensures.tree t x s lays found
     (can_prepare t a.caller a.d a.cv a.first c.in_ok-child.child n (c.in_ok-child.ensures.child t x s lays found)
     (child_needs t s (g.M.Frames.memory a.mem.now) lays a.caller a.d a.cv c.in_ok-child.child c.of_address-v.result
-    n (c.in_ok-child.ensures.child t x s lays found).1 c.of_address-v.ensures c.pages_needed-count.ensures) s x
-    found c.in_ok-pages.pages (c.in_ok-pages.ensures t x s lays found) c.number.result i c.of_address-born.result
+    n (c.in_ok-child.ensures.child t x s lays found).1 c.of_address-v.ensures c.pages_needed-count.ensures.pages) s x
+    found c.in_ok-pages.pages (c.in_ok-pages.ensures.chain t x s lays found) c.number.result i c.of_address-born.result
     c.number.ensures.small (c.number.ensures.same ∙ c.of_address-v.ensures) refl c.of_address-born.ensures)).1)
+
+pub returns-clause-chain : goal.returns-clause-chain
+returns-clause-chain g c t x s lays found =
+    let a = c.args in
+    let n = c.pages_needed-count.result in
+    let gives = c.give_table.ensures.chain t x s lays found
+    (can_prepare t a.caller a.d a.cv a.first c.in_ok-child.child n (c.in_ok-child.ensures.child t x s lays found)
+    (child_needs t s (g.M.Frames.memory a.mem.now) lays a.caller a.d a.cv c.in_ok-child.child c.of_address-v.result
+    n (c.in_ok-child.ensures.child t x s lays found).1 c.of_address-v.ensures c.pages_needed-count.ensures.pages) s x
+    found c.in_ok-pages.pages (c.in_ok-pages.ensures.chain t x s lays found) c.number.result (c.number.result / 1024)
+    c.of_address-born.result
+    c.number.ensures.small (c.number.ensures.same ∙ c.of_address-v.ensures) refl c.of_address-born.ensures) in
+    let child = c.in_ok-child.ensures.steps in
+    let needs = c.pages_needed-count.ensures.steps in
+    let tests = c.in_ok-pages.ensures.steps in
+    omega (arith, gives, child, needs, tests)

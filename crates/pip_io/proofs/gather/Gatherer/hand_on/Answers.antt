@@ -17,4 +17,4 @@ returns-clause-some g c =
     let size : length self.bytes ≡ 16384 = search rules in
     let few = self.fits in
     on_err_weaker c.write_between-place.result.1 (between_some self.bytes c.write_between-place.result.0 self.end
-    (omega (arith, size, few))) c.write_between-place.ensures.some
+    (omega arith)) c.write_between-place.ensures.some

@@ -12,15 +12,12 @@ returns-clause-held g c =
     let count = length piece in
     let size : length self.bytes ≡ 16384 = search rules in
     let same : now ≡ piece = c.copy_from_slice.ensures.after in
-    let fits : self.end ≤ length self.bytes = let few = c.requires in omega (arith, size, few) in
+    let fits : self.end ≤ length self.bytes = omega arith in
     let put = self.end + count - self.end in
-    let long : length now ≡ put = let n = ap length same in omega (arith, n) in
-    let long' : length now ≡ count = ap length same in
+    let long : length now ≡ put = omega arith in
+    let long' : length now ≡ count = rw same in
     let bytes = put_mid self.end put self.bytes now in
     let whole : put ≡ count = omega arith in
     let part : between bytes self.end (self.end + count) ≡ now =
-    ap (λ k. between bytes self.end (self.end + k)) (sym whole) ∙ put_part self.bytes now self.end put fits long in
-    sym (between_joined bytes self.start self.end (self.end + count) self.order (omega arith))
-    ∙ ap (λ l. l ++ between bytes self.end (self.end + count)) (sym (between_same self.bytes bytes self.start self.end
-    self.order (sym (put_front self.bytes now self.end put fits long))))
-    ∙ ap (λ l. between self.bytes self.start self.end ++ l) (part ∙ same)
+    cc (put_part self.bytes now self.end put fits long) in
+    rw (← between_joined bytes self.start self.end (self.end + count) self.order (omega arith), ← between_same self.bytes bytes self.start self.end self.order (sym (put_front self.bytes now self.end put fits long)), part, same)

@@ -10,8 +10,8 @@ use Rattle.pip_lend.proofs.calls.add_vaddr.has_table_at.Goals as goal
 pub has_table-requires-clause-node : goal.has_table-requires-clause-node
 has_table-requires-clause-node g c = part_node (g.M.Frames.memory c.args.mem.now) c.args.part c.requires
 
-pub returns : goal.returns
-returns g c t y s lays found =
+pub returns-clause-table : goal.returns-clause-table
+returns-clause-table g c t y s lays found =
     c.has_table.ensures.table y (cells_of (full_rows t y)) (laid_space t s (g.M.Frames.memory c.args.mem.now) lays
     c.args.part y found).node (found_name t c.args.part y found)
     ∙ sym (has_table_found y (vpage c.args.va))

@@ -7,14 +7,14 @@ use Rattle.pip_lend.proofs.RemoveVAddr.Tests.{comes_from, page_unused, page_used
 use Rattle.pip_lend.proofs.RemoveVAddr.Tests.{row_absent}
 use Rattle.pip_lend.proofs.calls.remove_vaddr.check_remove.Goals as goal
 
-pub returns-in_err-child : goal.returns-in_err-child
-returns-in_err-child g c t x s lays found =
+pub returns-in_err-child-clause-tested : goal.returns-in_err-child-clause-tested
+returns-in_err-child-clause-tested g c t x s lays found =
     let p = err_from_is_err_and c.from_residual.result c.from_residual.ensures.1 in
     rw (p.1, p.2) (remove_misnamed t c.args.caller c.args.d c.args.cv c.in_err-child.field-0.0
     (c.in_err-child.ensures.child t x s lays found))
 
-pub returns-in_err-row : goal.returns-in_err-row
-returns-in_err-row g c t x s lays found =
+pub returns-in_err-row-clause-tested : goal.returns-in_err-row-clause-tested
+returns-in_err-row-clause-tested g c t x s lays found =
     let p = err_from_is_err_and c.from_residual-in_err-row.result c.from_residual-in_err-row.ensures.1 in
     let none = c.in_err-row.ensures.ok_part in
     let tested = c.in_ok-child.ensures.child t x s lays found in
@@ -24,8 +24,8 @@ returns-in_err-row g c t x s lays found =
     (row_absent t s c.args.caller c.args.d c.args.cv tested.0 child.0 child.1
     (looked_up full_of c.row_at.result None _ read none))
 
-pub returns-then-not-is_free : goal.returns-then-not-is_free
-returns-then-not-is_free g c t x s lays found =
+pub returns-then-not-is_free-clause-tested : goal.returns-then-not-is_free-clause-tested
+returns-then-not-is_free-clause-tested g c t x s lays found =
     let tested = c.in_ok-child.ensures.child t x s lays found in
     let child = named_child t s c.args.caller c.args.d c.in_ok-child.child tested.1 in
     let read = c.row_at.ensures.row t child.0 s lays child.3 in
@@ -42,8 +42,8 @@ place_above-requires g c =
     comes_from r.tree r.sound c.args.caller c.args.d c.args.cv tested.0 child.0 child.1 (full_of c.in_ok-row.row)
     (looked_up full_of c.row_at.result (Some c.in_ok-row.row) _ read c.in_ok-row.ensures.ok_part)
 
-pub returns : goal.returns
-returns g c t x s lays found =
+pub returns-clause-tested : goal.returns-clause-tested
+returns-clause-tested g c t x s lays found =
     let tested = c.in_ok-child.ensures.child t x s lays found in
     let child = named_child t s c.args.caller c.args.d c.in_ok-child.child tested.1 in
     let read = c.row_at.ensures.row t child.0 s lays child.3 in

@@ -1,0 +1,68 @@
+-- What a search of an image with a menu says of every program of its hostile partitions.
+use Rattle.std.specs.Prelude.{◌≡◌, ℕ, Bool, true, false, List, Option}
+use Rattle.pip_any.specs.Programs.{AreNamedTurns, EachTurn, HostileExits, SearchConfines, SearchLooksAway}
+use Rattle.pip_base.specs.Memory.{Memory}
+use Rattle.pip_base.specs.declared.types.Plan.{Plan}
+use Rattle.pip_every.specs.Menus.{Menu, menu_model}
+use Rattle.pip_every.specs.Moments.{Moment}
+use Rattle.pip_hostile.specs.Tests.{looks_away}
+use Rattle.pip_due.specs.EndsBy.{Response}
+use Rattle.pip_due.specs.Planned.{lines_planned}
+use Rattle.pip_model.specs.Acts.{text_of}
+use Rattle.pip_model.specs.Images.{Image, image_word}
+use Rattle.pip_outside.specs.Outside.{Alike}
+use Rattle.pip_search.specs.Reached.{AreChoices}
+use Rattle.pip_search.specs.Systems.{after_choices}
+use Rattle.pip_search.specs.declared.searching.Extent.TheVariants.{Closed}
+use Rattle.pip_searches.specs.MenuText.{MenuSaid}
+use Rattle.pip_searches.specs.RunLaw.{ArePlansFrom, steps_from}
+use Rattle.pip_searches.specs.SearchDues.{IsSearchedAgainst, begun_moment, begun_world, image_menu}
+use Rattle.pip_searches.specs.declared.start.Start.{Start}
+
+-- where the search closed, at each of its moments looks away from these words, and finds the hostile partitions
+-- confined: it names what each turn shows of each run of another image that begins alike, by any seed and plans, if the
+-- exits of hostile partitions are on the menu; but for turns that stay inside these partitions
+abbrev pub AnyProgramIsNamed : Type 0
+AnyProgramIsNamed = (own : List ℕ) (blind : ℕ → ℕ → Bool) (menu : MenuSaid) (states from depth : ℕ) (most : Option ℕ)
+    (start : Start) (i j : Image) (v : Response) (s : IsSearchedAgainst menu states from most start i v)
+    → s.verdict ≡ Closed depth → j.cpus ≡ i.cpus
+    → SearchLooksAway own blind s.first (image_menu i from menu.may) (begun_moment i start)
+    → SearchConfines own blind s.first (image_menu i from menu.may) (begun_moment i start)
+    → Alike own blind (begun_world j start) (begun_world i start) → (plans : List Plan) (seed n : ℕ)
+    → ArePlansFrom (lines_planned i.plans) start.count from plans
+    → EachTurn (HostileExits own blind (image_menu i from menu.may)) (begun_world j start)
+    plans seed j.cpus n start.count
+    → AreNamedTurns s.found own blind (begun_world j start) plans seed j.cpus n start.count
+    (text_of (steps_from j start plans seed n))
+
+-- so it is from step 0 on, of each image of that size with the same words but for those that are left out
+abbrev pub AnyProgramFromStart : Type 0
+AnyProgramFromStart = (own : List ℕ) (blind : ℕ → ℕ → Bool) (menu : MenuSaid) (states from depth : ℕ) (most : Option ℕ)
+    (start : Start) (i j : Image) (v : Response) (s : IsSearchedAgainst menu states from most start i v)
+    → s.verdict ≡ Closed depth → start.count ≡ 0 → j.cpus ≡ i.cpus → j.frames ≡ i.frames
+    → ((g k : ℕ) → blind g k ≡ false → image_word j.frames j.pages g k ≡ image_word i.frames i.pages g k)
+    → SearchLooksAway own blind s.first (image_menu i from menu.may) (begun_moment i start)
+    → SearchConfines own blind s.first (image_menu i from menu.may) (begun_moment i start) → (plans : List Plan)
+    (seed n : ℕ) → ArePlansFrom (lines_planned i.plans) start.count from plans
+    → EachTurn (HostileExits own blind (image_menu i from menu.may)) (begun_world j start)
+    plans seed j.cpus n start.count
+    → AreNamedTurns s.found own blind (begun_world j start) plans seed j.cpus n start.count
+    (text_of (steps_from j start plans seed n))
+
+-- a state of a search passes the test, on each processor
+abbrev pub SearchPasses : List ℕ → (ℕ → ℕ → Bool) → Memory → Menu → Moment → Type 0
+SearchPasses own blind first g m = (cs : List ℕ) (cpu : ℕ) → AreChoices (menu_model first g) cs
+    → looks_away own blind g (after_choices (menu_model first g) m cs).world cpu ≡ true
+
+-- so it is where each state of the search passes this test
+abbrev pub TestedNamesAnyProgram : Type 0
+TestedNamesAnyProgram = (own : List ℕ) (blind : ℕ → ℕ → Bool) (menu : MenuSaid) (states from depth : ℕ)
+    (most : Option ℕ) (start : Start) (i j : Image) (v : Response)
+    (s : IsSearchedAgainst menu states from most start i v) → s.verdict ≡ Closed depth → j.cpus ≡ i.cpus
+    → SearchPasses own blind s.first (image_menu i from menu.may) (begun_moment i start)
+    → Alike own blind (begun_world j start) (begun_world i start) → (plans : List Plan) (seed n : ℕ)
+    → ArePlansFrom (lines_planned i.plans) start.count from plans
+    → EachTurn (HostileExits own blind (image_menu i from menu.may)) (begun_world j start)
+    plans seed j.cpus n start.count
+    → AreNamedTurns s.found own blind (begun_world j start) plans seed j.cpus n start.count
+    (text_of (steps_from j start plans seed n))

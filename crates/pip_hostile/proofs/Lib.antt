@@ -1,0 +1,5 @@
+pub mod Doing
+pub mod Choosing
+pub mod Listed
+pub mod Keeping
+pub mod Testing

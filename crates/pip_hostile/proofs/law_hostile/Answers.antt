@@ -1,0 +1,7 @@
+use Rattle.pip_hostile.proofs.Choosing.{turns_have_choices}
+use Rattle.pip_hostile.proofs.Keeping.{confined_keeps_to_menu}
+use Rattle.pip_hostile.proofs.Testing.{tests_pass}
+use Rattle.pip_hostile.proofs.law_hostile.Goals as goal
+
+pub returns : goal.returns
+returns c = record { turns = turns_have_choices; confined = confined_keeps_to_menu; tested = tests_pass }

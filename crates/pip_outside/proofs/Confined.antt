@@ -1,0 +1,331 @@
+-- A partition that is confined: what it does stays inside, or is one of a few exits.
+use Rattle.std.proofs.Common.{◌≡◌, ◌≢◌, ℕ, zero, suc, ◌<◌, ◌≤◌, arith, ◌==◌, ◌&&◌, ◌⊎◌, inl, inr, Bool, true, false}
+use Rattle.std.proofs.Common.{cond, List, [], ◌∷◌, map, not}
+use Rattle.std.proofs.Common.{refl, sym, ap, ap₂, ◌∙◌, ◌||◌, subst, eqb-true, Option, Some, None}
+use Rattle.std.specs.Prelude.{◌+◌, ◌-◌, is_none, is_some, nat_le, nat_lt, option_map}
+use Rattle.std.proofs.lemmas.Bool.{cases_eq, leb-true, ltb-true, ne_eqb}
+use Rattle.pip_base.specs.declared.outcome.Status.{Status}
+use Rattle.pip_base.specs.declared.outcome.Status.TheVariants as S
+use Rattle.pip_base.specs.declared.types.Access.{Access}
+use Rattle.pip_base.specs.declared.types.Access.TheVariants.{Load, Store, Fetch}
+use Rattle.pip_base.specs.declared.types.Ctx.{Ctx}
+use Rattle.pip_base.specs.declared.types.Size.{Size}
+use Rattle.pip_base.specs.declared.types.Size.TheVariants.{Word}
+use Rattle.pip_model.specs.AddVAddr.{add_refusals, exceeds, tree_with_row}
+use Rattle.pip_model.specs.Answers.{Answer, Five, accept, answer_unless, child_name, child_of, first_met, is_mapped}
+use Rattle.pip_model.specs.Answers.{no_child, page_of, rights_at}
+use Rattle.pip_model.specs.Collect.{collect_refusals, first_va, has_row_in, returned_pages, table_for}
+use Rattle.pip_model.specs.Collect.{tree_without_table}
+use Rattle.pip_model.specs.CountToMap.{count_refusals, pages_needed}
+use Rattle.pip_model.specs.CreatePartition.{create_refusals, tree_with_newborn}
+use Rattle.pip_model.specs.DeletePartition.{delete_refusals, some_run, tree_without_subtree}
+use Rattle.pip_model.specs.Events.{Event}
+use Rattle.pip_model.specs.Events as E
+use Rattle.pip_model.specs.Handlers.{can_save, context_word, handler, written_block}
+use Rattle.pip_model.specs.Happens.{answer, call, call_named, on_running, what_happens}
+use Rattle.pip_model.specs.Lists.{In, has}
+use Rattle.pip_model.specs.MappedInChild.{find_refusals, holder_born}
+use Rattle.pip_model.specs.Prepare.{page_chain, prepare_with}
+use Rattle.pip_model.specs.Reach.{Faulted, Place, Reached, reach}
+use Rattle.pip_model.specs.RemoveVAddr.{remove_refusals, tree_without_row}
+use Rattle.pip_model.specs.Switching.{node_name, reply_unless, target_node, with_zeros, yield_happens, yield_to}
+use Rattle.pip_model.specs.Switching.{yield_place, yield_refusals, yielded_tree}
+use Rattle.pip_model.specs.Tree.{Node, Tree, below, dir, free, has_table, holder, is_place, row_at, vpage}
+use Rattle.pip_model.specs.Worlds.{Happened, World, ctx_of, ctx_on, masked_node, running, runs_on, with_masked}
+use Rattle.pip_model.specs.declared.call_name.CallName.{CallName}
+use Rattle.pip_model.specs.declared.call_name.CallName.TheVariants.{Masks, OnMemory, Unknown, Yields}
+use Rattle.pip_model.specs.declared.call_name.MemoryCall.{MemoryCall}
+use Rattle.pip_model.specs.declared.call_name.MemoryCall.TheVariants.{AddVAddr, Collect, CountToMap, CreatePartition}
+use Rattle.pip_model.specs.declared.call_name.MemoryCall.TheVariants.{DeletePartition, MappedInChild, Prepare}
+use Rattle.pip_model.specs.declared.call_name.MemoryCall.TheVariants.{RemoveVAddr}
+use Rattle.pip_model.specs.declared.processors.Occupant.{Occupant}
+use Rattle.pip_outside.specs.Exits.{ConfinedAlike, ConfinedStaysOrExits, Faults, GoesAway, IsConfined, IsExit, IsMadeOn}
+use Rattle.pip_outside.specs.Exits.{IsSeen}
+use Rattle.pip_outside.specs.Exits.{SaveIsSeen, SoundConfines}
+use Rattle.pip_outside.specs.Outside.{AlikeTrees, AlikeWord, Lands}
+use Rattle.pip_outside.specs.Unseen.{Answers, ByOneOf, GoesTo, IsUnseen, StaysThere}
+use Rattle.pip_model.proofs.Events.Soundness.{reached_words}
+use Rattle.pip_model.proofs.Trees.Ancestors.{not_root}
+use Rattle.pip_outside.proofs.Alikes.{tree_alike_same}
+
+-- ---- calls on memory
+
+same_trees : (blind : ℕ → ℕ → Bool) (t u : Tree) → u ≡ t → AlikeTrees blind u t
+same_trees blind t u e =
+    subst (λ x. AlikeTrees blind x t) (sym e) (tree_alike_same blind t)
+
+unless_same : (t : Tree) (o : Option Status) (a : Answer) → a.tree ≡ t → (answer_unless t o a).tree ≡ t
+unless_same t None a e = e
+unless_same t (Some s) a e = refl
+
+-- where the third condition is met, or one before it, a call is refused
+third : (x y : Bool) (p q : Status) (xs : List (Bool × Status)) (s : Status)
+    → first_met ((x, p) ∷ (y, q) ∷ (true, s) ∷ xs) ≢ None
+third true y p q xs s e = cc
+third false true p q xs s e = cc
+third false false p q xs s e = cc
+
+-- where a call is refused nothing changes
+refused : (t : Tree) (o : Option Status) → o ≢ None → (a : Answer) → (answer_unless t o a).tree ≡ t
+refused t None n a = absurd (n refl)
+refused t (Some s) n a = refl
+
+module _ (w : World) (p : ℕ) (c : IsConfined w.tree p) where
+  childless : (d : ℕ) (x y : Bool) (xs : List (Bool × Status))
+      → first_met ((x, S.NotAligned) ∷ (y, S.NullPage) ∷ no_child w.tree p d ∷ xs) ≢ None
+  childless d x y xs = subst (λ o. first_met ((x, S.NotAligned) ∷ (y, S.NullPage) ∷ (is_none o, S.NotChild) ∷ xs)
+      ≢ None)
+      (sym (c.leaf d)) (third x y S.NotAligned S.NullPage xs S.NotChild)
+
+  keeps : (a : Five) (k : MemoryCall) → (answer k w p a).tree ≡ w.tree
+  keeps a CreatePartition =
+      refused w.tree (first_met (create_refusals w.tree p a)) (c.creates a) (accept 0 (tree_with_newborn w.tree p a))
+  keeps a DeletePartition = refused w.tree (first_met (delete_refusals w.tree (running w) p a.x0))
+      (childless a.x0 _ _
+      ((some_run (running w) (below w.tree (child_name w.tree p a.x0)), S.Running) ∷ []))
+      (accept 0 (tree_without_subtree w.tree (child_name w.tree p a.x0)))
+  keeps a CountToMap = unless_same w.tree (first_met (count_refusals w.tree p a.x0 a.x1))
+      (accept (pages_needed (child_of w.tree p a.x0) (vpage a.x1)) w.tree) refl
+  keeps a Prepare =
+      let k = pages_needed (child_of w.tree p a.x0) (vpage a.x1) in
+      refused w.tree (first_met (count_refusals w.tree p a.x0 a.x1)) (childless a.x0 _ _ [])
+      (prepare_with w.tree (child_name w.tree p a.x0) (vpage a.x1) k (page_chain w.tree p k [] a.x2))
+  keeps a Collect =
+      let x = child_of w.tree p a.x0 in
+      let gs = returned_pages x (table_for x (vpage a.x1)) in
+      refused w.tree (first_met (collect_refusals w.tree p a.x0 a.x1)) (childless a.x0 _ _
+      ((is_none (table_for x (vpage a.x1)), S.NoTable) ∷ (has_row_in x (dir (vpage a.x1)), S.NotEmpty) ∷ []))
+      (accept (first_va gs) (tree_without_table w.tree (child_name w.tree p a.x0) (dir (vpage a.x1)) gs))
+  keeps a AddVAddr = refused w.tree (first_met (add_refusals w.tree p a.x0 a.x1 a.x2 a.x3)) (childless a.x1 _ _
+      ((not (is_mapped w.tree p (vpage a.x0)), S.NotMapped) ∷ (not (free w.tree p (vpage a.x0)), S.NotFree)
+      ∷ (exceeds a.x3 (rights_at w.tree p (vpage a.x0)), S.NoRight)
+      ∷ (not (has_table (child_of w.tree p a.x1) (vpage a.x2)), S.NoTable)
+      ∷ (is_some (row_at (child_of w.tree p a.x1).rows (vpage a.x2)), S.Taken) ∷ []))
+      (accept 0 (tree_with_row w.tree (child_name w.tree p a.x1)
+      (record { at = vpage a.x2; frame = page_of w.tree p a.x0; rights = a.x3 })))
+  keeps a RemoveVAddr = refused w.tree (first_met (remove_refusals w.tree p a.x0 a.x1)) (childless a.x0 _ _
+      ((is_none (row_at (child_of w.tree p a.x0).rows (vpage a.x1)), S.Absent)
+      ∷ (not (free w.tree (child_name w.tree p a.x0) (vpage a.x1)), S.LentOn) ∷ []))
+      (accept 0 (tree_without_row w.tree (child_name w.tree p a.x0) (vpage a.x1)))
+  keeps a MappedInChild = unless_same w.tree (first_met (find_refusals w.tree p a.x0))
+      (accept (holder_born (holder w.tree p (page_of w.tree p a.x0))) w.tree) refl
+
+-- ---- yields
+
+mask_stays : (n : ℕ) (b : Bool) (xs : List Node) → ((x : Node) → In x xs → x.name ≡ n → ⊥)
+    → map (masked_node n b) xs ≡ xs
+mask_stays n b [] f = refl
+mask_stays n b (x ∷ xs) f =
+    ap₂ (λ y ys. y ∷ ys) (ap (λ m. record x { masked = cond m b x.masked }) (ne_eqb x.name n (f x (inl refl))))
+    (mask_stays n b xs (λ y i. f y (inr i)))
+
+-- to set the root's mask to what it is changes nothing
+mask_same : (t : Tree) → ((x : Node) → In x t.others → x.name ≢ t.root.name)
+    → with_masked t.root.name t.root.masked t ≡ t
+mask_same t s =
+    let r : masked_node t.root.name t.root.masked t.root ≡ t.root =
+    ap (λ b. record t.root { masked = b }) (either (t.root.name == t.root.name)) in
+    let o = mask_stays t.root.name t.root.masked t.others s in
+    λ i. record t { root = r i; others = o i }
+  where
+    either : (b : Bool) → cond b t.root.masked t.root.masked ≡ t.root.masked
+    either true = refl
+    either false = refl
+
+not_both : {x : Bool} → x ≡ false → x ≡ true → ⊥
+not_both f t = cc
+
+-- a save to words that are left out changes no other
+landed_word : (blind : ℕ → ℕ → Bool) (c : Ctx) (g : ℕ) (q : Reached) → Lands blind q → (j : ℕ) → blind g j ≡ false
+    → (x : ℕ → ℕ) → written_block c g q x j ≡ x j
+landed_word blind c g (Faulted f) l j v x = refl
+landed_word blind c g (Place n i) l j v x = test (n == g) (nat_le i j) (nat_lt j (i + 17)) refl refl refl
+  where
+    test : (a b z : Bool) → (n == g) ≡ a → nat_le i j ≡ b → nat_lt j (i + 17) ≡ z
+        → cond (a && (b && z)) (context_word c (j - i)) (x j) ≡ x j
+    test false b z ea eb ez = refl
+    test true false z ea eb ez = refl
+    test true true false ea eb ez = refl
+    test true true true ea eb ez =
+        absurd (not_both v (ap (λ w. blind w j) (sym (eqb-true n g ea))
+        ∙ l j (leb-true i j eb) (ltb-true j (i + 17) ez)))
+
+pub landed : (blind : ℕ → ℕ → Bool) (c : Ctx) (g : ℕ) (q : Reached) → Lands blind q → (o : Option (ℕ → ℕ))
+    → AlikeWord blind g (option_map (written_block c g q) o) o
+landed blind c g q l None = record { there = refl; words = λ j v. refl }
+landed blind c g q l (Some x) = record { there = refl; words = λ j v. landed_word blind c g q l j v x }
+
+-- a yield that isn't refused finds a handler
+handled : (w : World) (p : ℕ) (a : Five) (q : Option Node) (c : Option Ctx) → handler w.tree (node_name q) a.x1 ≡ c
+    → first_met (yield_refusals w p a q) ≡ None → c ≢ None
+handled w p a q c e n z = absurd (go (not (a.x0 == 1) && not (is_place a.x0)) (is_none q)
+    (nat_le 256 a.x1 || nat_le 257 a.x2) (not (node_name q == p) && has (running w) (node_name q))
+    (sym (ap (λ x. first_met ((not (a.x0 == 1) && not (is_place a.x0), S.NotAligned) ∷ (is_none q, S.NotChild)
+    ∷ (nat_le 256 a.x1 || nat_le 257 a.x2, S.BadVector)
+    ∷ (not (node_name q == p) && has (running w) (node_name q), S.Running) ∷ (is_none x, S.NoHandler)
+    ∷ (nat_lt a.x2 256 && not (can_save w.tree p a.x2), S.BadSave) ∷ [])) (e ∙ z)) ∙ n))
+  where
+    go : (x y u v : Bool) → first_met ((x, S.NotAligned) ∷ (y, S.NotChild) ∷ (u, S.BadVector) ∷ (v, S.Running)
+        ∷ (true, S.NoHandler) ∷ (nat_lt a.x2 256 && not (can_save w.tree p a.x2), S.BadSave) ∷ []) ≡ None → ⊥
+    go true y u v f = cc
+    go false true u v f = cc
+    go false false true v f = cc
+    go false false false true f = cc
+    go false false false false f = cc
+
+-- a yield stays inside, or goes to another, or its save is seen
+abbrev Yielded : List ℕ → (ℕ → ℕ → Bool) → World → ℕ → Occupant → Five → Happened → Type 0
+Yielded own blind w cpu r a h = (StaysThere h.outcome × AlikeTrees blind h.world.tree w.tree)
+    ⊎ (GoesAway r.name h.outcome ⊎ SaveIsSeen blind (yield_place w.tree r.name a.x2))
+
+module _ (own : List ℕ) (blind : ℕ → ℕ → Bool) (w : World) (cpu : ℕ) (r : Occupant) (k : runs_on w cpu ≡ Some r)
+    (i : In r.name own) (c : IsConfined w.tree r.name) where
+  -- it runs there
+  runs : (P : Occupant → Type 0) → P r → ByOneOf own (runs_on w cpu) P
+  runs P h = subst (λ o. ByOneOf own o P) (sym k) (i, h)
+
+  -- a yield to itself
+  yields_itself : (n : ℕ) → Lands blind (yield_place w.tree r.name n)
+      → AlikeTrees blind (yielded_tree w.tree r n) w.tree
+  yields_itself n l = record {
+    nodes = ap {A = Tree} (λ t. record t { words = w.tree.words }) mask;
+    words = λ g. landed blind (with_zeros r.ctx) g (yield_place w.tree r.name n) l (w.tree.words g);
+  }
+    where
+      mask : with_masked w.tree.root.name (cond (r.name == w.tree.root.name) false w.tree.root.masked) w.tree ≡ w.tree
+      mask = ap (λ b. with_masked w.tree.root.name (cond b false w.tree.root.masked) w.tree)
+          (ne_eqb r.name w.tree.root.name c.other) ∙ mask_same w.tree c.alone
+
+  call_does : (number : ℕ) (a : Five) → IsUnseen own blind w (E.Call cpu number a)
+      ⊎ IsExit blind w r.name (E.Call cpu number a)
+  call_does number a =
+      let f : what_happens w (E.Call cpu number a) ≡ call (call_named number) w cpu r a =
+      ap (λ o. on_running w cpu o (λ r. call (call_named number) w cpu r a)) k in
+      elim (go (call_named number) refl) [
+        | inl m ↦ inl (
+          runs (λ r. Unit {0}) tt,
+          subst (λ h. StaysThere h.outcome) (sym f) m.0,
+          subst (λ h. AlikeTrees blind h.world.tree w.tree) (sym f) m.1,
+        )
+        | inr (inl m) ↦ inr (inl (subst (λ h. GoesAway r.name h.outcome) (sym f) m))
+        | inr (inr m) ↦ inr (inr m)
+      ]
+    where
+      -- all words of a block are left out, or one isn't
+      words_are : (g n i : ℕ) → ((j : ℕ) → i ≤ j → j < i + n → blind g j ≡ true)
+          ⊎ ((j : ℕ) × (i ≤ j) × (j < i + n) × (blind g j ≡ false))
+      words_are g zero i = inl (λ j l k. absurd (omega (arith, l, k)))
+      words_are g (suc n) i = by (blind g i) refl (words_are g n (i + 1))
+        where
+          by : (b : Bool) → blind g i ≡ b → ((j : ℕ) → i + 1 ≤ j → j < (i + 1) + n → blind g j ≡ true)
+              ⊎ ((j : ℕ) × (i + 1 ≤ j) × (j < (i + 1) + n) × (blind g j ≡ false))
+              → ((j : ℕ) → i ≤ j → j < i + suc n → blind g j ≡ true)
+              ⊎ ((j : ℕ) × (i ≤ j) × (j < i + suc n) × (blind g j ≡ false))
+          by false e x = inr (i, omega arith, omega arith, e)
+          by true e (inr x) = inr (x.0, omega (arith, x.1), omega (arith, x.2), x.3)
+          by true e (inl f) = inl (λ j l k. elim (cases_eq i j) [
+            | inl d ↦ ap (blind g) (sym d) ∙ e
+            | inr d ↦ f j (omega (arith, l, d)) (omega (arith, k))
+          ])
+
+      save_is : (q : Reached) → Lands blind q ⊎ SaveIsSeen blind q
+      save_is (Faulted f) = inl tt
+      save_is (Place g i) = words_are g 17 i
+
+      yields : (q : Option Node) → Yielded own blind w cpu r a (yield_to w cpu r a q)
+      yields q = by (first_met (yield_refusals w r.name a q)) (handler w.tree (node_name q) a.x1)
+          (handled w r.name a q (handler w.tree (node_name q) a.x1) refl)
+        where
+          by : (o : Option Status) (x : Option Ctx) → (o ≡ None → x ≢ None)
+              → Yielded own blind w cpu r a (reply_unless w cpu r o (yield_happens w cpu r a (node_name q) x))
+          by (Some z) x n = inl (tt, tree_alike_same blind w.tree)
+          by None None n = absurd (n refl refl)
+          by None (Some x) n = elim (cases_eq (node_name q) r.name) [
+            | inl e ↦ elim (save_is (yield_place w.tree r.name a.x2)) [
+              | inl l ↦ inl (e, yields_itself a.x2 l)
+              | inr z ↦ inr (inr z)
+            ]
+            | inr d ↦ inr (inl d)
+          ]
+
+      go : (c : CallName) → call_named number ≡ c
+          → (StaysThere (call c w cpu r a).outcome × AlikeTrees blind (call c w cpu r a).world.tree w.tree)
+          ⊎ (GoesAway r.name (call c w cpu r a).outcome ⊎ (((b : Bool) × (call_named number ≡ Masks b))
+          ⊎ ((call_named number ≡ Yields) × SaveIsSeen blind (yield_place w.tree r.name a.x2))))
+      go (OnMemory m) e = inl (tt, same_trees blind w.tree (answer m w r.name a).tree (keeps w r.name c a m))
+      go Yields e = elim (yields (target_node w.tree r.name a.x0)) [
+        | inl m ↦ inl m
+        | inr (inl m) ↦ inr (inl m)
+        | inr (inr m) ↦ inr (inr (inr (e, m)))
+      ]
+      go (Masks b) e = inr (inr (inl (b, e)))
+      go Unknown e = inl (tt, tree_alike_same blind w.tree)
+
+  at_reach : (va : ℕ) (x : Access) (z : Size) → Answers (reach w.tree r.name va x z)
+      ⊎ Faults (reach w.tree r.name va x z)
+  at_reach va x z = go (reach w.tree r.name va x z)
+    where
+      go : (q : Reached) → Answers q ⊎ Faults q
+      go (Place g j) = inl tt
+      go (Faulted f) = inr tt
+
+  at_store : (va : ℕ) (z : Size) → GoesTo blind w.tree (reach w.tree r.name va Store z)
+      ⊎ IsSeen blind (reach w.tree r.name va Store z)
+  at_store va z = go (reach w.tree r.name va Store z) refl
+    where
+      by : (g j : ℕ) (b : Bool) → blind g j ≡ b → is_some (w.tree.words g) ≡ true
+          → GoesTo blind w.tree (Place g j) ⊎ IsSeen blind (Place g j)
+      by g j true e m = inl (e, m)
+      by g j false e m = inr e
+
+      go : (q : Reached) → reach w.tree r.name va Store z ≡ q → GoesTo blind w.tree q ⊎ IsSeen blind q
+      go (Place g j) e = by g j (blind g j) refl (c.there va g j z e)
+      go (Faulted f) e = inr tt
+
+  does : (e : Event) → IsMadeOn cpu e → IsUnseen own blind w e ⊎ IsExit blind w r.name e
+  does (E.Load d va z) m = elim (at_reach va Load z) [
+    | inl x ↦ inl (subst (λ n. ByOneOf own (runs_on w n) (λ r. Answers (reach w.tree r.name va Load z))) (sym m)
+        (runs (λ r. Answers (reach w.tree r.name va Load z)) x))
+    | inr x ↦ inr x
+  ]
+  does (E.Store d va z x) m = elim (at_store va z) [
+    | inl y ↦ inl (subst (λ n. ByOneOf own (runs_on w n) (λ r. GoesTo blind w.tree (reach w.tree r.name va Store z)))
+        (sym m)
+        (runs (λ r. GoesTo blind w.tree (reach w.tree r.name va Store z)) y))
+    | inr y ↦ inr y
+  ]
+  does (E.Fetch d) m = elim (at_reach r.ctx.pc Fetch Word) [
+    | inl x ↦ inl (subst (λ n. ByOneOf own (runs_on w n) (λ r. Answers (reach w.tree r.name r.ctx.pc Fetch Word)))
+        (sym m) (runs (λ r. Answers (reach w.tree r.name r.ctx.pc Fetch Word)) x))
+    | inr x ↦ inr (subst (λ n. Faults (reach w.tree r.name (ctx_on w n).pc Fetch Word)) (sym m)
+        (subst (λ o. Faults (reach w.tree r.name (ctx_of o).pc Fetch Word)) (sym k) x))
+  ]
+  does (E.Trap d v a b) m = inr tt
+  does (E.Call d number a) m =
+      subst (λ n. IsUnseen own blind w (E.Call n number a) ⊎ IsExit blind w r.name (E.Call n number a)) (sym m)
+      (call_does number a)
+  does (E.Raise j) m = absurd m
+  does (E.Poll d) m = absurd m
+  does (E.SetContext d x) m = inl (subst (λ n. ByOneOf own (runs_on w n) (λ r. Unit {0})) (sym m)
+      (runs (λ r. Unit {0}) tt))
+
+pub confined_stays_or_exits : ConfinedStaysOrExits
+confined_stays_or_exits own blind w cpu e r k i c m = does own blind w cpu r k i c e m
+
+pub confined_alike : ConfinedAlike
+confined_alike blind t u p a c = subst (λ x. IsConfined x p) a.nodes (record {
+  leaf = c.leaf;
+  creates = c.creates;
+  other = c.other;
+  alone = c.alone;
+  there = λ va g i z e. sym (a.words g).there ∙ c.there va g i z e;
+})
+
+pub sound_confines : SoundConfines
+sound_confines t p s n other leaf creates = record {
+  leaf = leaf;
+  creates = creates;
+  other = other;
+  alone = λ x i e. not_root t s x i (sym e);
+  there = λ va g i z e. reached_words t p va g i Store z s n e;
+}

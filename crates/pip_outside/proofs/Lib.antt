@@ -1,0 +1,11 @@
+pub mod Seen
+pub mod Runners
+pub mod Answered
+pub mod Moved
+pub mod Alikes
+pub mod Staying
+pub mod Turning
+pub mod Leaving
+pub mod Confined
+pub mod Few
+pub mod Nothing

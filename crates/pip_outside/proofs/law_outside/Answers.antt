@@ -1,0 +1,15 @@
+use Rattle.pip_outside.proofs.Leaving.{refused_is_unseen}
+use Rattle.pip_outside.proofs.Moved.{outside_depends_on_outside}
+use Rattle.pip_outside.proofs.Nothing.{nothing_left_out}
+use Rattle.pip_outside.proofs.Staying.{unseen_is_unseen}
+use Rattle.pip_outside.proofs.Turning.{turns_depend_on_outside}
+use Rattle.pip_outside.proofs.law_outside.Goals as goal
+
+pub returns : goal.returns
+returns c = record {
+  depends = outside_depends_on_outside;
+  turns = turns_depend_on_outside;
+  unseen = unseen_is_unseen;
+  refused = refused_is_unseen;
+  nothing = nothing_left_out;
+}

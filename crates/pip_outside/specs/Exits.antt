@@ -1,0 +1,145 @@
+-- Which events of a partition do the same, and what follows where all pages that it may store to are left out.
+use Rattle.std.specs.Prelude.{◌≡◌, ◌≢◌, ℕ, ◌+◌, ◌*◌, ◌<◌, ◌≤◌, ◌⊎◌, Bool, true, false}
+use Rattle.std.specs.Prelude.{◌==◌, List, filter, length, Some, None, bit_and, is_some}
+use Rattle.pip_base.specs.declared.outcome.Outcome.{Outcome}
+use Rattle.pip_base.specs.declared.outcome.Outcome.TheVariants as O
+use Rattle.pip_base.specs.declared.outcome.Status.{Status}
+use Rattle.pip_base.specs.declared.outcome.Status.TheVariants as S
+use Rattle.pip_base.specs.declared.types.Access.TheVariants.{Load, Store, Fetch}
+use Rattle.pip_base.specs.declared.types.Size.{Size}
+use Rattle.pip_base.specs.declared.types.Size.TheVariants.{Word}
+use Rattle.pip_model.specs.Answers.{Five, first_met}
+use Rattle.pip_model.specs.CreatePartition.{create_refusals}
+use Rattle.pip_model.specs.Deliver.{nearest_taker}
+use Rattle.pip_model.specs.Events.{Event}
+use Rattle.pip_model.specs.Events as E
+use Rattle.pip_model.specs.Happens.{call_named, event, fault_number, fault_vector, what_happens}
+use Rattle.pip_model.specs.Lists.{In}
+use Rattle.pip_model.specs.Reach.{Fault, Faulted, Place, Reached, reach}
+use Rattle.pip_model.specs.Sound.{IsSound}
+use Rattle.pip_model.specs.Switching.{yield_place}
+use Rattle.pip_model.specs.Tree.{Node, Row, Tree, child_at, names_of, node, nodes}
+use Rattle.pip_model.specs.Worlds.{World, ctx_on, runs_on}
+use Rattle.pip_model.specs.declared.call_name.CallName.TheVariants.{Masks, Yields}
+use Rattle.pip_model.specs.declared.processors.Occupant.{Occupant}
+use Rattle.pip_outside.specs.Outside.{AlikeTrees}
+use Rattle.pip_outside.specs.Unseen.{IsUnseen}
+
+-- ---- faults and traps
+
+-- a load that faults does what a trap does, with the vector of its fault, its address and its kind
+abbrev pub LoadFaultsAreTraps : Type 0
+LoadFaultsAreTraps = (w : World) (cpu va : ℕ) (z : Size) (r : Occupant) (f : Fault) → runs_on w cpu ≡ Some r
+    → reach w.tree r.name va Load z ≡ Faulted f
+    → what_happens w (E.Load cpu va z) ≡ what_happens w (E.Trap cpu (fault_vector f) va (16 * 0 + fault_number f))
+
+-- so does a store
+abbrev pub StoreFaultsAreTraps : Type 0
+StoreFaultsAreTraps = (w : World) (cpu va : ℕ) (z : Size) (x : ℕ) (r : Occupant) (f : Fault)
+    → runs_on w cpu ≡ Some r → reach w.tree r.name va Store z ≡ Faulted f
+    → what_happens w (E.Store cpu va z x) ≡ what_happens w (E.Trap cpu (fault_vector f) va (16 * 1 + fault_number f))
+
+-- and a fetch
+abbrev pub FetchFaultsAreTraps : Type 0
+FetchFaultsAreTraps = (w : World) (cpu : ℕ) (r : Occupant) (f : Fault) → runs_on w cpu ≡ Some r
+    → reach w.tree r.name r.ctx.pc Fetch Word ≡ Faulted f
+    → what_happens w (E.Fetch cpu) ≡ what_happens w (E.Trap cpu (fault_vector f) r.ctx.pc (16 * 2 + fault_number f))
+
+-- the words of a vector that no partition takes have no effect
+abbrev pub UntakenWordsDoNotMatter : Type 0
+UntakenWordsDoNotMatter = (w : World) (cpu k a b c d : ℕ) (r : Occupant) → runs_on w cpu ≡ Some r
+    → nearest_taker w r.name k ≡ None → what_happens w (E.Trap cpu k a b) ≡ what_happens w (E.Trap cpu k c d)
+
+-- ---- calls that are refused
+
+-- each of them is seen by nobody
+abbrev pub RefusedIsUnseen : Type 0
+RefusedIsUnseen = (own : List ℕ) (blind : ℕ → ℕ → Bool) (w : World) (cpu number : ℕ) (a : Five) (r : Occupant)
+    (s : Status) (v : ℕ)
+    → runs_on w cpu ≡ Some r → In r.name own → (event w (E.Call cpu number a)).outcome ≡ O.Reply s v → s ≢ S.Ok
+    → IsUnseen own blind w (E.Call cpu number a)
+
+-- ---- partitions that can't do more
+
+-- a partition, not the root, without children, to which createPartition is always refused. (The last two are so in each
+-- sound tree: no other has the root's name, and what a partition reaches has words)
+pub record IsConfined (t : Tree) (p : ℕ) : Type 0 where
+  pub leaf : (d : ℕ) → child_at t p d ≡ None
+  pub creates : (a : Five) → first_met (create_refusals t p a) ≢ None
+  pub other : p ≢ t.root.name
+  pub alone : (x : Node) → In x t.others → x.name ≢ t.root.name
+  pub there : (va g i : ℕ) (z : Size) → reach t p va Store z ≡ Place g i → is_some (t.words g) ≡ true
+
+-- an access faults
+abbrev pub Faults : Reached → Type 0
+Faults (Place g i) = ⊥
+Faults (Faulted f) = Unit {0}
+
+-- an outcome takes the processor from p
+abbrev pub GoesAway : ℕ → Outcome → Type 0
+GoesAway p (O.Switched from to k) = to ≢ p
+GoesAway p (O.Parked from k) = Unit {0}
+GoesAway p (O.Word x) = ⊥
+GoesAway p O.Done = ⊥
+GoesAway p (O.Reply s v) = ⊥
+GoesAway p O.Idle = ⊥
+
+-- a store faults, or goes to a word that is not left out
+abbrev pub IsSeen : (ℕ → ℕ → Bool) → Reached → Type 0
+IsSeen blind (Place g i) = blind g i ≡ false
+IsSeen blind (Faulted f) = Unit {0}
+
+-- a save goes to some word that is not left out
+abbrev pub SaveIsSeen : (ℕ → ℕ → Bool) → Reached → Type 0
+SaveIsSeen blind (Place g i) = (j : ℕ) × (i ≤ j) × (j < i + 17) × (blind g j ≡ false)
+SaveIsSeen blind (Faulted f) = ⊥
+
+-- p makes an access that faults, a store to a word that is not left out, a trap, a yield that enters another or saves
+-- to such a word, or vcli or vsti
+abbrev pub IsExit : (ℕ → ℕ → Bool) → World → ℕ → Event → Type 0
+IsExit blind w p (E.Load cpu va z) = Faults (reach w.tree p va Load z)
+IsExit blind w p (E.Store cpu va z x) = IsSeen blind (reach w.tree p va Store z)
+IsExit blind w p (E.Fetch cpu) = Faults (reach w.tree p (ctx_on w cpu).pc Fetch Word)
+IsExit blind w p (E.Trap cpu k a b) = Unit {0}
+IsExit blind w p (E.Call cpu number a) = GoesAway p (event w (E.Call cpu number a)).outcome
+    ⊎ (((b : Bool) × (call_named number ≡ Masks b))
+    ⊎ ((call_named number ≡ Yields) × SaveIsSeen blind (yield_place w.tree p a.x2)))
+IsExit blind w p (E.Raise j) = ⊥
+IsExit blind w p (E.Poll cpu) = ⊥
+IsExit blind w p (E.SetContext cpu c) = ⊥
+
+-- an event that what runs on a processor makes
+abbrev pub IsMadeOn : ℕ → Event → Type 0
+IsMadeOn cpu (E.Load c va z) = c ≡ cpu
+IsMadeOn cpu (E.Store c va z x) = c ≡ cpu
+IsMadeOn cpu (E.Fetch c) = c ≡ cpu
+IsMadeOn cpu (E.Trap c k a b) = c ≡ cpu
+IsMadeOn cpu (E.Call c number a) = c ≡ cpu
+IsMadeOn cpu (E.Raise j) = ⊥
+IsMadeOn cpu (E.Poll c) = ⊥
+IsMadeOn cpu (E.SetContext c x) = c ≡ cpu
+
+-- each other event of such a partition stays inside
+abbrev pub ConfinedStaysOrExits : Type 0
+ConfinedStaysOrExits = (own : List ℕ) (blind : ℕ → ℕ → Bool) (w : World) (cpu : ℕ) (e : Event) (r : Occupant)
+    → runs_on w cpu ≡ Some r → In r.name own → IsConfined w.tree r.name → IsMadeOn cpu e
+    → IsUnseen own blind w e ⊎ IsExit blind w r.name e
+
+-- that a partition is confined depends on no words
+abbrev pub ConfinedAlike : Type 0
+ConfinedAlike =
+    (blind : ℕ → ℕ → Bool) (t u : Tree) (p : ℕ) → AlikeTrees blind t u → IsConfined t p → IsConfined u p
+
+-- in a sound tree: a partition of the tree, not the root, without children, to which createPartition is refused
+abbrev pub SoundConfines : Type 0
+SoundConfines = (t : Tree) (p : ℕ) → IsSound t → In p (names_of (nodes t)) → p ≢ t.root.name
+    → ((d : ℕ) → child_at t p d ≡ None) → ((a : Five) → first_met (create_refusals t p a) ≢ None) → IsConfined t p
+
+-- the rows of p's pages that it may read and write
+abbrev pub writable_rows : Tree → ℕ → List Row
+writable_rows t p = filter (λ r. bit_and 3 r.rights == 3) (node t p).rows
+
+-- a partition that has fewer than five of them is always refused createPartition
+abbrev pub FewPagesCreateNone : Type 0
+FewPagesCreateNone = (t : Tree) (p : ℕ) → length (writable_rows t p) < 5 → (a : Five)
+    → first_met (create_refusals t p a) ≢ None

@@ -1,0 +1,4 @@
+pub mod Outside
+pub mod Unseen
+pub mod Turns
+pub mod Exits

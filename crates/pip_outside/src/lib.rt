@@ -1,0 +1,32 @@
+//! What partitions outside depend on in a partition whose pages they don't read. They compute nothing: what each says
+//! is its contract.
+#![tactic(auto)]
+
+ghost use Rattle.pip_outside.specs.Exits.{ConfinedAlike, ConfinedStaysOrExits, FewPagesCreateNone, SoundConfines};
+ghost use Rattle.pip_outside.specs.Exits.{FetchFaultsAreTraps, LoadFaultsAreTraps, RefusedIsUnseen};
+ghost use Rattle.pip_outside.specs.Exits.{StoreFaultsAreTraps, UntakenWordsDoNotMatter};
+ghost use Rattle.pip_outside.specs.Outside.{NothingLeftOut, OutsideDependsOnOutside};
+ghost use Rattle.pip_outside.specs.Turns.{TurnsDependOnOutside};
+ghost use Rattle.pip_outside.specs.Unseen.{UnseenIsUnseen};
+
+/// An event, and a turn, that reads no word of some pages is the same in two worlds that look alike from outside of
+/// these pages; and what their partitions do in them is seen by nobody until it leaves.
+pub fn law_outside()
+    ensures depends { OutsideDependsOnOutside }
+    ensures turns { TurnsDependOnOutside }
+    ensures unseen { UnseenIsUnseen }
+    ensures refused { RefusedIsUnseen }
+    ensures nothing { NothingLeftOut }
+{}
+
+/// Which events leave a partition that is confined, and which of them do the same.
+pub fn law_exits()
+    ensures loads { LoadFaultsAreTraps }
+    ensures stores { StoreFaultsAreTraps }
+    ensures fetches { FetchFaultsAreTraps }
+    ensures untaken { UntakenWordsDoNotMatter }
+    ensures confined { ConfinedStaysOrExits }
+    ensures alike { ConfinedAlike }
+    ensures sound { SoundConfines }
+    ensures few { FewPagesCreateNone }
+{}

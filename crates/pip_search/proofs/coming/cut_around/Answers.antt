@@ -1,0 +1,61 @@
+use Rattle.std.proofs.Common.{rules, ◌≡◌, ◌+◌, ◌*◌, ◌<◌, List, length, length-append, Some, slice_get}
+use Rattle.std.proofs.Common.{[], ◌∷◌, ◌++◌, true, false, refl, ap, sym, subst, ◌∙◌, arith}
+use Rattle.pip_search.specs.Again.{IsEdge, ShowsAt, ShowsOther}
+use Rattle.pip_search.specs.Comes.{AreCut, IsCut}
+use Rattle.pip_search.specs.Keys.{key_of, visits_of}
+use Rattle.pip_search.specs.Summary.{HasOneKey}
+use Rattle.pip_search.specs.Systems.{IsKey}
+use Rattle.pip_search.proofs.Looping.{cut_is, cut_more}
+use Rattle.pip_search.proofs.Places.{get-some}
+use Rattle.pip_search.proofs.Steps.{at_hand, visit_count}
+use Rattle.pip_search.proofs.coming.cut_around.Goals as goal
+
+pub look-requires-clause-key : goal.look-requires-clause-key
+look-requires-clause-key g c = subst (λ b. IsKey (g.S.System.model b) c.args.start.now)
+    (sym c.loop-choice.invariant.base) c.requires.key
+
+pub look-requires-clause-one : goal.look-requires-clause-one
+look-requires-clause-one g c = subst (λ b. HasOneKey (g.S.System.model b)) (sym c.loop-choice.invariant.base)
+    c.requires.one
+
+pub look-requires-clause-choice : goal.look-requires-clause-choice
+look-requires-clause-choice g c = subst (λ b. c.loop-choice.choice < (g.S.System.model b).choices)
+    (sym c.loop-choice.invariant.base) (omega (arith, c.loop-choice-test.true, c.count-count.ensures))
+
+pub loop-choice-init : goal.loop-choice-init
+loop-choice-init g c = record {
+  base = refl;
+  hand = at_hand c.args.search.now c.args.i c.name_at.result.now c.unpack.new.key.items c.name_at.ensures
+      c.in_ok-unpack.ensures;
+  cut = c.requires.cut;
+  count = omega (arith, c.requires.count);
+}
+
+pub loop-choice-preserved : goal.loop-choice-preserved
+loop-choice-preserved g c =
+    let m = g.S.System.model (g.S.System.base c.args.system.now) in
+    let h = c.loop-choice.invariant in
+    let own = c.in_ok-to.ensures in
+    let vs = visits_of c.args.search.now in
+    let places = visit_count c.args.search.now c.requires.closed.searching.keyed in
+    let n = c.loop-choice.choice in
+    let label = c.args.label.now in
+    let from = c.loop-choice.buffers.from.items in
+    let targets = c.loop-choice.targets.items in
+    let t = c.cut.result in
+    let (u, at) = get-some vs c.args.i (omega (arith, c.requires.place, places)) in
+    let is : from ≡ key_of u = h.hand u at in
+    let here : IsCut m vs (key_of u) n label t = subst (λ k. IsCut m vs k n label t) is
+    (subst (λ b. IsCut (g.S.System.model b) vs from n label t) h.base
+    (cut_is (g.S.System.model (g.S.System.base c.loop-choice.system)) vs from label n c.in_ok-to.to t c.in_ok-to.shown
+    own.edge own.shows own.other c.cut.ensures.shown c.cut.ensures.other)) in
+    let all : AreCut m vs label m.choices (targets ++ t ∷ []) = cut_more m vs label m.choices targets c.args.i n t u
+    h.cut h.count (omega (arith, c.loop-choice-test.true, c.count-count.ensures)) at here in
+    let long : length c.push.new.self.items ≡ length targets + 1 = ap length c.in_ok-push.ensures.items
+    ∙ length-append targets (t ∷ []) in
+    record {
+      base = own.base ∙ h.base;
+      hand = λ v e. own.hand ∙ h.hand v e;
+      cut = subst (AreCut m vs label m.choices) (sym c.in_ok-push.ensures.items) all;
+      count = omega (arith, long, h.count);
+    }
