@@ -20,9 +20,9 @@ from collections.abc import Callable, Iterator
 from dataclasses import dataclass, field
 from typing import NamedTuple
 
-from ..common import calling
-from ..common.calling import Failed
-from ..reference import against, assembly, instructions
+from common import calling
+from common.calling import Failed
+from common.machine import against, assembly, instructions
 from . import why
 
 NAME = re.compile(r"[A-Za-z_][A-Za-z0-9_]{0,31}")

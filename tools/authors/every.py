@@ -5,7 +5,7 @@ script.
     tools/every FILE STATES [FROM [DEPTH]] [--after STEPS SEED] --trace N
 
 The lines are those of the program's command `every`, or of `against` where there is a menu; with --after it searches
-what comes after these steps of `run`. N is a line's number. A way is made again by tools/reference, of which nothing is
+what comes after these steps of `run`. N is a line's number. A way is made again by dev/reference, of which nothing is
 proved, and what it shows at its end is compared with the line.
 """
 
@@ -17,12 +17,12 @@ import subprocess
 import sys
 from typing import NamedTuple
 
-from ..common import calling, meanings
-from ..common.calling import Failed
-from ..common.progress import Progress
-from ..reference import against, image as images, script
-from ..reference.every import AT_FIRST, After
-from ..reference.image import Image
+from common import calling, meanings
+from common.calling import Failed
+from common.progress import Progress
+from common.machine import against, image as images, script
+from common.machine.every import AT_FIRST, After
+from common.machine.image import Image
 from . import asmx, trace, ways, why
 from .ways import Menu, Way
 

@@ -8,12 +8,12 @@ import argparse
 import io
 import sys
 
-from ..common import calling, meanings
-from ..common.calling import Failed, text_of
-from ..draw import texts
-from ..reference import script
-from ..step import states, walk
-from ..step.asking import Asked, BadLine
+from common import calling, meanings
+from common.calling import Failed, text_of
+from common.draw import texts
+from common.machine import script
+from step import states, walk
+from step.asking import Asked, BadLine
 from . import why
 
 PROMPT = "pip> "

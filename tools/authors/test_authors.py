@@ -7,9 +7,9 @@ import tempfile
 import unittest
 from collections.abc import Iterator
 
-from ..common import calling
-from ..common.blocks import blocks, escaped
-from ..reference import against, assembly
+from common import calling
+from common.blocks import blocks, escaped
+from common.machine import against, assembly
 from . import asmx, why
 
 CASES = blocks("cases.txt", __file__)

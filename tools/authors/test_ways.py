@@ -5,10 +5,11 @@ from __future__ import annotations
 import os
 import unittest
 
-from ..common import calling
-from ..common.calling import Failed
-from ..reference import against, assembly, commands, every as searches, generate_every, image as images, script
-from ..reference.image import Image
+from common import calling
+from common.calling import Failed
+from common.machine import against, assembly, every as searches, image as images, script
+from reference import commands, generate_every
+from common.machine.image import Image
 from . import asmx, every, ways
 
 # The root parks masked, with a number in r1; it has a block for 63, in which it is saved.

@@ -2,7 +2,7 @@
 
     tools/trace FILE STEPS SEED [--source FILE]
 
-The steps come from tools/reference, of which nothing is proved. Its lines are compared with those of the program, and
+The steps come from dev/reference, of which nothing is proved. Its lines are compared with those of the program, and
 where they differ that is said, and the status is 1."""
 
 from __future__ import annotations
@@ -12,9 +12,9 @@ import sys
 from bisect import bisect_right
 from collections.abc import Iterator, Sequence
 
-from ..common import calling
-from ..reference import assembly, image as images, instructions, runs, script
-from ..reference.model import FETCH, PAGE, Fault, World
+from common import calling
+from common.machine import assembly, image as images, instructions, runs, script
+from common.machine.model import FETCH, PAGE, Fault, World
 from . import asmx
 
 MOST_STEPS = 200_000

@@ -1,6 +1,6 @@
 """Ways of the commands `every` and `against`: choice by choice, and as a script.
 
-They are made again by tools/reference, of which nothing is proved.
+They are made again by dev/reference, of which nothing is proved.
 """
 
 from __future__ import annotations
@@ -9,13 +9,13 @@ import re
 from collections.abc import Callable, Iterator, Sequence
 from typing import NamedTuple
 
-from ..common.calling import Failed
-from ..reference import against, every as searches, image as images, runs, script as scripts
-from ..reference.against import Deed
-from ..reference.every import AT_FIRST, After
-from ..reference.image import Image
-from ..reference.model import LOAD, NOWHERE, PAGE, ROOT, SAVED, Context, Outcome, Parked, Place, Switched, Tree, World
-from ..reference.script import outcome_text, word_text
+from common.calling import Failed
+from common.machine import against, every as searches, image as images, runs, script as scripts
+from common.machine.against import Deed
+from common.machine.every import AT_FIRST, After
+from common.machine.image import Image
+from common.machine.model import LOAD, NOWHERE, PAGE, ROOT, SAVED, Context, Outcome, Parked, Place, Switched, Tree, World
+from common.machine.script import outcome_text, word_text
 from . import trace
 
 CHOICES = re.compile(r"(\d(?::d[1-9]\d*)?|raise\d+)(?:x(\d+))?")

@@ -11,9 +11,9 @@ import re
 from collections.abc import Callable, Iterator
 from typing import NamedTuple, NoReturn, Optional
 
-from ..common import calling, meanings
-from ..common.calling import Failed
-from ..reference import against, assembly, instructions, script
+from common import calling, meanings
+from common.calling import Failed
+from common.machine import against, assembly, instructions, script
 
 NUMBER = re.compile(rb"0|[1-9][0-9]*|0x[0-9a-f]{1,8}")
 LONGEST = 120

@@ -19,9 +19,9 @@ from collections.abc import Iterable, Sequence
 from concurrent.futures import ThreadPoolExecutor, as_completed
 from pathlib import Path
 
-from ..common import calling
-from ..common.calling import Failed
-from ..exporter.building import Program
+from common import calling
+from common.calling import Failed
+from exporter.building import Program
 
 HERE = Path(__file__).resolve().parent
 ENGINE = Program("pip_certifier", "the certifier", HERE, ("pip_every", "pip_image", "pip_kern"))

@@ -21,9 +21,9 @@ import threading
 from collections.abc import Callable
 from typing import IO, Any
 
-from ..common import calling
-from ..common.calling import Failed
-from ..reference.model import PAGE
+from common import calling
+from common.calling import Failed
+from common.machine.model import PAGE
 from . import building, sources, wire
 from .client import At, States, Stopped
 from .debugger import OF_PARTITION, Debugger, ancestors

@@ -9,7 +9,7 @@ import sys
 import unittest
 from typing import Any
 
-from ..common import calling
+from common import calling
 from . import wire
 
 PROGRAM = os.environ.get("PIP") or calling.PROVED

@@ -5,7 +5,7 @@ from __future__ import annotations
 import os
 from pathlib import Path
 
-from ..exporter.building import Program
+from exporter.building import Program
 
 STATES = Program("pip_states", "the debugger's process", Path(__file__).resolve().parent / "states",
                  ("pip_cpu", "pip_dump", "pip_image", "pip_kern", "pip_mmu", "pip_native", "pip_script", "pip_switch",

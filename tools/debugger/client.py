@@ -8,7 +8,7 @@ from collections.abc import Sequence
 from dataclasses import dataclass, field
 from typing import Any, NamedTuple
 
-from ..common.calling import Failed, running
+from common.calling import Failed, running
 
 EVERY = 10_000                   # steps between two states that are kept
 

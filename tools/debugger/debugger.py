@@ -9,13 +9,13 @@ from collections.abc import Callable
 from dataclasses import dataclass
 from typing import NamedTuple
 
-from ..authors import asmx, every, ways, why
-from ..common import calling
-from ..common.calling import Failed
-from ..draw import texts
-from ..draw.texts import Partition
-from ..reference import image as images, instructions, script
-from ..reference.every import After
+from authors import asmx, every, ways, why
+from common import calling
+from common.calling import Failed
+from common.draw import texts
+from common.draw.texts import Partition
+from common.machine import image as images, instructions, script
+from common.machine.every import After
 from . import sources
 from .client import EVERY, At, Coming, Refused, States, Stopped, Stops, Turn
 from .sources import Named, Word

@@ -10,11 +10,11 @@ import sys
 import tempfile
 import unittest
 
-from ..authors import trace
-from ..common import calling
-from ..common.calling import Failed
-from ..reference import image as images, script
-from ..reference.model import World
+from authors import trace
+from common import calling
+from common.calling import Failed
+from common.machine import image as images, script
+from common.machine.model import World
 from . import building
 from .client import States, Stops
 from .debugger import Debugger

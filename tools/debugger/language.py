@@ -16,10 +16,10 @@ from dataclasses import dataclass
 from typing import IO, Any
 from urllib.parse import unquote, urlparse
 
-from ..authors import asmx, why
-from ..common import calling, meanings
-from ..common.calling import Failed
-from ..reference import instructions, script
+from authors import asmx, why
+from common import calling, meanings
+from common.calling import Failed
+from common.machine import instructions, script
 from . import wire
 from .wire import Message
 
@@ -334,7 +334,7 @@ def built(program: str) -> str:
     try:
         return calling.direct(program)
     except Failed:
-        return os.path.join(calling.REPOSITORY, "tools", "reference", "program.py")
+        return os.path.join(calling.REPOSITORY, "dev", "reference", "program.py")
 
 
 def main() -> None:

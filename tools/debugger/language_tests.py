@@ -9,8 +9,8 @@ import tempfile
 import unittest
 from typing import Any
 
-from ..authors import why
-from ..common import calling
+from authors import why
+from common import calling
 from . import wire
 
 PROGRAM = os.environ.get("PIP") or calling.PROVED

@@ -6,11 +6,11 @@ from collections.abc import Sequence
 from dataclasses import dataclass, field
 from typing import NamedTuple
 
-from ..authors import asmx, trace
-from ..authors.asmx import Place
-from ..common.calling import Failed
-from ..reference import image as images
-from ..reference.model import PAGE
+from authors import asmx, trace
+from authors.asmx import Place
+from common.calling import Failed
+from common.machine import image as images
+from common.machine.model import PAGE
 
 Word = tuple[int, int]              # a frame and an index in it
 

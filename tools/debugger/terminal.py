@@ -16,10 +16,10 @@ from collections.abc import Callable
 from types import FrameType
 from typing import Any
 
-from ..authors import trace
-from ..common import calling, meanings
-from ..common.calling import Failed
-from ..reference.model import PAGE
+from authors import trace
+from common import calling, meanings
+from common.calling import Failed
+from common.machine.model import PAGE
 from . import building, sources
 from .client import EVERY, States, Stopped
 from .debugger import Debugger, ancestors

@@ -1,0 +1,105 @@
+"""Prints the instructions that the program takes for many things, and beside them those of another one.
+
+    dev/bench/run [--program PATH] [--plain | --beside PATH] [--tables | --growth]
+
+They are of its start, of a line of each kind, of partitions that are made and deleted, of events that switch, of
+assembly texts, of the steps of runs, of texts of frames, and of a generated load. The program is the built one, unless
+PATH is given: build it first, by ./pip. --plain builds the plain program of dev/bench/plain by cargo, and puts its figures
+beside; --beside does so for any program of the same commands. --tables prints the rows of the tables of
+docs/PERFORMANCE.md, with times and worst inputs, too; it takes half an hour. --growth writes the figures of deletions
+that dev/bench/growth.gp draws."""
+
+from __future__ import annotations
+
+import argparse
+import os
+import shutil
+import subprocess
+
+from common import calling
+from common.calling import REPOSITORY, Failed
+from . import deletions, timing
+from .count import PROGRAM, Counted
+from .figures import Figures
+
+SOURCES = os.path.join(REPOSITORY, "dev", "bench", "plain", "Cargo.toml")
+BUILT = os.path.join(REPOSITORY, "out", "plain")
+PAGE = os.path.join(REPOSITORY, "docs", "PERFORMANCE.md")
+
+
+def plain_program() -> str:
+    """The plain program, built by cargo."""
+    cargo = shutil.which("cargo")
+    if cargo is None:
+        raise Failed("cargo is needed: it builds the plain program")
+    done = subprocess.run([cargo, "build", "--release", "--quiet", "--manifest-path", SOURCES, "--target-dir", BUILT])
+    if done.returncode:
+        raise Failed("cargo doesn't build the plain program")
+    return os.path.join(BUILT, "release", "pip-plain")
+
+
+def shown(what: str, ours: int, other: int | None) -> str:
+    beside = "" if other is None else f" {other:10} {ours / other:6.2f}"
+    return f"{what:90} {ours:10}{beside}"
+
+
+def show(given: argparse.Namespace) -> None:
+    path = plain_program() if given.plain else given.beside
+    program = Counted(given.program)
+    if given.growth:
+        growth(Figures(program))
+        return
+    if given.tables:
+        if path is None:
+            raise Failed("the tables have two programs: add --plain or --beside PATH")
+        tables(program, Counted(path))
+        return
+    print(f"{'instructions of':90} {'ours':>10}" + ("" if path is None else f" {'beside':>10} {'times':>6}"))
+    others = None if path is None else Figures(Counted(path)).figures()
+    for what, ours in Figures(program).figures():
+        print(shown(what, ours, None if others is None else next(others)[1]), flush=True)
+
+
+def tables(ours: Counted, plain: Counted) -> None:
+    """The rows of the page's tables as they are now, each by the first cell, or by both before its numbers; and then
+    the worst inputs of which the page has no row."""
+    both, worst = [dict(Figures(program).figures()) for program in (ours, plain)], dict.fromkeys(timing.WORST)
+    for line in calling.contents(PAGE).decode().splitlines():
+        name, *numbers = line.strip("| ").split(" | ")
+        if name in both[0]:
+            first, second = (figures[name] for figures in both)
+            line = f"| {name} | {first:,} | {second:,} | {first / second:.2f} |"
+        elif name in timing.TIMES:
+            line = timing.row_of_times(name, ours, plain)
+        elif (key := (name.strip("`"), "".join(numbers[:1]))) in worst:
+            del worst[key]
+            line = timing.row_of_worst(*key, ours, plain)
+        elif not line.startswith("|"):
+            continue
+        print(line, flush=True)
+    for key in worst:
+        print(timing.row_of_worst(*key, ours, plain), flush=True)
+
+
+def growth(figures: Figures) -> None:
+    """How the instructions of a deletion grow: a block for each curve of dev/bench/growth.gp."""
+    print("# The line call 0 1, which deletes a child: how many the child has, and the instructions. Written by "
+          "dev/bench/run --growth.")
+    for kind, sizes in deletions.GROWTH.items():
+        print(f"\n\n# {kind}")
+        for size in sizes:
+            print(size, figures.deleted(f"{kind}{size}"), flush=True)
+
+
+def main() -> None:
+    parser = argparse.ArgumentParser(description=__doc__, usage=argparse.SUPPRESS,
+                                     formatter_class=argparse.RawDescriptionHelpFormatter)
+    parser.add_argument("--program", default=PROGRAM, metavar="PATH", help="the program that is counted")
+    other = parser.add_mutually_exclusive_group()
+    other.add_argument("--plain", action="store_true", help="beside the plain program")
+    other.add_argument("--beside", metavar="PATH", help="beside this program")
+    kind = parser.add_mutually_exclusive_group()
+    kind.add_argument("--tables", action="store_true", help="the rows of the tables of docs/PERFORMANCE.md")
+    kind.add_argument("--growth", action="store_true", help="the figures that dev/bench/growth.gp draws")
+    given = parser.parse_args()
+    calling.guarded("run", lambda: show(given))

@@ -1,0 +1,145 @@
+"""Certificates of the examples that close, by the commands `part` and `merge`, and by tools/certify: they say what the
+search says; and those that have something wrong say nothing.
+"""
+
+from __future__ import annotations
+
+import os
+import random
+import subprocess
+import tempfile
+from collections.abc import Iterator, Sequence
+from pathlib import Path
+
+from certifier.certify import CHECK_PARTS, ENGINE
+from common.calling import Failed
+from reference import generate_parts, parts
+from common.machine import image as images
+from . import examples
+from .running import Differs, contents, expect, needed, run, same, says
+
+PLANTED = 1000                   # certificates with something wrong, at least
+MOST_CHECKED = 60                # parts with a wrong mark, a wrong way or a wrong text that are checked of an example
+
+
+def certificates(program: str) -> None:
+    """Each NAME.every that closes, part by part; the text of each part of a small one is the reference's."""
+    tried = 0
+    for name, image, first, told, texts in cut(program):
+        states = int(told[-1].split()[1])
+        lines = [checked(program, name, first, image + text) for text in texts]
+        merged = together(lines)
+        expect(f"{name}: the merge", run([program, "merge"], b"".join(merged)), (said(told), 0))
+        for tried, (what, wrong) in enumerate(wrong_certificates(program, name, first, image, texts, lines), tried + 1):
+            answer, status = run([program, "merge"], b"".join(wrong))
+            if status not in (2, 9):
+                raise Differs(f"{name}: a wrong certificate ({what}) ends with status {status}: {answer.decode()}")
+        if states < 200:
+            by_reference(name, first, image, texts, lines)
+    goes_on(program, image)
+    if tried < PLANTED:
+        raise Differs(f"{tried} wrong certificates were tried, which are less than {PLANTED}")
+
+
+def goes_on(program: str, image: bytes) -> None:
+    """tools/certify goes on where it was ended, and not with parts of other numbers; a task checks its share."""
+    with tempfile.TemporaryDirectory() as place:
+        path, folder = Path(place, "x.img"), Path(place, "parts")
+        path.write_bytes(image)
+        words = ("certify", str(path), "--to", str(folder), "--size")
+        says(program, (*words, "50", "--cut"))
+        for task in "01":
+            shared = {**os.environ, "PIP": program, "OMPI_COMM_WORLD_RANK": task, "OMPI_COMM_WORLD_SIZE": "2"}
+            subprocess.run([CHECK_PARTS, folder], env=shared, check=True)
+        next(folder.glob("*.lines")).unlink()
+        says(program, (*words, "50"), 0, " parts were checked before", " closed\n")
+        says(program, (*words, "60"), 2, "parts of another image")
+
+
+def built() -> str:
+    needed("cargo")
+    try:
+        return ENGINE.path()
+    except Failed as failed:
+        raise Differs(str(failed)) from None
+
+
+def cut(program: str, most: int = 1000000) -> Iterator[tuple[str, bytes, int, list[str], list[bytes]]]:
+    """Each of these examples of at most so many states: the name, the image, FROM, the text, and some five parts."""
+    engine = built()
+    for name, image, words, told in closing(program):
+        first, states = int((words[2:] or ["0"])[0]), int(told[-1].split()[1])
+        if states <= most:
+            with tempfile.TemporaryDirectory() as folder:
+                size = str(max(states // 5, 2))
+                same(f"{name}: the end of the cut",
+                     run([engine, "cut", str(first), size, "1000000", "3", folder], image)[1], 0)
+                yield name, image, first, told, [path.read_bytes() for path in sorted(Path(folder).iterdir())]
+
+
+def closing(program: str) -> Iterator[tuple[str, bytes, list[str], list[str]]]:
+    """The examples whose searches close from the first moment on: the name, the image, the words, and the text."""
+    for path, name, image, _ in examples.searched(program, "every"):
+        words, *told = contents(path).decode().splitlines()
+        if told[-1].endswith(" closed") and " after " not in words:
+            yield name, image, words.split(), told
+
+
+def said(told: Sequence[str]) -> bytes:
+    """What a merge says where a search says this."""
+    labels = sorted(line.split(": ")[0].split(" ", 1)[1] for line in told[1:-1])
+    return "".join(f"line {label}\n" for label in labels).encode() + f"{told[-1]}\n".encode()
+
+
+def checked(program: str, name: str, first: int, data: bytes) -> list[bytes]:
+    """The lines of a part."""
+    text, status = run([program, "part", str(first)], data)
+    same(f"{name}: the end of a part", status, 0)
+    return text.splitlines(keepends=True)
+
+
+def together(lines: Sequence[list[bytes]]) -> list[bytes]:
+    return sorted(line for each in lines for line in each)
+
+
+def by_reference(name: str, first: int, image: bytes, texts: Sequence[bytes], lines: Sequence[list[bytes]]) -> None:
+    machine = images.read(image)
+    for text, own in zip(texts, lines):
+        part = parts.part_of(image + text, len(image), machine.frames, choices_of(machine))
+        same(f"{name}: the text of a part", parts.written(part), text)
+        same(f"{name}: the lines of a part", [line.decode().rstrip("\n") for line in own],
+             parts.part(image + text, first))
+
+
+def choices_of(machine: images.Image) -> int:
+    return machine.cpus + len(machine.plans)
+
+
+def wrong_certificates(program: str, name: str, first: int, image: bytes, texts: Sequence[bytes],
+                       lines: Sequence[list[bytes]]) -> Iterator[tuple[str, list[bytes]]]:
+    """The lines of certificates with one thing wrong, and what that is."""
+    chance = random.Random(name)
+    plain = [line.rstrip(b"\n") for line in together(lines)]
+    for what, wrong in generate_parts.wrong_lines(chance, plain, 100):
+        yield what, [line + b"\n" for line in wrong]
+    for place in range(len(lines)):
+        yield "a part is missing", together([*lines[:place], *lines[place + 1:]])
+    for what, place, text in wrong_parts(chance, image, texts):
+        own, _ = run([program, "part", str(first)], image + text)
+        yield what, together([*lines[:place], own.splitlines(keepends=True), *lines[place + 1:]])
+
+
+def wrong_parts(chance: random.Random, image: bytes, texts: Sequence[bytes]) -> Iterator[tuple[str, int, bytes]]:
+    """Parts in whose place a certificate has a wrong one, and what is wrong."""
+    machine = images.read(image)
+    for _ in range(MOST_CHECKED):
+        place, other = chance.randrange(len(texts)), chance.randrange(len(texts))
+        part = parts.part_of(image + texts[place], len(image), machine.frames, choices_of(machine))
+        j = chance.randrange(len(part.marks))
+        what, text = chance.choice([
+            ("mark", parts.written(part._replace(marks=[mark ^ (k == j) for k, mark in enumerate(part.marks)]))),
+            ("way", parts.written(part._replace(way=[*part.way, chance.randrange(2)]))),
+            ("base", parts.written(part._replace(base=[*part.base, (machine.frames - 1, 1023, 7)]))),
+            ("cut", texts[place][:chance.randrange(len(texts[place]))]), ("another", texts[other])])
+        if text != texts[place]:
+            yield what, place, text

@@ -1,0 +1,86 @@
+"""What a tool does that can't do its work: where its output can't be written, at Ctrl-C, and in a checkout in which
+nothing is built. It says so in one line, with a status that says nothing of the work."""
+
+import os
+import signal
+import subprocess
+import sys
+import tempfile
+import time
+
+from .running import (SECONDS, Differs, called, copied, expect, finished, folders_of, heed_interrupts, tool,
+                      write_program)
+
+MAP = "examples/solutions/map.pip"
+TREE = b"part 1 depth 0 up 1 born 0x00000000 tables 0 rows 0\n"      # for those that read
+TOOLS = (("exercise", "map", MAP), ("exercise", "--list"), ("grade", "examples"), ("why", MAP),
+         ("asmx", "examples/monitor.s"),
+         ("every", "examples/restart.s", "1000"),
+         ("step/step", MAP), ("common/draw/draw.py", "tree"), ("check/run.py", "--list"))
+
+
+def full_devices(program: str) -> None:
+    """Each tool that writes ends on a full device with status 2, and says so in one line."""
+    for name, *words in TOOLS:
+        with open("/dev/full", "wb") as full:
+            _, messages, status = tool(program, name, *words, text=TREE, stdout=full)
+        if status != 2 or "No space left on device" not in "".join(messages.splitlines()[-1:]):
+            raise Differs(f"{name} {' '.join(words)} on a full device: status {status}, {messages[-300:]}")
+
+
+def interrupted(program: str) -> None:
+    """Ctrl-C ends a tool that waits for its input, and checks with the programs for which they wait."""
+    with tempfile.TemporaryDirectory() as place:
+        waits = write_program(f"#!/bin/sh\nexec sleep {SECONDS}\n", place, "pip")
+        stop("why", ("-",), program)
+        stop("check/run.py", ("--only", "commands", "--program", waits), program)
+
+
+def stop(name: str, words: tuple[str, ...], program: str) -> None:
+    """Begins a tool that goes on until it is stopped, and sends it Ctrl-C."""
+    at = time.monotonic()
+    tool(program, name, "--help")
+    start = time.monotonic() - at               # what a tool needs before it can answer, on this machine now
+    begun = subprocess.Popen(called(name, *words, program=program), stdin=subprocess.PIPE, stdout=subprocess.PIPE,
+                             stderr=subprocess.PIPE, preexec_fn=heed_interrupts, start_new_session=True)
+    try:
+        begun.wait(1 + 3 * start)
+    except subprocess.TimeoutExpired:
+        os.killpg(begun.pid, signal.SIGINT)
+    messages = begun.communicate(timeout=SECONDS)[1].decode()
+    if begun.returncode != 130 or "stopped" not in messages or len(messages.splitlines()) != 1:
+        raise Differs(f"{name} at Ctrl-C: status {begun.returncode}, {messages[-300:]}")
+
+
+# Nothing is built: no tool begins a proof
+
+PARTS = ("tools", "class", "dev", "examples", "docs", "pip", "crates.txt", "README.md", "crates/pip_commands/src/top.rt")
+IMAGE = b"PIPIMG2\n"
+# Each tool that needs a program, with words and an input with which it comes to need it.
+NEEDING = (("asmx", "examples/monitor.s", "--image", "/dev/null"), ("why", "examples/first.pip"),
+           ("trace", "-", "10", "1"), ("every", "-", "10"), ("shell", "examples/first.pip"),
+           ("debug", "examples/monitor.s"), ("step/step", "examples/first.pip"),
+           ("check/run.py", "--only", "endings"))
+README = "from check import documents; documents.readme_sessions({program!r})"
+RT = "#!/bin/sh\necho begun >> \"$PROOFS\"\nexit 1\n"
+
+
+def nothing_is_proved(program: str) -> None:
+    with tempfile.TemporaryDirectory() as place:
+        copied(place, *PARTS)
+        path = os.path.join(place, "bin")
+        write_program(RT, path, "rt")
+        environment = {**os.environ, "PATH": path + os.pathsep + os.environ["PATH"],
+                       "PROOFS": os.path.join(path, "begun")}
+        environment.pop("PIP", None)
+        for name, *words in NEEDING:
+            for option, due in (((), "no program is here, as new as the sources: "),
+                                (("--unproved",), "no program that cargo built is here")):
+                _, messages, status = tool(None, name, *words, *option, text=IMAGE, place=place, env=environment)
+                if status != 2 or messages.count("\n") != 1 or due not in messages:
+                    raise Differs(f"{name} {' '.join(words)}, where nothing is built: status {status}, "
+                                  f"{messages}")
+        finished("the sessions of README.md with a program, where nothing is built",
+                 [sys.executable, "-B", "-c", README.format(program=os.path.abspath(program))], cwd=place,
+                 env={**environment, "PYTHONPATH": os.pathsep.join(folders_of(place))})
+        expect("proofs that were begun", (None, len(os.listdir(path))), (None, 1))

@@ -1,0 +1,85 @@
+"""What a document links to in the repository, or names by its path from the top, is there; and so is each contract that
+PROVED.md names."""
+
+import os
+import re
+from collections.abc import Iterator
+
+from .running import REPOSITORY, Differs, text_of, told_path
+from .sources import sources
+
+LINK = re.compile(r"\]\(([^)\s]+)\)")
+PATH = re.compile(r"`((?:class|crates|dev|docs|examples|tools)/[\w./-]+)`")
+LEFT_OUT = {"out", ".git"}
+LEFT_OUT_PATHS = ("/out/", "NAME")         # what is built, and what stands for any name
+
+
+def links(program: str) -> None:
+    anchors: dict[str, set[str]] = {}
+    for path in documents(REPOSITORY):
+        for name in PATH.findall(without_code(path)):
+            if not any(part in name for part in LEFT_OUT_PATHS) and not os.path.exists(os.path.join(REPOSITORY, name)):
+                raise Differs(f"{told_path(path)}: {name} isn't there")
+        for target in LINK.findall(without_code(path)):
+            if re.match("[a-z]+:", target):
+                continue
+            name, _, anchor = target.partition("#")
+            place = os.path.normpath(os.path.join(os.path.dirname(path), name)) if name else path
+            if not os.path.exists(place):
+                raise Differs(f"{told_path(path)}: {target} isn't there")
+            if anchor and anchor not in anchors.setdefault(place, headings(place)):
+                raise Differs(f"{told_path(path)}: {target} names no heading")
+    contracts()
+    from . import checks        # which has this one in its list
+    unknown = set(checks_named()) - set(checks.CHECKS)
+    if unknown:
+        raise Differs(f"documents name checks that aren't there: {', '.join(sorted(unknown))}")
+
+
+def checks_named() -> Iterator[str]:
+    """What documents name as checks: in a sentence, and in the last column of CONTRIBUTING's tables about checks."""
+    for path in documents(REPOSITORY):
+        text = text_of(path)
+        yield from re.findall(r"\bcheck `([a-z-]+)`", text)
+        table = r"^\|.*(?:\| check \(.*|by the check) \|\n\|[-|]+\|\n((?:\|.*\n)+)"
+        for rows in re.findall(table, text, re.MULTILINE) if os.path.basename(path) == "CONTRIBUTING.md" else ():
+            yield from " ".join(re.findall("`([^`]*)`",
+                                           "".join(row.rsplit(" | ", 1)[1] for row in rows.splitlines()))).split()
+
+
+def contracts() -> None:
+    """Each contract in the table of PROVED.md is one of its crate. A planted one that isn't is tried first."""
+    text = text_of("docs/PROVED.md")
+    if list(gone(text.replace("`soak_load`", "`soak_loads`"))) != ["pip_soak has no soak_loads"]:
+        raise Differs("docs/PROVED.md: a contract that isn't there isn't found")
+    if list(gone(text)):
+        raise Differs(f"docs/PROVED.md: {', '.join(gone(text))}")
+
+
+def gone(text: str) -> Iterator[str]:
+    """What the table names and its crates don't declare: a function, a type, a trait, or a clause."""
+    files = [(crate, told) for crate, _, told in sources(REPOSITORY)]
+    for line in text.split("## Crate by crate")[1].split("\n## ")[0].split("\n"):
+        crates = re.findall(r"\[(pip_\w+)\]\(", line.split(" | ")[0])
+        declared = "\n".join(told for crate, told in files if crate in crates)
+        for name in re.findall(r"`(?:\w+::)?(\w+)`", line.split(" | ")[1] if crates else ""):
+            if not re.search(rf"\b(?:fn|struct|trait|enum|impl|ensures|requires|>) {name}\b", declared):
+                yield f"{' and '.join(crates)} has no {name}"
+
+
+def documents(top: str) -> Iterator[str]:
+    for folder, folders, files in os.walk(top):
+        folders[:] = [name for name in folders if name not in LEFT_OUT]
+        yield from (os.path.join(folder, name) for name in files if name.endswith(".md"))
+
+
+def without_code(path: str) -> str:
+    """The lines of a document that aren't in a block of code."""
+    parts = text_of(path).split("```")[::2]
+    return "\n".join(line for part in parts for line in part.split("\n") if not line.startswith("    "))
+
+
+def headings(path: str) -> set[str]:
+    """The anchors of a document's headings: lower case, without marks, with hyphens for spaces."""
+    titles = re.findall("^#+ (.*)$", without_code(path), re.MULTILINE)
+    return {re.sub(r"[^\w\- ]", "", title.lower()).replace(" ", "-") for title in titles}

@@ -1,0 +1,66 @@
+"""A release of these sources works where there is neither kit nor cargo."""
+
+import os
+import shutil
+import sys
+import tarfile
+import tempfile
+from typing import Any
+
+from .exporting import SECONDS
+from .running import REPOSITORY, Differs, contents, expect, finished, needed, run, write, write_program
+
+GATE = "#!/bin/sh\ncp {program} crates/pip/out/pip\necho '1 passed, 0 failed'\n"
+# Stands in for the kit, which prints its line, and for the page's module
+RT = "#!/bin/sh\necho a kit\n"
+MODULE = b"\0asm"
+LEFT_OUT = shutil.ignore_patterns("out", ".git", "__pycache__", "*.log")
+
+
+def works(program: str) -> None:
+    """Makes a release of a copy of the checkout, whose gate is a stand-in, and uses it elsewhere as a reader would."""
+    needed("git")
+    needed("cmark-gfm")
+    with tempfile.TemporaryDirectory() as place:
+        checkout, tools = os.path.join(place, "checkout"), os.path.join(place, "bin")
+        copied(checkout, program, tools)
+        to, environment = os.path.join(place, "to"), dict(os.environ, PATH=tools + os.pathsep + os.environ["PATH"])
+        for words in (["--gate"], ["1.0", "--to", to, "--module", os.path.join(place, "module")]):
+            finished("dev/release", [os.path.join(checkout, "dev", "release"), *words], SECONDS, cwd=checkout,
+                     env=environment)
+        with tarfile.open(os.path.join(to, "pip-1.0.tar.gz")) as archive:
+            archive.extractall(os.path.join(place, "reader"))
+        shutil.rmtree(checkout)
+        used(os.path.join(place, "reader", "pip-1.0"), os.path.join(place, "plain"))
+
+
+def copied(checkout: str, program: str, tools: str) -> None:
+    """A commit of what is checked out here, beside stand-ins."""
+    shutil.copytree(REPOSITORY, checkout, ignore=LEFT_OUT, symlinks=True)
+    os.makedirs(os.path.join(checkout, "crates", "pip", "out"))
+    for path, text in ((os.path.join(checkout, ".ci", "run"), GATE.format(program=program)),
+                       (os.path.join(tools, "rt"), RT)):
+        write_program(text, path)
+    write(MODULE, os.path.dirname(checkout), "module")
+    for words in (["init", "-q"], ["add", "-A"], ["-c", "user.name=a", "-c", "user.email=a@b", "commit", "-qm", "all"]):
+        finished("git", ["git", *words], SECONDS, cwd=checkout)
+
+
+def used(place: str, tools: str) -> None:
+    """Runs a release with what any machine has, and with no kit and no cargo in the PATH."""
+    os.mkdir(tools)
+    for name in ("sh", "cat", "awk", "find", "head", "readlink", "dirname", "grep", "sha256sum"):
+        os.symlink(needed(name), os.path.join(tools, name))
+    os.symlink(sys.executable, os.path.join(tools, "python3"))
+    os.symlink("/usr/bin/env", os.path.join(tools, "env"))
+    settings: dict[str, Any] = {"cwd": place, "env": {"PATH": tools}}
+    due = contents(place, "examples", "first.out")
+    expect("./pip of a release", run(["sh", "-c", "./pip script < examples/first.pip"], **settings), (due, 0))
+    told, status = run(["sh", "-c", "class/exercise store examples/solutions/store.pip"], **settings)
+    if status:
+        raise Differs(f"class/exercise of a release ends with {status}: {told!r}")
+    expect("the checksums of a release",
+           run(["sh", "-c", "grep -E '^[0-9a-f]{64}  ' PROOF | sha256sum --check --quiet"], **settings), (b"", 0))
+    for name in ("README.html", "docs/TUTORIAL.html", "pip.html", "rust/Cargo.toml", "rust/crates/pip/src/main.rs"):
+        if not os.path.isfile(os.path.join(place, name)):
+            raise Differs(f"a release has no {name}")

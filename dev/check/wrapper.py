@@ -1,0 +1,356 @@
+"""./pip builds where it has to, says so in one sentence, and runs the program. Stand-ins for `rt` and `cargo` build
+here, in a small checkout."""
+
+from __future__ import annotations
+
+import os
+import pty
+import re
+import shutil
+import signal
+import subprocess
+import sys
+import tempfile
+import time
+from collections.abc import Sequence
+from typing import Any, IO
+
+from common import forms
+from common.blocks import blocks
+from .running import (REPOSITORY, SECONDS, Differs, contents, expect as expect_output, heed_interrupts,
+                      needed, part, run, same, text_of, write, write_program)
+
+Process = subprocess.Popen[bytes]
+Ended = tuple[str, str, int, int]    # output, messages and status of ./pip, and how often it built
+
+SOURCES = ("crates/pip/src/main.rt", "crates/pip_base/specs/Words.antt", "crates/pip_base/proofs/Lib.antt",
+           "crates.txt")
+FOLDERS = ("bin", "crates/pip/src", "crates/pip_base/specs", "crates/pip_base/proofs", "crates/pip_commands/src",
+           "dev/exporter", "dev/reference")
+USAGE = "crates/pip_commands/src/top.rt"    # the source with the usage line, which ./pip takes from there
+
+
+class Checkout:
+    """A checkout with ./pip and a few sources, whose `rt` and `cargo` are stand-ins."""
+
+    def __init__(self, place: str) -> None:
+        self.place = place
+        self.builds = 0
+        for name in FOLDERS:
+            os.makedirs(self.path(name))
+        for name in ("pip", USAGE):
+            shutil.copy(os.path.join(REPOSITORY, name), self.path(name))
+        for name in (*SOURCES, USAGE):
+            self.touch(name, 1000)
+        for name, text in blocks("data/standins.txt", __file__).items():
+            (write_program if name.startswith("bin/") else write)(text, place, name)
+        for name in ("crates.txt", "dev/export", *FOLDERS[1:]):
+            os.utime(self.path(name), (1000, 1000))
+
+    def path(self, name: str) -> str:
+        return os.path.join(self.place, name)
+
+    def touch(self, name: str, seconds: float | None = None) -> None:
+        with open(self.path(name), "a"):
+            pass
+        os.utime(self.path(name), None if seconds is None else (seconds, seconds))
+
+    def age(self, seconds: float, names: Sequence[str] = ("crates/pip/out/pip", "crates/pip/out/sources-seen")) -> None:
+        """The last build began, and ended, at this time."""
+        for name in names:
+            os.utime(self.path(name), (seconds, seconds))
+
+    def begin(self, *words: str, command: str | None = None, path: str | None = None, stderr: int = subprocess.PIPE,
+              stdout: int | IO[bytes] = subprocess.PIPE, cwd: str | None = None, **settings: str) -> Process:
+        environment = dict(os.environ, COUNT=self.path("count"), **settings)
+        environment["PATH"] = path or self.path("bin") + os.pathsep + environment["PATH"]
+        return subprocess.Popen([command or self.path("pip"), *words], env=environment, cwd=cwd,
+                                stdin=subprocess.DEVNULL,
+                                stdout=stdout, stderr=stderr, start_new_session=True, preexec_fn=heed_interrupts)
+
+    def ended(self, begun: Process) -> Ended:
+        """Output, messages and status of a ./pip that was begun, and how often it built."""
+        output, messages = begun.communicate(timeout=SECONDS)
+        builds, self.builds = self.counted() - self.builds, self.counted()
+        return output.decode(), messages.decode(), begun.returncode, builds
+
+    def run(self, *words: str, **settings: Any) -> Ended:
+        return self.ended(self.begin(*words, **settings))
+
+    def counted(self) -> int:
+        return os.path.getsize(self.path("count")) // len("built\n") if os.path.exists(self.path("count")) else 0
+
+
+BUILDS = "proving and building pip; this takes a quarter of an hour or more, and what the prover says goes into "
+BY_CARGO = "building pip of its export by cargo; this takes about a minute, and what cargo says goes into "
+OF_CARGO = "unproved: cargo built this program of the same text, and nothing is proved of it\n"
+OF_REFERENCE = "unproved: the reference answers, a second telling of the model in Python, and nothing is proved of it\n"
+READS_INPUT = "pip reads standard input: ./pip script < crates.txt\n"
+# What is said of a status.
+STATUSES = ((3, "status 3: standard input can't be read"), (4, "status 4: standard output can't be written"),
+            (5, "status 5: no memory was found"), (6, "status 6: the input goes on after 16777216 bytes"))
+
+
+def expect(what: str, got: object, wanted: object) -> None:
+    same(f"./pip, {what}", got, wanted)
+
+
+def expect_told(what: str, got: Ended, output: str, status: int, *told: str, builds: int | None = None) -> None:
+    """Refuses another output, status or number of builds, and messages without one of these texts."""
+    expect(what, got[:1] + got[2:3], (output, status))
+    expect(f"{what}, builds", got[3], got[3] if builds is None else builds)
+    if not all(text in got[1] for text in told):
+        raise Differs(f"./pip, {what}, says {got[1]!r}")
+
+
+def expect_built(what: str, got: Ended, builds: int = 1) -> None:
+    expect_told(what, got, "ran script\n", 7, builds=builds)
+    expect(f"{what}, that it says so", got[1].startswith(BUILDS), bool(builds))
+
+
+def wrapper(program: str) -> None:
+    with tempfile.TemporaryDirectory() as place:
+        for act in (builds_when_needed, tells_its_progress, sees_an_edit_during_the_build, says_where_it_fails,
+                    is_stopped, is_ended, runs_unproved, says_what_a_status_means, hands_on, says_what_is_built,
+                    of_an_unproved_release, explains_wrong_words, follows_a_link):
+            act(Checkout(os.path.join(place, act.__name__)))
+        answers_wrong_words(Checkout(os.path.join(place, "wrong")), program)
+
+
+def builds_when_needed(checkout: Checkout) -> None:
+    expect_built("the first time", checkout.run("script"))
+    if "the prover's log" not in text_of(checkout.path("build.log")):
+        raise Differs("./pip: the log isn't in build.log")
+    expect("built", checkout.run("run", "0", "1"), ("ran run 0 1\n", "", 7, 0))
+    for name in SOURCES:
+        checkout.age(2000)
+        checkout.touch(name, 3000)
+        expect_built(f"after a change of {name}", checkout.run("script"))
+        checkout.touch(name, 1000)
+    checkout.age(2000)
+    checkout.touch("crates.txt", 3000)
+    expect_built("where a build changes nothing", checkout.run("script", UNCHANGED="1"))
+    expect_built("after a build that changed nothing", checkout.run("script"), builds=0)
+
+
+def tells_its_progress(checkout: Checkout) -> None:
+    """A line where another crate comes, and after 10 seconds one where the count is another."""
+    for more, seconds, due in (("so far: 12 of 48 functions checked", 12, "crate 1 of 3: pip_base, 12 of 48 functions"),
+                               ("rt: chose --jobs 4 for pip_late", 4, "crate 2 of 3: pip_late"),
+                               ("rt: pip: begins with what a check kept in /other", 4,
+                                "crate 3 of 3: pip, which begins with what a check kept")):
+        checkout.touch("crates.txt")
+        _, messages, _, _ = checkout.run("script", SECONDS_OF_MORE="3", MORE=more, SECONDS_LONG=str(seconds))
+        lines = messages.splitlines()
+        if len(lines) < 3 or "Ctrl-C" not in lines[1] or lines[2:] != ["crate 1 of 3: pip_base", due]:
+            raise Differs(f"./pip, while it builds, says {messages!r}")
+
+
+def sees_an_edit_during_the_build(checkout: Checkout) -> None:
+    expect_built("with an edit during the build", checkout.run("script", EDITED=checkout.path(SOURCES[0])))
+    expect_built("after an edit during the build", checkout.run("script"))
+    expect_built("after the build of that edit", checkout.run("script"), builds=0)
+
+
+def says_where_it_fails(checkout: Checkout) -> None:
+    """It isn't built, there is no `rt`, and where the folder of the build should be there is a file."""
+    expect_told("where it isn't built", checkout.run("script", REFUSED="1"), "", 11, BUILDS, "wasn't built. The end of",
+                "prover's log")
+    expect("what a build that failed leaves", left_of_builds(checkout), [])
+    path = "/usr/bin:/bin"
+    if not shutil.which("rt", path=path):
+        expect_told("without rt", checkout.run("script", path=path), "", 11, "isn't in the PATH\n",
+                    "or say ./pip --unproved script: at once")
+    shutil.rmtree(checkout.path("crates/pip/out"), ignore_errors=True)
+    checkout.touch("crates/pip/out")
+    expect_told("where it can't write", checkout.run("script"), "", 11, "can't be written\n", builds=0)
+
+
+def left_of_builds(checkout: Checkout) -> list[str]:
+    return [name for name in os.listdir(checkout.place) if "begun" in name]
+
+
+def in_turn(program: str) -> None:
+    """A call that comes while another one builds waits for it, and doesn't build again."""
+    needed("flock")
+    with tempfile.TemporaryDirectory() as place:
+        checkout = Checkout(os.path.join(place, "0"))
+        first = begun(checkout, "8")
+        second = checkout.begin("script")
+        expect_built("the first of two", checkout.ended(first))
+        expect_told("the second of two", checkout.ended(second), "ran script\n", 7, "another ./pip builds here",
+                    builds=0)
+
+
+def begun(checkout: Checkout, seconds: str) -> Process:
+    """A ./pip whose stand-in is at work for that long."""
+    begun, limit = checkout.begin("script", SECONDS_LONG=seconds), time.monotonic() + 20
+    while not checkout.counted():
+        if time.monotonic() > limit:
+            raise Differs("./pip didn't begin to build")
+        time.sleep(0.05)
+    return begun
+
+
+def is_stopped(checkout: Checkout) -> None:
+    """Ctrl-C goes to all processes of the terminal."""
+    stopped = begun(checkout, "100")
+    os.killpg(stopped.pid, signal.SIGINT)
+    expect_told("stopped", checkout.ended(stopped), "", 130, "stopped; what was done is kept")
+    expect_built("after it was stopped", checkout.run("script"))
+
+
+def is_ended(checkout: Checkout) -> None:
+    """A signal to ./pip alone ends what builds, too."""
+    ended = begun(checkout, "100")
+    builder = part(r"log of build (\d+)", text_of(checkout.path("build.log")))
+    ended.terminate()
+    expect("ended", checkout.ended(ended)[2], 143)
+    if os.path.exists("/proc/" + builder):
+        raise Differs("./pip, ended, leaves what builds running")
+    expect("what a build that was ended leaves", left_of_builds(checkout), [])
+
+
+def runs_unproved(checkout: Checkout) -> None:
+    """By cargo, by the reference where cargo can't, and never without a word."""
+    expect_told("unproved", checkout.run("--unproved", "run", "1", "1"), "cargo ran run 1 1\n", 8, BY_CARGO, OF_CARGO,
+                builds=1)
+    expect("unproved, built", checkout.run("--unproved", "script"), ("cargo ran script\n", OF_CARGO, 8, 0))
+    for name in (SOURCES[0], "dev/exporter/new.py"):
+        checkout.age(2000, ("out/rust/target/release/pip", "out/sources-seen"))
+        checkout.touch(name, 3000)
+        expect(f"unproved, after a change of {name}", checkout.run("--unproved", "script")[2:], (8, 1))
+        checkout.touch(name, 1000)
+    checkout.touch(SOURCES[0])
+    expect_told("unproved, where cargo can't", checkout.run("--unproved", "script", REFUSED="1"),
+                "the reference ran script\n", 9, "wasn't built. The end of", "cargo's log", OF_REFERENCE)
+    expect("what is left of it", left_of_builds(checkout), [])
+    os.makedirs(checkout.path("few"))
+    for name in ("sh", "readlink", "dirname", "find", "head"):
+        os.symlink(shutil.which(name) or name, checkout.path("few/" + name))
+    few = checkout.path("few")
+    expect_told("unproved, without cargo and Python", checkout.run("--unproved", "script", path=few), "", 11)
+    os.symlink(sys.executable, checkout.path("few/python3"))
+    expect("unproved, without cargo", checkout.run("--unproved", "script", path=few)[:3],
+           ("the reference ran script\n", "cargo isn't in the PATH\n" + OF_REFERENCE, 9))
+
+
+def says_what_a_status_means(checkout: Checkout) -> None:
+    """A sentence on standard error; on a terminal also of status 2."""
+    checkout.run("script")
+    write_program("#!/bin/sh\necho 'bad line 5 operand'\nexit \"$STATUS\"\n", checkout.path("crates/pip/out/pip"))
+    for number, due in STATUSES:
+        status, told = beside_terminal(checkout, subprocess.PIPE, number)
+        expect(f"status {number}", (status, told.startswith(due)), (number, True))
+        expect_told(f"status {number}, without a terminal", checkout.run("script", STATUS=str(number)),
+                    "bad line 5 operand\n", number, due)
+    expect("status 2, without a terminal", checkout.run("script", STATUS="2")[:3], ("bad line 5 operand\n", "", 2))
+    with open(checkout.path("image"), "wb") as image:
+        expect("status 2, into a file", beside_terminal(checkout, image, 2), (2, "status 2: bad line 5 operand\n"))
+    expect("what is in the file", contents(checkout.path("image")), b"bad line 5 operand\n")
+    expect("status 2, into a pipe", beside_terminal(checkout, subprocess.PIPE, 2),
+           (2, "status 2: the input is bad, and the last line of the output says where\n"))
+    expect("status 0", beside_terminal(checkout, subprocess.PIPE, 0), (0, ""))
+    write_program("#!/bin/sh\nexit 4\n", checkout.path("crates/pip/out/pip"))
+    closed = ("-c", 'exec "$0" asm >&-', checkout.path("pip"))
+    status, told = beside_terminal(checkout, subprocess.PIPE, 4, closed, "/bin/sh")
+    expect("a closed output", (status, told.startswith(STATUSES[1][1])), (4, True))
+
+
+def beside_terminal(checkout: Checkout, stdout: int | IO[bytes], number: int, words: Sequence[str] = ("asm",),
+                    command: str | None = None) -> tuple[int, str]:
+    """The status of a ./pip whose standard error is a terminal, and what it says there."""
+    master, slave = pty.openpty()
+    begun = checkout.begin(*words, command=command, stdout=stdout, stderr=slave, STATUS=str(number))
+    os.close(slave)
+    begun.communicate(timeout=SECONDS)
+    try:
+        told = os.read(master, 4096).decode().replace("\r\n", "\n")
+    except OSError:
+        told = ""  # nothing was written, and the other end is closed
+    os.close(master)
+    return begun.returncode, told
+
+
+def hands_on(checkout: Checkout) -> None:
+    """Without a terminal the program has the same input, also a closed one, and a signal to ./pip alone ends it."""
+    checkout.run("script")
+    write_program("#!/bin/sh\ncat || exit 3\n", checkout.path("crates/pip/out/pip"))
+    told = subprocess.run([checkout.path("pip"), "script"], input=b"a line\n", stdout=subprocess.PIPE,
+                          stderr=subprocess.PIPE)
+    expect("its input", (told.stdout, told.stderr, told.returncode), (b"a line\n", b"", 0))
+    closed = checkout.run("-c", 'exec "$0" script <&-', checkout.path("pip"), command="/bin/sh")
+    expect("a closed input", (closed[1].splitlines()[-1:], closed[2]),
+           ([STATUSES[0][1] + ": is it open, and no folder?"], 3))
+    write_program("#!/bin/sh\necho $$\nexec sleep 300\n", checkout.path("crates/pip/out/pip"))
+    for number in (signal.SIGTERM, signal.SIGINT, signal.SIGHUP):
+        begun = checkout.begin("script")
+        assert begun.stdout
+        running = begun.stdout.readline().decode().strip()
+        begun.send_signal(number)
+        expect(f"after signal {number}", checkout.ended(begun)[2], 128 + number)
+        if os.path.exists("/proc/" + running):
+            raise Differs(f"./pip, after signal {number}, leaves the program running")
+
+
+def says_what_is_built(checkout: Checkout) -> None:
+    """--built builds nothing, and --help is no error."""
+    expect("--built, where nothing is", checkout.run("--built"), ("", "", 0, 0))
+    checkout.run("script")
+    proved = f"proved {checkout.path('crates/pip/out/pip')}\n"
+    expect("--built", checkout.run("--built"), (proved, "", 0, 0))
+    checkout.run("--unproved", "script")
+    by_cargo = f"unproved {checkout.path('out/rust/target/release/pip')}\n"
+    expect("--built, both", checkout.run("--built"), (proved + by_cargo, "", 0, 0))
+    checkout.touch(SOURCES[0], time.time() + 100)
+    expect("--built, with a newer source", checkout.run("--built"), ("", "", 0, 0))
+    output, messages, status, builds = checkout.run("--help")
+    expect("--help", (output.startswith("./pip script < FILE "), messages, status, builds), (True, "", 0, 0))
+
+
+def of_an_unproved_release(checkout: Checkout) -> None:
+    """A release that says that it is unproved runs its program with neither kit nor cargo, and says so."""
+    checkout.run("--unproved", "script")
+    checkout.touch("UNPROVED")
+    os.remove(checkout.path("bin/rt"))
+    os.remove(checkout.path("bin/cargo"))
+    expect("of an unproved release", checkout.run("script"), ("cargo ran script\n", OF_CARGO, 8, 0))
+
+
+def explains_wrong_words(checkout: Checkout) -> None:
+    """What may be meant, on standard error; the rest is as ever, built or not."""
+    for words, due in blocks("data/explained.txt", __file__).items():
+        got = checkout.run(*(words.split() if words != "(nothing)" else ()), cwd=checkout.place)
+        expect_told(f"with {words}", got, got[0] if got[0].startswith("usage: pip script") else "the usage line", 1,
+                    builds=0)
+        expect(f"with {words}, that it says {due!r}", begins(got[1], due), True)
+    checkout.run("script")
+    output, messages, status, _ = checkout.run("script", "crates.txt", cwd=checkout.place)
+    expect("built, with a file as a word", (output, messages, status), ("ran script crates.txt\n", READS_INPUT, 7))
+
+
+def begins(told: str, due: str) -> bool:
+    """Whether what is told begins with these lines; one that ends with ` ..` goes on."""
+    lines = [line.partition(" ..") for line in due.splitlines()]
+    pattern = "".join(re.escape(line) + (r"\b.*" if goes_on else "") + "\n" for line, goes_on, _ in lines)
+    return re.match(pattern, told) is not None
+
+
+def answers_wrong_words(checkout: Checkout, program: str) -> None:
+    """Wrong words need no build, and are answered as the program answers them."""
+    for words in map(forms.words, forms.WRONG):
+        told = run([program, *words])
+        output, messages, status, builds = checkout.run(*words)
+        expect(f"not built, with {words}", (bool(messages), builds), (True, 0))
+        expect_output(f"./pip, not built, with {words}", (output.encode(), status), told)
+    with open("/dev/full", "wb") as full:
+        status = subprocess.run([checkout.path("pip")], stdout=full, stderr=subprocess.DEVNULL).returncode
+    expect("wrong words, and a full device", status, 4)
+    for words in map(forms.words, forms.RIGHT):
+        checkout.touch("crates.txt")
+        expect(f"not built, with {words}", checkout.run(*words)[2:], (7, 1))
+
+
+def follows_a_link(checkout: Checkout) -> None:
+    os.symlink(checkout.path("pip"), checkout.path("link"))
+    expect_told("by a symbolic link", checkout.run("script", command=checkout.path("link")), "ran script\n", 7)

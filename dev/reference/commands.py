@@ -1,0 +1,195 @@
+"""The whole program: what it writes for the words of its command line and its input, and its status.
+
+Statuses that come from outside (3, 4, 5 and 10) aren't here: reading, writing and memory never fail.
+
+    dev/reference/program.py [--counts] WORD ..
+
+With --counts a line for each processor comes after the output, where the command leaves a machine: what its translation
+cache counted.
+"""
+
+from __future__ import annotations
+
+import sys
+from collections.abc import Callable, Iterable, Sequence
+from typing import Any, NamedTuple, Optional
+
+from common.machine import against, assembly, every, image, runs, script
+
+from . import apart, audit, native, parts
+from common.machine.model import World
+
+USAGE = b"usage: pip script | run STEPS SEED | asm | dis | tree STEPS SEED | core STEPS SEED | soak COUNT SEED" \
+    b" | native N STEPS | slots N TURNS ROUNDS | slots N ROUNDS K:TURNS .. | audit FRAMES" \
+    b" | every STATES [FROM [DEPTH]] [after STEPS SEED] | against STATES [FROM [DEPTH]] [after STEPS SEED]" \
+    b" | apart STATES STEPS SEED | part [FROM] | merge\n"
+Ended = tuple[bytes, int, Optional[World]]       # output and status, and the world that the command leaves
+OnImage = Callable[..., tuple[Iterable[str], Optional[World]]]
+MOST_STEPS, MOST_COUNT = 10000000, 1000000
+STEPS, SEED = (0, MOST_STEPS), (1, script.WORD - 1)        # the limits of these words
+AFTER = "after"                                  # between the words of a search and those of the steps before it
+ON_IMAGES: dict[str, OnImage] = {"run": runs.run, "tree": runs.tree, "core": runs.core}
+
+
+def numbers_of(words: Sequence[str], *limits: tuple[int, int]) -> tuple[int, ...] | None:
+    """The numbers of words, one for each pair of a least and a most; None where one is none, or beyond its limits."""
+    try:
+        given = tuple(script.number(word.encode()) for word in words)
+    except (ValueError, script.Bad):
+        return None
+    inside = all(least <= number <= most for number, (least, most) in zip(given, limits))
+    return given if inside and len(given) == len(limits) else None
+
+
+def slots_of(words: Sequence[str]) -> tuple[int, native.Round, int] | None:
+    """How many children, the slots of a round, and the rounds, or None where the words don't say it."""
+    try:
+        if len(words) == 3 and ":" not in words[2]:
+            n, turns, rounds = map(script.number, map(str.encode, words))
+            round = native.in_turn(min(n, native.MOST_CHILDREN + 1), turns)
+        else:
+            n, rounds = map(script.number, map(str.encode, words[:2]))
+            round = [given_slot(word) for word in words[2:]]
+    except (ValueError, script.Bad):
+        return None
+    if not 1 <= n <= native.MOST_CHILDREN or not 1 <= len(round) <= native.MOST_SLOTS:
+        return None
+    if any(child >= n or turns > MOST_STEPS for child, turns in round):
+        return None
+    return (n, round, rounds) if max(rounds, native.steps_of(round, rounds)) <= MOST_STEPS else None
+
+
+def given_slot(word: str) -> tuple[int, int]:
+    """The child and the turns of a slot that a word gives."""
+    child, turns = word.split(":")
+    return script.number(child.encode()), script.number(turns.encode())
+
+
+class Asked(NamedTuple):
+    """What is searched: how many states, from which turn on, how deep, and after which steps."""
+
+    states: int
+    first: int
+    deepest: int | None
+    after: every.After
+
+
+def search_of(words: Sequence[str]) -> Asked | None:
+    """The search that words ask for, or None where they don't say one."""
+    after: every.After | None = every.AT_FIRST
+    if AFTER in words:
+        place = words.index(AFTER)
+        words, after = words[:place], after_of(words[place + 1:])
+    given = numbers_of(words, *((1, every.MOST_STATES), (0, every.MOST), (1, every.MOST))[:max(len(words), 1)])
+    if given is None or after is None:
+        return None
+    return Asked(given[0], given[1] if len(given) > 1 else 0, given[2] if len(given) > 2 else None, after)
+
+
+def after_of(words: Sequence[str]) -> every.After | None:
+    given = numbers_of(words, STEPS, SEED)
+    return every.After(*given) if given else None
+
+
+def pip(words: Sequence[str], text: bytes) -> tuple[bytes, int]:
+    """Output and status."""
+    return ended(words, text)[:2]
+
+
+def ended(words: Sequence[str], text: bytes) -> Ended:
+    """Output and status, and the world that the command leaves; None where it leaves none, or the status isn't 0."""
+    try:
+        return answered(words, text)
+    except image.BadImage as bad:
+        return in_lines([f"bad image {bad.kind} {bad.at}"]), 2, None
+    except parts.BadPart as bad:
+        return in_lines([f"bad part {bad.kind} {bad.at}"]), 2, None
+    except script.BadLine as bad:
+        return in_lines([f"bad line {bad.line} {bad.kind}".rstrip()]), 2, None
+    except image.TooFew as few:
+        return in_lines([f"short {few.frames - 13} {few.least - 13}"]), 8, None
+
+
+def answered(words: Sequence[str], text: bytes) -> Ended:
+    command, *rest = words or [""]
+    if command in ON_TEXTS and not rest:
+        return ON_TEXTS[command](text)
+    if command in ON_IMAGES and (given := numbers_of(rest, STEPS, SEED)):
+        return on_image(ON_IMAGES[command], text, *given)
+    if command == "soak" and (given := numbers_of(rest, (0, MOST_COUNT), SEED)):
+        told, world = runs.soak(*given)
+        return in_lines(told), 0, world
+    if command == "native" and (given := numbers_of(rest, (1, native.MOST_CHILDREN), STEPS)):
+        return on_image(native.native, text, *given, children=given[0])
+    if command == "slots" and (slots := slots_of(rest)):
+        return on_image(native.slots, text, *slots, children=slots[0])
+    if command == "audit" and (given := numbers_of(rest, (audit.LEAST_FRAMES, audit.MOST_FRAMES))):
+        told, status = audit.audit(given[0], text)
+        return in_lines(told), status, None
+    if command == "every" and (asked := search_of(rest)):
+        return in_lines(every.every(image.read(text), *asked)), 0, None
+    if command == "against" and (asked := search_of(rest)):
+        return on_menu(asked, text)
+    if command == "apart" and (given := numbers_of(rest, (1, every.MOST_STATES), STEPS, SEED)):
+        return in_lines(apart.apart(image.read(text), *given)), 0, None
+    if command == "part" and (given := numbers_of(rest or ["0"], (0, every.MOST))):
+        return in_lines(parts.part(text, *given)), 0, None
+    return USAGE, 1, None
+
+
+def with_counts(words: Sequence[str], text: bytes) -> tuple[bytes, int]:
+    """Output with the counts of the caches after it, and status."""
+    output, status, world = ended(words, text)
+    return output + in_lines(str(cache) for cache in (world.caches if world else ())), status
+
+
+def in_lines(told: Iterable[str]) -> bytes:
+    return "".join(line + "\n" for line in told).encode("utf-8", "surrogateescape")
+
+
+def asm(text: bytes) -> Ended:
+    return (b"", 6, None) if len(text) > script.MOST else (assembly.assemble(text), 0, None)
+
+
+def dis(data: bytes) -> Ended:
+    told = []
+    try:
+        for line in assembly.disassembled(data):
+            told.append(line)
+    except image.BadImage as bad:
+        return in_lines(told + [f"bad image {bad.kind} {bad.at}"]), 2, None
+    return in_lines(told), 0, None
+
+
+def merge(text: bytes) -> Ended:
+    return *parts.merged(text), None
+
+
+ON_TEXTS: dict[str, Callable[[bytes], Ended]] = {"script": script.ended, "asm": asm, "dis": dis, "merge": merge}
+
+
+def on_image(command: OnImage, data: bytes, *words: Any, children: int = 0) -> Ended:
+    """What a command says of an image, which has room for that many children, by these words."""
+    told, world = command(image.read(data, native.frames_needed(children) if children else 0), *words)
+    return in_lines(told), 0, world
+
+
+def on_menu(asked: Asked, data: bytes) -> Ended:
+    """What `against` says of an image with a menu after it."""
+    machine, text = image.parted(data)
+    states, first, deepest, after = asked
+    return in_lines(against.against(machine, states, first, deepest, against.menu_of(text), after)), 0, None
+
+
+def shown(text: bytes) -> None:
+    sys.stdout.buffer.write(text)
+    sys.stdout.buffer.flush()
+
+
+def main() -> None:
+    if sys.argv[1:] == ["script"]:
+        sys.exit(script.answered(sys.stdin.buffer.readline, shown)[0])
+    told_of, given = (with_counts, sys.argv[2:]) if sys.argv[1:2] == ["--counts"] else (pip, sys.argv[1:])
+    output, status = told_of(given, sys.stdin.buffer.read())
+    shown(output)
+    sys.exit(status)

@@ -1,0 +1,121 @@
+"""Certificates with something wrong, and inputs made from a seed for the commands part and merge."""
+
+from __future__ import annotations
+
+import random
+from collections.abc import Iterator
+
+from common.machine import image
+
+from . import generate_every, parts
+from .parts import Part
+
+def wrong_lines(chance: random.Random, lines: list[bytes], count: int) -> Iterator[tuple[str, list[bytes]]]:
+    """Lines of all parts, sorted, with one thing wrong that the merge has to find, and what that is."""
+    own = [i for i, line in enumerate(lines) if line[-11:-9] == b" +"]
+    asked = [i for i, line in enumerate(lines) if line[-11:-9] == b" ?"]
+    told = [i for i, line in enumerate(lines) if line.startswith(b"part ")]
+    for _ in range(count):
+        kind = chance.choice(["key", "ask", "twice", "deeper", "sooner", "part", "other", "numbers"])
+        at = chance.choice(own if kind in ("key", "twice", "deeper") else asked if kind in ("ask", "sooner") else told)
+        line = lines[at]
+        if kind in ("key", "ask", "part"):
+            changed: list[bytes] = []
+        elif kind == "twice":
+            changed = [line, line]
+        elif kind == "deeper":
+            if not any(lines[i][:-11] == line[:-11] and lines[i][-8:] == line[-8:] for i in asked):
+                continue                         # nobody asks for it so soon
+            changed = [line[:-8] + b"%08x" % (int(line[-8:], 16) + 1)]
+        elif kind == "sooner":
+            held = next(lines[i] for i in own if lines[i][:-11] == line[:-11])
+            if held[-8:] == b"00000000":
+                continue
+            changed = [line[:-8] + b"%08x" % (int(held[-8:], 16) - 1)]
+        elif kind == "other":
+            changed = [line.replace(b"part ", b"part 1", 1)]
+            if len(told) == 1:
+                continue
+        else:
+            changed = [line[:-8] + b"%08x" % (int(line[-8:], 16) + 1)]
+        yield kind, sorted(lines[:at] + changed + lines[at + 1:])
+
+
+# Inputs of the commands
+
+
+def part_case(seed: int) -> tuple[list[str], bytes]:
+    """FROM, or none, and an image with a part of any marks after it; now and then a faulty one."""
+    chance = random.Random(seed)
+    _, data = generate_every.case(seed)
+    words = [str(chance.choice((0, 0, 1, 30)))] if chance.random() < 0.7 else []
+    try:
+        machine = image.read(data)
+    except image.BadImage:
+        return words, data
+    choices = machine.cpus + len(machine.plans)
+    places = sorted({(chance.randrange(machine.frames), chance.randrange(1024)) for _ in range(chance.randrange(4))})
+    runs = [chance.randrange(choices) for _ in range(chance.randrange(6))]
+    own = chance.random()
+    part = Part([(*place, chance.randrange(1 << 32)) for place in places],
+                [choice for choice in runs for _ in range(chance.randrange(1, 4))],
+                [int(chance.random() < own) for _ in range(chance.randrange(60))])
+    if chance.random() < 0.3:
+        return words, data + wrong_text(chance, machine.frames, choices, part)
+    return words, data + parts.written(part)
+
+
+def wrong_text(chance: random.Random, frames: int, choices: int, part: Part) -> bytes:
+    """The text of a part with one thing wrong."""
+    text = parts.written(part)
+    kind = chance.choice(("short", "long", "frame", "base", "choice", "empty", "again", "marks"))
+    if kind == "short":
+        return text[:chance.randrange(len(text))]
+    if kind == "frame":
+        return parts.written(part._replace(base=[*part.base, (frames, 0, 7)]))
+    if kind == "base" and part.base:
+        return parts.written(part._replace(base=[*part.base, part.base[-1]]))
+    if kind == "choice":
+        return parts.written(part._replace(way=[*part.way, choices]))
+    at = 4 + 12 * len(part.base)                     # how many runs the way has
+    if kind == "empty" and part.way:
+        return text[:at + 8] + bytes(4) + text[at + 12:]
+    if kind == "again" and part.way:
+        runs = int.from_bytes(text[at:at + 4], "little")
+        return text[:at] + (runs + 1).to_bytes(4, "little") + text[at + 4:at + 12] + text[at + 4:]
+    if kind == "marks" and len(part.marks) % 8:
+        return text[:-1] + bytes([text[-1] | 128])
+    return text + b"\0"
+
+
+def merge_case(seed: int) -> tuple[list[str], bytes]:
+    """No words, and the lines of all parts of a certificate of nothing; most have something wrong."""
+    chance = random.Random(seed)
+    lines, owned, asking = [], [0, 0, 0], [0, 0, 0]
+    for key in sorted({chance.randbytes(chance.randrange(1, 4)) for _ in range(chance.randrange(1, 12))}):
+        part, depth = chance.randrange(3), chance.randrange(5)
+        lines.append(f"{key.hex()} + {depth:08x}")
+        owned[part] += 1
+        for _ in range(chance.randrange(3)):
+            lines.append(f"{key.hex()} ? {depth + chance.randrange(3):08x}")
+            asking[chance.randrange(3)] += 1
+    lines += [f"line {chance.randrange(2)} out 0x{chance.randrange(4):08x}" for _ in range(chance.randrange(5))]
+    first = chance.randrange(4)                  # of three: it may be that no part is the first
+    lines += [f"part 16 1 0 1 0 {7:016x} {int(i != first):08x} {owned[i]:08x} {asking[i]:08x}" for i in range(3)]
+    told = sorted(line.encode() for line in lines)
+    kind = chance.random()
+    if kind < 0.4 and any(asking):
+        told = next((wrong for _, wrong in wrong_lines(chance, told, 20)), told)
+    text = b"\n".join(told) + (b"" if chance.random() < 0.2 else b"\n")
+    return [], spoilt(chance, text) if kind > 0.8 else text
+
+
+def spoilt(chance: random.Random, text: bytes) -> bytes:
+    """Bytes of which one is another, or is missing, or comes twice, or the end of which is missing."""
+    at = chance.randrange(len(text))
+    kind = chance.randrange(4)
+    if kind == 0:
+        return text[:at] + bytes([chance.choice((0, 1, 10, 32, 48, 97, text[at] ^ 1, 255))]) + text[at + 1:]
+    if kind == 1:
+        return text[:at] + text[at + 1:]
+    return text[:at + 1] + text[at:] if kind == 2 else text[:at]

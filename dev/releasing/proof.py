@@ -1,0 +1,36 @@
+"""The text of PROOF: what was proved of the program of a release, by what, and what a reader may compare."""
+
+from __future__ import annotations
+
+from common.blocks import blocks
+from common.calling import Failed
+from . import repository
+from .gate import Record
+from .repository import Checkout
+
+PAGE = "pip.html"
+PROGRAM = "crates/pip/out/pip"
+MARK = "UNPROVED"            # a file by which ./pip sees that a release is unproved
+TEXTS = blocks("proof.txt", __file__)
+
+
+def text(version: str, record: Record | None, found: Checkout, page_sum: str) -> str:
+    """That of a release, for which no gate was run where there is no record of one."""
+    program = PROGRAM if record else repository.UNPROVED
+    told = {"version": version, "page": PAGE, "commit": found.commit(), "tree": found.tree()}
+    if record:
+        told.update(vars(record), closing="\n".join(f"          {line}" for line in record.closing),
+                    trusted=trusted(found))
+    sums = [(repository.sum_of(found.place / program), program), (page_sum, PAGE)]
+    sums += [(repository.sum_of(found.place / name), name) for name in found.files()]
+    return (TEXTS["proved" if record else "unproved"].format_map({**told, "program": program}) + "\n"
+            + TEXTS["sums"].format(sums="\n".join(f"{total}  {name}" for total, name in sums)))
+
+
+def trusted(found: Checkout) -> str:
+    """The section of docs/PROVED.md that says so."""
+    path = found.place / "docs" / "PROVED.md"
+    parts = path.read_text(encoding="utf-8").split("\n## Trusted\n")
+    if len(parts) != 2:
+        raise Failed(f"{path} has no section 'Trusted'")
+    return parts[1].split("\n## ")[0].strip()

@@ -1,0 +1,138 @@
+"""Makes a release: what is committed, with the program that the gate built, the page, the documents as HTML, the
+export, and PROOF."""
+
+import argparse
+import os
+import re
+import shutil
+import sys
+import tempfile
+from pathlib import Path
+
+from common import calling
+from common.calling import Failed
+from exporter import building
+from playground import module
+from . import gate, markdown, proof, repository
+from .repository import Checkout
+
+VERSION = re.compile(r"\d+(\.\d+)*(-[a-z0-9]+)?")
+MARK = "crates/pip/out/sources-seen"       # by which ./pip sees that the program is as new as the sources
+UNPROVED_MARK = "out/sources-seen"         # the same of what cargo built
+EXPORT = "rust"
+BESIDE = "pip-release"                     # beside the checkout
+
+
+def main() -> None:
+    parser = argparse.ArgumentParser(
+        description="A folder and a tarball for a person without the kit and without cargo.",
+        epilog="It refuses a checkout that isn't clean, and one on which 'release --gate' hasn't passed.")
+    parser.add_argument("version", nargs="?", metavar="VERSION", help="as 1.2, or 1.2-rc1")
+    parser.add_argument("--gate", action="store_true",
+                        help="run .ci/run, and keep a record of it in out/; its status is the gate's")
+    parser.add_argument("--unproved", action="store_true",
+                        help="without a gate, of the program that ./pip --unproved has built: the folder, PROOF and "
+                             "./pip say so")
+    parser.add_argument("--to", type=Path, metavar="FOLDER",
+                        help="where the folder and the tarball go, outside the checkout; without it pip-release beside "
+                             "it")
+    module.take_module(parser)
+    calling.started(parser, lambda given: work(given, Checkout(Path(calling.REPOSITORY))))
+
+
+def work(given: argparse.Namespace, found: Checkout) -> int:
+    if given.gate:
+        if given.version:
+            raise Failed("--gate needs no version: it runs the gate, and a release comes after it")
+        return gate.run(found)
+    if not given.version or not VERSION.fullmatch(given.version):
+        raise Failed(f"a version is numbers with points between them, as 1.2, and not {given.version!r}"
+                     if given.version else "which version?")
+    print(made(given, found, place_of(given, found)))
+    return 0
+
+
+def place_of(given: argparse.Namespace, found: Checkout) -> Path:
+    """Where a release goes: never into the checkout, where the gate would refuse its sources."""
+    to: Path = given.to or found.place.parent / BESIDE
+    if found.place.resolve() in (to.resolve(), *to.resolve().parents):
+        raise Failed(f"{to} is inside the checkout, where the next gate would refuse the sources of a release: choose "
+                     "a folder outside it")
+    return to
+
+
+def made(given: argparse.Namespace, found: Checkout, to: Path) -> Path:
+    """Makes all in a folder of its own, which takes its place when it is whole. Answers the tarball's path."""
+    name = f"pip-{given.version}{'-unproved' if given.unproved else ''}"
+    folder, tarball = to / name, to / f"{name}.tar.gz"
+    for path in (folder, tarball):
+        if path.exists():
+            raise Failed(f"{path} is there already: a version is made once")
+    found.need_clean()
+    record = None if given.unproved else gate.passed(found)
+    program = found.need_unproved() if record is None else found.program
+    to.mkdir(parents=True, exist_ok=True)
+    with tempfile.TemporaryDirectory(dir=to) as place:
+        top = Path(place) / name
+        copied(found, top, program)
+        make_page(given, found, top / proof.PAGE)
+        documents(top)
+        export(found, top / EXPORT)
+        run("the judge", found, "class/judge/make_judge", "--to", str(top / "class" / "judge" / "pip_judge"))
+        told = proof.text(given.version, record, found, repository.sum_of(top / proof.PAGE))
+        (top / "PROOF").write_text(told, encoding="utf-8")
+        packed(top, Path(place) / tarball.name, found.seconds())
+        os.rename(top, folder)
+        os.rename(Path(place) / tarball.name, tarball)
+    return tarball
+
+
+# The parts
+
+def copied(found: Checkout, top: Path, program: Path) -> None:
+    """What is committed, and the program with its mark, so that ./pip runs it, or says that it is unproved."""
+    for name in found.files():
+        target = top / name
+        target.parent.mkdir(parents=True, exist_ok=True)
+        shutil.copy(found.place / name, target, follow_symlinks=False)
+    target = top / program.relative_to(found.place)
+    target.parent.mkdir(parents=True, exist_ok=True)
+    shutil.copy(program, target)
+    target.chmod(0o755)
+    if program == found.unproved:
+        (top / UNPROVED_MARK).touch()
+        (top / proof.MARK).write_text("Nothing is proved of the program of this release: see PROOF.\n")
+    else:
+        (top / MARK).touch()
+
+
+def make_page(given: argparse.Namespace, found: Checkout, path: Path) -> None:
+    parts = {"--module": given.module, "--debian": None if given.module else given.debian}
+    words = [word for option, path in parts.items() if path for word in (option, str(path.resolve()))]
+    run("the page", found, "class/playground/make_page", "--to", str(path), *words)
+    if not path.is_file():
+        raise Failed(f"the page isn't there: class/playground/make_page made no {path.name}")
+
+
+def export(found: Checkout, path: Path) -> None:
+    run("the export", found, "dev/export", "--to", str(path), "--deps", "shims")
+
+
+def documents(top: Path) -> None:
+    """Beside each document the same as HTML."""
+    for path in sorted(top.rglob("*.md")):
+        depth = len(path.relative_to(top).parts) - 1
+        path.with_suffix(".html").write_text(markdown.page(path.read_text(encoding="utf-8"), depth), encoding="utf-8")
+
+
+def run(what: str, found: Checkout, tool: str, *words: str) -> None:
+    building.run(what, [sys.executable, "-B", str(found.place / tool), *words])
+
+
+def packed(top: Path, to: Path, seconds: int) -> None:
+    """The tarball, of the same bytes each time: all is as old as the commit, and no source newer than the program."""
+    for path in [*top.rglob("*"), top]:
+        os.utime(path, (seconds, seconds), follow_symlinks=False)
+    building.run("the tarball", ["tar", "--create", "--file", str(to), "--use-compress-program", "gzip --no-name",
+                                 "--format", "gnu", "--sort", "name", "--owner", "0", "--group", "0", "--numeric-owner",
+                                 "--mode", "u=rwX,go=rX", "--directory", str(top.parent), top.name])

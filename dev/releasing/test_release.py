@@ -1,0 +1,167 @@
+"""Releases of a small checkout: what is in one, and each fault for which there is none."""
+
+from __future__ import annotations
+
+import argparse
+import contextlib
+import io
+import os
+import shutil
+import subprocess
+import tempfile
+import unittest
+from collections.abc import Callable
+from pathlib import Path
+from typing import Any
+
+from common.blocks import blocks
+from common.calling import Failed
+from . import gate, release, repository
+from .repository import Checkout
+
+KIT = "kit-1"
+FILES = blocks("checkout.txt", __file__)
+GATE = FILES[".ci/run"]
+FILES[".ci/run"] = GATE.format(more="", status=0)
+
+
+@unittest.skipUnless(shutil.which("cmark-gfm"), "no cmark-gfm")
+class Releases(unittest.TestCase):
+    def setUp(self) -> None:
+        place = tempfile.TemporaryDirectory()
+        self.addCleanup(place.cleanup)
+        self.addCleanup(setattr, repository, "kit", repository.kit)
+        self.use_kit(KIT)
+        self.place = Path(place.name)
+        self.found = Checkout(self.place / "here")
+        for path, text in FILES.items():
+            self.write(path, text)
+        for path in (".ci/run", "pip"):
+            (self.found.place / path).chmod(0o755)
+        self.found.git("init", "-q")
+        self.commit()
+
+    def use_kit(self, kit: str | None) -> None:
+        repository.kit = lambda: kit
+
+    def write(self, path: str, text: str) -> None:
+        whole = self.found.place / path
+        whole.parent.mkdir(parents=True, exist_ok=True)
+        whole.write_text(text)
+
+    def commit(self) -> None:
+        self.found.git("add", "-A")
+        when = {"GIT_AUTHOR_DATE": "2026-01-01T00:00:00Z", "GIT_COMMITTER_DATE": "2026-01-01T00:00:00Z"}
+        subprocess.run(["git", "-c", "user.name=a", "-c", "user.email=a@b", "commit", "-qm", "all"], check=True,
+                       cwd=self.found.place, env={**os.environ, **when})
+
+    def gate_of(self, path: str, text: str) -> None:
+        """The gate of a commit in which a file is another."""
+        self.write(path, text)
+        self.commit()
+        self.pass_gate()
+
+    def pass_gate(self) -> int:
+        with contextlib.redirect_stdout(io.TextIOWrapper(io.BytesIO())):
+            return gate.run(self.found)
+
+    def made(self, version: str = "1.2", to: str | None = "to", unproved: bool = False) -> Path:
+        """Makes a release, and answers its folder; where `to` is None it goes beside the checkout."""
+        given = argparse.Namespace(version=version, gate=False, unproved=unproved, module=None, debian=None,
+                                   to=None if to is None else self.place / to)
+        with contextlib.redirect_stdout(io.StringIO()):
+            release.work(given, self.found)
+        return self.place / (release.BESIDE if to is None else to) / f"pip-{version}{'-unproved' if unproved else ''}"
+
+    def refused(self, why: str, **given: Any) -> None:
+        with self.assertRaisesRegex(Failed, why):
+            self.made(**given)
+        left = self.place / "to"
+        self.assertEqual(list(left.iterdir()) if left.exists() else [], [], "a refused release leaves something")
+
+    def parts(self, made: Path) -> set[str]:
+        """The files of a release, whose checksums have to be right."""
+        sums = subprocess.run("grep -E '^[0-9a-f]{64}  ' PROOF | sha256sum --check --quiet", shell=True, cwd=made,
+                              stdout=subprocess.PIPE)
+        self.assertEqual((sums.returncode, sums.stdout), (0, b""))
+        return {str(path.relative_to(made)) for path in made.rglob("*") if path.is_file()}
+
+    def test_has_each_part_and_is_the_same_each_time(self) -> None:
+        self.assertEqual(self.pass_gate(), 0)
+        made, beside = self.made(), self.made(to=None)
+        self.assertEqual(self.parts(made), {
+            *FILES, "README.html", "docs/PROVED.html", "pip.html", "PROOF", "rust/Cargo.toml", release.MARK,
+            "crates/pip/out/pip", "class/judge/pip_judge"})
+        told = (made / "PROOF").read_text()
+        for part in ("pip 1.2\n", self.found.commit(), KIT, "3 passed, 0 failed", "check: 2 of 2 checks pass",
+                     "- The kit."):
+            self.assertIn(part, told)
+        self.assertIn('<a href="docs/PROVED.html#trusted">', (made / "README.html").read_text())
+        one, two = (path.with_name(path.name + ".tar.gz").read_bytes() for path in (made, beside))
+        self.assertEqual(one, two)
+
+    def test_an_unproved_one_needs_no_gate_and_says_so(self) -> None:
+        self.refused("say ./pip --unproved script", unproved=True)
+        self.found.unproved.parent.mkdir(parents=True)
+        self.found.unproved.write_text("by cargo\n")
+        made = self.made(unproved=True)
+        parts, told = self.parts(made), (made / "PROOF").read_text()
+        self.assertLess({"UNPROVED", "PROOF", "out/rust/target/release/pip", "out/sources-seen"}, parts)
+        self.assertNotIn("crates/pip/out/pip", parts)
+        self.assertTrue(told.startswith("pip 1.2, unproved\n\nNothing is proved of the program "
+                                        "out/rust/target/release/pip"), told)
+        self.assertNotIn("passed", told)
+
+    def test_a_gate_that_never_ends_leaves_no_record(self) -> None:
+        self.pass_gate()
+        with self.assertRaisesRegex(Failed, "isn't clean: README.md"):
+            self.gate_of(".ci/run", GATE.format(more="echo dirty > README.md", status=0))
+        self.found.git("checkout", "-q", "README.md")
+        self.refused("no run of the gate is recorded")
+
+    def test_each_fault_is_refused(self) -> None:
+        for why, spoil in FAULTS.items():
+            with self.subTest(why=why):
+                self.setUp()
+                self.pass_gate()
+                spoil(self)
+                self.refused(why)
+
+    def test_a_version_that_is_none_or_is_there_and_a_folder_in_the_checkout(self) -> None:
+        self.refused("a version is numbers", version="../x")
+        self.pass_gate()
+        for to in ("here", "here/out/release"):
+            self.refused("is inside the checkout", to=to)
+        self.made()
+        with self.assertRaisesRegex(Failed, "is there already"):
+            self.made()
+
+
+def other_files(test: Releases) -> None:
+    test.write("README.md", "# Another\n")
+    test.commit()
+
+
+def no_kit(test: Releases) -> None:
+    test.use_kit(None)
+    test.pass_gate()
+
+
+# Why a release is refused after this has come to a checkout whose gate has passed
+FAULTS: dict[str, Callable[[Releases], object]] = {
+    "isn't clean: README.md": lambda test: test.write("README.md", "# Another\n"),
+    "isn't clean: new.txt": lambda test: test.write("new.txt", "new\n"),
+    "no run of the gate is recorded": lambda test: test.found.record.unlink(),
+    "is no record of a gate": lambda test: test.found.record.write_text('{"status": 0}'),
+    "isn't the program that the gate built": lambda test: test.found.program.write_text("another\n"),
+    "there is no program": lambda test: test.found.program.unlink(),
+    "with the kit kit-1, and kit-2 is here": lambda test: test.use_kit("kit-2"),
+    "with the kit None": no_kit,
+    "has other files": other_files,
+    "ended with status 1: check: 2 of 2": lambda test: test.gate_of(".ci/run", GATE.format(more="", status=1)),
+    "the page can't be made: no compiler":
+        lambda test: test.gate_of("class/playground/make_page", "import sys\nsys.exit('no compiler')\n"),
+    "the page isn't there": lambda test: test.gate_of("class/playground/make_page", "pass\n"),
+    "the export can't be made: it differs":
+        lambda test: test.gate_of("dev/export", "import sys\nsys.exit('it differs')\n"),
+}

@@ -1,1 +1,0 @@
-"""The tools of the repository, none of which is proved. README.md says what each is for."""

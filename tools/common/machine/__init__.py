@@ -1,0 +1,1 @@
+"""The machine in plain Python, as the reference has it: nothing is proved about it."""
