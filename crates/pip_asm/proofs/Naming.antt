@@ -59,7 +59,12 @@ found-new xs k x mark a t h is i (suc n) low high none =
     let (here, later) = first_none (address_at mark t (slice_get xs i)) (found_in xs mark t (i + 1) n) none in
     elim (cases_eq i k) [
       | inl e ↦ rw (e, get-set_same xs k x h, is)
-      | inr ne ↦ rw (get-set_other xs k i x ne, here, found-new xs k x mark a t h is (i + 1) n (omega (arith, low, ne)) (omega (arith, high)) later)
+      | inr ne ↦ rw (
+        get-set_other xs k i x ne,
+        here,
+        found-new xs k x mark a t h is (i + 1) n (omega (arith, low, ne))
+            (omega (arith, high)) later,
+      )
     ]
 
 or_more : (a b c : Bool) → (b ≡ true → c ≡ true) → (a || b) ≡ true → (a || c) ≡ true
@@ -243,7 +248,8 @@ module _ (n : Addresses) (t : Bor (List ℕ)) (i mark a : ℕ) (p : IsPlaced n t
   pub place-fresh : address_of_name n t.now ≡ None
   unfolding address_of_name
   place-fresh = rw p.none
-      (p.kept.others t.now (free-here n.slots.items i p.free (home_of n.slots.items (hash_on n.seed t.now)) 8 p.low p.high))
+      (p.kept.others t.now (free-here n.slots.items i p.free
+      (home_of n.slots.items (hash_on n.seed t.now)) 8 p.low p.high))
 
   -- a map and a table with the name
   pub place-kept : (m : Addresses) → m.seed ≡ n.seed → m.slots.items

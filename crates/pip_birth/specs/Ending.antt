@@ -1,5 +1,6 @@
 -- A child that ends with all below it: the tree without them, and what holds on the way there.
-use Rattle.std.specs.Prelude.{◌≡◌, ◌+◌, ◌*◌, ◌<◌, ◌≤◌, ◌/◌, ◌^◌, ℕ, true, Option, List, ◌++◌, Some, flat_map, is_some, length}
+use Rattle.std.specs.Prelude.{◌≡◌, ◌+◌, ◌*◌, ◌<◌, ◌≤◌, ◌/◌, ◌^◌, ℕ, true, Option, List, ◌++◌, Some, flat_map, is_some}
+use Rattle.std.specs.Prelude.{length}
 use Rattle.pip_base.specs.declared.types.Pair.{Pair}
 use Rattle.pip_base.specs.Memory.{Memory, word_at}
 use Rattle.pip_model.specs.Answers.{pair_frames}
@@ -121,20 +122,20 @@ abbrev pub page_work : Tree → Node → ℕ
 page_work t y = 7 * length (chain (without t y) y.up) + 67
 
 -- pages of configuration that y holds, and that its parent has below vpage k, each once
-pub record AreCleared (t : Tree) (y : Node) (k : ℕ) (gs : List ℕ) : Type 0 where
+pub record AreClearedPages (t : Tree) (y : Node) (k : ℕ) (gs : List ℕ) : Type 0 where
   pub once : Distinct gs
   pub held : (g : ℕ) → In g gs → In g (held_pages y) × (hidden t g ≡ true)
   pub place : (g : ℕ) → In g gs → (v : ℕ) × (v < k) × (r : FullRow) × (tree_rows t y.up v ≡ Some r) × (r.frame ≡ g)
 
--- for each such child, from one number of steps to the other, some more of these pages are cleared, in so many steps
--- each
+-- for each such child, from one number of steps to the other, some more of these pages are cleared, within a bound on
+-- the steps
 abbrev pub CountsCleared : ℕ → ℕ → ℕ → ℕ → Memory → ℕ → ℕ → Type 0
 CountsCleared parent born k q m before after = (t : Tree) (y : Node) (start : Memory) (gs : List ℕ) → CanEnd t y
-    → y.up ≡ parent → vpage y.born ≡ born → IsEndingAt t y start k m → AreCleared t y k gs
-    → (hs : List ℕ) × AreCleared t y q hs
+    → y.up ≡ parent → vpage y.born ≡ born → IsEndingAt t y start k m → AreClearedPages t y k gs
+    → (hs : List ℕ) × AreClearedPages t y q hs
     × (after + page_work t y * length gs ≤ before + page_work t y * length hs)
 
--- for each such child that page comes back, too, in so many steps
+-- for each such child that page comes back, too, within a bound on the steps
 abbrev pub EndsPageIn : ℕ → ℕ → ℕ → Memory → ℕ → ℕ → Type 0
 EndsPageIn parent leaves v m before after = (t : Tree) (y : Node) (start : Memory) → CanEnd t y → y.up ≡ parent
     → IsConfiguration t y leaves v → IsEndingAt t y start v m
@@ -151,7 +152,7 @@ pub record AreWalked (x : Node) (k : ℕ) (ws : List ℕ) : Type 0 where
 abbrev pub CountsWalked : ℕ → ℕ → ℕ → Memory → ℕ → ℕ → Type 0
 CountsWalked parent born k m before after = (t : Tree) (y : Node) (start : Memory) (x : Node) → CanEnd t y
     → find_node t y.up ≡ Some x → y.up ≡ parent → vpage y.born ≡ born → IsEndingAt t y start 0 m
-    → (ws : List ℕ) × (hs : List ℕ) × AreWalked x k ws × AreCleared t y (1024 * k) hs
+    → (ws : List ℕ) × (hs : List ℕ) × AreWalked x k ws × AreClearedPages t y (1024 * k) hs
     × (after ≤ before + 102 * length ws + page_work t y * length hs)
 
 -- at most how many steps it takes to end a child with all below it: 7 for each partition from the caller up to the

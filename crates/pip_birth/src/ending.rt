@@ -4,7 +4,8 @@ ghost use Rattle.std.specs.Prelude.{◌≡◌, ◌≢◌, ◌↔◌, ◌+◌, �
 ghost use Rattle.pip_model.specs.NodeIn.{HasNode, HasTableFor};
 ghost use Rattle.pip_model.specs.Tree.{base_pairs};
 ghost use Rattle.pip_space.specs.Nodes.{InEachNode};
-ghost use Rattle.pip_birth.specs.Ending.{ClearsPages, CountsCleared, CountsWalked, EndsChild, EndsPage, EndsEachChild, HasChild, HasConfiguration};
+ghost use Rattle.pip_birth.specs.Ending.{ClearsPages, CountsCleared, CountsWalked, EndsChild, EndsPage, EndsEachChild};
+ghost use Rattle.pip_birth.specs.Ending.{HasChild, HasConfiguration};
 ghost use Rattle.pip_birth.specs.Ending.{EndsChildIn, EndsPageIn, HasEnding};
 ghost use Rattle.pip_birth.specs.Freeing.{AreFreedIn, AreFreedTo, IsHiddenLeaf};
 ghost use Rattle.pip_kern.specs.Taking.{CanTakePages, TakesPagesIn};

@@ -120,7 +120,15 @@ past_after (Some xs) None z a b t u p q = absurd p
 past_after (Some xs) (Some ys) None a b t u p q = absurd q
 past_after (Some xs) (Some ys) (Some zs) a b t u p q = (
   q.0,
-  rw (q.1, p.1, append_assoc xs p.0 ((b ++ u) ++ q.0), ← append_assoc p.0 (b ++ u) q.0, ← append_assoc p.0 b u, p.2, append_assoc a t u),
+  rw (
+    q.1,
+    p.1,
+    append_assoc xs p.0 ((b ++ u) ++ q.0),
+    ← append_assoc p.0 (b ++ u) q.0,
+    ← append_assoc p.0 b u,
+    p.2,
+    append_assoc a t u,
+  ),
 )
 
 -- a part of a text went out after one that had gone out whole

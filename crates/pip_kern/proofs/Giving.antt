@@ -1,5 +1,6 @@
 -- Pages given to a child: hidden up the chain, and named in the giver's first shadow.
-use Rattle.std.proofs.Common.{◌≡◌, ℕ, ◌+◌, ◌*◌, ◌<◌, ◌≤◌, arith, false, List, [], ◌∷◌, ◌++◌, get_or, length, take, sym, subst}
+use Rattle.std.proofs.Common.{◌≡◌, ℕ, ◌+◌, ◌*◌, ◌<◌, ◌≤◌, arith, false, List, [], ◌∷◌, ◌++◌, get_or, length, take, sym}
+use Rattle.std.proofs.Common.{subst}
 use Rattle.pip_model.specs.Answers.{pair_frames}
 use Rattle.std.proofs.lemmas.List.{take_all}
 use Rattle.pip_base.specs.declared.types.Pair.{Pair}
@@ -60,7 +61,7 @@ give_gives m n l caller v w t y gs g can up k =
     (set_said t y.up v g (can_mark t y v w g can) (tree_rows t) false (given_to y) gs m k n (says t)) l
     (subst (NameSays n l y.up v) can.word named) others)
 
--- in so many steps
+-- within a bound on the steps
 pub gives_in : (m : Memory) (caller v w before hidden after : ℕ)
     → OnEachChain m caller v (λ t rows r. hidden ≤ before + 7 * length (chain t caller)) → after ≤ hidden + 2
     → GivesPageIn caller v w m before after
@@ -103,7 +104,7 @@ module _ (m n : Memory) (caller born : ℕ) (ps : List Pair) (i v : ℕ) (p : Pa
       let new = says t y (gs ++ pair_frames (take i ps)) p.frame (can_next t y each) up old.midway in
       one_more t (tree_rows t) y.up false (given_to y) gs ps i p m n l low at old new
 
-  -- in so many steps
+  -- within a bound on the steps
   pub next_in : (before between after : ℕ) → GivesPagesIn caller born ps i m before between
       → GivesPageIn caller v (shadow1_word as_configuration born) n between after
       → GivesPagesIn caller born ps (i + 1) m before after

@@ -1,5 +1,6 @@
 -- Pages taken back from a child: opened up the chain, and named in the taker's first shadow as nobody's.
-use Rattle.std.proofs.Common.{◌≡◌, ℕ, ◌+◌, ◌*◌, ◌<◌, ◌≤◌, arith, true, List, [], ◌∷◌, ◌++◌, get_or, length, take, sym, subst}
+use Rattle.std.proofs.Common.{◌≡◌, ℕ, ◌+◌, ◌*◌, ◌<◌, ◌≤◌, arith, true, List, [], ◌∷◌, ◌++◌, get_or, length, take, sym}
+use Rattle.std.proofs.Common.{subst}
 use Rattle.std.proofs.Common.{Option}
 use Rattle.pip_model.specs.Answers.{pair_frames}
 use Rattle.std.proofs.lemmas.List.{take_all}
@@ -39,7 +40,7 @@ pub page_taken : (t : Tree) (p v g : ℕ) → CanTake t p v g → (rows : ℕ �
 page_taken t p v g can rows gs m k n says l named others = page_marked t p v g can rows true (λ f. 0) gs m k n
     (set_said t p v g can rows true (λ f. 0) gs m k n (says t)) l named others
 
--- in so many steps
+-- within a bound on the steps
 pub takes_in : (m : Memory) (caller v before shown after : ℕ)
     → OnEachChain m caller v (λ t rows r. shown ≤ before + 7 * length (chain t caller)) → after ≤ shown + 2
     → TakesPageIn caller v m before after
@@ -75,7 +76,7 @@ module _ (m n : Memory) (caller : ℕ) (ps : List Pair) (i v : ℕ) (q : Pair) (
       let new = says t rows (gs ++ pair_frames (take i ps)) q.frame (can_next t each) old.midway in
       one_more t rows caller true (λ g. 0) gs ps i q m n l low at old new
 
-  -- in so many steps
+  -- within a bound on the steps
   pub next_in : (before between after : ℕ) → TakesPagesIn caller ps i m before between
       → TakesPageIn caller v n between after → TakesPagesIn caller ps (i + 1) m before after
   unfolding can_next

@@ -6,7 +6,7 @@ use Rattle.std.proofs.lemmas.Bool.{cases_eq, cases_lt}
 use Rattle.std.proofs.lemmas.List.{take-append-drop}
 use Rattle.std.specs.List.{AllByRecursion}
 use Rattle.pip_search.specs.Again.{HasClosed, IsEdge, ShowsAt}
-use Rattle.pip_search.specs.Comes.{AreFair, AreFalling, GoesDown, HasOneOf, IsBelow, IsHidden, IsShownSoon, MustCome}
+use Rattle.pip_search.specs.Comes.{AreFair, AreFalling, GoesDown, HasOneOf, NoneRises, IsHidden, IsShownSoon, MustCome}
 use Rattle.pip_search.specs.Comes.{helpful, in_windows, rank_at}
 use Rattle.std.proofs.Math.Nat.{mul-le-mul_left}
 use Rattle.pip_search.specs.Keys.{Keyed, key_of, visits_of}
@@ -196,7 +196,7 @@ module _ (m : Model) (vs : List Keyed) (label classes ranks helpers : List ℕ) 
     visit : Keyed
     at : slice_get vs place ≡ Some visit
     stands : m.stands (key_of visit) (after_choices m s cs)
-    below : IsBelow ranks columns j place
+    below : NoneRises ranks columns j place
     down : (rank place (helper j) < rank j (helper j)) ⊎ IsKept j place cs
 
   none_of_none : (class : ℕ) → HasOneOf classes [] class → ⊥
@@ -210,7 +210,7 @@ module _ (m : Model) (vs : List Keyed) (label classes ranks helpers : List ℕ) 
       go zero d at is = let same : c ≡ d = cc in other (ap (slice_index classes) same ∙ is)
       go (suc p) d at is = none (record { place = p; choice = d; at = at; class_is = is })
 
-  goes_on : (j p t c : ℕ) (cs : List ℕ) → helper j < columns → IsBelow ranks columns j p
+  goes_on : (j p t c : ℕ) (cs : List ℕ) → helper j < columns → NoneRises ranks columns j p
       → (rank p (helper j) < rank j (helper j)) ⊎ IsKept j p cs → GoesDown classes ranks helpers columns p c t
       → (rank t (helper j) < rank j (helper j)) ⊎ IsKept j t (c ∷ cs)
   goes_on j p t c cs inside below down next = elim down [

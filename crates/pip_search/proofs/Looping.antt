@@ -9,7 +9,7 @@ use Rattle.std.proofs.Math.ListN.{get_or-append}
 use Rattle.std.proofs.Math.Seq.{get_or-append_seam}
 use Rattle.std.proofs.Common.{length-append, Bool, true, false}
 use Rattle.pip_search.specs.Again.{HasClosed, IsEdge, ShowsAt, ShowsOther}
-use Rattle.pip_search.specs.Comes.{AreCut, AreFalling, GoesDown, HasEach, HasOneOf, IsAvoided, IsCut, IsHidden, IsPassed, IsReady}
+use Rattle.pip_search.specs.Comes.{AreCutEdges, AreFalling, GoesDown, HasEach, HasOneOf, IsAvoided, IsCutEdge, IsHidden, IsRanked, HasRank}
 use Rattle.pip_search.specs.Comes.{IsWalk, times_over}
 use Rattle.pip_search.specs.Keys.{Keyed, key_of, step_of, steps_of, visits_of}
 use Rattle.pip_search.specs.Orders.{IsTrail}
@@ -31,11 +31,11 @@ use Rattle.pip_search.proofs.Tracing.{way_trail}
 -- ---- choices that are cut, one more
 
 module _ (m : Model) (vs : List Keyed) (label : List ℕ) (width : ℕ) where
-  pub cut_more : (targets : List ℕ) (i c to : ℕ) (u : Keyed) → AreCut m vs label width targets
-      → length targets ≡ i * width + c → c < width → slice_get vs i ≡ Some u → IsCut m vs (key_of u) c label to
-      → AreCut m vs label width (targets ++ to ∷ [])
+  pub cut_more : (targets : List ℕ) (i c to : ℕ) (u : Keyed) → AreCutEdges m vs label width targets
+      → length targets ≡ i * width + c → c < width → slice_get vs i ≡ Some u → IsCutEdge m vs (key_of u) c label to
+      → AreCutEdges m vs label width (targets ++ to ∷ [])
   cut_more targets i c to u all count low at edge e v within there = elim (cases_lt e (length targets)) [
-    | inl old ↦ subst (IsCut m vs (key_of v) (e % width) label) (sym (get_or-append targets (to ∷ []) 0 e old))
+    | inl old ↦ subst (IsCutEdge m vs (key_of v) (e % width) label) (sym (get_or-append targets (to ∷ []) 0 e old))
         (all e v old there)
     | inr most ↦
         let long = length-append targets (to ∷ []) in
@@ -45,20 +45,20 @@ module _ (m : Model) (vs : List Keyed) (label : List ℕ) (width : ℕ) where
         let same : u ≡ v = at-same vs i u v at (ap (slice_get vs) (sym row) ∙ there) in
         let last : slice_index (targets ++ to ∷ []) e ≡ to = ap (slice_index (targets ++ to ∷ [])) (is ∙ sym count)
         ∙ get_or-append_seam targets to [] 0 in
-        subst (IsCut m vs (key_of v) (e % width) label) (sym last)
-        (subst (λ k. IsCut m vs (key_of v) k label to) (sym column)
-        (subst (λ w. IsCut m vs (key_of w) c label to) same edge))
+        subst (IsCutEdge m vs (key_of v) (e % width) label) (sym last)
+        (subst (λ k. IsCutEdge m vs (key_of v) k label to) (sym column)
+        (subst (λ w. IsCutEdge m vs (key_of w) c label to) same edge))
   ]
 
-  pub none_cut : (targets : List ℕ) → targets ≡ [] → AreCut m vs label width targets
+  pub none_cut : (targets : List ℕ) → targets ≡ [] → AreCutEdges m vs label width targets
   none_cut targets none e u low at = absurd (let z : length targets ≡ 0 = ap length none in omega arith)
 
 -- ---- choices that pass
 
-module _ (m : Model) (vs : List Keyed) (label targets : List ℕ) (cut : AreCut m vs label m.choices targets)
+module _ (m : Model) (vs : List Keyed) (label targets : List ℕ) (cut : AreCutEdges m vs label m.choices targets)
     (few : length vs < 2 ^ 32) where
   pub are_falling : (classes ranks helpers : List ℕ) (columns : ℕ) → length targets ≡ length vs * m.choices
-      → ((e : ℕ) → e < length targets → IsPassed classes ranks helpers columns m.choices targets e)
+      → ((e : ℕ) → e < length targets → IsRanked classes ranks helpers columns m.choices targets e)
       → AreFalling m vs label classes ranks helpers columns
   are_falling classes ranks helpers columns count passed j c u at low =
       let width = m.choices in
@@ -68,12 +68,12 @@ module _ (m : Model) (vs : List Keyed) (label targets : List ℕ) (cut : AreCut 
       let less : e < length targets = omega (arith, within, count) in
       let row : e / width ≡ j = div-mul-add j width c low in
       let column : e % width ≡ c = mod-mul-add j width c low in
-      let own : IsCut m vs (key_of u) c label (slice_index targets e) =
-      subst (λ k. IsCut m vs (key_of u) k label (slice_index targets e)) column
+      let own : IsCutEdge m vs (key_of u) c label (slice_index targets e) =
+      subst (λ k. IsCutEdge m vs (key_of u) k label (slice_index targets e)) column
       (cut e u less (ap (slice_get vs) row ∙ at)) in
       let pass = passed e less in
       record {
-        ready = subst (IsReady classes ranks helpers columns) row pass.ready;
+        ready = subst (HasRank classes ranks helpers columns) row pass.ready;
         down = elim own [
           | inl shows ↦ inl shows.1
           | inr edge ↦ elim pass.down [
@@ -116,9 +116,9 @@ module _ (m : Model) (vs : List Keyed) (label targets : List ℕ) (cut : AreCut 
       let e = i * width + c in
       let row : e / width ≡ i = div-mul-add i width c low in
       let column : e % width ≡ c = mod-mul-add i width c low in
-      let own : IsCut m vs (key_of p.visit) c label k =
-      subst (IsCut m vs (key_of p.visit) c label) is
-      (subst (λ d. IsCut m vs (key_of p.visit) d label (slice_index targets e)) column
+      let own : IsCutEdge m vs (key_of p.visit) c label k =
+      subst (IsCutEdge m vs (key_of p.visit) c label) is
+      (subst (λ d. IsCutEdge m vs (key_of p.visit) d label (slice_index targets e)) column
       (cut e p.visit less (ap (slice_get vs) row ∙ p.at))) in
       elim own [
         | inl shows ↦ absurd (ne shows.0)
@@ -179,7 +179,7 @@ each_reverse classes cs each c some =
 -- ---- what is said of a search
 
 pub is_avoided : (m : Model) (start : List ℕ) (z : Search) → HasClosed m start z → (label classes targets : List ℕ)
-    → AreCut m (visits_of z) label m.choices targets → length (visits_of z) < 2 ^ 32 → (j : ℕ)
+    → AreCutEdges m (visits_of z) label m.choices targets → length (visits_of z) < 2 ^ 32 → (j : ℕ)
     → j < length (visits_of z) → (cs : List ℕ) → IsWalk targets m.choices j (reverse cs) j → 0 < length cs
     → HasEach classes cs → (x : m.State) → m.stands start x
     → IsAvoided m classes x label (way_to z.visits.items j) (reverse cs)
@@ -211,7 +211,7 @@ is_avoided m start z h label classes targets cut few j low cs walk some each x s
 
 pub cut_is : (m : Model) (vs : List Keyed) (key label : List ℕ) (c to t : ℕ) (b : Bool) → IsEdge m vs key c to
     → (b ≡ true → ShowsAt m key c label) → (b ≡ false → ShowsOther m key c label) → (b ≡ true → t ≡ 0xffffffff)
-    → (b ≡ false → t ≡ to) → IsCut m vs key c label t
+    → (b ≡ false → t ≡ to) → IsCutEdge m vs key c label t
 cut_is m vs key label c to t true edge shows other end here = inl (end refl, shows refl)
 cut_is m vs key label c to t false edge shows other end here =
     inr (subst (IsEdge m vs key c) (sym (here refl)) edge, other refl)

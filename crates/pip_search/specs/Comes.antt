@@ -25,13 +25,13 @@ pub record HasOneOf (classes cs : List ℕ) (class : ℕ) : Type 0 where
 abbrev pub HasEach : List ℕ → List ℕ → Type 0
 HasEach classes cs = (c : ℕ) → 0 < slice_index classes c → HasOneOf classes cs (slice_index classes c)
 
--- each class has a window, a number: among so many of these choices that come one after the other is one of the class
+-- each class has a window, a number n: among any n of these choices in a row is one of the class
 abbrev pub AreFair : List ℕ → (ℕ → ℕ) → List ℕ → Type 0
 AreFair classes windows cs = (c : ℕ) (later some first : List ℕ) → 0 < slice_index classes c
     → cs ≡ later ++ (some ++ first) → length some ≡ windows (slice_index classes c)
     → HasOneOf classes some (slice_index classes c)
 
--- so many windows of each class, from class k on
+-- the sum of these counts, each times the window of its class, from class k on
 abbrev pub in_windows : (ℕ → ℕ) → ℕ → List ℕ → ℕ
 in_windows windows k [] = 0
 in_windows windows k (n ∷ ns) = windows k * n + in_windows windows (suc k) ns
@@ -44,8 +44,8 @@ pub record IsShownSoon (m : Model) (s : m.State) (label cs : List ℕ) (n : ℕ)
   pub shown : IsShownOn m s label first
   pub soon : length first ≤ n
 
--- wherever choices lead, whatever choices are made next, fair by some windows: if there are as many as so many windows
--- of each class, class 0 counted too, these show the label
+-- wherever choices lead, whatever choices are made next, fair by some windows: if there are as many as the sum of
+-- these counts times the windows of the classes, class 0 too, they show the label
 abbrev pub MustCome : (m : Model) → List ℕ → m.State → List ℕ → List ℕ → Type 0
 MustCome m classes s label counts = (before cs : List ℕ) (windows : ℕ → ℕ) → AreChoices m before → AreChoices m cs
     → ((k : ℕ) → 0 < windows k) → AreFair classes windows cs → in_windows windows 0 counts ≤ length cs
@@ -80,13 +80,13 @@ abbrev pub rank_at : List ℕ → ℕ → ℕ → ℕ → ℕ
 rank_at ranks columns j k = slice_index ranks (j * columns + k)
 
 -- visit j has a rank in the column of its helpful class
-pub record IsReady (classes ranks helpers : List ℕ) (columns j : ℕ) : Type 0 where
+pub record HasRank (classes ranks helpers : List ℕ) (columns j : ℕ) : Type 0 where
   pub inside : helpful classes helpers j < columns
   pub some : 0 < rank_at ranks columns j (helpful classes helpers j)
 
 -- no rank of visit t is above that of visit j
-abbrev pub IsBelow : List ℕ → ℕ → ℕ → ℕ → Type 0
-IsBelow ranks columns j t = (k : ℕ) → k < columns → rank_at ranks columns t k ≤ rank_at ranks columns j k
+abbrev pub NoneRises : List ℕ → ℕ → ℕ → ℕ → Type 0
+NoneRises ranks columns j t = (k : ℕ) → k < columns → rank_at ranks columns t k ≤ rank_at ranks columns j k
 
 -- from visit j to visit t the helpful class stays the same, by a choice of another class
 pub record IsLevel (classes helpers : List ℕ) (j c t : ℕ) : Type 0 where
@@ -96,32 +96,33 @@ pub record IsLevel (classes helpers : List ℕ) (j c t : ℕ) : Type 0 where
 
 -- no rank rises, and that of the helpful class falls, or it is so
 pub record GoesDown (classes ranks helpers : List ℕ) (columns j c t : ℕ) : Type 0 where
-  pub below : IsBelow ranks columns j t
+  pub below : NoneRises ranks columns j t
   pub down : (rank_at ranks columns t (helpful classes helpers j) < rank_at ranks columns j (helpful classes helpers j))
       ⊎ IsLevel classes helpers j c t
 
 -- a choice in the states of a key shows the label, or leads to visit t
-abbrev pub IsCut : Model → List Keyed → List ℕ → ℕ → List ℕ → ℕ → Type 0
-IsCut m vs key c label t = ((t ≡ 0xffffffff) × ShowsAt m key c label) ⊎ (IsEdge m vs key c t × ShowsOther m key c label)
+abbrev pub IsCutEdge : Model → List Keyed → List ℕ → ℕ → List ℕ → ℕ → Type 0
+IsCutEdge m vs key c label t = ((t ≡ 0xffffffff) × ShowsAt m key c label) ⊎ (IsEdge m vs key c t × ShowsOther m key c label)
 
 -- so of each choice of visits, `width` of each
-abbrev pub AreCut : Model → List Keyed → List ℕ → ℕ → List ℕ → Type 0
-AreCut m vs label width targets = (e : ℕ) (u : Keyed) → e < length targets → slice_get vs (e / width) ≡ Some u
-    → IsCut m vs (key_of u) (e % width) label (slice_index targets e)
+abbrev pub AreCutEdges : Model → List Keyed → List ℕ → ℕ → List ℕ → Type 0
+AreCutEdges m vs label width targets = (e : ℕ) (u : Keyed) → e < length targets → slice_get vs (e / width) ≡ Some u
+    → IsCutEdge m vs (key_of u) (e % width) label (slice_index targets e)
 
 -- a choice that is cut shows the label, or it goes down
-pub record IsPassed (classes ranks helpers : List ℕ) (columns width : ℕ) (targets : List ℕ) (e : ℕ) : Type 0 where
-  pub ready : IsReady classes ranks helpers columns (e / width)
+pub record IsRanked (classes ranks helpers : List ℕ) (columns width : ℕ) (targets : List ℕ) (e : ℕ) : Type 0 where
+  pub ready : HasRank classes ranks helpers columns (e / width)
   pub down : (slice_index targets e ≡ 0xffffffff)
       ⊎ GoesDown classes ranks helpers columns (e / width) (e % width) (slice_index targets e)
 
 -- each choice of each visit shows the label, or leads down
 pub record IsFalling (m : Model) (vs : List Keyed) (label classes ranks helpers : List ℕ) (columns j c : ℕ) (u : Keyed) :
     Type 0 where
-  pub ready : IsReady classes ranks helpers columns j
+  pub ready : HasRank classes ranks helpers columns j
   pub down : ShowsAt m (key_of u) c label
       ⊎ ((t : ℕ) × (IsEdge m vs (key_of u) c t × GoesDown classes ranks helpers columns j c t))
 
+-- and so of all choices of all visits
 abbrev pub AreFalling : Model → List Keyed → List ℕ → List ℕ → List ℕ → List ℕ → ℕ → Type 0
 AreFalling m vs label classes ranks helpers columns = (j c : ℕ) (u : Keyed) → slice_get vs j ≡ Some u → c < m.choices
     → IsFalling m vs label classes ranks helpers columns j c u
@@ -134,11 +135,11 @@ IsWalk targets width j (c ∷ cs) k = (i : ℕ) × (IsWalk targets width j cs i
     × ((slice_index targets (i * width + c) ≡ k) × (k ≢ 0xffffffff)))))
 
 -- what is said of a label that a search from s asks for, by its visits
-abbrev pub IsSaid : (m : Model) → List ℕ → m.State → List ℕ → List Visit → Coming → Type 0
-IsSaid m classes s label vs (Within counts) = MustCome m classes s label counts.items
-IsSaid m classes s label vs (Avoided place choices) = (place < length vs)
+abbrev pub ComingHolds : (m : Model) → List ℕ → m.State → List ℕ → List Visit → Coming → Type 0
+ComingHolds m classes s label vs (Within counts) = MustCome m classes s label counts.items
+ComingHolds m classes s label vs (Avoided place choices) = (place < length vs)
     × IsAvoided m classes s label (way_to vs place) (reverse choices.items)
-IsSaid m classes s label vs Unknown = Unit {0}
+ComingHolds m classes s label vs Unknown = Unit {0}
 
 -- The law on labels that come: no loop avoids them
 abbrev pub ComingIsNotAvoided : Model → Type 0

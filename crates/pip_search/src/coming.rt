@@ -2,8 +2,8 @@
 ghost use Rattle.std.specs.Prelude.{◌≡◌, ℕ, ◌<◌, ◌≤◌, ◌+◌, ◌*◌, ◌/◌, ◌%◌, ◌^◌, ◌∷◌, ◌⊎◌, IfOk, IsTrue, List, false, length, reverse};
 ghost use Rattle.std.specs.Prelude.{Some, slice_index};
 ghost use Rattle.pip_search.specs.Again.{HasClosed};
-ghost use Rattle.pip_search.specs.Comes.{AreCut, GoesDown, HasEach, HasOneOf, IsBelow, IsLevel, IsPassed, IsReady};
-ghost use Rattle.pip_search.specs.Comes.{IsSaid, IsWalk, helpful, rank_at};
+ghost use Rattle.pip_search.specs.Comes.{AreCutEdges, GoesDown, HasEach, HasOneOf, NoneRises, IsLevel, IsRanked, HasRank};
+ghost use Rattle.pip_search.specs.Comes.{ComingHolds, IsWalk, helpful, rank_at};
 ghost use Rattle.pip_search.specs.Keys.{visits_of};
 ghost use Rattle.pip_search.specs.Summary.{HasOneKey};
 ghost use Rattle.pip_search.specs.Systems.{IsKey};
@@ -61,10 +61,10 @@ fn cut_around<S: System>(
     requires closed { HasClosed (S.model (S.base system.old)) start.now search.now }
     requires place { i < length search.now.visits.items }
     requires few { length search.now.visits.items < 2 ^ 32 }
-    requires cut { AreCut (S.model (S.base system.old)) (visits_of search.now) label.now
+    requires cut { AreCutEdges (S.model (S.base system.old)) (visits_of search.now) label.now
         (S.model (S.base system.old)).choices targets.old.items }
     requires count { length targets.old.items ≡ i * (S.model (S.base system.old)).choices }
-    ensures cut { IfOk result (λ _. AreCut (S.model (S.base system.old)) (visits_of search.now) label.now
+    ensures cut { IfOk result (λ _. AreCutEdges (S.model (S.base system.old)) (visits_of search.now) label.now
         (S.model (S.base system.old)).choices targets.new.items) }
     ensures count { IfOk result (λ _. length targets.new.items ≡ (i + 1) * (S.model (S.base system.old)).choices) }
     ensures base { S.base system.new ≡ S.base system.old }
@@ -90,7 +90,7 @@ fn cut_everywhere<S: System>(
     requires one { HasOneKey (S.model (S.base system.old)) }
     requires closed { HasClosed (S.model (S.base system.old)) start.now search.now }
     requires few { length search.now.visits.items < 2 ^ 32 }
-    ensures cut { IfOk result (λ r. AreCut (S.model (S.base system.old)) (visits_of search.now) label.now
+    ensures cut { IfOk result (λ r. AreCutEdges (S.model (S.base system.old)) (visits_of search.now) label.now
         (S.model (S.base system.old)).choices r.items) }
     ensures count { IfOk result (λ r. length r.items ≡ length search.now.visits.items
         * (S.model (S.base system.old)).choices) }
@@ -127,7 +127,7 @@ fn rank_of(ranks: &[u32], columns: u32, place: u32, column: u32) -> u32
 
 // Whether no rank of a visit is above that of another.
 fn is_below(ranks: &[u32], columns: u32, from: u32, to: u32) -> bool
-    ensures { IsTrue result → IsBelow ranks.now columns from to }
+    ensures { IsTrue result → NoneRises ranks.now columns from to }
 {
     for column in 0..columns {
         if rank_of(ranks, columns, to, column) > rank_of(ranks, columns, from, column) {
@@ -187,7 +187,7 @@ fn goes_down(
 
 // Whether a visit has a rank in the column of its helpful class.
 fn is_ready(classes: &[u32], ranks: &[u32], helpers: &[u32], columns: u32, place: u32) -> bool
-    ensures { IsTrue result → IsReady classes.now ranks.now helpers.now columns place }
+    ensures { IsTrue result → HasRank classes.now ranks.now helpers.now columns place }
 {
     let class = helpful_at(classes, helpers, place as usize);
     let rank = rank_of(ranks, columns, place, class);
@@ -205,7 +205,7 @@ fn passes(
     edge: usize,
 ) -> bool
     requires width { 0 < width }
-    ensures { IsTrue result → IsPassed classes.now ranks.now helpers.now columns width targets.now edge }
+    ensures { IsTrue result → IsRanked classes.now ranks.now helpers.now columns width targets.now edge }
 {
     let place = edge / width;
     if place > 0xffffffff {
@@ -236,7 +236,7 @@ fn all_pass(
 ) -> bool
     requires width { 0 < width }
     ensures { IsTrue result → (e : ℕ) → e < length targets.now
-        → IsPassed classes.now ranks.now helpers.now columns width targets.now e }
+        → IsRanked classes.now ranks.now helpers.now columns width targets.now e }
 {
     for edge in 0..targets.len() {
         if !passes(classes, ranks, helpers, columns, width, targets, edge) {
@@ -374,7 +374,7 @@ pub fn must_come<S: System>(
     requires classes { length classes.now ≤ (S.model (S.base system.old)).choices }
     ensures said { IfOk result (λ r. (x : (S.model (S.base system.old)).State)
         → (S.model (S.base system.old)).stands start.now x
-        → IsSaid (S.model (S.base system.old)) classes.now x label.now search.now.visits.items r) }
+        → ComingHolds (S.model (S.base system.old)) classes.now x label.now search.now.visits.items r) }
     ensures base { S.base system.new ≡ S.base system.old }
 {
     let Some(columns) = highest(classes).checked_add(1) else {

@@ -15,7 +15,7 @@ pub(crate) struct Ranks {
 
 // A place whose choices before one were followed, and the index that it got.
 #[derive(Clone, Copy)]
-struct Frame {
+struct Opened {
     place: u32,
     choice: u32,
     index: u32,
@@ -36,7 +36,7 @@ struct Walk {
     marks: Vec<u32>,
     // The places that were left, and whose component isn't known.
     stack: Vec<u32>,
-    frames: Vec<Frame>,
+    frames: Vec<Opened>,
     index: u32,
     component: u32,
     // Per class: the last component that has an edge of it inside.
@@ -121,7 +121,7 @@ impl Walk {
 
     fn enter(&mut self, place: u32) -> Result<(), AllocError> {
         put(&mut self.marks, place as usize, self.index);
-        self.frames.push(Frame {
+        self.frames.push(Opened {
             place,
             choice: 0,
             index: self.index,
@@ -286,7 +286,7 @@ impl Walk {
         width: u32,
         classes: &[u32],
         columns: u32,
-        frame: Frame,
+        frame: Opened,
     ) -> Result<(), AllocError> {
         let begin = self.bottom(frame.index);
         self.stack.push(frame.place)?;
@@ -321,7 +321,7 @@ impl Walk {
             return Ok(false);
         };
         if frame.choice < width {
-            self.frames.push(Frame {
+            self.frames.push(Opened {
                 place: frame.place,
                 choice: frame.choice + 1,
                 index: frame.index,

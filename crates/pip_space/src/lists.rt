@@ -1,5 +1,6 @@
 //! The list of a partition's tables, when a table comes or goes.
-ghost use Rattle.std.specs.Prelude.{◌≡◌, ℕ, ◌<◌, ◌≤◌, ◌+◌, ◌*◌, ◌/◌, [], ◌++◌, List, Some, length, nat_lt, if◌then◌else◌};
+ghost use Rattle.std.specs.Prelude.{◌≡◌, ℕ, ◌<◌, ◌≤◌, ◌+◌, ◌*◌, ◌/◌, [], ◌++◌, List, Some, length, nat_lt};
+ghost use Rattle.std.specs.Prelude.{if◌then◌else◌};
 ghost use Rattle.pip_base.specs.declared.types.Pair.{Pair};
 ghost use Rattle.pip_config.specs.Lists.{ListIn, ListStays, IsPlaceOfTable};
 ghost use Rattle.pip_model.specs.Collect.{front_of, last_pair, swap_out};

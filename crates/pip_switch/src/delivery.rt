@@ -28,7 +28,8 @@ fn free_handler<M: Frames, L: Ledger>(
 ) -> Option<Ctx>
     requires stands { HasPartition (M.memory mem.now) part }
     requires vector { vector < 256 }
-    ensures handler { InEach (M.memory mem.now) part (λ t x. result ≡ free_handler (plain_world t cpus.now) part vector) }
+    ensures handler { InEach (M.memory mem.now) part
+        (λ t x. result ≡ free_handler (plain_world t cpus.now) part vector) }
     ensures steps { steps.new ≤ steps.old + 39 }
     ensures none { result ≡ None → steps.new ≤ steps.old + 7 }
 {
@@ -48,7 +49,8 @@ pub(crate) fn find_taker<M: Frames, L: Ledger>(
 ) -> Option<Taker>
     requires stands { HasPartition (M.memory mem.now) part }
     requires vector { vector < 256 }
-    ensures taker { InEach (M.memory mem.now) part (λ t x. result ≡ nearest_taker (plain_world t cpus.now) part vector) }
+    ensures taker { InEach (M.memory mem.now) part
+        (λ t x. result ≡ nearest_taker (plain_world t cpus.now) part vector) }
     ensures steps { steps.new ≤ steps.old + 8 * length (M.memory mem.now) + 33 }
     ensures chain { InEach (M.memory mem.now) part (λ t x. steps.new ≤ steps.old + 8 * length (chain t part) + 33) }
 {

@@ -1,5 +1,6 @@
 //! The call that switches.
-ghost use Rattle.std.specs.Prelude.{◌≡◌, ◌≢◌, ◌+◌, ◌<◌, ◌≤◌, ◌%◌, ◌==◌, ◌&&◌, ◌||◌, nat_le, false, not, IfOk, IfSome, Some};
+ghost use Rattle.std.specs.Prelude.{◌≡◌, ◌≢◌, ◌+◌, ◌<◌, ◌≤◌, ◌%◌, ◌==◌, ◌&&◌, ◌||◌, nat_le, false, not, IfOk, IfSome};
+ghost use Rattle.std.specs.Prelude.{Some};
 ghost use Rattle.std.specs.Prelude.{length, option_map, if◌then◌else◌};
 ghost use Rattle.std.specs.List.{list_any};
 ghost use Rattle.pip_model.specs.Answers.{five_of};
@@ -50,7 +51,8 @@ fn find_target<M: Frames, L: Ledger>(
 ) -> Option<Frame>
     requires stands { HasPartition (M.memory mem.now) caller }
     requires place { d ≢ 1 → d % 4096 ≡ 0 }
-    ensures target { InEach (M.memory mem.now) caller (λ t x. result ≡ option_map (λ y. y.name) (target_node t caller d)) }
+    ensures target { InEach (M.memory mem.now) caller
+        (λ t x. result ≡ option_map (λ y. y.name) (target_node t caller d)) }
     ensures steps { steps.new ≤ steps.old + 6 }
 {
     if d == 0 {

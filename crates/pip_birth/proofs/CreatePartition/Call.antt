@@ -1,5 +1,6 @@
 -- createPartition from one step of the code to the next.
-use Rattle.std.proofs.Common.{◌≡◌, ◌≢◌, ℕ, ◌+◌, ◌*◌, ◌≤◌, arith, ◌-◌, ◌/◌, List, [], ◌∷◌, ◌++◌, drop, get_or, length, take, inl, inr, refl}
+use Rattle.std.proofs.Common.{◌≡◌, ◌≢◌, ℕ, ◌+◌, ◌*◌, ◌≤◌, arith, ◌-◌, ◌/◌, List, [], ◌∷◌, ◌++◌, drop, get_or, length}
+use Rattle.std.proofs.Common.{take, inl, inr, refl}
 use Rattle.std.proofs.Common.{sym, ap, ◌∙◌, subst, Some, None}
 use Rattle.pip_base.specs.declared.types.Pair.{Pair}
 use Rattle.pip_base.specs.Words.{as_descriptor, shadow1_word}
@@ -101,7 +102,7 @@ module _ (t : Tree) (s : IsSound t) (p : ℕ) (x : Node) (found : find_node t p 
         midway = first_given.midway;
       }
 
-      -- in so many steps
+      -- within a bound on the steps
       pub created_in : (before between after : ℕ)
           → GivesPageIn p born (shadow1_word as_descriptor born) m before between
           → GivesPagesIn p born others (length others) m1 between after → after ≤ before + 35 * length (chain t p) + 10

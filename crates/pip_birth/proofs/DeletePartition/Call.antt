@@ -1,5 +1,6 @@
 -- deletePartition from one step of the code to the next.
-use Rattle.std.proofs.Common.{◌≡◌, ◌≢◌, ◌/◌, ℕ, zero, suc, inl, inr, true, false, List, [], ◌∷◌, refl, sym, ap, ◌∙◌, ◌+◌, ◌≤◌}
+use Rattle.std.proofs.Common.{◌≡◌, ◌≢◌, ◌/◌, ℕ, zero, suc, inl, inr, true, false, List, [], ◌∷◌, refl, sym, ap, ◌∙◌}
+use Rattle.std.proofs.Common.{◌+◌, ◌≤◌}
 use Rattle.std.proofs.Common.{subst, arith, Option, Some, None}
 use Rattle.std.specs.Prelude.{is_none, option_map}
 use Rattle.std.proofs.lemmas.Bool.{both_ways, false_from_ne_true}
@@ -57,7 +58,7 @@ child_ends m n p d c v says is t s laid e =
     let (y, can, name, up, born) = child_can t s p d c e in
     subst (λ k. LaysOut (tree_without_subtree t k) n) name (says t y can laid name up (ap vpage born ∙ sym is))
 
--- in so many steps
+-- within a bound on the steps
 pub child_ends_in : (m : Memory) (p d c v before after : ℕ) → EndsChildIn p c v m before after → v ≡ d / 4096
     → (t : Tree) → IsSound t → LaysOut t m → IsChildAt t p d c
     → (after ≤ before + ending_work t p c) × (after ≤ before + most_ending_work t.frames)

@@ -73,7 +73,8 @@ pub fn delete_partition<M: Frames, L: Ledger>(
     requires running { HasPartitions (M.memory mem.old) running.now.items }
     ensures does { Does (λ t. delete_partition t running.now.items caller d) caller result 0
         (M.memory mem.old) (M.memory mem.new) }
-    ensures subtree { InEach (M.memory mem.old) caller (λ t x. (c : ℕ) → IsChildAt t caller d c → steps.new ≤ steps.old + 6
+    ensures subtree { InEach (M.memory mem.old) caller
+        (λ t x. (c : ℕ) → IsChildAt t caller d c → steps.new ≤ steps.old + 6
         + 4 * length (M.memory mem.old) + ending_work t caller c) }
     ensures steps { steps.new ≤ steps.old + 6 + 4 * length (M.memory mem.old)
         + most_ending_work (length (M.memory mem.old)) }

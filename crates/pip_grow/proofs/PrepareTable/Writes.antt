@@ -1,5 +1,6 @@
 -- A child that is given a table, from one step of the code to the next.
-use Rattle.std.proofs.Common.{◌≡◌, ◌≢◌, ℕ, zero, suc, inl, inr, List, [], ◌++◌, refl, subst, sym, arith, Option, Some, ◌+◌, ◌*◌, ◌≤◌, length}
+use Rattle.std.proofs.Common.{◌≡◌, ◌≢◌, ℕ, zero, suc, inl, inr, List, [], ◌++◌, refl, subst, sym, arith, Option, Some}
+use Rattle.std.proofs.Common.{◌+◌, ◌*◌, ◌≤◌, length}
 use Rattle.std.proofs.Common.{None}
 use Rattle.pip_model.specs.Answers.{pair_frames}
 use Rattle.pip_base.specs.declared.types.Pair.{Pair}
@@ -19,7 +20,8 @@ use Rattle.pip_model.proofs.Trees.Lookup.{in_other}
 use Rattle.pip_model.proofs.OnLists.Members.{In-append_right}
 use Rattle.pip_model.specs.Prepare.{with_table}
 use Rattle.pip_space.specs.Tables.{CanInstall, HasInstall, page_list}
-use Rattle.pip_kern.specs.Giving.{CanGive, CanGiveEach, CanGivePages, HasGiven, rows_given, GivesFurtherPages, GivesPagesIn}
+use Rattle.pip_kern.specs.Giving.{CanGive, CanGiveEach, CanGivePages, HasGiven, rows_given, GivesFurtherPages}
+use Rattle.pip_kern.specs.Giving.{GivesPagesIn}
 use Rattle.std.proofs.lemmas.Nat.{mul-le}
 use Rattle.pip_kern.proofs.Giving.{giving_start}
 use Rattle.pip_grow.specs.Chain.{chain_pages}
@@ -104,10 +106,11 @@ module _ (t : Tree) (s : IsSound t) (caller : ℕ) (x : Node) (found : find_node
     unfolding list_each
     each = subst (CanGiveEach t y born) (sym list_is) list_each
 
-    -- in so many steps
+    -- within a bound on the steps
     pub given_in : (before between after : ℕ)
         → GivesPagesIn caller born (table_pairs b) (length (table_pairs b)) m before between
-        → GivesPagesIn caller born list (length list) m1 between after → after ≤ before + 28 * length (chain t caller) + 8
+        → GivesPagesIn caller born list (length list) m1 between after → after ≤ before + 28 * length
+        (chain t caller) + 8
     unfolding tables_each each tables_given
     given_in before between after one last =
         let first = one t y [] tables_each can.may.up (giving_start t s m lays y) in

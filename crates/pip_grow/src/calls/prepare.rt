@@ -57,7 +57,8 @@ pub fn prepare<M: Frames, L: Ledger>(
     steps: &mut Steps<L>,
 ) -> Result<u32, Status>
     requires { HasPartition (M.memory mem.old) caller }
-    ensures does { DoesWithValue (λ t. prepare t caller d cv first) caller result (M.memory mem.old) (M.memory mem.new) }
+    ensures does { DoesWithValue (λ t. prepare t caller d cv first) caller result (M.memory mem.old)
+        (M.memory mem.new) }
     ensures steps { steps.new ≤ steps.old + 28 * length (M.memory mem.old) + 74 }
     ensures chain { InEach (M.memory mem.old) caller (λ t x.
         steps.new ≤ steps.old + 28 * length (chain t caller) + 74) }

@@ -1,5 +1,6 @@
 -- A page of configuration that comes back and is zeroed.
-use Rattle.std.proofs.Common.{◌≡◌, ◌≤◌, ℕ, ◌+◌, ◌*◌, ◌<◌, ◌/◌, ◌%◌, cond, inl, inr, Bool, true, false, [], ◌∷◌, ◌++◌, sym}
+use Rattle.std.proofs.Common.{◌≡◌, ◌≤◌, ℕ, ◌+◌, ◌*◌, ◌<◌, ◌/◌, ◌%◌, cond, inl, inr, Bool, true, false, [], ◌∷◌, ◌++◌}
+use Rattle.std.proofs.Common.{sym}
 use Rattle.std.proofs.Common.{ap, ◌∙◌, subst, arith, length, refl, Some}
 use Rattle.pip_base.specs.Memory.{Memory, word_at, zero_frame}
 use Rattle.pip_model.specs.FullRows.{FullRow, row_word}
@@ -110,7 +111,7 @@ config_ends n b l parent_name leaves v number w f same word is says written t y 
     (is ∙ (ap (λ q. q / 4096) word
     ∙ (ap (λ q. word_at n leaves (q % 1024) / 4096) same ∙ frame_is t y can start n leaves v k c))) written
 
--- in so many steps
+-- within a bound on the steps
 pub config_in : (n : Memory) (parent_name leaves v before read after : ℕ) → read ≡ before + 1
     → TakesPageIn parent_name v n read after → EndsPageIn parent_name leaves v n before after
 config_in n parent_name leaves v before read after is says t y start can up c k =

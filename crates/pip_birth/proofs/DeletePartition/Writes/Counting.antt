@@ -1,5 +1,6 @@
 -- How many pages of configuration a child's end clears: each is another frame.
-use Rattle.std.proofs.Common.{◌≡◌, ℕ, suc, ◌+◌, ◌*◌, ◌<◌, ◌≤◌, ◌⊎◌, cond, inl, inr, true, List, [], ◌∷◌, refl, sym, ap, ◌∙◌}
+use Rattle.std.proofs.Common.{◌≡◌, ℕ, suc, ◌+◌, ◌*◌, ◌<◌, ◌≤◌, ◌⊎◌, cond, inl, inr, true, List, [], ◌∷◌, refl, sym, ap}
+use Rattle.std.proofs.Common.{◌∙◌}
 use Rattle.std.proofs.Common.{subst, arith, eq-eqb, length, ne_eqb, Some}
 use Rattle.std.specs.Prelude.{flat_map, is_some, map}
 use Rattle.std.proofs.lemmas.List.{length-map}
@@ -26,11 +27,13 @@ use Rattle.pip_model.proofs.Trees.Chains.{above_chain, chain-trans, chain_parent
 use Rattle.pip_model.proofs.Trees.Depth.{any_member, chain_differs, depth, depth_few, depth_some, depth_up}
 use Rattle.pip_model.proofs.Trees.Depth.{distinct_by_test, few_nodes}
 use Rattle.pip_model.proofs.Trees.Free.{hidden_from}
-use Rattle.pip_model.proofs.Trees.Lookup.{by_parents, cases_option, found_in, node_is, other_found, other_in, other_name}
+use Rattle.pip_model.proofs.Trees.Lookup.{by_parents, cases_option, found_in, node_is, other_found, other_in}
+use Rattle.pip_model.proofs.Trees.Lookup.{other_name}
 use Rattle.pip_model.proofs.Trees.Lookup.{root_found}
 use Rattle.pip_model.proofs.Trees.Numbers.{page_small}
 use Rattle.pip_model.proofs.Trees.RowLookup.{one_row}
-use Rattle.pip_birth.specs.Ending.{AreCleared, AreWalked, CanEnd, CountsWalked, EndsChildIn, IsConfiguration, ending_work}
+use Rattle.pip_birth.specs.Ending.{AreClearedPages, AreWalked, CanEnd, CountsWalked, EndsChildIn, IsConfiguration}
+use Rattle.pip_birth.specs.Ending.{ending_work}
 use Rattle.pip_birth.specs.Ending.{page_work}
 use Rattle.pip_birth.specs.Ending.{without}
 use Rattle.pip_birth.proofs.DeletePartition.Tree.{ended_sound, node_stays, open_then, other_stays, parent, y_goes}
@@ -39,12 +42,12 @@ use Rattle.pip_birth.proofs.DeletePartition.Writes.Steps.{ending_start}
 use Rattle.pip_birth.proofs.DeletePartition.Writes.Whole.{base_each, nothing_yet}
 
 -- none at first
-pub none_cleared : (t : Tree) (y : Node) → AreCleared t y 0 []
+pub none_cleared : (t : Tree) (y : Node) → AreClearedPages t y 0 []
 none_cleared t y = record { once = tt; held = λ g i. absurd i; place = λ g i. absurd i }
 
 -- further on they are still some
-pub cleared_further : (t : Tree) (y : Node) (k q : ℕ) (gs : List ℕ) → k ≤ q → AreCleared t y k gs
-    → AreCleared t y q gs
+pub cleared_further : (t : Tree) (y : Node) (k q : ℕ) (gs : List ℕ) → k ≤ q → AreClearedPages t y k gs
+    → AreClearedPages t y q gs
 cleared_further t y k q gs up c = record {
   once = c.once;
   held = c.held;
@@ -61,8 +64,8 @@ one_place t y can v w r q at there same =
     (sym (ap (λ z. z.frame) a_is) ∙ (same ∙ ap (λ z. z.frame) b_is))).1
 
 -- the next page of configuration is one more
-pub one_cleared : (t : Tree) (y : Node) (can : CanEnd t y) (leaves k v : ℕ) (gs : List ℕ) → k ≤ v → AreCleared t y k gs
-    → (c : IsConfiguration t y leaves v) → AreCleared t y (v + 1) (c.row.frame ∷ gs)
+pub one_cleared : (t : Tree) (y : Node) (can : CanEnd t y) (leaves k v : ℕ) (gs : List ℕ) → k ≤ v → AreClearedPages t y k gs
+    → (c : IsConfiguration t y leaves v) → AreClearedPages t y (v + 1) (c.row.frame ∷ gs)
 one_cleared t y can leaves k v gs up h c = record {
   once = (
     λ i. let (w, low, r, at, page) = h.place c.row.frame i in
@@ -120,14 +123,14 @@ module _ (t : Tree) (y : Node) (can : CanEnd t y) where
       ]
 
   -- so there are no more of them
-  pub few_cleared : (k : ℕ) (gs : List ℕ) → AreCleared t y k gs
+  pub few_cleared : (k : ℕ) (gs : List ℕ) → AreClearedPages t y k gs
       → length gs ≤ length (flat_map config (below t y.name))
   unfolding ended_config
   few_cleared k gs c = fewer gs (flat_map config (below t y.name)) c.once
       (λ g i. ended_config g (c.held g i).0 (c.held g i).1)
 
   -- nor than frames
-  pub few_frames : (k : ℕ) (gs : List ℕ) → AreCleared t y k gs → length gs ≤ t.frames
+  pub few_frames : (k : ℕ) (gs : List ℕ) → AreClearedPages t y k gs → length gs ≤ t.frames
   few_frames k gs c = length-le_from_distinct_below gs t.frames (distinct_by_test gs c.once)
       (λ g h. page_small t g can.sound y (inr (other_in t y.name y can.found)) (c.held g (any_member g gs h)).0)
 
@@ -202,7 +205,10 @@ pub one_walked : (x : Node) (from i : ℕ) (ws : List ℕ) → from ≤ i → is
 one_walked x from i ws up on w = record {
   once = (λ j. let low = w.small i j in absurd (omega (arith, low, up)), w.once);
   small = λ k j. elim j [ inl e ↦ omega (arith, e) | inr h ↦ let low = w.small k h in omega (arith, low, up) ];
-  tabled = λ k j. elim j [ inl e ↦ subst (λ z. is_some (table_at x.tables z) ≡ true) (sym e) on | inr h ↦ w.tabled k h ];
+  tabled = λ k j. elim j [
+    | inl e ↦ subst (λ z. is_some (table_at x.tables z) ≡ true) (sym e) on
+    | inr h ↦ w.tabled k h
+  ];
 }
 
 pub walked_further : (x : Node) (from to : ℕ) (ws : List ℕ) → from ≤ to → AreWalked x from ws → AreWalked x to ws

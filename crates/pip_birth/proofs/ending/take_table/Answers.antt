@@ -1,7 +1,7 @@
 use Rattle.std.proofs.Common.{◌+◌, ◌*◌, ◌∙◌, ◌∷◌, refl, subst, arith}
 use Rattle.pip_birth.proofs.DeletePartition.Writes.Freeing.{born_place, freed_to, has_page, next_ended, next_page}
 use Rattle.pip_birth.proofs.DeletePartition.Writes.Freeing.{tables_apart}
-use Rattle.pip_birth.specs.Ending.{AreCleared, EndsPageIn, IsEndingAt}
+use Rattle.pip_birth.specs.Ending.{AreClearedPages, EndsPageIn, IsEndingAt}
 use Rattle.pip_birth.proofs.DeletePartition.Writes.Counting.{cleared_further, one_cleared}
 use Rattle.pip_birth.proofs.ending.take_table.Goals as goal
 
@@ -67,7 +67,7 @@ loop-j-preserved g c =
           c.clear_page.ensures.steps t y start can up more here in
           let above = f.freed.1.order in (
             more.row.frame ∷ hs,
-            subst (λ k. AreCleared t y k (more.row.frame ∷ hs)) (omega arith)
+            subst (λ k. AreClearedPages t y k (more.row.frame ∷ hs)) (omega arith)
                 (one_cleared t y can c.table_for-leaves.result (1024 * c.args.i + c.loop-j.k)
                 (1024 * c.args.i + c.in-Some.j) hs (omega (arith, above)) there more),
             omega (arith, so, one, two),
@@ -92,7 +92,7 @@ loop-j-init g c = record {
   cleared = λ t y start gs can up place at cl.
       let one = c.table_for-leaves.ensures.steps in
       let two = c.table_for-shadow.ensures.steps in
-      (gs, subst (λ k. AreCleared t y k gs) (omega arith) cl, omega (arith, one, two));
+      (gs, subst (λ k. AreClearedPages t y k gs) (omega arith) cl, omega (arith, one, two));
 }
 
 pub returns-clause-steps : goal.returns-clause-steps

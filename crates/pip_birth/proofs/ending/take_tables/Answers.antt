@@ -1,5 +1,5 @@
 use Rattle.std.proofs.Common.{◌≡◌, ◌+◌, ◌*◌, ◌∙◌, [], ◌∷◌, true, Some, refl, subst, sym, arith}
-use Rattle.pip_birth.specs.Ending.{AreCleared}
+use Rattle.pip_birth.specs.Ending.{AreClearedPages}
 use Rattle.pip_birth.proofs.DeletePartition.Writes.Counting.{cleared_further, none_cleared, none_walked, one_walked}
 use Rattle.pip_birth.proofs.DeletePartition.Writes.Counting.{walked_further}
 use Rattle.pip_birth.proofs.DeletePartition.Writes.Freeing.{next_is}
@@ -76,7 +76,7 @@ loop-i-preserved g c = record {
         ks,
         one_walked x c.loop-i.from c.in-Some.i ws low
             (subst (λ z. is_some (table_at z.tables c.in-Some.i) ≡ true) same d.2) walked,
-        subst (λ k. AreCleared t y k ks) (omega arith) more,
+        subst (λ k. AreClearedPages t y k ks) (omega arith) more,
         omega (arith, so, then, next),
       );
 }

@@ -18,6 +18,9 @@ loop-place-preserved g c =
     record {
       least = omega arith;
       most = high;
-      written = rw (← between_joined xs c.args.start place (place + taken) low (omega arith), ← between_front xs place c.args.end taken few) (Appends-trans _ _ _ _ _ loop.written c.in-Ok.ensures.bytes);
+      written = rw (
+        ← between_joined xs c.args.start place (place + taken) low (omega arith),
+        ← between_front xs place c.args.end taken few,
+      ) (Appends-trans _ _ _ _ _ loop.written c.in-Ok.ensures.bytes);
       calm = c.in-Ok.ensures.cause.calm ∙ loop.calm;
     }

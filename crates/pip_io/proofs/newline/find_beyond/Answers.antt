@@ -17,7 +17,9 @@ loop-from-preserved c =
     record {
       inside = omega arith;
       plain = none_both c.loop-from.from c.args.bytes.now c.loop-from.invariant.plain 32
-          (rw (← take_rest c.args.bytes.now c.loop-from.from) (none_near rest (search (rules, arith)) c.newlines-marks.result c.newlines-marks.ensures c.if-marks-ne0.false));
+          (rw (← take_rest c.args.bytes.now c.loop-from.from)
+          (none_near rest (search (rules, arith)) c.newlines-marks.result c.newlines-marks.ensures
+          c.if-marks-ne0.false));
     }
 
 pub returns-in-Some : goal.returns-in-Some

@@ -1,7 +1,7 @@
 use Rattle.std.proofs.Common.{rules, ◌≡◌, ◌+◌, ◌*◌, ◌<◌, List, length, length-append, Some, slice_get}
 use Rattle.std.proofs.Common.{[], ◌∷◌, ◌++◌, true, false, refl, ap, sym, subst, ◌∙◌, arith}
 use Rattle.pip_search.specs.Again.{IsEdge, ShowsAt, ShowsOther}
-use Rattle.pip_search.specs.Comes.{AreCut, IsCut}
+use Rattle.pip_search.specs.Comes.{AreCutEdges, IsCutEdge}
 use Rattle.pip_search.specs.Keys.{key_of, visits_of}
 use Rattle.pip_search.specs.Summary.{HasOneKey}
 use Rattle.pip_search.specs.Systems.{IsKey}
@@ -45,17 +45,17 @@ loop-choice-preserved g c =
     let t = c.cut.result in
     let (u, at) = get-some vs c.args.i (omega (arith, c.requires.place, places)) in
     let is : from ≡ key_of u = h.hand u at in
-    let here : IsCut m vs (key_of u) n label t = subst (λ k. IsCut m vs k n label t) is
-    (subst (λ b. IsCut (g.S.System.model b) vs from n label t) h.base
+    let here : IsCutEdge m vs (key_of u) n label t = subst (λ k. IsCutEdge m vs k n label t) is
+    (subst (λ b. IsCutEdge (g.S.System.model b) vs from n label t) h.base
     (cut_is (g.S.System.model (g.S.System.base c.loop-choice.system)) vs from label n c.in_ok-to.to t c.in_ok-to.shown
     own.edge own.shows own.other c.cut.ensures.shown c.cut.ensures.other)) in
-    let all : AreCut m vs label m.choices (targets ++ t ∷ []) = cut_more m vs label m.choices targets c.args.i n t u
+    let all : AreCutEdges m vs label m.choices (targets ++ t ∷ []) = cut_more m vs label m.choices targets c.args.i n t u
     h.cut h.count (omega (arith, c.loop-choice-test.true, c.count-count.ensures)) at here in
     let long : length c.push.new.self.items ≡ length targets + 1 = ap length c.in_ok-push.ensures.items
     ∙ length-append targets (t ∷ []) in
     record {
       base = own.base ∙ h.base;
       hand = λ v e. own.hand ∙ h.hand v e;
-      cut = subst (AreCut m vs label m.choices) (sym c.in_ok-push.ensures.items) all;
+      cut = subst (AreCutEdges m vs label m.choices) (sym c.in_ok-push.ensures.items) all;
       count = omega (arith, long, h.count);
     }

@@ -1,5 +1,5 @@
 use Rattle.std.proofs.Common.{◌≡◌, ◌+◌, ◌*◌, length, refl, ap, sym, subst, ◌∙◌, arith}
-use Rattle.pip_search.specs.Comes.{AreCut}
+use Rattle.pip_search.specs.Comes.{AreCutEdges}
 use Rattle.pip_search.specs.Keys.{visits_of}
 use Rattle.pip_search.specs.Summary.{HasOneKey}
 use Rattle.pip_search.specs.Systems.{IsKey}
@@ -16,7 +16,7 @@ cut_around-requires-clause-one g c = subst (λ b. HasOneKey (g.S.System.model b)
 
 pub cut_around-requires-clause-cut : goal.cut_around-requires-clause-cut
 cut_around-requires-clause-cut g c = subst
-    (λ b. AreCut (g.S.System.model b) (visits_of c.args.search.now) c.args.label.now (g.S.System.model b).choices
+    (λ b. AreCutEdges (g.S.System.model b) (visits_of c.args.search.now) c.args.label.now (g.S.System.model b).choices
     c.loop-i.targets.items) (sym c.loop-i.invariant.base) c.loop-i.invariant.cut
 
 pub cut_around-requires-clause-count : goal.cut_around-requires-clause-count
@@ -41,7 +41,7 @@ loop-i-preserved g c =
     let own = c.in_ok-cut_around.ensures in
     record {
       base = own.base ∙ h.base;
-      cut = subst (λ b. AreCut (g.S.System.model b) vs c.args.label.now (g.S.System.model b).choices
+      cut = subst (λ b. AreCutEdges (g.S.System.model b) vs c.args.label.now (g.S.System.model b).choices
           c.cut_around.new.targets.items) h.base own.cut;
       count = subst (λ b. length c.cut_around.new.targets.items ≡ (c.loop-i.i + 1) * (g.S.System.model b).choices) h.base
           own.count;

@@ -11,7 +11,8 @@ next_table-requires-clause-table g c =
     (sym (c.directory-top.ensures.frame n.node n.cells n.is_in n.name)) (is_table _ n.node n.cells n.is_in Mmu)
 
 pub returns-clause-next : goal.returns-clause-next
-returns-clause-next g c x cells node name = next_index (g.M.Frames.memory c.args.mem.now) x cells node c.directory-top.result
+returns-clause-next g c x cells node name = next_index
+    (g.M.Frames.memory c.args.mem.now) x cells node c.directory-top.result
     (c.directory-top.ensures.frame x cells node name) c.args.from c.next_table.result c.next_table.ensures.first
 
 pub returns-then-table_count-eq0-clause-next : goal.returns-then-table_count-eq0-clause-next

@@ -12,5 +12,6 @@ returns-in-Some-clause-tree g c r runs t q s laid may is =
     ∙ sym c.index-as_slice-cpu.is ∙ c.in-Some.is) runs) (c.save_at.ensures.tree t q s laid may is)
 
 pub returns-in-None-clause-tree : goal.returns-in-None-clause-tree
-returns-in-None-clause-tree g c r runs t q s laid may is = absurd (none_or_some _ r (sym (cell_read _ _ c.as_slice.ensures.value
+returns-in-None-clause-tree g c r runs t q s laid may is = absurd
+    (none_or_some _ r (sym (cell_read _ _ c.as_slice.ensures.value
     c.args.cpu c.requires.cpu c.index-as_slice-cpu.result) ∙ sym c.index-as_slice-cpu.is ∙ c.in-None.is) runs)

@@ -77,7 +77,8 @@ pub returns-in-Ok-clause-tested : goal.returns-in-Ok-clause-tested
 returns-in-Ok-clause-tested g c w x s found =
     let named = sym c.in-Some.is ∙ c.find_target.ensures.target w.tree x s.sound.tree s.shows.laid found in
     let y = target_found w.tree s.sound.tree c.args.caller (five_of c.args.args.now).x0 c.in-Some.to named in
-    let handled = sym c.in-Some-find_handler.is ∙ c.find_handler.ensures.handler w.tree y.0 s.sound.tree s.shows.laid y.1 in
+    let handled = sym c.in-Some-find_handler.is ∙ c.find_handler.ensures.handler w.tree y.0 s.sound.tree
+    s.shows.laid y.1 in
     let placed = sym c.is_misplaced.ensures ∙ c.if-is_misplaced.false in
     let good = sym c.is_no_vector.ensures ∙ c.if-is_no_vector.false in
     let still = busy_in w c.args.cpus.now.items c.as_slice.result.now s.shows.cpus c.as_slice.ensures.value c.in-Some.to

@@ -37,7 +37,8 @@ returns-in-Ok-clause-event g c w r s runs =
     let told = c.in-Ok.ensures.tested w x.0 s x.1 in
     let q = yield_place w.tree c.args.caller (five_of c.args.args.now).x2 in
     let is = sym (runs_there _ _ c.args.cpu w s) ∙ runs in
-    let saved = c.save_to.ensures.tree (zeroed r) (zeroed_there _ _ c.args.cpu c.requires.cpu c.set_reply.ensures.set r is)
+    let saved = c.save_to.ensures.tree (zeroed r)
+    (zeroed_there _ _ c.args.cpu c.requires.cpu c.set_reply.ensures.set r is)
     w.tree q s.sound.tree s.shows.laid
     (yield_open w.tree c.args.caller (five_of c.args.args.now).x2 x.0 s.sound.tree x.1) told.1.2 in
     subst (λ o. Came (yield w c.args.cpu r (five_of c.args.args.now)) o (g.M.Frames.memory c.unmask.new.mem)

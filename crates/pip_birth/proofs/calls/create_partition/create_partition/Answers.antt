@@ -4,7 +4,8 @@ use Rattle.pip_model.specs.CreatePartition.{create_partition, tree_with_newborn}
 use Rattle.pip_model.proofs.Calls.Create.{create-sound}
 use Rattle.pip_model.proofs.Trees.Lookup.{found_is_name}
 use Rattle.pip_kern.proofs.Calls.{accepted-does, refused-does}
-use Rattle.pip_birth.proofs.CreatePartition.Call.{base_frames, created_in, created_laid, first_can, first_some, others_can}
+use Rattle.pip_birth.proofs.CreatePartition.Call.{base_frames, created_in, created_laid, first_can, first_some}
+use Rattle.pip_birth.proofs.CreatePartition.Call.{others_can}
 use Rattle.pip_birth.proofs.calls.create_partition.create_partition.Goals as goal
 
 pub returns-in-Err-clause-does : goal.returns-in-Err-clause-does
@@ -76,7 +77,8 @@ returns-clause-does g c =
 pub returns-clause-chain : goal.returns-clause-chain
 returns-clause-chain g c t x s lays found =
     let tests = c.in-Ok.ensures.steps in
-    let so = created_in t s c.args.caller x found c.args.pages.now c.in-Ok.base (c.in-Ok.ensures.tested t x s lays found)
+    let so = created_in t s c.args.caller x found c.args.pages.now c.in-Ok.base
+    (c.in-Ok.ensures.tested t x s lays found)
     (g.M.Frames.memory c.args.mem.now) lays c.of_address-born.result c.of_address-born.ensures
     (g.M.Frames.memory c.give_page.new.mem) c.give_page.ensures.given c.as_slice.result.now c.as_slice.ensures _
     c.give_page.new.steps _ c.give_page.ensures.chain c.give_pages.ensures.chain in

@@ -4,7 +4,8 @@ use Rattle.pip_birth.proofs.CreatePartition.Tests.{five_rows, row_missing}
 use Rattle.pip_birth.proofs.calls.create_partition.rows_at.Goals as goal
 
 pub returns-in_err-row_at-clause-rows : goal.returns-in_err-row_at-clause-rows
-returns-in_err-row_at-clause-rows g c t x s lays found = let five = c.told-pages in row_missing (full_rows t x) c.args.pages.now 0
+returns-in_err-row_at-clause-rows g c t x s lays found = let five = c.told-pages in row_missing
+    (full_rows t x) c.args.pages.now 0
     (omega arith) (c.in_err-row_at.ensures.row t x s lays found) c.from_residual.result c.from_residual.ensures
 
 pub returns-in_err-row_at-2-clause-rows : goal.returns-in_err-row_at-2-clause-rows

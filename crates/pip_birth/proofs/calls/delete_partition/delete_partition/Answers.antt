@@ -37,7 +37,8 @@ returns-clause-does g c =
     (λ t x s lays found. delete-sound t rs p d s)
     (λ t x s lays found.
     child_ends (g.M.Frames.memory c.args.mem.now) (g.M.Frames.memory c.end_child.new.mem) p d c.in-Ok.child
-    c.of_address.result c.end_child.ensures.tree c.of_address.ensures t s lays (c.in-Ok.ensures.tested t x s lays found).1)
+    c.of_address.result c.end_child.ensures.tree c.of_address.ensures t s lays
+    (c.in-Ok.ensures.tested t x s lays found).1)
 
 pub returns-clause-subtree : goal.returns-clause-subtree
 returns-clause-subtree g c t x s lays found k at =
@@ -46,7 +47,8 @@ returns-clause-subtree g c t x s lays found k at =
     c.check_delete.new.steps c.end_child.new.steps c.end_child.ensures.steps c.of_address.ensures t s lays tested.1 in
     let both : Some c.in-Ok.child ≡ Some k = sym tested.1 ∙ at in
     let same : c.in-Ok.child ≡ k = cc in
-    let there = subst (λ z. c.end_child.new.steps ≤ c.check_delete.new.steps + ending_work t c.args.caller z) same so.0 in
+    let there = subst (λ z. c.end_child.new.steps ≤ c.check_delete.new.steps + ending_work t c.args.caller
+    z) same so.0 in
     let tests = c.in-Ok.ensures.steps in
     let few = mul-le (length c.as_slice.result.now) (length (g.M.Frames.memory c.args.mem.now)) 4
     (length (g.M.Frames.memory c.args.mem.now)) c.as_slice.ensures.fits (omega arith) in
@@ -62,5 +64,6 @@ returns-clause-steps g c =
     let tests = c.in-Ok.ensures.steps in
     let few = mul-le (length c.as_slice.result.now) (length (g.M.Frames.memory c.args.mem.now)) 4
     (length (g.M.Frames.memory c.args.mem.now)) c.as_slice.ensures.fits (omega arith) in
-    let same = subst (λ n. c.end_child.new.steps ≤ c.check_delete.new.steps + most_ending_work n) (sym h.laid.count) so in
+    let same = subst (λ n. c.end_child.new.steps ≤ c.check_delete.new.steps + most_ending_work n)
+    (sym h.laid.count) so in
     omega (arith, same, tests, few)

@@ -33,9 +33,11 @@ returns-in_err-check_empty-clause-does g c =
     let i_is = ap (λ k. k / 1024) (c.number-i.ensures.same ∙ c.of_address.ensures) in
     rw (p.1, p.2) (
       table-never_ok r.tree a.caller a.d a.cv r.sound m r.laid child
-          (c.in_ok-child.ensures.child r.tree r.node r.sound r.laid r.found) i i_is q c.in_err-check_empty.ensures.tested,
+          (c.in_ok-child.ensures.child r.tree r.node r.sound r.laid r.found) i i_is q
+          c.in_err-check_empty.ensures.tested,
       refused-does a.caller (λ t. collect t a.caller a.d a.cv) m q (λ t x s lays found. collect-table_refused t a.caller
-          a.d a.cv s m lays child (c.in_ok-child.ensures.child t x s lays found) i i_is q c.in_err-check_empty.ensures.tested),
+          a.d a.cv s m lays child (c.in_ok-child.ensures.child t x s lays found) i i_is q
+          c.in_err-check_empty.ensures.tested),
     )
 
 pub take_table-requires-clause-can : goal.take_table-requires-clause-can

@@ -20,4 +20,10 @@ returns-clause-held g c =
     let whole : put ≡ count = omega arith in
     let part : between bytes self.end (self.end + count) ≡ now =
     cc (put_part self.bytes now self.end put fits long) in
-    rw (← between_joined bytes self.start self.end (self.end + count) self.order (omega arith), ← between_same self.bytes bytes self.start self.end self.order (sym (put_front self.bytes now self.end put fits long)), part, same)
+    rw (
+      ← between_joined bytes self.start self.end (self.end + count) self.order (omega arith),
+      ← between_same self.bytes bytes self.start self.end self.order
+          (sym (put_front self.bytes now self.end put fits long)),
+      part,
+      same,
+    )
