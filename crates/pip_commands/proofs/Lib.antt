@@ -11,6 +11,7 @@ pub mod Usage
 pub mod Asked
 pub mod Answered
 -- `dis`
+pub mod Driven
 pub mod Disassembly
 -- `asm`
 pub mod Assembling

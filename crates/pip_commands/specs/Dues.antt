@@ -5,15 +5,15 @@ use Rattle.std.specs.Io.KnownBytes.{IsAtEnd}
 use Rattle.arrayvec.specs.ArrayVec.{ArrayVec}
 use Rattle.pip_core_text.specs.Core.{BadAt, CoreText, Whole, core_text}
 use Rattle.pip_core_text.specs.CoreRead.{AreWholeLines, BeginsLines}
-use Rattle.pip_dis.specs.Writing.{parts_text}
-use Rattle.pip_image.specs.Reading.{EndsAtMost, parts_then}
+use Rattle.pip_dis.specs.Dues.{IsAtPart}
+use Rattle.pip_image.specs.Reading.{EndsAtMost}
 use Rattle.pip_input.specs.Lines.{HasNoNewline}
 use Rattle.pip_model.specs.Assembly.{LineFault, assembly}
 use Rattle.pip_model.specs.Audit.{Finding, Lays, Unread, Unsound, Differs, finding}
 use Rattle.pip_model.specs.DisText.{dis_text}
 use Rattle.pip_model.specs.Dump.{tree_text}
 use Rattle.pip_model.specs.Grammar.{line_meaning}
-use Rattle.pip_model.specs.Images.{Image, Part, PartsRead, image, image_parts}
+use Rattle.pip_model.specs.Images.{Image, image, image_parts}
 use Rattle.pip_model.specs.Run.{run_text, run_world}
 use Rattle.pip_model.specs.RunTexts.{core_run_text, stepped_world, tree_run_text}
 use Rattle.pip_model.specs.Soak.{soak_text, soak_world}
@@ -176,21 +176,11 @@ dis_answer text (Ok i) = Some (record { status = 0; front = text; last = None; w
 dis_answer text (Err e) =
     option_map (λ line. record { status = 2; front = text; last = Some line; world = None }) (image_line e)
 
--- these bytes are some parts and one more, whatever follows them. The front is the text of those, the last that
--- of the one
-pub record IsAtPart (bytes front last : List ℕ) : Type 0 where
-  pub done : List Part
-  pub part : Part
-  pub next : List ℕ → PartsRead
-  pub told : (rest : List ℕ) → image_parts (bytes ++ rest) ≡ parts_then (done ++ part ∷ []) (next rest)
-  pub before : front ≡ parts_text done
-  pub own : last ≡ parts_text (part ∷ [])
-
 -- `dis` writes the text of each part before it reads on, and takes no memory
 abbrev pub dis_due : Due
 dis_due = record (image_due (λ input v. dis_answer (dis_text input) (image input) ≡ Some v) (λ bytes left. ⊥)) {
   so_far = λ bytes text. EndsAtMost (image_parts bytes).fault × (text ≡ dis_text bytes);
-  midway = IsAtPart;
+  midway = IsAtPart image_parts;
 }
 
 -- this many frames have room for n children

@@ -1,5 +1,5 @@
 pub mod Joined
 pub mod Written
 pub mod Trimming
-pub mod Passing
+pub mod Steps
 pub mod RowTexts

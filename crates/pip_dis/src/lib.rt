@@ -13,4 +13,4 @@ mod lines;
 mod operands;
 mod output;
 
-pub use disassembler::{DisError, disassemble};
+pub use disassembler::{DisError, Disassembler, disassemble};

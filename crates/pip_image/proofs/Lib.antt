@@ -10,3 +10,4 @@ pub mod PageFill
 pub mod Held
 pub mod Loaded
 pub mod RisingPlans
+pub mod Fed

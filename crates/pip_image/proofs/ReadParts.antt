@@ -65,10 +65,10 @@ filled_calm k filled buf left left' before now p x r parses f size e = go filled
 
 -- ---- what is told from a place on
 
-abbrev from : ℕ → ℕ → ℕ → ℕ → List ℕ → ℕ → List ℕ → PartsRead
+abbrev pub from : ℕ → ℕ → ℕ → ℕ → List ℕ → ℕ → List ℕ → PartsRead
 from at line plans frames seen pages bs = plan_parts at line plans bs (λ at rest. page_parts frames seen at pages rest)
 
-coming_from : (p : Place) (at line plans frames : ℕ) (seen : List ℕ) (pages : ℕ) → p.at ≡ at → p.line ≡ line
+pub coming_from : (p : Place) (at line plans frames : ℕ) (seen : List ℕ) (pages : ℕ) → p.at ≡ at → p.line ≡ line
     → p.plans ≡ plans → p.frames ≡ frames → p.seen.items ≡ seen → p.pages ≡ pages
     → coming p ≡ from at line plans frames seen pages
 coming_from p at line plans frames seen pages a l e f s g = λ i. from (a i) (l i) (e i) (f i) (s i) (g i)
@@ -97,7 +97,7 @@ fields_open bytes few right =
     part_open 24 fields_of Head (λ f. from 24 0 f.plans f.frames [] f.pages) bytes fields_goes few right
 
 -- a plan is told next
-plan_next : (p : Place) (k : ℕ) → p.plans ≡ suc k → coming p
+pub plan_next : (p : Place) (k : ℕ) → p.plans ≡ suc k → coming p
     ≡ one_part (plan_at p.at p.line) Line (λ q. from (p.at + 12) (q.line + 1) k p.frames p.seen.items p.pages)
 plan_next p k e = coming_from p p.at p.line (suc k) p.frames p.seen.items p.pages refl refl e refl refl refl
 
@@ -130,7 +130,7 @@ plan_open p k bytes some few right =
     (λ y. from (p.at + 12) (y.line + 1) k p.frames p.seen.items p.pages) bytes (plan_goes p.at p.line) few right)
 
 -- a page is told next
-page_next : (p : Place) (k : ℕ) → p.plans ≡ 0 → p.pages ≡ suc k → coming p ≡ one_part (front_page p.frames p.seen.items
+pub page_next : (p : Place) (k : ℕ) → p.plans ≡ 0 → p.pages ≡ suc k → coming p ≡ one_part (front_page p.frames p.seen.items
     p.at) Holds (λ g. from (p.at + 4100) 0 0 p.frames (p.seen.items ++ g.vpage ∷ []) k)
 page_next p k none e = coming_from p p.at p.line 0 p.frames p.seen.items (suc k) refl refl none refl refl e
 

@@ -22,7 +22,7 @@ abbrev pub one_part : {A : Type 0} → (List ℕ → Result (A × List ℕ) Imag
     → List ℕ → PartsRead
 one_part p part next bs = goes_on (p bs) (λ x rest. part_before (part x) (next x rest))
 
-no_rest : (k n : ℕ) (r : List ℕ) → n ≤ k → n ≡ k + length r → r ≡ []
+pub no_rest : (k n : ℕ) (r : List ℕ) → n ≤ k → n ≡ k + length r → r ≡ []
 no_rest k n [] h e = refl
 no_rest k n (x ∷ r) h e = absurd (omega (arith, h, e))
 

@@ -2,7 +2,8 @@
 ghost use Rattle.pip_commands.specs.Dues.{dis_due};
 ghost use Rattle.pip_due.specs.Commands.{Fulfils, MayStart};
 
-use pip_dis::{DisError, disassemble};
+use pip_dis::Disassembler;
+use pip_drive::{FailedStream, drive};
 use pip_due::{Ended, end_at_image};
 use pip_io::{Sink, Source};
 use std::alloc::Global;
@@ -13,9 +14,10 @@ pub fn dis<S: Source, K: Sink>(_alloc: Global, source: &mut S, sink: &mut K) -> 
     requires paced { MayStart dis_due S.is_open S.allows S.told K.told source.old sink.old }
     ensures ends { Fulfils dis_due result S.told K.told source.old sink.old source.new sink.new }
 {
-    match disassemble(source, sink) {
-        Ok(()) => Ended::with_status(0),
-        Err(DisError::Image(fault)) => end_at_image(sink, fault),
-        Err(DisError::Write) => Ended::with_status(4),
+    match drive(&mut Disassembler::new(), source, sink) {
+        Ok(None) => Ended::with_status(0),
+        Ok(Some(fault)) => end_at_image(sink, fault),
+        Err(FailedStream::Read) => Ended::with_status(3),
+        Err(FailedStream::Write) => Ended::with_status(4),
     }
 }
