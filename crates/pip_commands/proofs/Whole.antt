@@ -93,7 +93,8 @@ module _ (a b c : Streams) (i : Held) (machine : Option State) (n : ℕ) (run : 
   read_all : (bytes beyond : List ℕ) → TakesLast i b c bytes beyond
       → Consumes a.left c.left ((run.lines ++ bytes) ++ beyond)
   read_all bytes beyond takes =
-      rw (append_assoc run.lines bytes beyond) (Consumes-trans a.left (bytes_coming i b) c.left run.lines (bytes ++ beyond) run.taken takes.read)
+      rw (append_assoc run.lines bytes beyond) (Consumes-trans a.left (bytes_coming i b) c.left run.lines
+      (bytes ++ beyond) run.taken takes.read)
 
   few_all : (bytes beyond : List ℕ) → TakesLast i b c bytes beyond → length (run.lines ++ bytes) ≤ max_input
   few_all bytes beyond takes =
@@ -107,7 +108,11 @@ module _ (a b c : Streams) (i : Held) (machine : Option State) (n : ℕ) (run : 
   -- the lines that were run are a script of their own
   pub told_lines : transcript run.lines ≡ record { text = run.text; ending = finished; world = run.world }
   told_lines =
-      rw (← append-nil run.lines, told_all [] (record { text = []; ending = finished; world = run.world }) refl, append-nil run.text)
+      rw (
+        ← append-nil run.lines,
+        told_all [] (record { text = []; ending = finished; world = run.world }) refl,
+        append-nil run.text,
+      )
 
   -- the text of what was run and of what is told after it
   text_all : (bytes : List ℕ) (t : Transcript) → transcript_from run.world n (lines_of bytes) ≡ t

@@ -1,20 +1,20 @@
 -- What is due before a part follows from what is due after it.
 use Rattle.std.proofs.Common.{◌≡◌, ◌≢◌, ℕ, true, false, List, [], ◌∷◌, ◌++◌, Some, None, Ok, Err, refl, sym, ap, ◌∙◌}
 use Rattle.std.proofs.Common.{append_assoc}
-use Rattle.pip_drive.specs.Due.{LeadsOn}
+use Rattle.pip_drive.specs.Due.{LeadsAfter}
 use Rattle.pip_image.specs.Feeding.{IsFaultAt, is_short}
 use Rattle.pip_image.specs.Reading.{EndsAtMost, no_more_parts}
 use Rattle.pip_model.specs.Images.{Part, PartsRead, part_before}
 use Rattle.pip_model.specs.declared.image.ImageError.{ImageError}
 use Rattle.pip_model.specs.declared.image.ImageError.TheVariants as F
-use Rattle.pip_dis.specs.Dues.{IsAtPart, IsFixed, IsTextOf, outcome, parts_due}
+use Rattle.pip_dis.specs.Dues.{IsAtPart, IsFixed, IsDisassembled, outcome, parts_due}
 use Rattle.pip_dis.specs.Writing.{parts_text}
 use Rattle.pip_dis.specs.declared.disassembler.DisError.TheVariants.{Image}
 use Rattle.pip_dis.proofs.Written.{parts_append}
 
 module _ (t u : List ℕ → PartsRead) (bytes : List ℕ) (p : Part)
     (is : (rest : List ℕ) → t (bytes ++ rest) ≡ part_before p (u rest)) where
-  pub part_leads : LeadsOn (parts_due t) (parts_due u) bytes (parts_text (p ∷ []))
+  pub part_leads : LeadsAfter (parts_due t) (parts_due u) bytes (parts_text (p ∷ []))
   part_leads = record {
     answer = λ more front last v h. record {
       is = rw (is more) h.is;
@@ -44,7 +44,7 @@ module _ (t u : List ℕ → PartsRead) (bytes : List ℕ) (p : Part)
 
 module _ (t : List ℕ → PartsRead) (k : ℕ) (bytes : List ℕ) (e : ImageError) (h : IsFaultAt t k bytes e) where
   -- a fault is answered
-  pub fault_answered : IsTextOf t bytes [] [] (Some e)
+  pub fault_answered : IsDisassembled t bytes [] [] (Some e)
   fault_answered = record {
     is = ap (λ t. t.fault) h.here;
     text = ap (λ t. parts_text t.parts) (sym h.here);
@@ -66,7 +66,7 @@ module _ (t : List ℕ → PartsRead) (k : ℕ) (bytes : List ℕ) (e : ImageErr
 
 -- at the end of an image
 module _ (t : List ℕ → PartsRead) (whole : t [] ≡ no_more_parts) where
-  pub whole_answered : IsTextOf t [] [] [] None
+  pub whole_answered : IsDisassembled t [] [] [] None
   whole_answered = record {
     is = ap (λ t. t.fault) whole;
     text = ap (λ t. parts_text t.parts) (sym whole);

@@ -12,7 +12,8 @@ use Rattle.pip_dis.specs.declared.disassembler.DisError.{DisError}
 use Rattle.pip_dis.specs.declared.disassembler.DisError.TheVariants.{Image, Write}
 
 -- these bytes have this fault, if they have one, and this is the text of the parts before it
-pub record IsTextOf (tell : List ℕ → PartsRead) (bytes front last : List ℕ) (fault : Option ImageError) : Type 0 where
+pub record IsDisassembled (tell : List ℕ → PartsRead) (bytes front last : List ℕ)
+    (fault : Option ImageError) : Type 0 where
   pub is : (tell bytes).fault ≡ fault
   pub text : front ≡ parts_text (tell bytes).parts
   pub none : last ≡ []
@@ -37,7 +38,7 @@ pub record IsAtPart (tell : List ℕ → PartsRead) (bytes front last : List ℕ
 -- the text of each part is out before more is read; it ends at the first fault, or with the image
 abbrev pub parts_due : (List ℕ → PartsRead) → DueOf (Option ImageError)
 parts_due tell = record {
-  answer = IsTextOf tell;
+  answer = IsDisassembled tell;
   enough = λ bytes fault. IsFixed tell bytes;
   so_far = λ bytes text. EndsAtMost (tell bytes).fault × (text ≡ parts_text (tell bytes).parts);
   midway = IsAtPart tell;

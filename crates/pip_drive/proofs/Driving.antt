@@ -1,5 +1,6 @@
 -- A transducer that is driven: what was read and written so far, and how it ends.
-use Rattle.std.proofs.Common.{◌≡◌, ◌≢◌, ◌⊎◌, Bool, true, false, inl, inr, ℕ, List, [], ◌++◌, Option, Some, None, refl, sym, subst, ◌∙◌}
+use Rattle.std.proofs.Common.{◌≡◌, ◌≢◌, ◌⊎◌, Bool, true, false, inl, inr, ℕ, List, [], ◌++◌, Option, Some, None, refl}
+use Rattle.std.proofs.Common.{sym, subst, ◌∙◌}
 use Rattle.std.proofs.Common.{append-nil, append_assoc, take, drop, take-append-drop}
 use Rattle.std.specs.Io.KnownBytes.{Consumes, IsAtEnd, Keeps as Keeps-known}
 use Rattle.std.proofs.KnownBytes.{Consumes-kept, Consumes-nil, Consumes-trans}
@@ -7,20 +8,20 @@ use Rattle.pip_io.specs.Causes.{RoseByOne}
 use Rattle.pip_io.specs.Moments.{NoneFailed, Streams}
 use Rattle.pip_io.specs.Taken.{Taken, Appends, GrowsInPart, GrowsPast, Keeps, SendsPart, SendsPast}
 use Rattle.pip_io.proofs.Taken.{Appends-kept, Appends-nil, Appends-trans, SendsPart-after, past_sent}
-use Rattle.pip_drive.specs.Due.{DueOf, LeadsOn, Loose}
+use Rattle.pip_drive.specs.Due.{DueOf, LeadsAfter, Loose}
 use Rattle.pip_drive.specs.Ends.{EndsWith, IsAnswer, IsCutShort, IsOut, Waits}
 
-pub LeadsOn-refl : {V : Type 0} (d : DueOf V) → LeadsOn d d [] []
-LeadsOn-refl d = record {
+pub LeadsAfter-refl : {V : Type 0} (d : DueOf V) → LeadsAfter d d [] []
+LeadsAfter-refl d = record {
   answer = λ more front last v h. h;
   enough = λ more v h. h;
   so_far = λ more said h. h;
   midway = λ more front last h. h;
 }
 
-pub LeadsOn-trans : {V : Type 0} (d e f : DueOf V) (bs t cs u : List ℕ) → LeadsOn d e bs t → LeadsOn e f cs u
-    → LeadsOn d f (bs ++ cs) (t ++ u)
-LeadsOn-trans {V} d e f bs t cs u x y = record {
+pub LeadsAfter-trans : {V : Type 0} (d e f : DueOf V) (bs t cs u : List ℕ) → LeadsAfter d e bs t → LeadsAfter e f cs u
+    → LeadsAfter d f (bs ++ cs) (t ++ u)
+LeadsAfter-trans {V} d e f bs t cs u x y = record {
   answer = λ more front last v h. subst (λ l. d.answer l ((t ++ u) ++ front) last v) (sym (append_assoc bs cs more))
       (subst (λ l. d.answer (bs ++ (cs ++ more)) l last v) (sym (append_assoc t u front))
       (x.answer (cs ++ more) (u ++ front) last v (y.answer more front last v h)));
@@ -42,7 +43,7 @@ pub record Driving {V : Type 0} (d e : DueOf V) (front : List ℕ) (a b : Stream
   pub wrote : Appends a.written b.written text
   pub start : a.written.held ≡ []
   pub calm : NoneFailed a b
-  pub leads : LeadsOn d e bytes text
+  pub leads : LeadsAfter d e bytes text
 
 pub starts : {V : Type 0} (d : DueOf V) (a : Streams) → a.written.held ≡ [] → Driving d d [] a a
 starts d a none = record {
@@ -52,7 +53,7 @@ starts d a none = record {
   wrote = Appends-nil a.written;
   start = none;
   calm = record { reads = refl; writes = refl };
-  leads = LeadsOn-refl d;
+  leads = LeadsAfter-refl d;
 }
 
 -- where nothing was held, nothing is what was out before
@@ -66,7 +67,7 @@ past_nothing a b text none part = record { grows = go a.out b.out a.held none pa
     go (Some xs) (Some ys) held none g = (g.0, subst (λ h. ys ≡ xs ++ ((h ++ []) ++ g.0)) (sym none) g.2)
 
 module _ {V : Type 0} (d e : DueOf V) (front : List ℕ) (a b : Streams) (x : Driving d e front a b) where
-  pub led : (f : DueOf V) → LeadsOn e f [] [] → LeadsOn d f x.bytes x.text
+  pub led : (f : DueOf V) → LeadsAfter e f [] [] → LeadsAfter d f x.bytes x.text
   led f leads = record {
     answer = λ more front last v h. x.leads.answer more front last v (leads.answer more front last v h);
     enough = λ more v h. x.leads.enough more v (leads.enough more v h);
@@ -75,7 +76,7 @@ module _ {V : Type 0} (d e : DueOf V) (front : List ℕ) (a b : Streams) (x : Dr
   }
 
   -- all that was written is out
-  pub settles : (f : DueOf V) (w : Taken) (k : ℕ) → LeadsOn e f [] [] → Keeps b.written w → k ≡ b.writes
+  pub settles : (f : DueOf V) (w : Taken) (k : ℕ) → LeadsAfter e f [] [] → Keeps b.written w → k ≡ b.writes
       → Driving d f front a (record b { written = w; writes = k })
   settles f w k leads kept same = record {
     bytes = x.bytes;
@@ -101,7 +102,7 @@ module _ {V : Type 0} (d e : DueOf V) (front : List ℕ) (a b : Streams) (x : Dr
   }
 
   -- some bytes of the front were taken, and their text was written
-  pub takes : (f : DueOf V) (count : ℕ) (front' t : List ℕ) (w : Taken) (k : ℕ) → LeadsOn e f (take count front) t
+  pub takes : (f : DueOf V) (count : ℕ) (front' t : List ℕ) (w : Taken) (k : ℕ) → LeadsAfter e f (take count front) t
       → front' ≡ drop count front → Appends b.written w t → k ≡ b.writes
       → Driving d f front' a (record b { written = w; writes = k })
   takes f count front' t w k leads is wrote same = record {
@@ -111,7 +112,7 @@ module _ {V : Type 0} (d e : DueOf V) (front : List ℕ) (a b : Streams) (x : Dr
     wrote = Appends-trans _ _ _ _ _ x.wrote wrote;
     start = x.start;
     calm = record { reads = x.calm.reads; writes = same ∙ x.calm.writes };
-    leads = LeadsOn-trans d e f x.bytes x.text (take count front) t x.leads leads;
+    leads = LeadsAfter-trans d e f x.bytes x.text (take count front) t x.leads leads;
   }
 
   -- it waits, and all that was written is out
@@ -149,7 +150,8 @@ module _ {V : Type 0} (d e : DueOf V) (front : List ℕ) (a b : Streams) (x : Dr
   module _ (t : List ℕ) (w : Taken) (k : ℕ) (part : SendsPart b.written w t) (rose : RoseByOne b.writes k)
       (loose : Bool) (law : loose ≡ true → Loose d) (way : (b.written.held ≡ []) ⊎ (loose ≡ true)) where
     cut : (t ≢ []) ⊎ (loose ≡ true)
-        → ((v : V) × IsAnswer d (x.bytes ++ front) (x.text ++ []) t b.left v) ⊎ d.midway (x.bytes ++ front) (x.text ++ []) t
+        → ((v : V) × IsAnswer d (x.bytes ++ front) (x.text ++ []) t b.left v) ⊎ d.midway (x.bytes ++ front)
+        (x.text ++ []) t
         → IsCutShort d loose a (record b { written = w; writes = k })
     cut some due =
         let all : SendsPart a.written w ((x.text ++ []) ++ t) =

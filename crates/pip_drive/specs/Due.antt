@@ -13,7 +13,7 @@ pub record DueOf (V : Type 0) : Type 1 where
   pub midway : (bytes front last : List ℕ) → Type 0
 
 -- what d asks for follows from what e asks for after these bytes, for which this text was written
-pub record LeadsOn {V : Type 0} (d e : DueOf V) (bytes text : List ℕ) : Type 0 where
+pub record LeadsAfter {V : Type 0} (d e : DueOf V) (bytes text : List ℕ) : Type 0 where
   pub answer : (more front last : List ℕ) (v : V) → e.answer more front last v
       → d.answer (bytes ++ more) (text ++ front) last v
   pub enough : (more : List ℕ) (v : V) → e.enough more v → d.enough (bytes ++ more) v

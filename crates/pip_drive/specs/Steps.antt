@@ -1,6 +1,6 @@
 -- What a step of a transducer does.
 use Rattle.std.specs.Prelude.{◌≡◌, ◌+◌, ◌<◌, ◌≤◌, ◌⊎◌, ℕ, Bool, true, false, List, [], length, take}
-use Rattle.pip_drive.specs.Due.{DueOf, LeadsOn}
+use Rattle.pip_drive.specs.Due.{DueOf, LeadsAfter}
 use Rattle.pip_drive.specs.declared.transducer.Step.{Step}
 use Rattle.pip_drive.specs.declared.transducer.Step.TheVariants.{Read, Say, Write, End}
 
@@ -13,7 +13,7 @@ module _ {M V : Type 0} (due : M → DueOf V) (room parts : M → ℕ) (is_loose
     pub fits : length front + n ≤ room new
     pub most : length front + n ≤ 16384
     pub none : text ≡ []
-    pub leads : LeadsOn (due old) (due new) [] []
+    pub leads : LeadsAfter (due old) (due new) [] []
     pub waits : (due new).so_far front []
     -- what was said before may still be on its way
     pub pending : is_loose ≡ true → (due new).midway front [] []
@@ -23,7 +23,7 @@ module _ {M V : Type 0} (due : M → DueOf V) (room parts : M → ℕ) (is_loose
   pub record Takes (count : ℕ) : Type 0 where
     pub few : count ≤ length front
     pub rest : length front ≤ count + room new
-    pub leads : LeadsOn (due old) (due new) (take count front) text
+    pub leads : LeadsAfter (due old) (due new) (take count front) text
     pub midway : (due old).midway front [] text
     pub fewer : parts new < parts old
 

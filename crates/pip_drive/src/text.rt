@@ -1,5 +1,5 @@
 //! The text of a step.
-ghost use Rattle.std.specs.Prelude.{◌≡◌, ◌+◌, ◌≤◌, ◌==◌, ◌++◌, [], length, take};
+ghost use Rattle.std.specs.Prelude.{◌≡◌, ◌+◌, ◌≤◌, ◌++◌, [], length};
 ghost use Rattle.pip_drive.specs.declared.text.TheConstants.{TEXT_ROOM};
 
 /// How many bytes the text of a step has at most.

@@ -130,7 +130,8 @@ plan_open p k bytes some few right =
     (λ y. from (p.at + 12) (y.line + 1) k p.frames p.seen.items p.pages) bytes (plan_goes p.at p.line) few right)
 
 -- a page is told next
-pub page_next : (p : Place) (k : ℕ) → p.plans ≡ 0 → p.pages ≡ suc k → coming p ≡ one_part (front_page p.frames p.seen.items
+pub page_next : (p : Place) (k : ℕ) → p.plans ≡ 0 → p.pages ≡ suc k → coming p ≡ one_part
+    (front_page p.frames p.seen.items
     p.at) Holds (λ g. from (p.at + 4100) 0 0 p.frames (p.seen.items ++ g.vpage ∷ []) k)
 page_next p k none e = coming_from p p.at p.line 0 p.frames p.seen.items (suc k) refl refl none refl refl e
 

@@ -25,7 +25,8 @@ pub after_both : (m : Model) (s : m.State) (cs ds : List ℕ)
 after_both m s [] ds = refl
 after_both m s (c ∷ cs) ds = ap (λ x. m.act x c) (after_both m s cs ds)
 
-pub all_of_both : (P : ℕ → Type 0) (cs ds : List ℕ) → AllByRecursion P (cs ++ ds) → AllByRecursion P cs × AllByRecursion P ds
+pub all_of_both : (P : ℕ → Type 0) (cs ds : List ℕ) → AllByRecursion P (cs ++ ds)
+    → AllByRecursion P cs × AllByRecursion P ds
 all_of_both P [] ds h = (tt, h)
 all_of_both P (c ∷ cs) ds h = let r = all_of_both P cs ds h.1 in ((h.0, r.0), r.1)
 
@@ -291,12 +292,14 @@ module _ (m : Model) (vs : List Keyed) (label classes ranks helpers : List ℕ) 
             (subst (AreChoices m) p.whole can) in
             let (hidden_later, hidden_first) = hidden_both m s label p.later p.first
             (subst (IsHidden m s label) p.whole hidden) in
-            let fair_both : AreFair classes windows (p.later ++ p.first) = subst (AreFair classes windows) p.whole fair in
+            let fair_both : AreFair classes windows (p.later ++ p.first) = subst
+            (AreFair classes windows) p.whole fair in
             let h = led j u s p.first at stands can_first hidden_first in
             let count = p.count in
             let less : rank h.place (helper j) < rank j (helper j) = falls j s p.first h (omega arith)
             (λ one. fair_first classes windows p.later p.first (slice_index helpers j) fair_both one p.count) in
-            let down : weight windows 0 columns (rank h.place) + windows (helper j) ≤ weight windows 0 columns (rank j) =
+            let down : weight windows 0 columns (rank h.place) + windows
+            (helper j) ≤ weight windows 0 columns (rank j) =
             weight_falls windows 0 columns (rank h.place) (rank j) (helper j) (λ d _ high. h.below d (omega arith))
             (omega arith) (omega arith) less in
             let rest = p.rest in
@@ -312,7 +315,8 @@ module _ (m : Model) (vs : List Keyed) (label classes ranks helpers : List ℕ) 
       → IsShownSoon m s label cs n
   comes_soon windows n j u s cs low some at stands can fair long =
       let p = split_at cs n long in
-      let (can_later, can_first) = all_of_both (λ c. c < m.choices) p.later p.first (subst (AreChoices m) p.whole can) in
+      let (can_later, can_first) = all_of_both (λ c. c < m.choices) p.later p.first
+      (subst (AreChoices m) p.whole can) in
       let fair_both : AreFair classes windows (p.later ++ p.first) = subst (AreFair classes windows) p.whole fair in
       elim (shown_or_hidden m s label p.first can_first) [
         | inl h ↦ record {
@@ -340,7 +344,8 @@ pub must_come : (m : Model) (start : List ℕ) (z : Search) → HasClosed m star
     → AreFalling m (visits_of z) label classes ranks helpers (length counts)
     → ((j d : ℕ) → d < length counts → rank_at ranks (length counts) j d ≤ slice_index counts d)
     → (x : m.State) → m.stands start x → MustCome m classes x label counts
-must_come m start z h label classes ranks helpers counts any falling low x stands before cs windows can_before can some fair long =
+must_come m start z h label classes ranks helpers counts any falling low x stands before cs windows can_before can
+    some fair long =
     let count = visit_count z h.searching.keyed in
     let all = h.all in
     let t : Tells m x (visits_of z) z.found.items (Closed 0) = closed_tells m start (visits_of z) z.found.items h.end 0
@@ -349,7 +354,8 @@ must_come m start z h label classes ranks helpers counts any falling low x stand
     comes_soon m (visits_of z) label classes ranks helpers (length counts) any falling windows
     (in_windows windows 0 counts) v.place v.visit (after_choices m x before) cs
     (weight_counts windows 0 counts (rank_at ranks (length counts) v.place) (λ d small.
-    subst (λ i. rank_at ranks (length counts) v.place i ≤ slice_index counts d) (plus d) (low v.place d small))) some v.at
+    subst (λ i. rank_at ranks (length counts) v.place i ≤ slice_index counts d) (plus d)
+    (low v.place d small))) some v.at
     v.stands can fair long
   where
     plus : (d : ℕ) → d ≡ 0 + d

@@ -9,7 +9,8 @@ use Rattle.std.proofs.Math.ListN.{get_or-append}
 use Rattle.std.proofs.Math.Seq.{get_or-append_seam}
 use Rattle.std.proofs.Common.{length-append, Bool, true, false}
 use Rattle.pip_search.specs.Again.{HasClosed, IsEdge, ShowsAt, ShowsOther}
-use Rattle.pip_search.specs.Comes.{AreCutEdges, AreFalling, GoesDown, HasEach, HasOneOf, IsAvoided, IsCutEdge, IsHidden, IsRanked, HasRank}
+use Rattle.pip_search.specs.Comes.{AreCutEdges, AreFalling, GoesDown, HasEach, HasOneOf, IsAvoided, IsCutEdge, IsHidden}
+use Rattle.pip_search.specs.Comes.{PassesRanks, HasRank}
 use Rattle.pip_search.specs.Comes.{IsWalk, times_over}
 use Rattle.pip_search.specs.Keys.{Keyed, key_of, step_of, steps_of, visits_of}
 use Rattle.pip_search.specs.Orders.{IsTrail}
@@ -58,7 +59,7 @@ module _ (m : Model) (vs : List Keyed) (label : List ℕ) (width : ℕ) where
 module _ (m : Model) (vs : List Keyed) (label targets : List ℕ) (cut : AreCutEdges m vs label m.choices targets)
     (few : length vs < 2 ^ 32) where
   pub are_falling : (classes ranks helpers : List ℕ) (columns : ℕ) → length targets ≡ length vs * m.choices
-      → ((e : ℕ) → e < length targets → IsRanked classes ranks helpers columns m.choices targets e)
+      → ((e : ℕ) → e < length targets → PassesRanks classes ranks helpers columns m.choices targets e)
       → AreFalling m vs label classes ranks helpers columns
   are_falling classes ranks helpers columns count passed j c u at low =
       let width = m.choices in
@@ -197,7 +198,8 @@ is_avoided m start z h label classes targets cut few j low cs walk some each x s
     let same : r.choices ≡ way_to (steps_of vs) j = trail_same (steps_of vs) r.choices (way_to (steps_of vs) j) j
     r.trail trail in
     let is : r.choices ≡ way_to z.visits.items j = same ∙ ap (λ ws. way_to ws j) (all_steps z h.searching.keyed) in
-    let (on, never) = goes_round m vs label targets cut few j u (after_choices m x r.choices) (reverse cs) at r.stands walk in
+    let (on, never) = goes_round m vs label targets cut few j u (after_choices m x r.choices)
+    (reverse cs) at r.stands walk in
     let long = length-reverse cs in
     record {
       can = subst (AreChoices m) is r.can;

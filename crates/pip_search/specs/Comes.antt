@@ -102,7 +102,8 @@ pub record GoesDown (classes ranks helpers : List ℕ) (columns j c t : ℕ) : T
 
 -- a choice in the states of a key shows the label, or leads to visit t
 abbrev pub IsCutEdge : Model → List Keyed → List ℕ → ℕ → List ℕ → ℕ → Type 0
-IsCutEdge m vs key c label t = ((t ≡ 0xffffffff) × ShowsAt m key c label) ⊎ (IsEdge m vs key c t × ShowsOther m key c label)
+IsCutEdge m vs key c label t = ((t ≡ 0xffffffff) × ShowsAt m key c label) ⊎
+    (IsEdge m vs key c t × ShowsOther m key c label)
 
 -- so of each choice of visits, `width` of each
 abbrev pub AreCutEdges : Model → List Keyed → List ℕ → ℕ → List ℕ → Type 0
@@ -110,13 +111,14 @@ AreCutEdges m vs label width targets = (e : ℕ) (u : Keyed) → e < length targ
     → IsCutEdge m vs (key_of u) (e % width) label (slice_index targets e)
 
 -- a choice that is cut shows the label, or it goes down
-pub record IsRanked (classes ranks helpers : List ℕ) (columns width : ℕ) (targets : List ℕ) (e : ℕ) : Type 0 where
+pub record PassesRanks (classes ranks helpers : List ℕ) (columns width : ℕ) (targets : List ℕ) (e : ℕ) : Type 0 where
   pub ready : HasRank classes ranks helpers columns (e / width)
   pub down : (slice_index targets e ≡ 0xffffffff)
       ⊎ GoesDown classes ranks helpers columns (e / width) (e % width) (slice_index targets e)
 
 -- each choice of each visit shows the label, or leads down
-pub record IsFalling (m : Model) (vs : List Keyed) (label classes ranks helpers : List ℕ) (columns j c : ℕ) (u : Keyed) :
+pub record IsFalling (m : Model) (vs : List Keyed) (label classes ranks helpers : List ℕ)
+    (columns j c : ℕ) (u : Keyed) :
     Type 0 where
   pub ready : HasRank classes ranks helpers columns j
   pub down : ShowsAt m (key_of u) c label

@@ -1,13 +1,14 @@
 //! Whether a label comes, wherever a search that closed leads, where the choices that are made are fair.
-ghost use Rattle.std.specs.Prelude.{◌≡◌, ℕ, ◌<◌, ◌≤◌, ◌+◌, ◌*◌, ◌/◌, ◌%◌, ◌^◌, ◌∷◌, ◌⊎◌, IfOk, IsTrue, List, false, length, reverse};
+ghost use Rattle.std.specs.Prelude.{◌≡◌, ℕ, ◌<◌, ◌≤◌, ◌+◌, ◌*◌, ◌/◌, ◌%◌, ◌^◌, ◌⊎◌, IfOk, IsTrue, false};
+ghost use Rattle.std.specs.Prelude.{length, reverse};
 ghost use Rattle.std.specs.Prelude.{Some, slice_index};
 ghost use Rattle.pip_search.specs.Again.{HasClosed};
-ghost use Rattle.pip_search.specs.Comes.{AreCutEdges, GoesDown, HasEach, HasOneOf, NoneRises, IsLevel, IsRanked, HasRank};
+ghost use Rattle.pip_search.specs.Comes.{AreCutEdges, GoesDown, HasEach, HasOneOf, NoneRises, IsLevel, PassesRanks};
+ghost use Rattle.pip_search.specs.Comes.{HasRank};
 ghost use Rattle.pip_search.specs.Comes.{ComingHolds, IsWalk, helpful, rank_at};
 ghost use Rattle.pip_search.specs.Keys.{visits_of};
 ghost use Rattle.pip_search.specs.Summary.{HasOneKey};
 ghost use Rattle.pip_search.specs.Systems.{IsKey};
-ghost use Rattle.pip_search.specs.Ways.{way_to};
 
 use crate::again::look;
 use crate::names::Names;
@@ -205,7 +206,7 @@ fn passes(
     edge: usize,
 ) -> bool
     requires width { 0 < width }
-    ensures { IsTrue result → IsRanked classes.now ranks.now helpers.now columns width targets.now edge }
+    ensures { IsTrue result → PassesRanks classes.now ranks.now helpers.now columns width targets.now edge }
 {
     let place = edge / width;
     if place > 0xffffffff {
@@ -236,7 +237,7 @@ fn all_pass(
 ) -> bool
     requires width { 0 < width }
     ensures { IsTrue result → (e : ℕ) → e < length targets.now
-        → IsRanked classes.now ranks.now helpers.now columns width targets.now e }
+        → PassesRanks classes.now ranks.now helpers.now columns width targets.now e }
 {
     for edge in 0..targets.len() {
         if !passes(classes, ranks, helpers, columns, width, targets, edge) {
@@ -354,10 +355,10 @@ fn is_loop(
     }
 }
 
-/// Whether a label that a search looked for comes wherever its choices lead, if those that are made next are fair: among
-/// as many that come one after the other as the window of a class says is one of the class. Number c of `classes` is the
-/// class of choice c, from 1 on, or 0 if it has none. The search has closed, and no state has two keys. The only error is
-/// that memory is out; there is a column for each number up to the highest class.
+/// Whether a label that a search looked for comes wherever its choices lead, if those that are made next are fair:
+/// among as many that come one after the other as the window of a class says is one of the class. Number c of `classes`
+/// is the class of choice c, from 1 on, or 0 if it has none. The search has closed, and no state has two keys. The only
+/// error is that memory is out; there is a column for each number up to the highest class.
 pub fn must_come<S: System>(
     search: &Search,
     system: &mut S,

@@ -3,8 +3,8 @@
 use crate::coming::{SHOWN, word_at};
 use std::alloc::{AllocError, Global};
 
-/// The ranks of each place, one in each column, and a choice of the class that is helpful there. If there is a loop of choices that has
-/// each class: a place on it, and the choices.
+/// The ranks of each place, one in each column, and a choice of the class that is helpful there. If there is a loop of
+/// choices that has each class: a place on it, and the choices.
 #[derive(Drop)]
 pub(crate) struct Ranks {
     pub(crate) ranks: Vec<u32>,
@@ -216,8 +216,8 @@ impl Walk {
         begin
     }
 
-    // The ranks of a component: no lower than those to which edges lead, and one more of the helpful class where the order
-    // is lower there.
+    // The ranks of a component: no lower than those to which edges lead, and one more of the helpful class where the
+    // order is lower there.
     fn row(
         &self,
         alloc: Global,

@@ -1,5 +1,5 @@
 //! Interrupt lines: one becomes pending, and the root takes one.
-ghost use Rattle.std.specs.Prelude.{◌≡◌, ◌+◌, ◌*◌, ◌<◌, ◌≤◌, ℕ, List, true, Some, None, IfSome, length, if◌then◌else◌};
+ghost use Rattle.std.specs.Prelude.{◌≡◌, ◌+◌, ◌<◌, ◌≤◌, ℕ, List, true, Some, None, IfSome, length, if◌then◌else◌};
 ghost use Rattle.pip_base.specs.declared.outcome.Outcome.TheVariants as Outcome;
 ghost use Rattle.pip_model.specs.Events as E;
 ghost use Rattle.pip_model.specs.Handlers.{handler};

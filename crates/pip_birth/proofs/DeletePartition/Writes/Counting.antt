@@ -64,7 +64,8 @@ one_place t y can v w r q at there same =
     (sym (ap (λ z. z.frame) a_is) ∙ (same ∙ ap (λ z. z.frame) b_is))).1
 
 -- the next page of configuration is one more
-pub one_cleared : (t : Tree) (y : Node) (can : CanEnd t y) (leaves k v : ℕ) (gs : List ℕ) → k ≤ v → AreClearedPages t y k gs
+pub one_cleared : (t : Tree) (y : Node) (can : CanEnd t y) (leaves k v : ℕ) (gs : List ℕ) → k ≤ v
+    → AreClearedPages t y k gs
     → (c : IsConfiguration t y leaves v) → AreClearedPages t y (v + 1) (c.row.frame ∷ gs)
 one_cleared t y can leaves k v gs up h c = record {
   once = (

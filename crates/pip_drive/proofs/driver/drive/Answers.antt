@@ -22,7 +22,8 @@ returns-in-Err g c =
     let failed = c.in-Err.ensures in
     write_failed _ _ _ _ _ was.done [] _ _ (cut_sent _ _ _ [] (Appends-nil _) failed.kept failed.some.1)
     failed.cause.failed _ (g.met.M.Transducer.loose c.args.transducer.now) (inr (was.loose failed.some.0))
-    (inr (was.loose failed.some.0)) (rw c.as_slice.ensures at (wants.leads.midway _ _ _ (wants.pending (was.loose failed.some.0))))
+    (inr (was.loose failed.some.0)) (rw c.as_slice.ensures at
+    (wants.leads.midway _ _ _ (wants.pending (was.loose failed.some.0))))
 
 pub loop-room-preserved-in-Ok-eq0 : goal.loop-room-preserved-in-Ok-eq0
 loop-room-preserved-in-Ok-eq0 g c =
@@ -45,7 +46,8 @@ loop-room-preserved-in-Ok-eq0 g c =
       none = wants.none;
       out = λ _. out.none;
       loose = λ e. absurd (cc);
-      done = reads _ _ _ _ _ (settles _ _ _ _ _ was.done _ _ _ wants.leads out.kept out.cause.calm) read.reads.more _ _ _
+      done = reads _ _ _ _ _ (settles _ _ _ _ _ was.done _ _ _ wants.leads out.kept out.cause.calm)
+          read.reads.more _ _ _
           read.reads.read read.reads.bytes read.cause.calm;
     }
 
@@ -70,7 +72,8 @@ loop-room-preserved-in-Ok-read_on g c =
       none = wants.none;
       out = λ _. out.none;
       loose = λ e. absurd (cc);
-      done = reads _ _ _ _ _ (settles _ _ _ _ _ was.done _ _ _ wants.leads out.kept out.cause.calm) read.reads.more _ _ _
+      done = reads _ _ _ _ _ (settles _ _ _ _ _ was.done _ _ _ wants.leads out.kept out.cause.calm)
+          read.reads.more _ _ _
           read.reads.read read.reads.bytes read.cause.calm;
     }
 

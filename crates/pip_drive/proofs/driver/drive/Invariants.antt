@@ -21,4 +21,5 @@ invariant-loop-room g l =
     }
 
 abbrev pub decreases-loop-room : goal.decreases-loop-room
-decreases-loop-room g l = 16386 * g.M.Transducer.parts l.transducer + (16384 - length (window_bytes l.window)) + cond l.ended 0 1
+decreases-loop-room g l = 16386 * g.M.Transducer.parts l.transducer +
+    (16384 - length (window_bytes l.window)) + cond l.ended 0 1

@@ -49,7 +49,8 @@ loop-choice-preserved g c =
     (subst (λ b. IsCutEdge (g.S.System.model b) vs from n label t) h.base
     (cut_is (g.S.System.model (g.S.System.base c.loop-choice.system)) vs from label n c.in_ok-to.to t c.in_ok-to.shown
     own.edge own.shows own.other c.cut.ensures.shown c.cut.ensures.other)) in
-    let all : AreCutEdges m vs label m.choices (targets ++ t ∷ []) = cut_more m vs label m.choices targets c.args.i n t u
+    let all : AreCutEdges m vs label m.choices (targets ++ t ∷ []) = cut_more m vs label m.choices targets
+    c.args.i n t u
     h.cut h.count (omega (arith, c.loop-choice-test.true, c.count-count.ensures)) at here in
     let long : length c.push.new.self.items ≡ length targets + 1 = ap length c.in_ok-push.ensures.items
     ∙ length-append targets (t ∷ []) in

@@ -43,6 +43,7 @@ loop-i-preserved g c =
       base = own.base ∙ h.base;
       cut = subst (λ b. AreCutEdges (g.S.System.model b) vs c.args.label.now (g.S.System.model b).choices
           c.cut_around.new.targets.items) h.base own.cut;
-      count = subst (λ b. length c.cut_around.new.targets.items ≡ (c.loop-i.i + 1) * (g.S.System.model b).choices) h.base
+      count = subst (λ b. length c.cut_around.new.targets.items ≡ (c.loop-i.i + 1) *
+          (g.S.System.model b).choices) h.base
           own.count;
     }

@@ -1,5 +1,6 @@
-use Rattle.std.proofs.Common.{◌≡◌, ℕ, ◌+◌, ◌*◌, ◌^◌, ◌<◌, ◌≤◌, List, length, reverse, slice_index, ap, sym, subst, ◌∙◌, arith}
-use Rattle.pip_search.specs.Comes.{AreFalling, HasEach, IsRanked, IsWalk, rank_at}
+use Rattle.std.proofs.Common.{◌≡◌, ℕ, ◌+◌, ◌*◌, ◌^◌, ◌<◌, ◌≤◌, List, length, reverse, slice_index, ap, sym, subst, ◌∙◌}
+use Rattle.std.proofs.Common.{arith}
+use Rattle.pip_search.specs.Comes.{AreFalling, HasEach, PassesRanks, IsWalk, rank_at}
 use Rattle.pip_search.specs.Keys.{visits_of}
 use Rattle.pip_search.proofs.Falling.{must_come}
 use Rattle.pip_search.proofs.Looping.{are_falling, is_avoided}
@@ -22,14 +23,15 @@ returns-then-all_pass-clause-said g c = λ x stands.
     let all = visit_count z c.requires.closed.searching.keyed in
     let few : length vs < 2 ^ 32 = omega (arith, all, c.requires.few) in
     let count : length targets ≡ length vs * m.choices = e.count ∙ ap (λ n. n * m.choices) (sym all) in
-    let passed : (e : ℕ) → e < length targets → IsRanked classes ranks helpers columns m.choices targets e =
-    subst (λ w. (e : ℕ) → e < length targets → IsRanked classes ranks helpers columns w targets e) c.count-width.ensures
-    (subst (λ ts. (e : ℕ) → e < length ts → IsRanked classes ranks helpers columns c.count-width.result ts e)
+    let passed : (e : ℕ) → e < length targets → PassesRanks classes ranks helpers columns m.choices targets e =
+    subst (λ w. (e : ℕ) → e < length targets → PassesRanks classes ranks helpers columns w targets e)
+    c.count-width.ensures
+    (subst (λ ts. (e : ℕ) → e < length ts → PassesRanks classes ranks helpers columns c.count-width.result ts e)
     c.deref-4.ensures.value
     (subst (λ hs. (e : ℕ) → e < length c.deref-4.result.now
-    → IsRanked classes ranks hs columns c.count-width.result c.deref-4.result.now e) c.deref-3.ensures.value
+    → PassesRanks classes ranks hs columns c.count-width.result c.deref-4.result.now e) c.deref-3.ensures.value
     (subst (λ rs. (e : ℕ) → e < length c.deref-4.result.now
-    → IsRanked classes rs c.deref-3.result.now columns c.count-width.result c.deref-4.result.now e)
+    → PassesRanks classes rs c.deref-3.result.now columns c.count-width.result c.deref-4.result.now e)
     c.deref-2.ensures.value (c.all_pass.ensures c.if-all_pass.true)))) in
     let own = c.in_ok-counts.ensures in
     let falling : AreFalling m vs label classes ranks helpers (length counts) =

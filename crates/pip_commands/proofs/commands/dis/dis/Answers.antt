@@ -43,4 +43,7 @@ returns-in-Err-Write g c =
     let cut = subst (λ why. Ends (parts_due (told c.new.result.reader)) false (Err why)
     (seen c.args.source.now c.args.sink.now) (seen c.drive.new.source c.drive.new.sink)) c.in-Err-Write.field-0-is
     c.in-Err-Write.ensures in
-    record { ends = rw c.with_status-in-Err-Write.ensures (driven_write _ _ _ dis_serves _ _ (rw c.new.ensures at cut)) }
+    record {
+      ends = rw c.with_status-in-Err-Write.ensures
+          (driven_write _ _ _ dis_serves _ _ (rw c.new.ensures at cut));
+    }

@@ -57,4 +57,5 @@ returns-clause-told c =
     let last : c.args.self.now.place.pages ≡ 0 = search (rules, arith) in
     let few : nat_lt 0 c.args.self.now.place.plans ≡ false = search (rules, arith) in
     let end : nat_lt 0 c.args.self.now.place.pages ≡ false = search (rules, arith) in
-    rw (begun, few, end) (long_fed c.args.self.now.place none last c.args.front.now (c.requires.more (rw (begun, none, last) refl)))
+    rw (begun, few, end) (long_fed c.args.self.now.place none last c.args.front.now
+    (c.requires.more (rw (begun, none, last) refl)))
