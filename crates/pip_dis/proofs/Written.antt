@@ -2,9 +2,6 @@
 use Rattle.std.specs.Prelude.{◌≡◌, refl, ℕ, ◌+◌, ◌<◌, List, [], ◌∷◌, ◌++◌, length, map, take}
 use Rattle.std.proofs.Common.{ap, sym, ◌∙◌, append_assoc, append-nil, get_or}
 use Rattle.std.proofs.lemmas.List.{map-append, take_more}
-use Rattle.pip_io.proofs.Taken.{Appends-trans}
-use Rattle.pip_io.specs.Taken.{Taken, Appends, AppendsPart}
-use Rattle.pip_io.proofs.Pieces.{left_more}
 use Rattle.pip_model.specs.DisText.{text_of_lines, part_lines, parts_lines}
 use Rattle.pip_model.specs.InstrText.{word_said}
 use Rattle.pip_model.specs.Text.{line_text}
@@ -23,17 +20,6 @@ lines_of_parts (p ∷ ps) qs = ap (λ t. part_lines p ++ t) (lines_of_parts ps q
 
 pub parts_append : (ps qs : List Part) → parts_text (ps ++ qs) ≡ parts_text ps ++ parts_text qs
 parts_append ps qs = ap text_of_lines (lines_of_parts ps qs) ∙ lines_append (parts_lines ps) (parts_lines qs)
-
--- a part of a text after a text
-pub part_after : (a b c : Taken) (done text : List ℕ) → Appends a b done → AppendsPart b c text
-    → AppendsPart a c (done ++ text)
-part_after a b c done text x y =
-    (done ++ y.0, y.1, Appends-trans _ _ _ _ _ x y.2, append_assoc done y.0 y.1 ∙ ap (λ t. done ++ t) y.3, y.4)
-
--- a part of a longer text
-pub part_of_more : (a b : Taken) (text more : List ℕ) → AppendsPart a b text → AppendsPart a b (text ++ more)
-part_of_more a b text more y =
-    (y.0, y.1 ++ more, y.2, sym (append_assoc y.0 y.1 more) ∙ ap (λ t. t ++ more) y.3, left_more y.1 more y.4)
 
 -- ---- words
 

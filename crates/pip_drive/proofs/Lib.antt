@@ -1,2 +1,3 @@
 mod Buffers
 pub mod Driving
+mod Lines

@@ -1,13 +1,13 @@
 //! The driver.
-ghost use Rattle.std.specs.Prelude.{◌≡◌, ◌≢◌, ◌⊎◌, [], false, true, OnErr, OnOk};
+ghost use Rattle.std.specs.Prelude.{◌≡◌, ◌≢◌, ◌<◌, ◌≤◌, ◌⊎◌, [], false, true, length, OnErr, OnOk};
 ghost use Rattle.pip_io.specs.Causes.{HasCause};
 ghost use Rattle.pip_io.specs.Moments.{streams};
-ghost use Rattle.pip_io.specs.Taken.{Appends, Keeps, SendsPart};
+ghost use Rattle.pip_io.specs.Taken.{Appends, AppendsPart, Keeps, SendsPart};
 ghost use Rattle.pip_drive.specs.Ends.{Ends, MayWait};
 
 use crate::window::Window;
 use crate::{Step, Text, Transducer};
-use pip_io::{Failed, Sink, Source, write_all, write_out};
+use pip_io::{Failed, Sink, Source, find_newline, write_all};
 
 /// What failed.
 #[derive(Clone, Copy, Debug, PartialEq, Eq)]
@@ -46,7 +46,7 @@ pub fn drive<M: Transducer, S: Source, K: Sink>(
                     Err(_) => return Err(FailedStream::Read),
                 }
             }
-            Step::Say(count) => match write_all(sink, text.as_slice()) {
+            Step::Say(count) => match write_lines(sink, text.as_slice()) {
                 Ok(()) => {
                     text.clear();
                     held = true;
@@ -81,6 +81,32 @@ fn settle_held<K: Sink>(sink: &mut K, held: bool) -> Result<(), Failed>
     if held { sink.settle() } else { Ok(()) }
 }
 
+// Where the first line ends: after its newline, or where all ends.
+fn line_end(bytes: &[u8]) -> usize
+    ensures some { bytes.now ≢ [] → 0 < result }
+    ensures most { result ≤ length bytes.now }
+{
+    match find_newline(bytes) {
+        Some(at) => at + 1,
+        None => bytes.len(),
+    }
+}
+
+// Writes a text, each of its lines by one `write_all`.
+fn write_lines<K: Sink>(sink: &mut K, text: &[u8]) -> Result<(), Failed>
+    ensures whole { OnOk result (Appends (K.told sink.old).written (K.told sink.new).written text.now) }
+    ensures prefix { OnErr result (AppendsPart (K.told sink.old).written (K.told sink.new).written text.now) }
+    ensures cause { HasCause (K.told sink.old).faults (K.told sink.new).faults result }
+{
+    let mut rest = text;
+    while !rest.is_empty() {
+        let (line, more) = rest.split_at(line_end(rest));
+        write_all(sink, line)?;
+        rest = more;
+    }
+    Ok(())
+}
+
 // Writes a text and all that the sink holds, where there is something.
 fn write_text<K: Sink>(sink: &mut K, text: &[u8], held: bool) -> Result<(), Failed>
     requires { held ≡ false → (K.told sink.old).written.held ≡ [] }
@@ -90,12 +116,9 @@ fn write_text<K: Sink>(sink: &mut K, text: &[u8], held: bool) -> Result<(), Fail
     ensures some { OnErr result ((text.now ≢ []) ⊎ (held ≡ true)) }
     ensures cause { HasCause (K.told sink.old).faults (K.told sink.new).faults result }
 {
-    if held {
-        return write_out(sink, text);
+    if !held && text.is_empty() {
+        return Ok(());
     }
-    if text.is_empty() {
-        Ok(())
-    } else {
-        write_out(sink, text)
-    }
+    write_lines(sink, text)?;
+    sink.settle()
 }

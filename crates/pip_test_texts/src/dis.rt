@@ -96,12 +96,12 @@ fn each_write_fails_in_turn(rt: HostRuntime) -> Result<(), AllocError> {
 
 #[test]
 fn a_page_makes_few_writes(rt: HostRuntime) -> Result<(), AllocError> {
-    // A page of 1025 lines of 17 bytes, of which 16384 bytes are written at once.
+    // A page of 1025 lines of 17 bytes, of which 963 are written at once.
     let mut bytes = image();
     for byte in bytes[40..].iter_mut() {
         *byte = 0xff;
     }
-    for (failing, written) in [(3, 31), (4, 16_415), (5, 17_456)] {
+    for (failing, written) in [(3, 31), (4, 16_402), (5, 17_456)] {
         check_written(&rt, &bytes, failing, failing == 5, written)?;
     }
     Ok(())

@@ -77,11 +77,11 @@ loop-room-preserved-in-Ok-read_on g c =
           read.reads.read read.reads.bytes read.cause.calm;
     }
 
-pub loop-room-preserved-in-Ok-write_all : goal.loop-room-preserved-in-Ok-write_all
-loop-room-preserved-in-Ok-write_all g c =
+pub loop-room-preserved-in-Ok-write_lines : goal.loop-room-preserved-in-Ok-write_lines
+loop-room-preserved-in-Ok-write_lines g c =
     let was = c.loop-room.invariant in
     let says = c.in-Say.ensures in
-    let wrote = c.in-Ok-write_all.ensures in
+    let wrote = c.in-Ok-write_lines.ensures in
     record {
       is_open = was.is_open;
       over = was.over;
@@ -99,10 +99,10 @@ loop-room-preserved-in-Ok-write_all g c =
           c.take.ensures (rw c.as_slice-in-Say.ensures at wrote.whole) wrote.cause.calm;
     }
 
-pub returns-in-Err-write_all : goal.returns-in-Err-write_all
-returns-in-Err-write_all g c =
+pub returns-in-Err-write_lines : goal.returns-in-Err-write_lines
+returns-in-Err-write_lines g c =
     let was = c.loop-room.invariant in
-    let failed = c.in-Err-write_all.ensures in
+    let failed = c.in-Err-write_lines.ensures in
     write_failed _ _ _ _ _ was.done _ _ _ (rw c.as_slice-in-Say.ensures at (part_sent _ _ _ failed.prefix))
     failed.cause.failed _ (g.met.M.Transducer.loose c.args.transducer.now)
     (way_of _ _ c.loop-room.held was.out was.loose) (inr c.in-Say.ensures.loose)
