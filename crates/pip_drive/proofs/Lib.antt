@@ -1,3 +1,3 @@
 mod Buffers
 pub mod Driving
-mod Lines
+mod Written

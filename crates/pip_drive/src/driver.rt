@@ -1,13 +1,14 @@
 //! The driver.
-ghost use Rattle.std.specs.Prelude.{◌≡◌, ◌≢◌, ◌<◌, ◌≤◌, ◌⊎◌, [], false, true, length, OnErr, OnOk};
+ghost use Rattle.std.specs.Prelude.{◌≡◌, ◌≢◌, ◌⊎◌, [], false, true, OnErr, OnOk};
 ghost use Rattle.pip_io.specs.Causes.{HasCause};
 ghost use Rattle.pip_io.specs.Moments.{streams};
 ghost use Rattle.pip_io.specs.Taken.{Appends, AppendsPart, Keeps, SendsPart};
 ghost use Rattle.pip_drive.specs.Ends.{Ends, MayWait};
+ghost use Rattle.pip_drive.specs.Texts.{text_bytes};
 
 use crate::window::Window;
 use crate::{Step, Text, Transducer};
-use pip_io::{Failed, Sink, Source, find_newline, write_all};
+use pip_io::{Failed, Sink, Source, write_all};
 
 /// What failed.
 #[derive(Clone, Copy, Debug, PartialEq, Eq)]
@@ -46,7 +47,7 @@ pub fn drive<M: Transducer, S: Source, K: Sink>(
                     Err(_) => return Err(FailedStream::Read),
                 }
             }
-            Step::Say(count) => match write_lines(sink, text.as_slice()) {
+            Step::Say(count) => match write_pieces(sink, &text) {
                 Ok(()) => {
                     text.clear();
                     held = true;
@@ -54,7 +55,7 @@ pub fn drive<M: Transducer, S: Source, K: Sink>(
                 }
                 Err(_) => return Err(FailedStream::Write),
             },
-            Step::Write(count) => match write_text(sink, text.as_slice(), held) {
+            Step::Write(count) => match write_text(sink, &text, held) {
                 Ok(()) => {
                     text.clear();
                     held = false;
@@ -62,7 +63,7 @@ pub fn drive<M: Transducer, S: Source, K: Sink>(
                 }
                 Err(_) => return Err(FailedStream::Write),
             },
-            Step::End(last) => return match write_text(sink, text.as_slice(), held) {
+            Step::End(last) => return match write_text(sink, &text, held) {
                 Ok(()) => Ok(last),
                 Err(_) => Err(FailedStream::Write),
             },
@@ -81,44 +82,30 @@ fn settle_held<K: Sink>(sink: &mut K, held: bool) -> Result<(), Failed>
     if held { sink.settle() } else { Ok(()) }
 }
 
-// Where the first line ends: after its newline, or where all ends.
-fn line_end(bytes: &[u8]) -> usize
-    ensures some { bytes.now ≢ [] → 0 < result }
-    ensures most { result ≤ length bytes.now }
-{
-    match find_newline(bytes) {
-        Some(at) => at + 1,
-        None => bytes.len(),
-    }
-}
-
-// Writes a text, each of its lines by one `write_all`.
-fn write_lines<K: Sink>(sink: &mut K, text: &[u8]) -> Result<(), Failed>
-    ensures whole { OnOk result (Appends (K.told sink.old).written (K.told sink.new).written text.now) }
-    ensures prefix { OnErr result (AppendsPart (K.told sink.old).written (K.told sink.new).written text.now) }
+// Writes a text, no piece of it by more than one `write_all`.
+fn write_pieces<K: Sink>(sink: &mut K, text: &Text) -> Result<(), Failed>
+    ensures whole { OnOk result (Appends (K.told sink.old).written (K.told sink.new).written (text_bytes text.now)) }
+    ensures prefix { OnErr result (AppendsPart (K.told sink.old).written (K.told sink.new).written
+        (text_bytes text.now)) }
     ensures cause { HasCause (K.told sink.old).faults (K.told sink.new).faults result }
 {
-    let mut rest = text;
-    while !rest.is_empty() {
-        let (line, more) = rest.split_at(line_end(rest));
-        write_all(sink, line)?;
-        rest = more;
-    }
-    Ok(())
+    let (front, rest) = text.parts();
+    write_all(sink, front)?;
+    write_all(sink, rest)
 }
 
 // Writes a text and all that the sink holds, where there is something.
-fn write_text<K: Sink>(sink: &mut K, text: &[u8], held: bool) -> Result<(), Failed>
+fn write_text<K: Sink>(sink: &mut K, text: &Text, held: bool) -> Result<(), Failed>
     requires { held ≡ false → (K.told sink.old).written.held ≡ [] }
-    ensures whole { OnOk result (Appends (K.told sink.old).written (K.told sink.new).written text.now) }
-    ensures part { OnErr result (SendsPart (K.told sink.old).written (K.told sink.new).written text.now) }
+    ensures whole { OnOk result (Appends (K.told sink.old).written (K.told sink.new).written (text_bytes text.now)) }
+    ensures part { OnErr result (SendsPart (K.told sink.old).written (K.told sink.new).written (text_bytes text.now)) }
     ensures none { OnOk result ((K.told sink.new).written.held ≡ []) }
-    ensures some { OnErr result ((text.now ≢ []) ⊎ (held ≡ true)) }
+    ensures some { OnErr result ((text_bytes text.now ≢ []) ⊎ (held ≡ true)) }
     ensures cause { HasCause (K.told sink.old).faults (K.told sink.new).faults result }
 {
-    if !held && text.is_empty() {
+    if !held && text.as_slice().is_empty() {
         return Ok(());
     }
-    write_lines(sink, text)?;
+    write_pieces(sink, text)?;
     sink.settle()
 }

@@ -77,11 +77,11 @@ loop-room-preserved-in-Ok-read_on g c =
           read.reads.read read.reads.bytes read.cause.calm;
     }
 
-pub loop-room-preserved-in-Ok-write_lines : goal.loop-room-preserved-in-Ok-write_lines
-loop-room-preserved-in-Ok-write_lines g c =
+pub loop-room-preserved-in-Ok-write_pieces : goal.loop-room-preserved-in-Ok-write_pieces
+loop-room-preserved-in-Ok-write_pieces g c =
     let was = c.loop-room.invariant in
     let says = c.in-Say.ensures in
-    let wrote = c.in-Ok-write_lines.ensures in
+    let wrote = c.in-Ok-write_pieces.ensures in
     record {
       is_open = was.is_open;
       over = was.over;
@@ -96,14 +96,14 @@ loop-room-preserved-in-Ok-write_lines g c =
       out = λ e. absurd (cc);
       loose = λ _. says.loose;
       done = takes _ _ _ _ _ was.done _ c.in-Say.count _ _ _ _ (rw c.as_slice.ensures at says.takes.leads)
-          c.take.ensures (rw c.as_slice-in-Say.ensures at wrote.whole) wrote.cause.calm;
+          c.take.ensures (wrote.whole) wrote.cause.calm;
     }
 
-pub returns-in-Err-write_lines : goal.returns-in-Err-write_lines
-returns-in-Err-write_lines g c =
+pub returns-in-Err-write_pieces : goal.returns-in-Err-write_pieces
+returns-in-Err-write_pieces g c =
     let was = c.loop-room.invariant in
-    let failed = c.in-Err-write_lines.ensures in
-    write_failed _ _ _ _ _ was.done _ _ _ (rw c.as_slice-in-Say.ensures at (part_sent _ _ _ failed.prefix))
+    let failed = c.in-Err-write_pieces.ensures in
+    write_failed _ _ _ _ _ was.done _ _ _ (part_sent _ _ _ failed.prefix)
     failed.cause.failed _ (g.met.M.Transducer.loose c.args.transducer.now)
     (way_of _ _ c.loop-room.held was.out was.loose) (inr c.in-Say.ensures.loose)
     (rw c.as_slice.ensures at c.in-Say.ensures.takes.midway)
@@ -128,18 +128,18 @@ loop-room-preserved g c =
       out = λ _. wrote.none;
       loose = λ e. absurd (cc);
       done = takes _ _ _ _ _ was.done _ c.in-Write.count _ _ _ _ (rw c.as_slice.ensures at took.leads)
-          c.take-in-Ok-write_text.ensures (rw c.as_slice-in-Write.ensures at wrote.whole) wrote.cause.calm;
+          c.take-in-Ok-write_text.ensures (wrote.whole) wrote.cause.calm;
     }
 
 pub returns-in-Err-write_text : goal.returns-in-Err-write_text
 returns-in-Err-write_text g c =
     let was = c.loop-room.invariant in
     let failed = c.in-Err-write_text.ensures in
-    write_failed _ _ _ _ _ was.done _ _ _ (rw c.as_slice-in-Write.ensures at failed.part) failed.cause.failed
+    write_failed _ _ _ _ _ was.done _ _ _ failed.part failed.cause.failed
     _ (g.met.M.Transducer.loose c.args.transducer.now)
     (way_of _ _ c.loop-room.held was.out was.loose)
     (elim failed.some [
-      | inl some ↦ inl (rw c.as_slice-in-Write.ensures at some)
+      | inl some ↦ inl some
       | inr held ↦ inr (was.loose held)
     ])
     (rw c.as_slice.ensures at c.in-Write.ensures.midway)
@@ -149,9 +149,9 @@ returns-in-Err-write_text-2 g c =
     let was = c.loop-room.invariant in
     let failed = c.in-Err-write_text-2.ensures in
     let is = c.in-End.ensures in
-    last_failed _ _ _ _ _ was.done _ _ _ (rw c.as_slice-in-End.ensures at failed.part) failed.cause.failed _
+    last_failed _ _ _ _ _ was.done _ _ _ failed.part failed.cause.failed _
     (g.met.M.Transducer.loose c.args.transducer.now) (way_of _ _ c.loop-room.held was.out was.loose) (elim failed.some [
-      | inl some ↦ inl (rw c.as_slice-in-End.ensures at some)
+      | inl some ↦ inl some
       | inr held ↦ inr (was.loose held)
     ]) c.in-End.last (rw c.as_slice.ensures at is.is) (elim is.decided [
       | inl enough ↦ inl (rw c.as_slice.ensures at enough)
