@@ -1,5 +1,5 @@
 use Rattle.std.proofs.Common.{rules, arith, ap, ◌≡◌, ◌∷◌, [], length, length-append}
-use Rattle.pip_drive.specs.Texts.{said}
+use Rattle.pip_drive.specs.Texts.{text_bytes}
 use Rattle.pip_model.specs.DisText.{without_last_zeros}
 use Rattle.pip_model.specs.Text.{line_text}
 use Rattle.pip_dis.proofs.Trimming.{trimmed_short}
@@ -16,7 +16,7 @@ push_words-requires c =
       size,
       trimmed_short c.args.words.now,
       ap length c.push_line-in-Page.ensures,
-      length-append (said c.args.text.now) (line_text line),
+      length-append (text_bytes c.args.text.now) (line_text line),
       length-append line (10 ∷ []),
       ap length c.requires,
       c.page_line.ensures.short,
