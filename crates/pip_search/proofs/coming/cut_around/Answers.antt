@@ -25,7 +25,8 @@ look-requires-clause-choice g c = subst (λ b. c.loop-choice.choice < (g.S.Syste
 pub loop-choice-init : goal.loop-choice-init
 loop-choice-init g c = record {
   base = refl;
-  hand = at_hand c.args.search.now c.args.i c.name_at.result.now c.unpack.new.key.items c.name_at.ensures
+  hand = at_hand c.args.search.now c.args.i c.deref.result.now c.unpack.new.key.items
+      (c.in_ok-read.ensures ∙ ap Some (sym c.deref.ensures.value))
       c.in_ok-unpack.ensures;
   cut = c.requires.cut;
   count = omega (arith, c.requires.count);
