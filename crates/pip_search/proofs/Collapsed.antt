@@ -7,8 +7,8 @@ use Rattle.std.proofs.lemmas.List.Elements.{All-cons, All-head, All-nil, All-pus
 use Rattle.std.proofs.lemmas.Option.{get_or_from_slice_get, slice_get-map}
 use Rattle.std.proofs.Math.ListN.{get_or-append}
 use Rattle.std.proofs.Math.Seq.{take-append-add, take-append_seam, take-nil}
-use Rattle.pip_search.specs.Collapsing.{AddsNumber, AreCollapsed, IsByBlocks, IsEntry, IsEntryOf, IsExtended, IsMade}
-use Rattle.pip_search.specs.Collapsing.{blocks_of, joined_blocks, key_of_entry, key_of_words, keys_in}
+use Rattle.pip_search.specs.Collapsing.{AddsNumber, AreCollapsed, IsByBlocks, IsEntryOf, IsExtended, IsKeyByBlocks}
+use Rattle.pip_search.specs.Collapsing.{IsKeyEntry, blocks_of, joined_blocks, key_of_entry, key_of_words, keys_in}
 use Rattle.pip_search.specs.Packing.{packed_word, unpacked_key, word_with}
 use Rattle.pip_search.specs.Storing.{listed}
 use Rattle.pip_search.specs.declared.key_store.KeyStore.{KeyStore}
@@ -53,7 +53,7 @@ pub whole_key : (blocks : List (List ℕ)) (bytes : List ℕ) → key_of_entry b
 unfolding key_of_entry
 whole_key blocks bytes = refl
 
-pub block_key : (blocks : List (List ℕ)) (entry : List ℕ) → IsEntry blocks entry
+pub block_key : (blocks : List (List ℕ)) (entry : List ℕ) → IsKeyEntry blocks entry
     → ((bytes : List ℕ) → entry ≢ 0 ∷ bytes)
     → IsByBlocks blocks entry × (key_of_entry blocks entry ≡ key_of_words blocks (unpacked_key entry))
 unfolding key_of_entry
@@ -66,7 +66,8 @@ unfolding word_with
 no_word bytes = last_bits 0 0 bytes (omega arith)
 
 -- an entry by blocks is that of its key
-pub made_entry : (blocks : List (List ℕ)) (key entry : List ℕ) → IsMade blocks key entry → IsEntryOf blocks key entry
+pub made_entry : (blocks : List (List ℕ)) (key entry : List ℕ) → IsKeyByBlocks blocks key entry
+    → IsEntryOf blocks key entry
 unfolding key_of_entry
 made_entry blocks key [] h = absurd (let e = h.by.back in let n = words_none 0 in cc)
 made_entry blocks key (zero ∷ bytes) h = absurd (let e = h.by.back in let n = no_word bytes in cc)
@@ -79,13 +80,14 @@ module _ (x : KeyStore) (i : ℕ) (entry : List ℕ) (at : slice_get (listed x.e
   pub key_at : slice_get (keys_in x) i ≡ Some (key_of_entry (blocks_of x.blocks) entry)
   key_at = rw (slice_get-map (key_of_entry (blocks_of x.blocks)) (listed x.entries) i, at)
 
-  pub is_entry : AreCollapsed x → IsEntry (blocks_of x.blocks) entry
-  is_entry h = subst (IsEntry (blocks_of x.blocks)) (get_or_from_slice_get (listed x.entries) i entry [] at)
+  pub is_entry : AreCollapsed x → IsKeyEntry (blocks_of x.blocks) entry
+  is_entry h = subst (IsKeyEntry (blocks_of x.blocks)) (get_or_from_slice_get (listed x.entries) i entry [] at)
       (h.entries i [] (get-below (listed x.entries) i entry at))
 
   -- the key of an entry that has it whole
   pub whole_at : (bytes : List ℕ) → entry ≡ 0 ∷ bytes → slice_get (keys_in x) i ≡ Some bytes
-  whole_at bytes is = key_at ∙ ap Some (ap (key_of_entry (blocks_of x.blocks)) is ∙ whole_key (blocks_of x.blocks) bytes)
+  whole_at bytes is =
+      key_at ∙ ap Some (ap (key_of_entry (blocks_of x.blocks)) is ∙ whole_key (blocks_of x.blocks) bytes)
 
   -- the key of another one
   pub blocks_at : AreCollapsed x → ((bytes : List ℕ) → entry ≢ 0 ∷ bytes) → IsByBlocks (blocks_of x.blocks) entry
@@ -137,7 +139,8 @@ module _ (blocks : List (List ℕ)) (n : ℕ) (words ns b : List ℕ) (is : word
 
     -- a block that is the next one
     pub begins_more : front ≡ b → Begins blocks after ns → Begins blocks rest words
-    begins_more same h = begins_front (ap length same) ∙ ap (λ x. b ++ x) h ∙ ap (λ x. x ++ after) (sym same) ∙ sym whole
+    begins_more same h = begins_front (ap length same) ∙ ap (λ x. b ++ x) h ∙ ap (λ x. x ++ after) (sym same)
+        ∙ sym whole
 
     pub begins_back : front ≡ b → Begins blocks rest words → Begins blocks after ns
     begins_back same h = append_cancel_left b (take (length after) (joined_blocks blocks ns)) after
@@ -221,11 +224,12 @@ begun_more blocks more count bytes block entry next e h a = begun_next more coun
 
 -- the blocks have the key, and maybe more after it
 pub begun_done : (blocks : List (List ℕ)) (key rest bytes entry : List ℕ) → IsBegun blocks (length key) bytes entry
-    → bytes ≡ key ++ rest → IsMade blocks key entry
+    → bytes ≡ key ++ rest → IsKeyByBlocks blocks key entry
 begun_done blocks key rest bytes entry h is =
     let joined : joined_blocks blocks h.numbers ≡ key ++ rest = h.joined ∙ is in
     let back : unpacked_key entry ≡ suc (length key) ∷ h.numbers =
-    ap unpacked_key (sym (append-nil entry)) ∙ h.back [] ∙ ap (λ ws. suc (length key) ∷ (h.numbers ++ ws)) (words_none 0)
+    ap unpacked_key (sym (append-nil entry)) ∙ h.back []
+    ∙ ap (λ ws. suc (length key) ∷ (h.numbers ++ ws)) (words_none 0)
     ∙ ap (λ ws. suc (length key) ∷ ws) (append-nil h.numbers) in
     record {
       by = record {
@@ -264,29 +268,29 @@ by_extended blocks rest entry h =
       all (blocks ++ rest) ∙ ap (take h.most) same ∙ sym (all blocks),
     )
 
-entry_extended : (blocks rest : List (List ℕ)) (entry : List ℕ) → IsEntry blocks entry → IsEntry (blocks ++ rest) entry
-    × (key_of_entry (blocks ++ rest) entry ≡ key_of_entry blocks entry)
+entry_extended : (blocks rest : List (List ℕ)) (entry : List ℕ) → IsKeyEntry blocks entry
+    → IsKeyEntry (blocks ++ rest) entry × (key_of_entry (blocks ++ rest) entry ≡ key_of_entry blocks entry)
 unfolding key_of_entry
 entry_extended blocks rest [] h = absurd h
 entry_extended blocks rest (zero ∷ bytes) h = (tt, refl)
 entry_extended blocks rest (suc b ∷ bytes) h = by_extended blocks rest (suc b ∷ bytes) h
 
-entries_extended : (blocks rest : List (List ℕ)) (es : List (List ℕ)) → All (IsEntry blocks) es
-    → All (IsEntry (blocks ++ rest)) es
+entries_extended : (blocks rest : List (List ℕ)) (es : List (List ℕ)) → All (IsKeyEntry blocks) es
+    → All (IsKeyEntry (blocks ++ rest)) es
     × (map (key_of_entry (blocks ++ rest)) es ≡ map (key_of_entry blocks) es)
-entries_extended blocks rest [] h = (All-nil (IsEntry (blocks ++ rest)), refl)
+entries_extended blocks rest [] h = (All-nil (IsKeyEntry (blocks ++ rest)), refl)
 entries_extended blocks rest (e ∷ es) h =
-    let (here, key) = entry_extended blocks rest e (All-head (IsEntry blocks) e es h) in
-    let (there, keys) = entries_extended blocks rest es (All-tail (IsEntry blocks) e es h) in
-    (All-cons (IsEntry (blocks ++ rest)) e es here there, cc)
+    let (here, key) = entry_extended blocks rest e (All-head (IsKeyEntry blocks) e es h) in
+    let (there, keys) = entries_extended blocks rest es (All-tail (IsKeyEntry blocks) e es h) in
+    (All-cons (IsKeyEntry (blocks ++ rest)) e es here there, cc)
 
 -- one entry more
 pub entries_more : (blocks more : List (List ℕ)) (es new : List (List ℕ)) (key entry : List ℕ) → IsExtended blocks more
-    → All (IsEntry blocks) es → IsEntryOf more key entry → new ≡ es ++ entry ∷ []
-    → All (IsEntry more) new × (map (key_of_entry more) new ≡ map (key_of_entry blocks) es ++ key ∷ [])
+    → All (IsKeyEntry blocks) es → IsEntryOf more key entry → new ≡ es ++ entry ∷ []
+    → All (IsKeyEntry more) new × (map (key_of_entry more) new ≡ map (key_of_entry blocks) es ++ key ∷ [])
 entries_more blocks more es new key entry e h made grew =
     let (all, same) = rw (← e.whole) at (entries_extended blocks e.rest es h) in (
-      subst (All (IsEntry more)) (sym grew) (All-push (IsEntry more) es entry all made.made),
+      subst (All (IsKeyEntry more)) (sym grew) (All-push (IsKeyEntry more) es entry all made.made),
       ap (map (key_of_entry more)) grew ∙ map-append (key_of_entry more) es (entry ∷ [])
           ∙ ap (λ ks. ks ++ key_of_entry more entry ∷ []) same
           ∙ ap (λ k. map (key_of_entry blocks) es ++ k ∷ []) made.is,

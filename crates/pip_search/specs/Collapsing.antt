@@ -44,19 +44,19 @@ pub record IsByBlocks (blocks : List (List ℕ)) (entry : List ℕ) : Type 0 whe
   pub long : most ≤ length (joined_blocks blocks numbers)
 
 -- an entry is of a whole key, of which nothing is said, or of one by blocks
-abbrev pub IsEntry : List (List ℕ) → List ℕ → Type 0
-IsEntry blocks [] = ⊥
-IsEntry blocks (zero ∷ bytes) = Unit {0}
-IsEntry blocks (suc b ∷ bytes) = IsByBlocks blocks (suc b ∷ bytes)
+abbrev pub IsKeyEntry : List (List ℕ) → List ℕ → Type 0
+IsKeyEntry blocks [] = ⊥
+IsKeyEntry blocks (zero ∷ bytes) = Unit {0}
+IsKeyEntry blocks (suc b ∷ bytes) = IsByBlocks blocks (suc b ∷ bytes)
 
 -- an entry is of a key by blocks
-pub record IsMade (blocks : List (List ℕ)) (key entry : List ℕ) : Type 0 where
+pub record IsKeyByBlocks (blocks : List (List ℕ)) (key entry : List ℕ) : Type 0 where
   pub by : IsByBlocks blocks entry
   pub is : key_of_words blocks (unpacked_key entry) ≡ key
 
 -- an entry is of a key
 pub record IsEntryOf (blocks : List (List ℕ)) (key entry : List ℕ) : Type 0 where
-  pub made : IsEntry blocks entry
+  pub made : IsKeyEntry blocks entry
   pub is : key_of_entry blocks entry ≡ key
 
 -- there are these blocks, and maybe more after them
@@ -75,4 +75,4 @@ pub record AddsNumber (blocks : List (List ℕ)) (block entry more : List ℕ) :
 pub record AreCollapsed (x : KeyStore) : Type 0 where
   pub stored : IsStored x.entries
   pub named : AreNamed (blocks_of x.blocks) x.blocks.table
-  pub entries : All (IsEntry (blocks_of x.blocks)) (listed x.entries)
+  pub entries : All (IsKeyEntry (blocks_of x.blocks)) (listed x.entries)

@@ -9,22 +9,22 @@ use crate::names::{Names, find, is_same};
 use std::alloc::{AllocError, Global};
 
 /// How many bytes a block has.
-pub(crate) const BLOCK: usize = 24;
+pub(crate) const BLOCK_BYTES: usize = 24;
 
 /// Blocks, numbered from 0.
 #[derive(Drop)]
-pub struct Blocks {
-    items: Vec<[u8; BLOCK]>,
+pub struct BlockList {
+    items: Vec<[u8; BLOCK_BYTES]>,
 }
 
 /// Blocks that are found by their bytes.
 #[derive(Drop)]
 pub struct BlockStore {
-    blocks: Blocks,
+    blocks: BlockList,
     table: HashTable,
 }
 
-impl Names for Blocks {
+impl Names for BlockList {
     ghost names_of = { λ x. x.items.items };
 
     ghost can_name = { λ x. Unit {0} };
@@ -35,18 +35,18 @@ impl Names for Blocks {
 }
 
 /// The first bytes of a block, fewer than a block has; the others are 0.
-pub(crate) fn filled(bytes: &[u8]) -> [u8; BLOCK]
+pub(crate) fn filled(bytes: &[u8]) -> [u8; BLOCK_BYTES]
     requires { length bytes.now < 24 }
     ensures { result ≡ filled_up bytes.now }
 {
-    let mut block = [0; BLOCK];
+    let mut block = [0; BLOCK_BYTES];
     block[..bytes.len()].copy_from_slice(bytes);
     block
 }
 
 // A block has its bytes.
 #[inline(always)]
-fn sized(block: &[u8; BLOCK]) -> &[u8; BLOCK]
+fn sized(block: &[u8; BLOCK_BYTES]) -> &[u8; BLOCK_BYTES]
     ensures same { result.now ≡ block.now }
     ensures size { length result.now ≡ 24 }
 {
@@ -60,7 +60,7 @@ impl BlockStore {
         ensures none { IfOk result (λ x. blocks_of x ≡ []) }
     {
         Ok(BlockStore {
-            blocks: Blocks {
+            blocks: BlockList {
                 items: Vec::new(alloc),
             },
             table: HashTable::new(alloc, seed)?,
@@ -76,7 +76,7 @@ impl BlockStore {
 
     /// The block of a number.
     #[inline(always)]
-    pub(crate) fn block(&self, number: u32) -> &[u8; BLOCK]
+    pub(crate) fn block(&self, number: u32) -> &[u8; BLOCK_BYTES]
         requires { number < length (blocks_of self.now) }
         ensures at { slice_get (blocks_of self.now) number ≡ Some result.now }
         ensures size { length result.now ≡ 24 }
@@ -88,7 +88,7 @@ impl BlockStore {
     pub(crate) fn number(
         &mut self,
         alloc: Global,
-        block: &[u8; BLOCK],
+        block: &[u8; BLOCK_BYTES],
         room: bool,
     ) -> Result<Option<u32>, AllocError>
         requires named { AreNamed (blocks_of self.old) self.old.table }

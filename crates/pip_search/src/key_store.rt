@@ -1,12 +1,12 @@
 //! The keys of visits, in blocks that are kept once.
 ghost use Rattle.std.specs.Prelude.{◌≡◌, ◌≢◌, ◌<◌, ◌++◌, [], ◌∷◌, false, IfOk, IsTrue, MatchOption, Some, length};
 ghost use Rattle.std.specs.Prelude.{slice_get, List, ℕ};
-ghost use Rattle.pip_search.specs.Collapsing.{AddsNumber, AreCollapsed, IsByBlocks, IsEntryOf, IsExtended, IsMade};
-ghost use Rattle.pip_search.specs.Collapsing.{blocks_of, keys_in, key_of_words};
+ghost use Rattle.pip_search.specs.Collapsing.{AddsNumber, AreCollapsed, IsByBlocks, IsEntryOf, IsExtended};
+ghost use Rattle.pip_search.specs.Collapsing.{IsKeyByBlocks, blocks_of, keys_in, key_of_words};
 ghost use Rattle.pip_search.specs.Naming.{AreNamed};
 ghost use Rattle.pip_search.specs.Packing.{unpacked_key};
 
-use crate::blocks::{BLOCK, BlockStore, filled};
+use crate::blocks::{BLOCK_BYTES, BlockStore, filled};
 use crate::byte_lists::ByteLists;
 use crate::names::{Names, is_same};
 use crate::packing::{joined, push_word};
@@ -22,7 +22,8 @@ const SLACK: usize = 4096;
 /// blocks would take more memory than whole keys, a key of new blocks is kept whole.
 #[derive(Drop)]
 pub struct KeyStore {
-    // Per key, packed: one more than how many bytes it has, and the numbers of its blocks. Of a whole one 0 and the key.
+    // Per key, packed: one more than how many bytes it has, and the numbers of its blocks. Of a whole key, 0 and its
+    // bytes.
     entries: ByteLists,
     blocks: BlockStore,
     // How many bytes all keys have.
@@ -65,7 +66,7 @@ fn whole_of(entry: &[u8]) -> Option<&[u8]>
 
 // Whether two blocks are the same.
 #[inline(always)]
-fn is_block(a: &[u8; BLOCK], b: &[u8; BLOCK]) -> bool
+fn is_block(a: &[u8; BLOCK_BYTES], b: &[u8; BLOCK_BYTES]) -> bool
     ensures same { IsTrue result → a.now ≡ b.now }
     ensures other { result ≡ false → a.now ≢ b.now }
 {
@@ -86,12 +87,12 @@ impl KeyStore {
         })
     }
 
-    // Whether there is room for the blocks of a key, even if all are new: with them all has hardly more bytes than whole
-    // keys would have.
+    // Whether there is room for the blocks of a key, even if all are new: with them, the store takes hardly more bytes
+    // than whole keys would.
     fn has_room(&self, key: usize) -> bool {
-        let blocks = self.blocks.len().wrapping_add(key / BLOCK + 1);
+        let blocks = self.blocks.len().wrapping_add(key / BLOCK_BYTES + 1);
         let all = blocks
-            .wrapping_mul(BLOCK + COST)
+            .wrapping_mul(BLOCK_BYTES + COST)
             .wrapping_add(self.entries.size());
         all <= self.whole.wrapping_add(self.whole / 32).wrapping_add(SLACK)
     }
@@ -100,15 +101,15 @@ impl KeyStore {
     fn add_number(
         &mut self,
         alloc: Global,
-        block: &[u8; BLOCK],
+        block: &[u8; BLOCK_BYTES],
         room: bool,
     ) -> Result<bool, AllocError>
         requires named { AreNamed (blocks_of self.old.blocks) self.old.blocks.table }
         ensures named { IfOk result (λ _. AreNamed (blocks_of self.new.blocks) self.new.blocks.table) }
         ensures extended { IfOk result (λ _. IsExtended (blocks_of self.old.blocks) (blocks_of self.new.blocks)) }
         ensures entries { self.new.entries ≡ self.old.entries }
-        ensures added { IfOk result (λ r. IsTrue r → AddsNumber (blocks_of self.new.blocks) block.now self.old.entry.items
-            self.new.entry.items) }
+        ensures added { IfOk result (λ r. IsTrue r → AddsNumber (blocks_of self.new.blocks) block.now
+            self.old.entry.items self.new.entry.items) }
     {
         match self.blocks.number(alloc, block, room)? {
             Some(number) => {
@@ -125,7 +126,8 @@ impl KeyStore {
         ensures named { IfOk result (λ _. AreNamed (blocks_of self.new.blocks) self.new.blocks.table) }
         ensures extended { IfOk result (λ _. IsExtended (blocks_of self.old.blocks) (blocks_of self.new.blocks)) }
         ensures entries { self.new.entries ≡ self.old.entries }
-        ensures made { IfOk result (λ r. IsTrue r → IsMade (blocks_of self.new.blocks) key.now self.new.entry.items) }
+        ensures made { IfOk result (λ r. IsTrue r → IsKeyByBlocks (blocks_of self.new.blocks) key.now
+            self.new.entry.items) }
     {
         self.entry.clear();
         if key.len() >= u32::MAX as usize {
@@ -133,7 +135,7 @@ impl KeyStore {
         }
         push_word(&mut self.entry, key.len() as u32 + 1)?;
         let mut rest = key;
-        while let Some((block, more)) = rest.split_first_chunk::<BLOCK>() {
+        while let Some((block, more)) = rest.split_first_chunk::<BLOCK_BYTES>() {
             if !self.add_number(alloc, block, room)? {
                 return Ok(false);
             }
@@ -228,7 +230,7 @@ impl KeyStore {
         let mut rest = key;
         while let Some((number, more)) = next_word(numbers) {
             let block = self.blocks.block(number);
-            match rest.split_first_chunk::<BLOCK>() {
+            match rest.split_first_chunk::<BLOCK_BYTES>() {
                 Some((front, after)) => {
                     if !is_block(front, block) {
                         return false;

@@ -61,8 +61,8 @@ pub(crate) fn reach(
         (keyed_visits (keys_in store.new) visits.new.items) key.now step.at step.choice step.depth step.run) }
     ensures stays { IfOk result (λ room. room ≡ false → keyed_visits (keys_in store.new) visits.new.items
         ≡ keyed_visits (keys_in store.old) visits.old.items) }
-    ensures full { IfOk result (λ room. room ≡ false → IsFull (keyed_visits (keys_in store.old) visits.old.items) key.now
-        limit) }
+    ensures full { IfOk result (λ room. room ≡ false → IsFull (keyed_visits (keys_in store.old) visits.old.items)
+        key.now limit) }
     ensures grows { vec_len visits.old ≤ vec_len visits.new }
     ensures room { IfOk result (λ x. vec_len visits.old ≤ limit → vec_len visits.new ≤ limit) }
 {

@@ -16,7 +16,8 @@ loop-byte-preserved c =
     let (split, count) = c.in-Some.ensures.cases in
     let low = c.loop-byte.invariant.1 in (
       ap (λ x. unpacked_after x c.in-Some.more.now) c.joined-word.ensures
-          ∙ sym (more_bits c.loop-byte.word c.in-Some.byte.now c.in-Some.more.now (omega (arith, c.if-byte-lt128.false)))
+          ∙ sym (more_bits c.loop-byte.word c.in-Some.byte.now c.in-Some.more.now
+          (omega (arith, c.if-byte-lt128.false)))
           ∙ ap (unpacked_after c.loop-byte.word) (sym split) ∙ c.loop-byte.invariant.0,
       omega (arith, count, low),
     )

@@ -26,6 +26,7 @@ pub returns-clause-number : goal.returns-clause-number
 returns-clause-number c =
     let names = blocks_of c.args.self.now in
     let block = c.args.block.now in
-    let at : c.len-place.result ≡ length names = omega (arith, c.len-place.ensures, c.args.self.now.blocks.items.ok.0) in
+    let count = c.args.self.now.blocks.items.ok.0 in
+    let at : c.len-place.result ≡ length names = omega (arith, c.len-place.ensures, count) in
     subst (λ i. slice_get c.push.new.self.items i ≡ Some block) (sym at)
     (subst (λ zs. slice_get zs (length names) ≡ Some block) (sym c.in_ok-push.ensures.items) (get-new names block))

@@ -1,9 +1,9 @@
-use Rattle.std.proofs.Common.{rules, ◌≡◌, ◌≢◌, ◌∙◌, ◌++◌, ◌-◌, ◌<◌, ◌≤◌, ◌∷◌, [], All, ap, sym, subst, arith, length, take, drop}
+use Rattle.std.proofs.Common.{rules, ◌≡◌, ◌∙◌, ◌++◌, ◌-◌, ◌<◌, ◌≤◌, [], All, ap, sym, subst, arith, length}
 use Rattle.std.proofs.lemmas.List.{length-take-le, nil_from_length, take-append-drop}
 use Rattle.std.proofs.lemmas.Bool.Decides.{nat_tests}
-use Rattle.pip_search.specs.Collapsing.{blocks_of, joined_blocks, key_of_words}
+use Rattle.pip_search.specs.Collapsing.{blocks_of}
 use Rattle.pip_search.specs.Packing.{unpacked_key}
-use Rattle.pip_search.proofs.Collapsed.{Begins, all_next, begins_back, begins_last, begins_more, begins_none, begins_same}
+use Rattle.pip_search.proofs.Collapsed.{all_next, begins_back, begins_last, begins_more, begins_none, begins_same}
 use Rattle.pip_search.proofs.Collapsed.{key_begins, key_length}
 use Rattle.pip_search.proofs.key_store.KeyStore.is_of.Goals as goal
 
@@ -25,7 +25,8 @@ returns-then-not-is_block-clause-other c = λ no same.
     let key = key_begins blocks c.args.key.now (unpacked_key c.args.entry.now) c.in-Some.count
     (unpacked_key c.in-Some.more.now) c.in-Some.ensures.word count in
     let few : 24 ≤ length rest = omega (arith, cases.2) in
-    let long : length front ≡ length c.block-block.result.now = ap length cases.0 ∙ length-take-le 24 rest few ∙ sym c.block-block.ensures.size in
+    let long : length front ≡ length c.block-block.result.now =
+    ap length cases.0 ∙ length-take-le 24 rest few ∙ sym c.block-block.ensures.size in
     c.is_block.ensures.other c.if-not-is_block.true
     (begins_same blocks c.in-Some-next_word.number (unpacked_key c.loop-number.numbers.now)
     (unpacked_key c.in-Some-next_word.more.now) c.block-block.result.now c.in-Some-next_word.ensures.word

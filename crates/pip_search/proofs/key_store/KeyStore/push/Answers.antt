@@ -1,11 +1,11 @@
 use Rattle.std.proofs.Common.{◌≡◌, ◌∙◌, ◌∷◌, ◌++◌, [], ap, All, map}
-use Rattle.pip_search.specs.Collapsing.{IsEntry, blocks_of, key_of_entry, keys_in}
+use Rattle.pip_search.specs.Collapsing.{IsKeyEntry, blocks_of, key_of_entry, keys_in}
 use Rattle.pip_search.specs.Storing.{listed}
 use Rattle.pip_search.proofs.Collapsed.{entries_more}
 use Rattle.pip_search.proofs.key_store.KeyStore.push.Goals as goal
 use Rattle.pip_search.proofs.key_store.KeyStore.push.Goals.{In_ok-push}
 
-pushed : (c : In_ok-push) → All (IsEntry (blocks_of c.make_entry.new.self.blocks)) (listed c.push.new.self)
+pushed : (c : In_ok-push) → All (IsKeyEntry (blocks_of c.make_entry.new.self.blocks)) (listed c.push.new.self)
     × (map (key_of_entry (blocks_of c.make_entry.new.self.blocks)) (listed c.push.new.self)
     ≡ keys_in c.args.self.now ++ c.args.key.now ∷ [])
 pushed c =

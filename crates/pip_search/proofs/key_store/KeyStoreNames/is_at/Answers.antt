@@ -9,8 +9,8 @@ returns-in-Some-clause-same c = λ yes.
 
 pub returns-in-Some-clause-other : goal.returns-in-Some-clause-other
 returns-in-Some-clause-other c = λ no same.
-    let at = whole_at c.args.self.now c.args.place c.list_at-entry.result.now c.list_at-entry.ensures c.in-Some.whole.now
-    c.in-Some.ensures in
+    let at = whole_at c.args.self.now c.args.place c.list_at-entry.result.now c.list_at-entry.ensures
+    c.in-Some.whole.now c.in-Some.ensures in
     c.is_same.ensures.other no (cc (at, same))
 
 pub is_of-requires : goal.is_of-requires
