@@ -1,6 +1,5 @@
-use Rattle.std.proofs.Common.{rules, ◌≡◌, ◌+◌, ◌*◌, ◌<◌, List, length, length-append, Some, slice_get}
-use Rattle.std.proofs.Common.{[], ◌∷◌, ◌++◌, true, false, refl, ap, sym, subst, ◌∙◌, arith}
-use Rattle.pip_search.specs.Again.{IsEdge, ShowsAt, ShowsOther}
+use Rattle.std.proofs.Common.{◌≡◌, ◌+◌, ◌<◌, length, length-append, Some}
+use Rattle.std.proofs.Common.{[], ◌∷◌, ◌++◌, refl, ap, sym, subst, ◌∙◌, arith}
 use Rattle.pip_search.specs.Comes.{AreCutEdges, IsCutEdge}
 use Rattle.pip_search.specs.Keys.{key_of, visits_of}
 use Rattle.pip_search.specs.Summary.{HasOneKey}

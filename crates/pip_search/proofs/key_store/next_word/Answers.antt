@@ -1,4 +1,4 @@
-use Rattle.std.proofs.Common.{◌≡◌, ◌∙◌, ◌∷◌, ap, sym, arith, length}
+use Rattle.std.proofs.Common.{◌∙◌, ◌∷◌, ap, sym, arith}
 use Rattle.std.proofs.lemmas.List.{nil_from_length}
 use Rattle.pip_search.specs.Packing.{unpacked_after, unpacked_key}
 use Rattle.pip_search.proofs.Packed.{last_bits, more_bits, words_none}

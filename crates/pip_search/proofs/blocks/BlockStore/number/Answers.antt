@@ -1,4 +1,4 @@
-use Rattle.std.proofs.Common.{◌≡◌, ◌∙◌, ap, sym, refl, [], ◌∷◌, ◌++◌, arith, length, subst, slice_get, Some}
+use Rattle.std.proofs.Common.{◌≡◌, sym, arith, length, subst, slice_get, Some}
 use Rattle.pip_search.specs.Collapsing.{blocks_of}
 use Rattle.pip_search.specs.Naming.{AreNamed}
 use Rattle.pip_search.proofs.Placed.{tag_low}

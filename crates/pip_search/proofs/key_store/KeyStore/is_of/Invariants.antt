@@ -1,5 +1,5 @@
-use Rattle.std.proofs.Common.{◌≡◌, ◌<◌, length, take, All}
-use Rattle.pip_search.specs.Collapsing.{blocks_of, joined_blocks}
+use Rattle.std.proofs.Common.{◌<◌, length, All}
+use Rattle.pip_search.specs.Collapsing.{blocks_of}
 use Rattle.pip_search.specs.Packing.{unpacked_key}
 use Rattle.pip_search.proofs.Collapsed.{Begins}
 use Rattle.pip_search.proofs.key_store.KeyStore.is_of.Given as goal

@@ -1,4 +1,4 @@
-use Rattle.std.proofs.Common.{◌≡◌, ◌∙◌, ◌-◌, ◌<◌, ◌∷◌, ◌++◌, All, ap, sym, subst, append-nil, append_assoc}
+use Rattle.std.proofs.Common.{◌∙◌, ◌-◌, ◌<◌, ◌++◌, All, ap, sym, subst, append-nil, append_assoc}
 use Rattle.std.proofs.Common.{length, take}
 use Rattle.pip_search.specs.Collapsing.{blocks_of, joined_blocks, key_of_words}
 use Rattle.pip_search.specs.Packing.{unpacked_key}

@@ -1,9 +1,9 @@
-use Rattle.std.proofs.Common.{rules, ◌≡◌, ◌+◌, ◌-◌, ◌∙◌, ◌++◌, ◌∷◌, [], ap, sym, refl, arith, length}
+use Rattle.std.proofs.Common.{rules, ◌≡◌, ◌+◌, ◌-◌, ◌∙◌, ◌++◌, [], ap, sym, refl, arith, length}
 use Rattle.std.proofs.Common.{append-nil, append_assoc}
 use Rattle.std.proofs.lemmas.List.{nil_from_length, take-append-drop}
 use Rattle.std.specs.Prelude.{replicate}
 use Rattle.std.proofs.lemmas.Bool.Decides.{nat_tests}
-use Rattle.pip_search.specs.Collapsing.{IsExtended, IsKeyByBlocks, blocks_of, filled_up}
+use Rattle.pip_search.specs.Collapsing.{blocks_of}
 use Rattle.pip_search.specs.Packing.{packed_word}
 use Rattle.pip_search.proofs.Collapsed.{begun_done, begun_more, begun_none, extended_again}
 use Rattle.pip_search.proofs.key_store.KeyStore.make_by_blocks.Goals as goal

@@ -1,4 +1,4 @@
-use Rattle.std.proofs.Common.{◌≡◌, ◌∙◌, ap, sym, Some}
+use Rattle.std.proofs.Common.{◌∙◌, ap, Some}
 use Rattle.pip_search.proofs.Collapsed.{blocks_at, whole_at}
 use Rattle.pip_search.proofs.key_store.KeyStoreNames.is_at.Goals as goal
 
