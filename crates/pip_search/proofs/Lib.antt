@@ -1,6 +1,7 @@
 pub mod Places
 pub mod Picking
 pub mod Stored
+pub mod Collapsed
 pub mod Steps
 pub mod Making
 pub mod Telling

@@ -10,7 +10,7 @@ use Rattle.pip_search.specs.Keys.{Keyed, key_of, visits_of}
 use Rattle.pip_search.specs.Packing.{packed_key, unpacked_key}
 use Rattle.pip_search.specs.Summary.{HasOneKey}
 use Rattle.pip_search.specs.Systems.{IsKey, LeadsOn, Model}
-use Rattle.pip_search.specs.Storing.{listed}
+use Rattle.pip_search.specs.Collapsing.{keys_in}
 use Rattle.pip_search.specs.declared.searching.Search.{Search}
 use Rattle.pip_search.proofs.Making.{at-same}
 use Rattle.pip_search.proofs.Places.{get-back, get-below}
@@ -29,7 +29,7 @@ module _ (m : Model) (start : List ℕ) (s : Search) (h : HasClosed m start s) w
   -- whatever key a choice of a visit leads to, some visit keeps its bytes
   pub is_there : IsKey m start → HasOneKey m → (i c : ℕ) (u : Keyed) (next shown : List ℕ)
       → slice_get vs i ≡ Some u → c < m.choices → LeadsOn m (key_of u) c next shown
-      → (j : ℕ) × (slice_get (listed s.store) j ≡ Some (packed_key next))
+      → (j : ℕ) × (slice_get (keys_in s.store) j ≡ Some (packed_key next))
   is_there key one i c u next shown at low leads =
       let all = h.all in
       let count = visit_count s h.searching.keyed in
@@ -46,7 +46,7 @@ module _ (m : Model) (start : List ℕ) (s : Search) (h : HasClosed m start s) w
       )
 
   -- and that is where it leads
-  pub edge_to : (c j : ℕ) (key bytes next shown : List ℕ) → slice_get (listed s.store) j ≡ Some bytes
+  pub edge_to : (c j : ℕ) (key bytes next shown : List ℕ) → slice_get (keys_in s.store) j ≡ Some bytes
       → unpacked_key bytes ≡ next → LeadsOn m key c next shown → IsEdge m vs key c j
   edge_to c j key bytes next shown at words leads =
       let (v, (there, own)) = at_named (λ (v : Keyed). v.key) vs j bytes

@@ -5,7 +5,7 @@ use Rattle.std.proofs.lemmas.List.{map-append}
 use Rattle.pip_search.specs.Keys.{HaveKeys, IsAtHand, Keyed, key_bytes, keyed_visit, keyed_visits, step_of, steps_of}
 use Rattle.pip_search.specs.Keys.{visits_of}
 use Rattle.pip_search.specs.Packing.{unpacked_key}
-use Rattle.pip_search.specs.Storing.{listed}
+use Rattle.pip_search.specs.Collapsing.{keys_in}
 use Rattle.pip_search.specs.declared.searching.Search.{Search}
 use Rattle.pip_search.specs.declared.visits.Visit.{Visit}
 
@@ -72,24 +72,24 @@ steps_more vs v = map-append step_of vs (v ∷ [])
 -- ---- the visits of a search
 
 -- words that were unpacked from the bytes at a place are those of the visit there
-pub at_hand : (s : Search) (i : ℕ) (bytes words : List ℕ) → slice_get (listed s.store) i ≡ Some bytes
+pub at_hand : (s : Search) (i : ℕ) (bytes words : List ℕ) → slice_get (keys_in s.store) i ≡ Some bytes
     → words ≡ unpacked_key bytes → IsAtHand (visits_of s) i words
 at_hand s i bytes words at is v there = is
-    ∙ ap unpacked_key (some_same (sym at ∙ own_key (listed s.store) s.visits.items i v there))
+    ∙ ap unpacked_key (some_same (sym at ∙ own_key (keys_in s.store) s.visits.items i v there))
   where
     some_same : {x y : List ℕ} → Some x ≡ Some y → x ≡ y
     some_same e = cc
 
 module _ (s : Search) (h : HaveKeys s.visits.items s.store s.keys) where
   pub all_steps : steps_of (visits_of s) ≡ s.visits.items
-  all_steps = steps_are (listed s.store) s.visits.items h.count
+  all_steps = steps_are (keys_in s.store) s.visits.items h.count
 
-  pub all_bytes : key_bytes (visits_of s) ≡ listed s.store
-  all_bytes = bytes_are (listed s.store) s.visits.items h.count
+  pub all_bytes : key_bytes (visits_of s) ≡ keys_in s.store
+  all_bytes = bytes_are (keys_in s.store) s.visits.items h.count
 
   pub visit_count : length (visits_of s) ≡ length s.visits.items
-  visit_count = keyed_count (listed s.store) s.visits.items h.count
+  visit_count = keyed_count (keys_in s.store) s.visits.items h.count
 
   pub visit_at : (i : ℕ) (v : Visit) → slice_get s.visits.items i ≡ Some v
       → (key : List ℕ) × (slice_get (visits_of s) i ≡ Some (keyed_visit key v))
-  visit_at i v at = keyed_at (listed s.store) s.visits.items i v h.count at
+  visit_at i v at = keyed_at (keys_in s.store) s.visits.items i v h.count at

@@ -7,7 +7,7 @@ use Rattle.std.proofs.lemmas.List.{drop-append-le, length-drop, take-append-le}
 use Rattle.std.proofs.Math.ListN.{get_or-append}
 use Rattle.std.proofs.Math.Seq.{drop-append_seam, get_or-append_seam, take-length}
 use Rattle.pip_search.specs.Storing.{AreEnds, HasOpenBlock, IsStored, ends_from, ends_of, listed, listed_from}
-use Rattle.pip_search.specs.declared.key_store.KeyStore.{KeyStore}
+use Rattle.pip_search.specs.declared.byte_lists.ByteLists.{ByteLists}
 
 pub none_listed : (start : ℕ) (bytes : List ℕ) → listed_from start bytes [] ≡ []
 unfolding listed_from
@@ -126,7 +126,7 @@ starts_low start ends last zero h low = start_low start ends last h
 starts_low start ends last (suc i) h low = end_low start ends last i h (omega arith)
 
 -- where a block begins there are bytes, or they end
-pub block_low : (x : KeyStore) (k : ℕ) → IsStored x → k < length x.blocks.items
+pub block_low : (x : ByteLists) (k : ℕ) → IsStored x → k < length x.blocks.items
     → get_or x.blocks.items k 0 ≤ length x.bytes.items
 block_low x k h low =
     let count = ends_count 0 x.blocks.items x.ends.items in
@@ -136,7 +136,7 @@ block_low x k h low =
     omega (arith, begins, most)
 
 -- the end of a key, by its block
-module _ (x : KeyStore) (i : ℕ) (h : IsStored x) (low : i < length x.ends.items) where
+module _ (x : ByteLists) (i : ℕ) (h : IsStored x) (low : i < length x.ends.items) where
   pub its_block : i / 64 < length x.blocks.items
   its_block = let e = h.enough.0 in omega (arith, low, e)
 
@@ -150,13 +150,13 @@ module _ (x : KeyStore) (i : ℕ) (h : IsStored x) (low : i < length x.ends.item
       (let count = ends_count 0 x.blocks.items x.ends.items in omega (arith, count, low))
 
 -- a store has room, and the keys that it had
-pub record HasOpened (x y : KeyStore) : Type 0 where
+pub record HasOpened (x y : ByteLists) : Type 0 where
   pub stored : IsStored y
   pub room : HasOpenBlock y
   pub same : listed y ≡ listed x
 
 -- after a block was begun where the bytes end
-module _ (x y : KeyStore) (h : IsStored x) (full : length x.ends.items / 64 ≡ length x.blocks.items)
+module _ (x y : ByteLists) (h : IsStored x) (full : length x.ends.items / 64 ≡ length x.blocks.items)
     (bytes : y.bytes ≡ x.bytes) (blocks : y.blocks.items ≡ x.blocks.items ++ length x.bytes.items ∷ [])
     (ends : y.ends ≡ x.ends) where
   all : length x.ends.items ≡ 64 * length x.blocks.items
@@ -201,7 +201,7 @@ module _ (x y : KeyStore) (h : IsStored x) (full : length x.ends.items / 64 ≡ 
   }
 
 -- there is room where not all blocks are full
-pub has_room : (x : KeyStore) → IsStored x → (length x.ends.items / 64 ≡ length x.blocks.items → ⊥) → HasOpenBlock x
+pub has_room : (x : ByteLists) → IsStored x → (length x.ends.items / 64 ≡ length x.blocks.items → ⊥) → HasOpenBlock x
 has_room x h other = elim (cases_lt (length x.ends.items) (64 * length x.blocks.items)) [
   | inl less ↦ less
   | inr most ↦
@@ -211,12 +211,12 @@ has_room x h other = elim (cases_lt (length x.ends.items) (64 * length x.blocks.
 ]
 
 -- a store has a key more
-pub record HasAdded (x y : KeyStore) (key : List ℕ) : Type 0 where
+pub record HasAdded (x y : ByteLists) (key : List ℕ) : Type 0 where
   pub stored : IsStored y
   pub added : listed y ≡ listed x ++ key ∷ []
 
 -- after a key was added, by its bytes and its end
-module _ (x y : KeyStore) (key : List ℕ) (end : ℕ) (h : IsStored x) (room : HasOpenBlock x)
+module _ (x y : ByteLists) (key : List ℕ) (end : ℕ) (h : IsStored x) (room : HasOpenBlock x)
     (bytes : y.bytes.items ≡ x.bytes.items ++ key) (blocks : y.blocks ≡ x.blocks)
     (ends : y.ends.items ≡ x.ends.items ++ end ∷ [])
     (is : end ≡ length y.bytes.items - get_or x.blocks.items (length x.ends.items / 64) 0) where
@@ -266,7 +266,7 @@ module _ (x y : KeyStore) (key : List ℕ) (end : ℕ) (h : IsStored x) (room : 
   }
 
 -- a store has as many keys as ends
-pub key_count : (x : KeyStore) → length (listed x) ≡ length x.ends.items
+pub key_count : (x : ByteLists) → length (listed x) ≡ length x.ends.items
 key_count x = listed_count 0 x.bytes.items (ends_of x) ∙ ends_count 0 x.blocks.items x.ends.items
 
 -- ---- no keys
@@ -275,7 +275,7 @@ none_ended : (blocks : List ℕ) → ends_from 0 blocks [] ≡ []
 unfolding ends_from
 none_ended blocks = refl
 
-module _ (x : KeyStore) (ends : x.ends.items ≡ []) where
+module _ (x : ByteLists) (ends : x.ends.items ≡ []) where
   none : ends_of x ≡ []
   none = ap (ends_from 0 x.blocks.items) ends ∙ none_ended x.blocks.items
 

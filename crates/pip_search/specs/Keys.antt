@@ -2,7 +2,7 @@
 use Rattle.std.specs.Prelude.{◌≡◌, ℕ, List, [], ◌∷◌, map, length, Some, slice_get}
 use Rattle.pip_search.specs.Naming.{AreNamed}
 use Rattle.pip_search.specs.Packing.{packed_key, unpacked_key}
-use Rattle.pip_search.specs.Storing.{IsStored, listed}
+use Rattle.pip_search.specs.Collapsing.{AreCollapsed, keys_in}
 use Rattle.pip_search.specs.declared.key_store.KeyStore.{KeyStore}
 use Rattle.pip_search.specs.declared.hash_table.HashTable.{HashTable}
 use Rattle.pip_search.specs.declared.searching.Search.{Search}
@@ -29,7 +29,7 @@ keyed_visits (key ∷ keys) (v ∷ vs) = keyed_visit key v ∷ keyed_visits keys
 
 -- the visits of a search, with their keys
 abbrev pub visits_of : Search → List Keyed
-visits_of s = keyed_visits (listed s.store) s.visits.items
+visits_of s = keyed_visits (keys_in s.store) s.visits.items
 
 -- a visit without its key
 abbrev pub step_of : Keyed → Visit
@@ -53,9 +53,9 @@ key_bytes vs = map (λ v. v.key) vs
 
 -- visits have as many keys, no two of which are the same, and each is found by its hash
 pub record HaveKeys (vs : List Visit) (x : KeyStore) (table : HashTable) : Type 0 where
-  pub stored : IsStored x
-  pub count : length (listed x) ≡ length vs
-  pub named : AreNamed (listed x) table
+  pub stored : AreCollapsed x
+  pub count : length (keys_in x) ≡ length vs
+  pub named : AreNamed (keys_in x) table
 
 -- each visit keeps the bytes of its key, and no other bytes of the same words
 abbrev pub AreKept : List Keyed → Type 0

@@ -4,6 +4,7 @@ pub mod Cells
 pub mod Naming
 pub mod Packing
 pub mod Storing
+pub mod Collapsing
 pub mod Keys
 pub mod Growing
 pub mod Began

@@ -13,7 +13,7 @@ ghost use Rattle.pip_search.specs.Ways.{way_to};
 use crate::graph::spread;
 use crate::hashes::hash_bytes;
 use crate::index::Index;
-use crate::names::{Names, find, is_same};
+use crate::names::{find, is_same};
 use crate::packing::{pack, unpack};
 use crate::searching::{Buffers, Search};
 use crate::system::System;
@@ -90,7 +90,8 @@ fn look_around<S: System>(
     ensures count { IfOk result (λ _. length edges.new.hashes.items ≡ (i + 1) * width) }
     ensures base { S.base system.new ≡ S.base system.old }
 {
-    unpack(search.store.name_at(i), &mut buffers.from)?;
+    search.store.read(i, &mut buffers.bytes)?;
+    unpack(&buffers.bytes, &mut buffers.from)?;
     let mut shows = false;
     for choice in 0..width {
         let (to, shown) = look(search, system, start, buffers, label, i, choice)?;

@@ -11,7 +11,6 @@ ghost use Rattle.pip_search.specs.Summary.{HasOneKey};
 ghost use Rattle.pip_search.specs.Systems.{IsKey};
 
 use crate::again::look;
-use crate::names::Names;
 use crate::packing::unpack;
 use crate::ranks::{Ranks, rank};
 use crate::searching::{Buffers, Search};
@@ -70,7 +69,8 @@ fn cut_around<S: System>(
     ensures count { IfOk result (λ _. length targets.new.items ≡ (i + 1) * (S.model (S.base system.old)).choices) }
     ensures base { S.base system.new ≡ S.base system.old }
 {
-    unpack(search.store.name_at(i), &mut buffers.from)?;
+    search.store.read(i, &mut buffers.bytes)?;
+    unpack(&buffers.bytes, &mut buffers.from)?;
     let count = system.count();
     for choice in 0..count {
         let (to, shown) = look(search, system, start, buffers, label, i, choice)?;

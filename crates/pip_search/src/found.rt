@@ -6,7 +6,7 @@ ghost use Rattle.pip_search.specs.Naming.{AreNamed};
 
 use crate::hash_table::HashTable;
 use crate::hashes::hash_bytes;
-use crate::names::{Names, find, kept};
+use crate::names::{Names, find, is_same, kept};
 use crate::visits::MadeChoice;
 use std::alloc::{AllocError, Global};
 
@@ -25,8 +25,8 @@ impl Names for Vec<Found> {
 
     ghost can_name = { λ fs. Unit {0} };
 
-    fn name_at(&self, place: usize) -> &[u8] {
-        &self[place].label
+    fn is_at(&self, place: usize, name: &[u8]) -> bool {
+        is_same(&self[place].label, name)
     }
 }
 

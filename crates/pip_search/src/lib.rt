@@ -23,6 +23,8 @@
 #![tactic(auto)]
 
 mod again;
+mod blocks;
+mod byte_lists;
 mod coming;
 mod found;
 mod graph;

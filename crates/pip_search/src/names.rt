@@ -14,11 +14,12 @@ pub(crate) trait Names {
     /// Whether they can be read.
     ghost can_name: { Self → Type 0 };
 
-    /// The name at a place.
-    fn name_at(&self, place: usize) -> &[u8]
+    /// Whether a name is at a place.
+    fn is_at(&self, place: usize, name: &[u8]) -> bool
         requires can { can_name self.now }
         requires place { place < length (names_of self.now) }
-        ensures { slice_get (names_of self.now) place ≡ Some result.now };
+        ensures same { IsTrue result → slice_get (names_of self.now) place ≡ Some name.now }
+        ensures other { result ≡ false → slice_get (names_of self.now) place ≢ Some name.now };
 }
 
 // What was found in some cells: the place of the name, or an empty one, or neither.
@@ -62,7 +63,7 @@ fn named_in<N: Names>(
         return None;
     }
     let place = (contents - tag - 1) as usize;
-    if place < table.hashes.len() && is_same(list.name_at(place), name) {
+    if place < table.hashes.len() && list.is_at(place, name) {
         return Some(place);
     }
     None

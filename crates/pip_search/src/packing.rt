@@ -15,8 +15,9 @@ fn push_bits(bytes: &mut Vec<u8>, word: u32, unit: u32) -> Result<(), AllocError
     Ok(())
 }
 
-// Adds a word.
-fn push_word(bytes: &mut Vec<u8>, word: u32) -> Result<(), AllocError>
+/// Adds a word. The only error is that memory is out.
+#[inline(always)]
+pub(crate) fn push_word(bytes: &mut Vec<u8>, word: u32) -> Result<(), AllocError>
     ensures { IfOk result (λ x. bytes.new.items ≡ bytes.old.items ++ packed_word word) }
 {
     if word < 128 {
@@ -44,8 +45,8 @@ pub(crate) fn pack(key: &[u32], bytes: &mut Vec<u8>) -> Result<(), AllocError>
     Ok(())
 }
 
-// A word with seven more bits, those of a byte, below the bits so far.
-fn joined(word: u32, byte: u8) -> u32
+/// A word with seven more bits, those of a byte, below the bits so far.
+pub(crate) fn joined(word: u32, byte: u8) -> u32
     ensures { result ≡ word_with word byte }
 {
     word.wrapping_mul(128).wrapping_add(u32::from(byte % 128))

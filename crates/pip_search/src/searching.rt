@@ -16,7 +16,6 @@ use crate::found::{Found, tell};
 use crate::hash_table::HashTable;
 use crate::hashes::hash_bytes;
 use crate::key_store::KeyStore;
-use crate::names::Names;
 use crate::packing::{pack, unpack};
 use crate::system::System;
 use crate::visits::{MadeChoice, Visit, reach_next, run_from};
@@ -92,8 +91,8 @@ fn begin(
     ensures kept { IfOk result (λ s. AreKept (visits_of s)) }
 {
     pack(start, &mut buffers.bytes)?;
-    let mut store = KeyStore::new(alloc);
-    store.push(&buffers.bytes)?;
+    let mut store = KeyStore::new(alloc, seed)?;
+    store.push(alloc, &buffers.bytes)?;
     let mut keys = HashTable::new(alloc, seed)?;
     keys.add(alloc, hash_bytes(seed, &buffers.bytes))?;
     let mut visits = Vec::new(alloc);
@@ -206,7 +205,8 @@ fn expand<S: System>(
     ensures room { IfOk result (λ x. vec_len search.new.visits ≤ limit) }
     ensures base { S.base system.new ≡ S.base system.old }
 {
-    unpack(search.store.name_at(i as usize), &mut buffers.from)?;
+    search.store.read(i as usize, &mut buffers.bytes)?;
+    unpack(&buffers.bytes, &mut buffers.from)?;
     let count = system.count();
     for choice in 0..count {
         let room = make(search, system, alloc, start, buffers, i, choice, limit)?;

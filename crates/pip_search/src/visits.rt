@@ -4,7 +4,7 @@ ghost use Rattle.pip_search.specs.Growing.{Grew, WasVisited, IsFull};
 ghost use Rattle.pip_search.specs.Exploring.{StartsRun};
 ghost use Rattle.pip_search.specs.Keys.{HaveKeys, keyed_visits};
 ghost use Rattle.pip_search.specs.Packing.{packed_key, unpacked_key};
-ghost use Rattle.pip_search.specs.Storing.{listed};
+ghost use Rattle.pip_search.specs.Collapsing.{keys_in};
 
 use crate::hash_table::HashTable;
 use crate::hashes::hash_bytes;
@@ -57,12 +57,12 @@ pub(crate) fn reach(
 ) -> Result<bool, AllocError>
     requires keyed { HaveKeys visits.old.items store.old table.old }
     ensures keyed { IfOk result (λ x. HaveKeys visits.new.items store.new table.new) }
-    ensures grew { IfOk result (λ room. IsTrue room → Grew (keyed_visits (listed store.old) visits.old.items)
-        (keyed_visits (listed store.new) visits.new.items) key.now step.at step.choice step.depth step.run) }
-    ensures stays { IfOk result (λ room. room ≡ false → keyed_visits (listed store.new) visits.new.items
-        ≡ keyed_visits (listed store.old) visits.old.items) }
-    ensures full { IfOk result (λ room. room ≡ false → IsFull (keyed_visits (listed store.old) visits.old.items) key.now
-        limit) }
+    ensures grew { IfOk result (λ room. IsTrue room → Grew (keyed_visits (keys_in store.old) visits.old.items)
+        (keyed_visits (keys_in store.new) visits.new.items) key.now step.at step.choice step.depth step.run) }
+    ensures stays { IfOk result (λ room. room ≡ false → keyed_visits (keys_in store.new) visits.new.items
+        ≡ keyed_visits (keys_in store.old) visits.old.items) }
+    ensures full { IfOk result (λ room. room ≡ false → IsFull (keyed_visits (keys_in store.old) visits.old.items)
+        key.now limit) }
     ensures grows { vec_len visits.old ≤ vec_len visits.new }
     ensures room { IfOk result (λ x. vec_len visits.old ≤ limit → vec_len visits.new ≤ limit) }
 {
@@ -73,7 +73,7 @@ pub(crate) fn reach(
     if visits.len() >= limit as usize {
         return Ok(false);
     }
-    store.push(key)?;
+    store.push(alloc, key)?;
     visits.push(Visit {
         parent: step.at,
         choice: step.choice,
@@ -98,15 +98,15 @@ pub(crate) fn reach_next(
     limit: u32,
 ) -> Result<bool, AllocError>
     requires keyed { HaveKeys visits.old.items store.old table.old }
-    requires from { WasVisited (keyed_visits (listed store.old) visits.old.items) from.now }
+    requires from { WasVisited (keyed_visits (keys_in store.old) visits.old.items) from.now }
     ensures keyed { IfOk result (λ x. HaveKeys visits.new.items store.new table.new) }
     ensures back { IfOk result (λ x. unpacked_key (packed_key to.now) ≡ to.now) }
-    ensures grew { IfOk result (λ room. IsTrue room → Grew (keyed_visits (listed store.old) visits.old.items)
-        (keyed_visits (listed store.new) visits.new.items) (packed_key to.now) step.at step.choice step.depth
+    ensures grew { IfOk result (λ room. IsTrue room → Grew (keyed_visits (keys_in store.old) visits.old.items)
+        (keyed_visits (keys_in store.new) visits.new.items) (packed_key to.now) step.at step.choice step.depth
         step.run) }
-    ensures stays { IfOk result (λ room. room ≡ false → keyed_visits (listed store.new) visits.new.items
-        ≡ keyed_visits (listed store.old) visits.old.items) }
-    ensures full { IfOk result (λ room. room ≡ false → IsFull (keyed_visits (listed store.old) visits.old.items)
+    ensures stays { IfOk result (λ room. room ≡ false → keyed_visits (keys_in store.new) visits.new.items
+        ≡ keyed_visits (keys_in store.old) visits.old.items) }
+    ensures full { IfOk result (λ room. room ≡ false → IsFull (keyed_visits (keys_in store.old) visits.old.items)
         (packed_key to.now) limit) }
     ensures grows { vec_len visits.old ≤ vec_len visits.new }
     ensures room { IfOk result (λ x. vec_len visits.old ≤ limit → vec_len visits.new ≤ limit) }

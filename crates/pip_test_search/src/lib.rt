@@ -1,11 +1,14 @@
-//! Tests of pip_search: a search of two counters, all of whose states are known beforehand.
+//! Tests of pip_search: searches of systems all of whose states are known beforehand.
 #![tactic(auto)]
 
 ghost use Rattle.std.specs.Prelude.{◌≡◌, ℕ, ◌+◌, ◌%◌, ◌<◌};
 ghost use Rattle.pip_test_search.specs.Counting.{counters};
 
+mod rows;
 #[cfg(test)]
 mod searches;
+#[cfg(test)]
+mod stored;
 
 use pip_search::System;
 use std::alloc::AllocError;

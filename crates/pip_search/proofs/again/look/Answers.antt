@@ -2,7 +2,7 @@ use Rattle.std.proofs.Common.{◌≡◌, ◌<◌, length, Some, ap, sym, subst, 
 use Rattle.pip_search.specs.Keys.{key_of, visits_of}
 use Rattle.pip_search.specs.Packing.{packed_key, unpacked_key}
 use Rattle.pip_search.specs.Systems.{IsKey, LeadsOn}
-use Rattle.pip_search.specs.Storing.{listed}
+use Rattle.pip_search.specs.Collapsing.{keys_in}
 use Rattle.pip_search.proofs.Looking.{edge_to, is_there, key_at}
 use Rattle.pip_search.proofs.Places.{get-below, get-some}
 use Rattle.pip_search.proofs.Steps.{visit_count}
@@ -20,7 +20,7 @@ make-requires-clause-key g c =
 pub overflow_cast-result : goal.overflow_cast-result
 overflow_cast-result g c =
     let s = c.args.search.now in
-    let low : c.in-Some.to < length (listed s.store) = get-below (listed s.store) c.in-Some.to c.deref-3.result.now
+    let low : c.in-Some.to < length (keys_in s.store) = get-below (keys_in s.store) c.in-Some.to c.deref-3.result.now
     c.in-Some.ensures in
     omega (arith, low, c.requires.closed.searching.keyed.count, c.requires.few)
 

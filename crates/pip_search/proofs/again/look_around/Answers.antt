@@ -1,4 +1,4 @@
-use Rattle.std.proofs.Common.{rules, ◌≡◌, ◌+◌, length, length-append}
+use Rattle.std.proofs.Common.{rules, ◌≡◌, ◌+◌, Some, length, length-append}
 use Rattle.std.proofs.Common.{[], ◌∷◌, ◌++◌, refl, ap, sym, subst, ◌∙◌, arith}
 use Rattle.pip_search.specs.Again.{AreEdges, IsEdge, IsShownAmong, ShowsAt, ShowsOther}
 use Rattle.pip_search.specs.Keys.{key_of, visits_of}
@@ -21,7 +21,8 @@ look-requires-clause-one g c = subst (λ b. HasOneKey (g.S.System.model b)) (sym
 pub loop-choice-init : goal.loop-choice-init
 loop-choice-init g c = record {
   base = refl;
-  hand = at_hand c.args.search.now c.args.i c.name_at.result.now c.unpack.new.key.items c.name_at.ensures
+  hand = at_hand c.args.search.now c.args.i c.deref.result.now c.unpack.new.key.items
+      (c.in_ok-read.ensures ∙ ap Some (sym c.deref.ensures.value))
       c.in_ok-unpack.ensures;
   filed = c.requires.filed;
   edges = c.requires.edges;

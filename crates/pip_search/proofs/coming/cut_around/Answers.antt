@@ -1,6 +1,5 @@
-use Rattle.std.proofs.Common.{rules, ◌≡◌, ◌+◌, ◌*◌, ◌<◌, List, length, length-append, Some, slice_get}
-use Rattle.std.proofs.Common.{[], ◌∷◌, ◌++◌, true, false, refl, ap, sym, subst, ◌∙◌, arith}
-use Rattle.pip_search.specs.Again.{IsEdge, ShowsAt, ShowsOther}
+use Rattle.std.proofs.Common.{◌≡◌, ◌+◌, ◌<◌, length, length-append, Some}
+use Rattle.std.proofs.Common.{[], ◌∷◌, ◌++◌, refl, ap, sym, subst, ◌∙◌, arith}
 use Rattle.pip_search.specs.Comes.{AreCutEdges, IsCutEdge}
 use Rattle.pip_search.specs.Keys.{key_of, visits_of}
 use Rattle.pip_search.specs.Summary.{HasOneKey}
@@ -25,7 +24,8 @@ look-requires-clause-choice g c = subst (λ b. c.loop-choice.choice < (g.S.Syste
 pub loop-choice-init : goal.loop-choice-init
 loop-choice-init g c = record {
   base = refl;
-  hand = at_hand c.args.search.now c.args.i c.name_at.result.now c.unpack.new.key.items c.name_at.ensures
+  hand = at_hand c.args.search.now c.args.i c.deref.result.now c.unpack.new.key.items
+      (c.in_ok-read.ensures ∙ ap Some (sym c.deref.ensures.value))
       c.in_ok-unpack.ensures;
   cut = c.requires.cut;
   count = omega (arith, c.requires.count);

@@ -2,7 +2,7 @@ use Rattle.std.proofs.Common.{refl, sym, ap, subst, ◌∙◌, ◌++◌, [], ◌
 use Rattle.pip_search.specs.Keys.{AreKept, keyed_visit, labels}
 use Rattle.pip_search.specs.Naming.{AreNamed}
 use Rattle.pip_search.specs.Packing.{unpacked_key}
-use Rattle.pip_search.specs.Storing.{listed}
+use Rattle.pip_search.specs.Collapsing.{keys_in}
 use Rattle.pip_search.specs.declared.visits.Visit.{Visit}
 use Rattle.pip_search.proofs.Keeping.{kept_bytes, kept_one}
 use Rattle.pip_search.proofs.Steps.{keyed_one}
@@ -15,8 +15,8 @@ returns-clause-begun c =
     let key = c.deref.result.now in
     record {
       first = keyed_visit key v;
-      one = keyed_one (listed c.push.new.self) c.push-2.new.self.items key v
-          (c.in_ok-push.ensures.added ∙ ap (λ ks. ks ++ key ∷ []) c.new-store.ensures.none)
+      one = keyed_one (keys_in c.push.new.self) c.push-2.new.self.items key v
+          (c.in_ok-push.ensures.added ∙ ap (λ ks. ks ++ key ∷ []) c.in_ok-store.ensures.none)
           (c.in_ok-push-2.ensures.items ∙ ap (λ xs. xs ++ v ∷ []) c.new-visits.ensures.items);
       key = ap unpacked_key c.deref.ensures.value ∙ c.in_ok-pack.ensures.words;
       root = record { parent = refl; choice = refl; depth = refl; run = refl };
@@ -32,8 +32,8 @@ returns-clause-kept c =
     let v : Visit = record { parent = 0; choice = 0; depth = 0; run = 0 } in
     let key = c.deref.result.now in
     let bytes = c.deref.ensures.value in
-    subst AreKept (sym (keyed_one (listed c.push.new.self) c.push-2.new.self.items key v
-    (c.in_ok-push.ensures.added ∙ ap (λ ks. ks ++ key ∷ []) c.new-store.ensures.none)
+    subst AreKept (sym (keyed_one (keys_in c.push.new.self) c.push-2.new.self.items key v
+    (c.in_ok-push.ensures.added ∙ ap (λ ks. ks ++ key ∷ []) c.in_ok-store.ensures.none)
     (c.in_ok-push-2.ensures.items ∙ ap (λ xs. xs ++ v ∷ []) c.new-visits.ensures.items)))
     (kept_one (keyed_visit key v) (kept_bytes c.args.start.now key (bytes ∙ c.in_ok-pack.ensures.packed)
     (ap unpacked_key bytes ∙ c.in_ok-pack.ensures.words)))

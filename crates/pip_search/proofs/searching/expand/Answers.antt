@@ -1,4 +1,4 @@
-use Rattle.std.proofs.Common.{◌≡◌, ◌<◌, arith, refl, sym, subst, length, false}
+use Rattle.std.proofs.Common.{◌≡◌, ◌∙◌, ◌<◌, Some, ap, arith, refl, sym, subst, length, false}
 use Rattle.pip_search.specs.Ending.{IsBeyond}
 use Rattle.pip_search.specs.Systems.{IsKey}
 use Rattle.pip_search.specs.Keys.{steps_of, visits_of}
@@ -15,7 +15,8 @@ pub loop-choice-init : goal.loop-choice-init
 loop-choice-init g c = record {
   base = refl;
   searching = c.requires.searching;
-  hand = at_hand c.args.search.now c.args.i c.name_at.result.now c.unpack.new.key.items c.name_at.ensures
+  hand = at_hand c.args.search.now c.args.i c.deref.result.now c.unpack.new.key.items
+      (c.in_ok-read.ensures ∙ ap Some (sym c.deref.ensures.value))
       c.in_ok-unpack.ensures;
   same = refl;
   grows = omega arith;

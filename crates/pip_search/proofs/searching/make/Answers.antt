@@ -5,7 +5,7 @@ use Rattle.pip_search.specs.Keys.{AreKept, key_of, keyed_visit, keyed_visits, st
 use Rattle.pip_search.specs.Orders.{IsRanked}
 use Rattle.pip_search.specs.Packing.{packed_key, unpacked_key}
 use Rattle.pip_search.specs.Systems.{IsKey, LeadsOn}
-use Rattle.pip_search.specs.Storing.{listed}
+use Rattle.pip_search.specs.Collapsing.{keys_in}
 use Rattle.pip_search.proofs.Keeping.{absent_key, kept_bytes, kept_more, kept_words}
 use Rattle.pip_search.proofs.Making.{grew_same, grown_and_told}
 use Rattle.pip_search.proofs.Places.{get-some}
@@ -55,7 +55,7 @@ returns-clause-made g c = λ t.
     let words : unpacked_key key ≡ c.make.new.to.items = c.in_ok-room.ensures.back ∙ c.deref-2.ensures.value in
     let packed : key ≡ packed_key c.make.new.to.items = ap packed_key c.deref-2.ensures.value in
     let h = c.requires.searching in
-    let ws = keyed_visits (listed c.reach_next.new.store) c.reach_next.new.visits.items in
+    let ws = keyed_visits (keys_in c.reach_next.new.store) c.reach_next.new.visits.items in
     let r = ranked_more vs ws s.found.items c.tell.new.found.items key shown c.args.i
     c.args.choice (v.depth + 1) run h.ranked (c.in_ok-room.ensures.grew room) c.in_ok-tell.ensures.told in
     record {
@@ -128,6 +128,6 @@ returns-clause-same g c =
     c.index-from.ensures in
     let v = keyed_visit own c.index-from.result.now in
     let room : IsTrue c.in_ok-room.room = search rules in
-    grew_same vs (keyed_visits (listed c.reach_next.new.store) c.reach_next.new.visits.items)
+    grew_same vs (keyed_visits (keys_in c.reach_next.new.store) c.reach_next.new.visits.items)
     (packed_key c.deref-2.result.now) c.args.i
     c.args.choice (v.depth + 1) c.run_from.result c.args.i v at (c.in_ok-room.ensures.grew room)

@@ -2,7 +2,7 @@ use Rattle.std.proofs.Common.{◌+◌, inl, inr, refl, ap, sym, subst, ◌∙◌
 use Rattle.std.proofs.Common.{slice_get}
 use Rattle.pip_search.specs.Keys.{keyed_visit, keyed_visits}
 use Rattle.pip_search.specs.Naming.{AreNamed, IsAbsent}
-use Rattle.pip_search.specs.Storing.{listed}
+use Rattle.pip_search.specs.Collapsing.{keys_in}
 use Rattle.pip_search.specs.declared.visits.Visit.{Visit}
 use Rattle.pip_search.proofs.Keeping.{has_key, is_absent, is_there}
 use Rattle.pip_search.proofs.Steps.{bytes_are, keyed_count, keyed_more}
@@ -11,7 +11,7 @@ use Rattle.pip_search.proofs.visits.reach.Goals as goal
 
 pub returns-then-is_some-clause-grew : goal.returns-then-is_some-clause-grew
 returns-then-is_some-clause-grew c = λ t.
-    let ks = listed c.args.store.now in
+    let ks = keys_in c.args.store.now in
     let vs = c.args.visits.now.items in
     let key = c.args.key.now in
     let (j, there) = is_there ks key c.find.result c.find.ensures (sym c.is_some.ensures ∙ c.if-is_some.true) in
@@ -23,7 +23,7 @@ returns-then-is_some-clause-grew c = λ t.
 
 pub returns-then-len-limit-clause-full : goal.returns-then-len-limit-clause-full
 returns-then-len-limit-clause-full c = λ t.
-    let ks = listed c.args.store.now in
+    let ks = keys_in c.args.store.now in
     let vs = c.args.visits.now.items in
     let key = c.args.key.now in
     let count = keyed_count ks vs c.requires.keyed.count in
@@ -35,7 +35,7 @@ returns-then-len-limit-clause-full c = λ t.
 
 pub returns-clause-keyed : goal.returns-clause-keyed
 returns-clause-keyed c =
-    let ks = listed c.args.store.now in
+    let ks = keys_in c.args.store.now in
     let vs = c.args.visits.now.items in
     let key = c.args.key.now in
     let one : Visit = record {
@@ -47,7 +47,7 @@ returns-clause-keyed c =
     let h = c.requires.keyed in
     let added = c.in_ok-push.ensures.added in
     record {
-      stored = c.in_ok-push.ensures.stored;
+      stored = c.in_ok-push.ensures.collapsed;
       count = ap length added ∙ length-append ks (key ∷ []) ∙ ap (λ n. n + 1) h.count
           ∙ sym (ap length c.in_ok-push-2.ensures.items ∙ length-append vs (one ∷ []));
       named = subst (λ zs. AreNamed zs c.add.new.self) (sym added)
@@ -58,7 +58,7 @@ returns-clause-keyed c =
 
 pub returns-clause-grew : goal.returns-clause-grew
 returns-clause-grew c = λ t.
-    let ks = listed c.args.store.now in
+    let ks = keys_in c.args.store.now in
     let vs = c.args.visits.now.items in
     let key = c.args.key.now in
     let one : Visit = record {

@@ -1,39 +1,28 @@
--- The key is added where the last block has room.
-use Rattle.std.proofs.Common.{◌≡◌, ◌-◌, ◌/◌, ◌<◌, ◌++◌, [], ◌∷◌, refl, ap, ap₂, arith, length}
-use Rattle.std.proofs.Common.{length-append, get_or, ◌∙◌}
-use Rattle.std.proofs.lemmas.List.{get_or_read}
-use Rattle.pip_search.specs.declared.key_store.KeyStore.{KeyStore}
-use Rattle.pip_search.proofs.Stored.{HasAdded, block_low, key_added}
+use Rattle.std.proofs.Common.{◌≡◌, ◌∙◌, ◌∷◌, ◌++◌, [], ap, All, map}
+use Rattle.pip_search.specs.Collapsing.{IsKeyEntry, blocks_of, key_of_entry, keys_in}
+use Rattle.pip_search.specs.Storing.{listed}
+use Rattle.pip_search.proofs.Collapsed.{entries_more}
 use Rattle.pip_search.proofs.key_store.KeyStore.push.Goals as goal
+use Rattle.pip_search.proofs.key_store.KeyStore.push.Goals.{In_ok-push}
 
-pub overflow_sub-end : goal.overflow_sub-end
-overflow_sub-end c =
-    let x = c.open_block.new.self in
-    let n = c.len-2.result in
-    let h = c.in_ok-open_block.ensures in
-    let there : n / 64 < length x.blocks.items = omega (arith, h.room, c.len-2.ensures, x.ends.ok.0) in
-    let begin = get_or_read x.blocks.items (n / 64) c.index.result.now there c.index.ensures 0 in
-    let low = block_low x (n / 64) h.stored there in
-    let long = ap length c.in_ok-extend_from_slice.ensures.items ∙ length-append x.bytes.items c.args.key.now in
-    omega (arith, begin, low, long, c.len.ensures, c.extend_from_slice.new.self.ok.0)
+pushed : (c : In_ok-push) → All (IsKeyEntry (blocks_of c.make_entry.new.self.blocks)) (listed c.push.new.self)
+    × (map (key_of_entry (blocks_of c.make_entry.new.self.blocks)) (listed c.push.new.self)
+    ≡ keys_in c.args.self.now ++ c.args.key.now ∷ [])
+pushed c =
+    let own = c.in_ok-make_entry.ensures in
+    let x = c.args.self.now in
+    let y = c.make_entry.new.self in
+    entries_more (blocks_of x.blocks) (blocks_of y.blocks) (listed x.entries) (listed c.push.new.self) c.args.key.now
+    y.entry.items own.extended c.requires.collapsed.entries own.made
+    (c.in_ok-push.ensures.added ∙ ap (λ e. listed c.make_entry.new.self.entries ++ e ∷ []) c.deref.ensures.value
+    ∙ ap (λ es. listed es ++ y.entry.items ∷ []) own.entries)
 
-added : (c : goal.In_ok-push) → HasAdded c.open_block.new.self
-    (record { bytes = c.extend_from_slice.new.self; blocks = c.open_block.new.self.blocks; ends = c.push.new.self })
-    c.args.key.now
-added c =
-    let x = c.open_block.new.self in
-    let h = c.in_ok-open_block.ensures in
-    let y : KeyStore = record { bytes = c.extend_from_slice.new.self; blocks = x.blocks; ends = c.push.new.self } in
-    let n : c.len-2.result ≡ length x.ends.items = omega (arith, c.len-2.ensures, x.ends.ok.0) in
-    let all : c.len.result ≡ length y.bytes.items = omega (arith, c.len.ensures, y.bytes.ok.0) in
-    let there : c.len-2.result / 64 < length x.blocks.items = omega (arith, h.room, n) in
-    let begin = get_or_read x.blocks.items (c.len-2.result / 64) c.index.result.now there c.index.ensures 0
-    ∙ ap (λ k. get_or x.blocks.items (k / 64) 0) n in
-    key_added x y c.args.key.now (c.len.result - c.index.result.now) h.stored h.room
-    c.in_ok-extend_from_slice.ensures.items refl c.in_ok-push.ensures.items (ap₂ (λ a b. a - b) all begin)
-
-pub returns-clause-stored : goal.returns-clause-stored
-returns-clause-stored c = (added c).stored
+pub returns-clause-collapsed : goal.returns-clause-collapsed
+returns-clause-collapsed c = record {
+  stored = c.in_ok-push.ensures.stored;
+  named = c.in_ok-make_entry.ensures.named;
+  entries = (pushed c).0;
+}
 
 pub returns-clause-added : goal.returns-clause-added
-returns-clause-added c = (added c).added ∙ ap (λ ks. ks ++ c.args.key.now ∷ []) c.in_ok-open_block.ensures.same
+returns-clause-added c = (pushed c).1

@@ -2,7 +2,7 @@
 use Rattle.std.proofs.Common.{◌+◌, ◌/◌, arith, ap₂, sym, ◌∙◌}
 use Rattle.std.proofs.lemmas.List.{get_or_read}
 use Rattle.pip_search.proofs.Stored.{its_block, its_end, its_end_low}
-use Rattle.pip_search.proofs.key_store.KeyStore.end.Goals as goal
+use Rattle.pip_search.proofs.byte_lists.ByteLists.end.Goals as goal
 
 pub overflow_add-result : goal.overflow_add-result
 overflow_add-result c =

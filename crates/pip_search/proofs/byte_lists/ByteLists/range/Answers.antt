@@ -3,7 +3,7 @@ use Rattle.std.proofs.Common.{◌<◌, Some, ap₂, sym, ◌∙◌, arith, lengt
 use Rattle.std.specs.Prelude.{slice_range}
 use Rattle.pip_search.specs.Storing.{ends_of}
 use Rattle.pip_search.proofs.Stored.{end_rises, ends_count, its_end_low, key_count, listed_at}
-use Rattle.pip_search.proofs.key_store.KeyStore.range.Goals as goal
+use Rattle.pip_search.proofs.byte_lists.ByteLists.range.Goals as goal
 
 pub start-requires-clause-place : goal.start-requires-clause-place
 start-requires-clause-place c =

@@ -1,6 +1,6 @@
 -- There are no keys and no blocks.
 use Rattle.pip_search.proofs.Stored.{none_kept, none_stored}
-use Rattle.pip_search.proofs.key_store.KeyStore.new.Goals as goal
+use Rattle.pip_search.proofs.byte_lists.ByteLists.new.Goals as goal
 
 pub returns-clause-stored : goal.returns-clause-stored
 returns-clause-stored c =
