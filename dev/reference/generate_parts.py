@@ -54,7 +54,8 @@ def wrong_lines(chance: random.Random, lines: list[bytes], count: int) -> Iterat
 def changed_label(chance: random.Random, line: bytes) -> bytes:
     """The line of a label with another letter or digit somewhere in its text."""
     at = chance.randrange(len(b"line 0 "), len(line))
-    return line[:at] + chance.choice(sorted(set(b"0123456789abcdefout") - {line[at]})).to_bytes(1, "big") + line[at + 1:]
+    other = chance.choice(sorted(set(b"0123456789abcdefout") - {line[at]}))
+    return line[:at] + bytes([other]) + line[at + 1:]
 
 
 # Inputs of the commands
