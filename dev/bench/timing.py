@@ -64,7 +64,7 @@ def with_way(image: Input, turns: int) -> Input:
 def lines(keys: int) -> Input:
     """The lines of one part that has that many keys and asks none."""
     told = [f"{k:040x} + {k % 1000:08x}\n" for k in range(keys)]
-    end = f"part 16 1 0 1 0 {0:016x} {0:08x} {keys:08x} {0:08x}\n"
+    end = f"part 16 1 0 1 0 {0:016x} {0:08x} {keys:08x} {0:08x} {0:08x} {0:08x}\n"
     return lambda program: "".join([*told, end]).encode()
 
 

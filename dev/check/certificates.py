@@ -29,7 +29,8 @@ def certificates(program: str) -> None:
         states = int(told[-1].split()[1])
         lines = [checked(program, name, first, image + text) for text in texts]
         merged = together(lines)
-        expect(f"{name}: the merge", run([program, "merge"], b"".join(merged)), (said(told), 0))
+        about = parts.about(images.read(image), first, base_of(image, texts[0]))
+        expect(f"{name}: the merge", run([program, "merge"], b"".join(merged)), (said(about, told), 0))
         for tried, (what, wrong) in enumerate(wrong_certificates(program, name, first, image, texts, lines), tried + 1):
             answer, status = run([program, "merge"], b"".join(wrong))
             if status not in (2, 9):
@@ -85,10 +86,18 @@ def closing(program: str) -> Iterator[tuple[str, bytes, list[str], list[str]]]:
             yield name, image, words.split(), told
 
 
-def said(told: Sequence[str]) -> bytes:
-    """What a merge says where a search says this."""
+def said(about: str, told: Sequence[str]) -> bytes:
+    """What a merge says of this image, FROM and words to compare with, where a search says this."""
     labels = sorted(line.split(": ")[0].split(" ", 1)[1] for line in told[1:-1])
-    return "".join(f"line {label}\n" for label in labels).encode() + f"{told[-1]}\n".encode()
+    text = [f"image {about}", *(f"line {label}" for label in labels), told[-1]]
+    same("the line of the image", " ".join(text[0].split()[:5]), told[0])
+    return "".join(f"{line}\n" for line in text).encode()
+
+
+def base_of(image: bytes, text: bytes) -> list[tuple[int, int, int]]:
+    """The words that a part of an image compares with."""
+    machine = images.read(image)
+    return parts.part_of(image + text, len(image), machine.frames, choices_of(machine)).base
 
 
 def checked(program: str, name: str, first: int, data: bytes) -> list[bytes]:

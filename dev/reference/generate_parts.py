@@ -14,15 +14,24 @@ def wrong_lines(chance: random.Random, lines: list[bytes], count: int) -> Iterat
     """Lines of all parts, sorted, with one thing wrong that the merge has to find, and what that is."""
     own = [i for i, line in enumerate(lines) if line[-11:-9] == b" +"]
     asked = [i for i, line in enumerate(lines) if line[-11:-9] == b" ?"]
+    shown = [i for i, line in enumerate(lines) if line.startswith(b"line ")]
     told = [i for i, line in enumerate(lines) if line.startswith(b"part ")]
+    places = {"key": own, "twice": own, "deeper": own, "ask": asked, "asked twice": asked, "sooner": asked,
+              "label": shown, "label everywhere": shown, "label twice": shown, "label for another": shown,
+              "part": told, "other": told, "numbers": told}
     for _ in range(count):
-        kind = chance.choice(["key", "ask", "twice", "deeper", "sooner", "part", "other", "numbers"])
-        at = chance.choice(own if kind in ("key", "twice", "deeper") else asked if kind in ("ask", "sooner") else told)
+        kind = chance.choice([kind for kind, known in places.items() if known])
+        at = chance.choice(places[kind])
         line = lines[at]
-        if kind in ("key", "ask", "part"):
+        if kind == "label everywhere":
+            yield kind, [each for each in lines if each != line]
+            continue
+        if kind in ("key", "ask", "label", "part"):
             changed: list[bytes] = []
-        elif kind == "twice":
+        elif kind in ("twice", "asked twice", "label twice"):
             changed = [line, line]
+        elif kind == "label for another":
+            changed = [changed_label(chance, line)]
         elif kind == "deeper":
             if not any(lines[i][:-11] == line[:-11] and lines[i][-8:] == line[-8:] for i in asked):
                 continue                         # nobody asks for it so soon
@@ -37,8 +46,16 @@ def wrong_lines(chance: random.Random, lines: list[bytes], count: int) -> Iterat
             if len(told) == 1:
                 continue
         else:
-            changed = [line[:-8] + b"%08x" % (int(line[-8:], 16) + 1)]
+            end = chance.randrange(len(line) - 27, len(line) + 1, 9)            # of one of the numbers but WAY
+            changed = [line[:end - 8] + b"%08x" % (int(line[end - 8:end], 16) ^ 1 << chance.randrange(32)) + line[end:]]
         yield kind, sorted(lines[:at] + changed + lines[at + 1:])
+
+
+def changed_label(chance: random.Random, line: bytes) -> bytes:
+    """The line of a label with another letter or digit somewhere in its text."""
+    at = chance.randrange(len(b"line 0 "), len(line))
+    other = chance.choice(sorted(set(b"0123456789abcdefout") - {line[at]}))
+    return line[:at] + bytes([other]) + line[at + 1:]
 
 
 # Inputs of the commands
@@ -99,13 +116,22 @@ def merge_case(seed: int) -> tuple[list[str], bytes]:
         for _ in range(chance.randrange(3)):
             lines.append(f"{key.hex()} ? {depth + chance.randrange(3):08x}")
             asking[chance.randrange(3)] += 1
-    lines += [f"line {chance.randrange(2)} out 0x{chance.randrange(4):08x}" for _ in range(chance.randrange(5))]
+    shown, sums = [0, 0, 0], [0, 0, 0]
+    for _ in range(chance.randrange(5)):
+        part, label = chance.randrange(3), f" {chance.randrange(2)} out 0x{chance.randrange(4):08x}"
+        lines.append(f"line{label}")
+        shown[part], sums[part] = shown[part] + 1, (sums[part] + parts.label_sum(label.encode())) % 2 ** 32
     first = chance.randrange(4)                  # of three: it may be that no part is the first
-    lines += [f"part 16 1 0 1 0 {7:016x} {int(i != first):08x} {owned[i]:08x} {asking[i]:08x}" for i in range(3)]
+    for i in range(3):
+        numbers = (int(i != first), owned[i], asking[i], shown[i], sums[i])
+        lines.append(f"part 16 1 0 1 0 {7:016x} {' '.join(f'{number:08x}' for number in numbers)}")
     told = sorted(line.encode() for line in lines)
     kind = chance.random()
     if kind < 0.4 and any(asking):
         told = next((wrong for _, wrong in wrong_lines(chance, told, 20)), told)
+    if 0.7 < kind < 0.8:                         # two lines change places
+        i, j = chance.randrange(len(told)), chance.randrange(len(told))
+        told[i], told[j] = told[j], told[i]
     text = b"\n".join(told) + (b"" if chance.random() < 0.2 else b"\n")
     return [], spoilt(chance, text) if kind > 0.8 else text
 

@@ -16,8 +16,8 @@ from common.machine.script import lines
 
 MOST_CHOICES = 10000000         # of a way
 MOST_MARKS = 2 ** 32 - 1
-MOST_COUNT = 2 ** 64            # of lines, and of what parts say
 SUM, PRIME = 0xcbf29ce484222325, 0x100000001b3
+LABEL_SUM, LABEL_PRIME = 0x811c9dc5, 0x01000193
 DIGITS = frozenset(b"0123456789abcdef")
 
 
@@ -192,20 +192,31 @@ def check(image: Image, first: int, part: Part) -> Checked:
 
 
 def about(image: Image, first: int, base: Sequence[tuple[int, int, int]]) -> str:
-    """What a part is of: numbers of the image, and a sum over its lines and the words that keys are compared with."""
+    """What a part is of: numbers of the image, and a sum over its lines, its words and those to compare keys with."""
     moments = Moments(image, first, begun(image, AT_FIRST))
+    frames = (*Keys(image, moments, []).first, *Keys(image, moments, base).first)
     summed = SUM
-    for number in (*moments.lines, *(word for frame in Keys(image, moments, base).first for word in frame)):
+    for number in (*moments.lines, *(word for frame in frames for word in frame)):
         summed = (summed ^ number) * PRIME % 2 ** 64
     return f"{image.frames} {image.cpus} {len(image.plans)} {len(image.pages)} {first} {summed:016x}"
 
 
+def label_sum(label: bytes) -> int:
+    """The number of a label in a sum of labels; the space before it counts."""
+    summed = LABEL_SUM
+    for byte in label:
+        summed = (summed ^ byte) * LABEL_PRIME % 2 ** 32
+    return summed
+
+
 def lines_of(checked: Checked, about: str, way: int) -> list[str]:
-    """The lines that a part writes, in the order in which its check finds them."""
+    """The lines that a part writes: its keys, those that it asks, its labels, each as its check finds them, and it."""
+    summed = sum(label_sum(f" {label}".encode()) for label in checked.labels) % 2 ** 32
+    numbers = (way, len(checked.keys), len(checked.asked), len(checked.labels), summed)
     return [*(f"{key.hex()} + {depth:08x}" for key, depth in checked.keys),
             *(f"{key.hex()} ? {depth:08x}" for key, depth in checked.asked),
             *(f"line {label}" for label in checked.labels),
-            f"part {about} {way:08x} {len(checked.keys):08x} {len(checked.asked):08x}"]
+            f"part {about} {' '.join(f'{number:08x}' for number in numbers)}"]
 
 
 def part(data: bytes, first: int) -> list[str]:
@@ -235,16 +246,8 @@ class Refused(Exception):
         return self.why.encode() + b" " + (str(self.number).encode() if self.why == "apart" else self.line) + b"\n", 9
 
 
-class Merged(NamedTuple):
-    """The labels of all parts, with the space before each, how many states they have, and the greatest depth."""
-
-    labels: list[bytes]
-    states: int
-    depth: int
-
-    def text(self) -> bytes:
-        told = b"".join(b"line" + label + b"\n" for label in self.labels)
-        return told + b"states %d depth %d closed\n" % (self.states, self.depth)
+class Fault(Exception):
+    """Why a line doesn't merge."""
 
 
 def depth_of(text: bytes) -> int | None:
@@ -254,51 +257,95 @@ def depth_of(text: bytes) -> int | None:
     return int(text[1:], 16)
 
 
-def merge(told: Iterable[bytes]) -> Merged:
-    """What the lines of all parts say together, in the order of bytes; Refused where they don't."""
-    keys: list[tuple[bytes, int]] = []
-    labels: list[bytes] = []
-    about: bytes | None = None
-    asked = said_keys = said_asked = deepest = 0
-    begins = False
-    for number, line in enumerate(told, 1):
+class Merge:
+    """Lines that are merged one after another: keys with what asks them, labels, and parts."""
+
+    def __init__(self) -> None:
+        self.keys: list[tuple[bytes, int]] = []
+        self.asked = self.latest = 0                 # how many asks, and the depth of the last one of the last key
+        self.labels: list[bytes] = []                # with the space before each; some may be equal
+        self.about = b""
+        self.parts: list[tuple[int, ...]] = []       # the numbers of each
+
+    def take(self, line: bytes) -> None:
+        """Takes the next line; Fault where that can't be."""
         if line.startswith(b"line"):
-            if labels and line[4:] < labels[-1]:
-                raise Refused("order", number, line)
-            if line[4:] not in labels[-1:]:
-                labels.append(line[4:])
+            self.take_label(line[4:])
         elif line.startswith(b"part "):
-            numbers = [depth_of(line[at:at + 9]) for at in range(len(line) - 27, len(line), 9)]
-            if len(line) < 32 or None in numbers:
-                raise Refused("form", number, line)
-            if about not in (None, line[5:-27]):
-                raise Refused("apart", number, line)
-            about = line[5:-27]
-            way, own, wanted = (x or 0 for x in numbers)
-            begins, said_keys, said_asked = begins or not way, said_keys + own, said_asked + wanted
+            self.take_part(line)
         else:
-            key, kind, depth = line[:-11], line[-11:-9], depth_of(line[-9:])
-            if depth is None or kind not in (b" +", b" ?") or len(key) % 2 or not DIGITS.issuperset(key):
-                raise Refused("form", number, line)
-            if kind == b" +":
-                if keys and key <= keys[-1][0]:
-                    raise Refused("twice" if key == keys[-1][0] else "order", number, line)
-                keys.append((key, depth))
-                deepest = max(deepest, depth)
-            elif not keys or keys[-1][0] != key or keys[-1][1] > depth:
-                raise Refused("open", number, line)
-            else:
-                asked += 1
-    if not begins:
-        raise Refused("no start", 0, b"")
-    if (len(keys), asked) != (said_keys, said_asked):
-        raise Refused("apart", 0, b"")
-    return Merged(labels, len(keys), deepest)
+            self.take_key(line[:-11], line[-11:-9], depth_of(line[-9:]))
+
+    def take_key(self, key: bytes, kind: bytes, depth: int | None) -> None:
+        if depth is None or kind not in (b" +", b" ?") or len(key) % 2 or not DIGITS.issuperset(key):
+            raise Fault("form")
+        if self.labels or self.parts:
+            raise Fault("order")
+        last, held = self.keys[-1] if self.keys else (None, 0)
+        if kind == b" +":
+            if last is not None and key <= last:
+                raise Fault("twice" if key == last else "order")
+            self.keys.append((key, depth))
+            self.latest = 0
+            return
+        if last is None or key > last:
+            raise Fault("open")
+        if key < last or depth < self.latest:
+            raise Fault("order")
+        if depth < held:
+            raise Fault("open")
+        self.asked, self.latest = self.asked + 1, depth
+
+    def take_label(self, label: bytes) -> None:
+        if self.parts or self.labels and label < self.labels[-1]:
+            raise Fault("order")
+        self.labels.append(label)
+
+    def take_part(self, line: bytes) -> None:
+        numbers = tuple(depth_of(line[at:at + 9]) for at in range(len(line) - 45, len(line), 9))
+        told = tuple(number for number in numbers if number is not None)
+        if len(line) < 50 or len(told) < 5:
+            raise Fault("form")
+        if self.parts and line[5:-45] != self.about:
+            raise Fault("apart")
+        if self.parts and told < self.parts[-1]:
+            raise Fault("order")
+        self.about = line[5:-45]
+        self.parts.append(told)
+
+    def text(self) -> bytes:
+        """What they say together; Fault where something is missing or too much."""
+        if not any(way == 0 for way, *_ in self.parts):
+            raise Fault("no start")
+        _, keys, asked, labels, summed = (sum(numbers) for numbers in zip(*self.parts))
+        if len(self.keys) != keys:
+            raise Fault("apart keys")
+        if self.asked != asked:
+            raise Fault("apart asks")
+        if len(self.labels) != labels or (sum(map(label_sum, self.labels)) - summed) % 2 ** 32:
+            raise Fault("apart labels")
+        told = b"".join(b"line" + label + b"\n" for label in sorted(set(self.labels)))
+        depth = max(depth for _, depth in self.keys) if self.keys else 0
+        return b"image " + self.about + b"\n" + told + b"states %d depth %d closed\n" % (len(self.keys), depth)
+
+
+def merge(told: Iterable[bytes]) -> bytes:
+    """What the lines of all parts say together, in the order of bytes; Refused where they don't."""
+    merging = Merge()
+    for number, line in enumerate(told, 1):
+        try:
+            merging.take(line)
+        except Fault as fault:
+            raise Refused(str(fault), number, line) from None
+    try:
+        return merging.text()
+    except Fault as fault:
+        raise Refused(str(fault), 0, b"") from None
 
 
 def merged(data: bytes) -> tuple[bytes, int]:
     """What `merge` writes of an input, and its status."""
     try:
-        return merge(lines(data)).text(), 0
+        return merge(lines(data)), 0
     except Refused as refused:
         return refused.told()

@@ -8,7 +8,9 @@ use Rattle.pip_core_text.specs.CoreTexts.{core_words}
 use Rattle.pip_io.specs.Told.{Writing}
 use Rattle.pip_io.specs.Writes.{Writes}
 use Rattle.pip_model.specs.Text.{line_text}
-use Rattle.pip_parts.specs.Entries.{Asks, Own, Shows, Tells, byte_digits, entry_line, key_digits}
+use Rattle.pip_parts.specs.Entries.{Asks, Own, Shows, Tells, byte_digits, entry_line, key_digits, number_list}
+use Rattle.pip_parts.specs.MergeLaw.{told_numbers}
+use Rattle.pip_parts.specs.declared.lines.PartNumbers.{PartNumbers}
 use Rattle.pip_search.specs.Certificates.{Stop}
 use Rattle.pip_search.specs.Parts.{stop_of, stops}
 use Rattle.pip_search.specs.declared.stops.Reached.{Reached}
@@ -28,12 +30,11 @@ three_pieces a b c = simp append_assoc
 
 module _ {K T E : Type 0} (told : K → Writing) (old new : K) (r : Result T E) where
   -- the last line
-  pub told_line : (about : List ℕ) (way keys asked : ℕ)
-      → Writes told old new r
-      (codes "part " ++ (about ++ (core_words (way ∷ keys ∷ asked ∷ []) ++ 10 ∷ [])))
-      → Writes told old new r (line_text (entry_line (Tells about way keys asked)))
-  told_line about way keys asked w = subst (Writes told old new r)
-      (three_pieces (codes "part ") about (core_words (way ∷ keys ∷ asked ∷ []))) w
+  pub told_line : (about : List ℕ) (n : PartNumbers)
+      → Writes told old new r (codes "part " ++ (about ++ (core_words (number_list n) ++ 10 ∷ [])))
+      → Writes told old new r (line_text (entry_line (Tells about n)))
+  told_line about n w =
+      subst (Writes told old new r) (three_pieces (codes "part ") about (core_words (number_list n))) w
 
 -- the line of a key, by its bytes
 pub stop_bytes : (kind : List ℕ) (x : Reached)
@@ -61,7 +62,7 @@ abbrev pub label_lines : Checked → List ℕ
 label_lines c = flat_map label_line (labels c.part.found.items)
 
 abbrev pub last_line : Checked → List ℕ
-last_line c = line_text (entry_line (Tells c.about.bytes c.way c.keys c.asked))
+last_line c = line_text (entry_line (Tells c.about.bytes c.numbers))
 
 -- are all of it
 pub four_pieces : (c : Checked) → CountsStops c
@@ -73,10 +74,8 @@ four_pieces c counts =
     let own = λ (x : Stop). entry_line (Own (key_digits x.key) x.depth) in
     let asks = λ (x : Stop). entry_line (Asks (key_digits x.key) x.depth) in
     let shows = λ (label : List ℕ). entry_line (Shows (inner label)) in
-    let last = entry_line (Tells c.about.bytes c.way (length ks) (length bs)) in
-    let named : last_line c ≡ line_text last = ap₂ (λ n m. line_text (entry_line (Tells c.about.bytes c.way n m)))
-    (counts.keys ∙ sym (length-map c.part.keys.items stop_of))
-    (counts.asked ∙ sym (length-map c.part.asked.items stop_of)) in
+    let last = entry_line (Tells c.about.bytes (told_numbers (told_part c))) in
+    let named : last_line c ≡ line_text last = ap (λ n. line_text (entry_line (Tells c.about.bytes n))) counts in
     sym (flat_map-append line_text (map own ks) (map asks bs ++ (map shows ls ++ last ∷ []))
     ∙ ap₂ (λ x y. x ++ y) (mapped own ks) (flat_map-append line_text (map asks bs) (map shows ls ++ last ∷ [])
     ∙ ap₂ (λ x y. x ++ y) (mapped asks bs) (flat_map-append line_text (map shows ls) (last ∷ [])

@@ -11,12 +11,12 @@ use Rattle.pip_io.specs.Taken.{Keeps}
 use Rattle.pip_io.specs.Told.{writing}
 use Rattle.pip_model.specs.Grammar.{lines_of}
 use Rattle.pip_model.specs.Text.{line_text}
-use Rattle.pip_parts.specs.Merges.{Merging, is_whole, no_merging}
+use Rattle.pip_parts.specs.Merges.{Merging, is_whole, no_merging, uneven_of}
 use Rattle.pip_parts.specs.declared.faults.MergeFault.{MergeFault}
 use Rattle.pip_parts.specs.declared.faults.MergeFault.TheVariants as F
 use Rattle.pip_switch.specs.Standing.{State}
 use Rattle.pip_certificates.specs.MergeDues.{BreaksAt, fault_status, fault_text, merge_due, merge_response}
-use Rattle.pip_certificates.specs.MergeDues.{merged_text}
+use Rattle.pip_certificates.specs.MergeDues.{merged_text, uneven_text}
 use Rattle.pip_certificates.specs.MergeReading.{StopsMerge, TakesBreak, TakesMerge}
 use Rattle.pip_certificates.specs.declared.commands.merge.MergeStop.{MergeStop}
 use Rattle.pip_certificates.specs.declared.commands.merge.MergeStop.TheVariants.{Bad, Memory, Unread}
@@ -117,7 +117,7 @@ module _ (code : ℕ) (p : Option State) (a b : Streams) (settled : code ≢ 4 �
       (is_whole g) _ _ _
       (λ due said. plain 9 (line_text (codes "no start")) (inr (omega arith)) due said)
       (λ due said. plain 0 (merged_text g) (inl (omega arith)) due said)
-      (λ due said. plain 9 (line_text (codes "apart")) (inr (omega arith)) due said)
+      (λ due said. plain 9 (line_text (uneven_text (uneven_of g))) (inr (omega arith)) due said)
       (record { is = inl (g, t.good, refl); decided = inr (t.ended, tt) }) ends
     where
       plain : (status : ℕ) (text : List ℕ) → IsOfAnswer status

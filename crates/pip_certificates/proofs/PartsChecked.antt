@@ -39,7 +39,7 @@ module _ {i : Image} {h : Header} {m : Memory} (b : BeginsFrames i h m) (from : 
       → IsClosedPart (model_of words given) (portion_of p)
       → IsReachedPart (model_of words given) (begun h.cpus) (portion_of p)
       → (way ≡ [] → (key : List ℕ) × (IsKeyOf words given key (begun h.cpus) × HasStop (stops p.keys.items) key 0))
-      → text ≡ about_numbers h.frames h.cpus (length h.plans.items) h.pages from (part_sum ls words)
+      → text ≡ about_numbers h.frames h.cpus (length h.plans.items) h.pages from (part_sum ls m words)
       → IsPartBooted i from base (told_part k) m
   part_of p text way k is closed reached begins told = record {
     closed = subst (λ q. IsClosedPart (model_of (words_with m base) (part_scope i from)) (portion_of q)) (sym is.part)
@@ -56,5 +56,5 @@ module _ {i : Image} {h : Header} {m : Memory} (b : BeginsFrames i h m) (from : 
         (subst (λ y. HasStop (stops p.keys.items) y 0) same x.1.1);
     small = is.small;
     about = is.about ∙ (told ∙ (λ j. about_numbers (b.frames j) (b.cpus j) (length (b.plans j)) (b.pages j) from
-        (part_sum ((raised ∙ ap lines_planned b.plans) j) (held j))));
+        (part_sum ((raised ∙ ap lines_planned b.plans) j) m (held j))));
   }

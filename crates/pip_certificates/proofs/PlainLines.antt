@@ -10,7 +10,8 @@ use Rattle.pip_input.proofs.LinesOf.{lines_newline}
 use Rattle.pip_model.specs.Grammar.{lines_of}
 use Rattle.pip_model.specs.Images.{Image}
 use Rattle.pip_model.specs.Text.{line_text}
-use Rattle.pip_parts.specs.Entries.{Asks, Own, Shows, Tells, byte_digits, entry_line, key_digits}
+use Rattle.pip_parts.specs.Entries.{Asks, Own, Shows, Tells, byte_digits, entry_line, key_digits, number_list}
+use Rattle.pip_parts.specs.declared.lines.PartNumbers.{PartNumbers}
 use Rattle.pip_parts.specs.MergeLaw.{ToldPart, lines_of_part}
 use Rattle.pip_search.specs.Certificates.{CanShow, Stop}
 use Rattle.pip_search.specs.Packing.{packed_key}
@@ -95,17 +96,16 @@ labels_plain (l ∷ ls) each = (
   labels_plain ls (λ k label at. each (suc k) label at),
 )
 
-about_plain : (i : Image) (from : ℕ) (words : Memory) → IsPlain (about_part i from words)
-about_plain i from words =
+about_plain : (i : Image) (from : ℕ) (first words : Memory) → IsPlain (about_part i from first words)
+about_plain i from first words =
     both (both (both (both (both (both (number i.frames) (after i.cpus)) (after (length i.plans)))
     (after (length i.pages))) (after from)) space) (both (digits_of_word _) (digits_of_word _))
   where
     after : (n : ℕ) → IsPlain (after_space n)
     after n = both space (number n)
 
-tells_plain : (about : List ℕ) (way keys asked : ℕ) → IsPlain about → IsPlain (entry_line (Tells about way keys asked))
-tells_plain about way keys asked h =
-    both (both {xs = codes "part "} (record { none = refl }) h) (words_plain (way ∷ keys ∷ asked ∷ []))
+tells_plain : (about : List ℕ) (n : PartNumbers) → IsPlain about → IsPlain (entry_line (Tells about n))
+tells_plain about n h = both (both {xs = codes "part "} (record { none = refl }) h) (words_plain (number_list n))
 
 part_plain : (i : Image) (from : ℕ) (base : List BaseWord) (t : ToldPart) → IsPartOf i from base t
     → ArePlain (lines_of_part t)
@@ -114,7 +114,7 @@ part_plain i from base t (first, booted, is) =
     both_plain _ _ (all_plain _ own_plain t.portion.keys) (both_plain _ _ (all_plain _ asked_plain t.portion.asked)
     (both_plain _ _ (labels_plain t.portion.labels (λ k label at.
     can_show words i from label (is.reached.labels k label at).1))
-    (tells_plain t.about t.way _ _ (subst IsPlain (sym is.about) (about_plain i from words)), tt)))
+    (tells_plain t.about _ (subst IsPlain (sym is.about) (about_plain i from first words)), tt)))
 
 -- the lines of the texts of parts, one after another
 pub texts_back : (i : Image) (from : ℕ) (base : List BaseWord) (ts : List ToldPart) → AreParts i from base ts

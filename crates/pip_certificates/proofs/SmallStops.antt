@@ -2,11 +2,16 @@
 use Rattle.std.proofs.Common.{◌≡◌, ℕ, zero, suc, ◌^◌, ◌<◌, ◌≤◌, Bool, true, false, List, [], ◌∷◌, get_or}
 use Rattle.std.proofs.Common.{Some, slice_get, subst, arith, if◌then◌else◌, nat_lt}
 use Rattle.pip_parts.specs.MergeLaw.{IsSmallStop}
+use Rattle.pip_parts.specs.declared.lines.PartNumbers.{PartNumbers}
 use Rattle.pip_search.specs.Certificates.{Stop}
 use Rattle.pip_search.specs.Packing.{unpacked_after, word_with}
 use Rattle.pip_search.specs.Parts.{stop_of, stops}
 use Rattle.pip_search.specs.declared.stops.Reached.{Reached}
 use Rattle.pip_search.proofs.Picking.{at_map}
+
+-- the numbers of a part
+abbrev pub numbers : ℕ → ℕ → ℕ → ℕ → ℕ → PartNumbers
+numbers w k a l s = record { way = w; keys = k; asked = a; labels = l; sum = s }
 
 small_with : (w b : ℕ) → word_with w b < 2 ^ 32
 unfolding word_with
@@ -33,3 +38,7 @@ small_stops keys d low deep j x at =
       words = λ i. small_words r.0.key.items 0 i;
       depth = omega (arith, most, low);
     })
+
+pub same_numbers : (w k a l s : ℕ) {x y z u : ℕ} → k ≡ x → a ≡ y → l ≡ z → s ≡ u
+    → numbers w k a l s ≡ numbers w x y z u
+same_numbers w k a l s keys asked labels sum = cc

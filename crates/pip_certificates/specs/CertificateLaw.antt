@@ -18,7 +18,8 @@ AreParts i from base ts = (j : ℕ) (t : ToldPart) → slice_get ts j ≡ Some t
 -- The law of certificates: where a text has the lines of the texts of parts of one image, with one base and one FROM,
 -- in any order, and these lines could be merged to a whole, the parts say all that can happen to the image from its
 -- first moment on, whatever the schedule, if no line comes before FROM turns: no label but those that were merged
--- comes, as many states can be reached as were counted, and the deepest is as deep
+-- comes, as many states can be reached as were counted, and the deepest is as deep. If there is a part, what was merged
+-- is of this image, and of this FROM and base
 abbrev pub CertificatesSay : Type 0
 CertificatesSay = (i : Image) (from : ℕ) (base : List BaseWord) (first : Memory) (ts : List ToldPart)
     (text : List ℕ) (g : Merging) → 1 ≤ i.cpus → i.cpus ≤ 4

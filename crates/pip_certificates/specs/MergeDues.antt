@@ -8,8 +8,11 @@ use Rattle.pip_model.specs.Grammar.{lines_of}
 use Rattle.pip_model.specs.Text.{line_text}
 use Rattle.pip_parts.specs.Entries.{entry_of}
 use Rattle.pip_parts.specs.Merges.{Merging, counted, is_whole, merge_entry, merge_lines, no_merging, on_value}
+use Rattle.pip_parts.specs.Merges.{uneven_of}
 use Rattle.pip_parts.specs.declared.faults.MergeFault.{MergeFault}
 use Rattle.pip_parts.specs.declared.faults.MergeFault.TheVariants as F
+use Rattle.pip_parts.specs.declared.faults.Uneven.{Uneven}
+use Rattle.pip_parts.specs.declared.faults.Uneven.TheVariants as U
 use Rattle.pip_search.specs.declared.searching.Extent.TheVariants.{Closed}
 use Rattle.pip_ways.specs.Texts.{verdict_line}
 
@@ -62,16 +65,30 @@ fault_status F.Apart = 9
 abbrev pub label_line : List ℕ → List ℕ
 label_line label = line_text (codes "line" ++ label)
 
--- what all parts show, each label once, and how many keys they have, up to which depth
+-- the first line: what all parts are of
+abbrev pub about_line : List ℕ → List ℕ
+about_line about = line_text (codes "image " ++ about)
+
+-- and what they show, each label once
+abbrev pub merged_front : Merging → List ℕ
+merged_front g = about_line g.parts.about ++ flat_map label_line g.labels
+
+-- and how many keys they have, up to which depth
 abbrev pub merged_text : Merging → List ℕ
-merged_text g = flat_map label_line g.labels ++ verdict_line g.keys.states (Closed g.keys.deepest)
+merged_text g = merged_front g ++ verdict_line g.keys.states (Closed g.keys.deepest)
+
+-- what names of what there isn't as much as the parts say
+abbrev pub uneven_text : Uneven → List ℕ
+uneven_text U.Keys = codes "apart keys"
+uneven_text U.Asks = codes "apart asks"
+uneven_text U.Labels = codes "apart labels"
 
 -- where all lines could be merged: no part has the first key; or all is there; or something is missing or too much
 abbrev pub merge_response : Merging → Response
 merge_response g =
     if not g.parts.begins then plainly 9 (line_text (codes "no start")) None
     else if is_whole g then plainly 0 (merged_text g) None
-    else plainly 9 (line_text (codes "apart")) None
+    else plainly 9 (line_text (uneven_text (uneven_of g))) None
 
 -- ---- what is due
 

@@ -25,9 +25,9 @@ abbrev pub frames_summed : ℕ → Memory → ℕ
 frames_summed sum [] = sum
 frames_summed sum (ws ∷ m) = frames_summed (summed sum ws) m
 
--- the sum over the lines that can be raised, and the words that keys are compared with
-abbrev pub part_sum : List ℕ → Memory → ℕ
-part_sum lines words = frames_summed (summed 0xcbf29ce484222325 lines) words
+-- the sum over the lines that can be raised, the words of frames, and those that keys are compared with
+abbrev pub part_sum : List ℕ → Memory → Memory → ℕ
+part_sum lines first words = frames_summed (frames_summed (summed 0xcbf29ce484222325 lines) first) words
 
 -- its sixteen hexadecimal digits
 abbrev pub sum_digits : ℕ → List ℕ
@@ -42,7 +42,7 @@ abbrev pub about_numbers : ℕ → ℕ → ℕ → ℕ → ℕ → ℕ → List 
 about_numbers frames cpus plans pages from sum = decimal frames ++ after_space cpus ++ after_space plans
     ++ after_space pages ++ after_space from ++ codes " " ++ sum_digits sum
 
--- what a part of an image is of, whose keys are compared with these words
-abbrev pub about_part : Image → ℕ → Memory → List ℕ
-about_part i from words = about_numbers i.frames i.cpus (length i.plans) (length i.pages) from
-    (part_sum (lines_planned i.plans) words)
+-- what a part of an image is of, whose frames have booted so, and whose keys are compared with these words
+abbrev pub about_part : Image → ℕ → Memory → Memory → List ℕ
+about_part i from first words = about_numbers i.frames i.cpus (length i.plans) (length i.pages) from
+    (part_sum (lines_planned i.plans) first words)

@@ -47,7 +47,7 @@ pub record IsPartBooted (i : Image) (from : ℕ) (base : List BaseWord) (t : Tol
   pub begins : (start : List ℕ) → IsKeyOf (words_with first base) (part_scope i from) start (image_moment i)
       → BeginsAtStart start t
   pub small : IsSmallPart t
-  pub about : t.about ≡ about_part i from (words_with first base)
+  pub about : t.about ≡ about_part i from first (words_with first base)
 
 -- a part of an image
 abbrev pub IsPartOf : Image → ℕ → List BaseWord → ToldPart → Type 0

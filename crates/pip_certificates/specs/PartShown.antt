@@ -11,7 +11,7 @@ use Rattle.pip_io.specs.Told.{Writing}
 use Rattle.pip_model.specs.Images.{Image}
 use Rattle.pip_model.specs.Text.{line_text}
 use Rattle.pip_parts.specs.Entries.{key_digits}
-use Rattle.pip_parts.specs.MergeLaw.{IsSmallPart, ToldPart}
+use Rattle.pip_parts.specs.MergeLaw.{IsSmallPart, ToldPart, told_numbers}
 use Rattle.pip_search.specs.Certificates.{Stop}
 use Rattle.pip_search.specs.Parts.{portion_of}
 use Rattle.pip_search.specs.declared.parts.Part.{Part}
@@ -36,12 +36,11 @@ header_said h bytes = part_said (header_limits h) (header_size h) bytes
 
 -- a part that was checked
 abbrev pub told_part : Checked → ToldPart
-told_part c = record { portion = portion_of c.part; about = c.about.bytes; way = c.way }
+told_part c = record { portion = portion_of c.part; about = c.about.bytes; way = c.numbers.way }
 
--- the counts of a part that was checked
-pub record CountsStops (c : Checked) : Type 0 where
-  pub keys : c.keys ≡ length c.part.keys.items
-  pub asked : c.asked ≡ length c.part.asked.items
+-- the numbers of a part that was checked are its own
+abbrev pub CountsStops : Checked → Type 0
+CountsStops c = c.numbers ≡ told_numbers (told_part c)
 
 -- it is a part of the image whose frames these are
 abbrev pub IsCheckedOf : Header → Memory → ℕ → List BaseWord → Checked → Type 0
@@ -61,6 +60,6 @@ EndsWithPart P status before after =
 pub record IsNumbered (p : Part) (text : List ℕ) (n : ℕ) (c : Checked) : Type 0 where
   pub part : c.part ≡ p
   pub about : c.about.bytes ≡ text
-  pub way : c.way ≡ n
+  pub way : c.numbers.way ≡ n
   pub counts : CountsStops c
   pub small : IsSmallPart (told_part c)

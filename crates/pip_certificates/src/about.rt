@@ -41,11 +41,18 @@ fn sum_frames<L: Ledger>(start: u64, mem: &RawFrames, steps: &mut Steps<L>) -> u
     sum
 }
 
-/// The sum over the lines that can be raised, and the words of frames.
-pub fn part_sum<L: Ledger>(lines: &[u32], mem: &RawFrames, steps: &mut Steps<L>) -> u64
-    ensures { result ≡ part_sum lines.now (⟦<RawFrames as Frames>⟧.memory mem.now) }
+/// The sum over the lines that can be raised, the words of an image's frames, and those that keys are compared with.
+pub fn part_sum<L: Ledger>(
+    lines: &[u32],
+    mem: &RawFrames,
+    later: &RawFrames,
+    steps: &mut Steps<L>,
+) -> u64
+    ensures { result ≡ part_sum lines.now (⟦<RawFrames as Frames>⟧.memory mem.now)
+        (⟦<RawFrames as Frames>⟧.memory later.now) }
 {
-    sum_frames(sum_words(0xcbf29ce484222325, lines), mem, steps)
+    let own = sum_frames(sum_words(0xcbf29ce484222325, lines), mem, steps);
+    sum_frames(own, later, steps)
 }
 
 /// What a part is of: the numbers of its image, from how many turns on lines come, and the sum.

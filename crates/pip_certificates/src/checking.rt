@@ -1,8 +1,11 @@
 //! The check of a part that was read.
-ghost use Rattle.std.specs.Prelude.{◌≡◌, ◌+◌, ◌<◌, ◌≤◌, ◌-◌, ◌^◌, ℕ, All, IfOk, Some, length, slice_get};
+ghost use Rattle.std.specs.Prelude.{◌≡◌, ◌+◌, ◌<◌, ◌≤◌, ◌-◌, ◌^◌, ℕ, All, IfOk, Some, length, map, slice_get};
 ghost use Rattle.pip_base.specs.Memory.{IsMemory, put_word};
 ghost use Rattle.pip_image.specs.Coming.{IsHeader};
 ghost use Rattle.pip_model.specs.Booted.{HasBooted};
+ghost use Rattle.pip_parts.specs.Sums.{labels_sum};
+ghost use Rattle.pip_search.specs.Keys.{labels};
+ghost use Rattle.pip_ways.specs.Texts.{inner};
 ghost use Rattle.pip_search.specs.declared.stops.Reached.{Reached};
 ghost use Rattle.pip_certificates.specs.PartAbout.{words_with};
 ghost use Rattle.pip_certificates.specs.BaseWords.{AreBaseWords};
@@ -17,7 +20,9 @@ use pip_every::part;
 use pip_frames::{Frames, RawFrames};
 use pip_image::Header;
 use pip_journal::copied;
-use pip_search::{Part, Reached};
+use pip_parts::{PartNumbers, label_sum, sum_and};
+use pip_search::{Found, Part, Reached};
+use pip_ways::inner;
 use std::alloc::{AllocError, Global};
 use std::sync::ledger::Ledger;
 
@@ -26,9 +31,7 @@ use std::sync::ledger::Ledger;
 pub struct Checked {
     pub part: Part,
     pub about: ArrayString<MAX_ABOUT>,
-    pub way: u32,
-    pub keys: u32,
-    pub asked: u32,
+    pub numbers: PartNumbers,
 }
 
 // Frames with these words in place of their own.
@@ -105,13 +108,13 @@ pub fn check<L: Ledger>(
     requires can { All (λ k. k < head.now.cpus + length head.now.plans.items) read.now.way.items }
     requires marks { length read.now.marks.items < 2 ^ 32 - 1 }
     ensures counts { IfOk result CountsStops }
-    ensures way { IfOk result (λ c. c.way ≡ length read.now.way.items) }
+    ensures way { IfOk result (λ c. c.numbers.way ≡ length read.now.way.items) }
     ensures found { IfOk result
         (IsCheckedOf head.now (⟦<RawFrames as Frames>⟧.memory mem) from read.now.base.items) }
 {
     let lines = planned_lines(head.plans.as_slice());
     let later = frames_with(alloc, &mem, read.base.as_slice(), steps)?;
-    let sum = part_sum(lines.as_slice(), &later, steps);
+    let sum = part_sum(lines.as_slice(), &mem, &later, steps);
     let about = about_text(
         head.frames,
         head.cpus,
@@ -134,6 +137,27 @@ pub fn check<L: Ledger>(
     counted(part, about, read.way.len() as u32)
 }
 
+// The sum of labels.
+fn found_sum(found: &[Found]) -> u32
+    ensures { result ≡ labels_sum (map inner (labels found.now)) }
+{
+    let mut sum = 0;
+    for each in found {
+        sum = sum_and(sum, label_sum(inner(&each.label)));
+    }
+    sum
+}
+
+// A count that is below 2^32; more are as if memory were out.
+fn count_of(count: usize) -> Result<u32, AllocError>
+    ensures { IfOk result (λ n. (n ≡ count) × (n < 2 ^ 32)) }
+{
+    match u32::try_from(count) {
+        Ok(count) => Ok(count),
+        Err(_) => Err(AllocError),
+    }
+}
+
 // A part with its numbers, where these are below 2^32.
 fn counted(part: Part, about: ArrayString<MAX_ABOUT>, way: u32) -> Result<Checked, AllocError>
     requires { way < 2 ^ 32 }
@@ -141,17 +165,20 @@ fn counted(part: Part, about: ArrayString<MAX_ABOUT>, way: u32) -> Result<Checke
 {
     deepest(part.keys.as_slice());
     deepest(part.asked.as_slice());
-    let Ok(keys) = u32::try_from(part.keys.len()) else {
-        return Err(AllocError);
-    };
-    let Ok(asked) = u32::try_from(part.asked.len()) else {
-        return Err(AllocError);
+    let keys = count_of(part.keys.len())?;
+    let asked = count_of(part.asked.len())?;
+    let labels = count_of(part.found.len())?;
+    let sum = found_sum(part.found.as_slice());
+    let numbers = PartNumbers {
+        way,
+        keys,
+        asked,
+        labels,
+        sum,
     };
     Ok(Checked {
         part,
         about,
-        way,
-        keys,
-        asked,
+        numbers,
     })
 }

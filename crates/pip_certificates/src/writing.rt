@@ -1,11 +1,12 @@
 //! The text of a part.
-ghost use Rattle.std.specs.Prelude.{◌≡◌, ◌<◌, ◌≤◌, ◌++◌, ◌∷◌, [], flat_map, length, MatchResult, OnOk};
+ghost use Rattle.std.specs.Prelude.{◌≡◌, ◌+◌, ◌<◌, ◌≤◌, ◌++◌, ◌∷◌, [], flat_map, length, MatchResult, OnOk};
+ghost use Rattle.arrayvec.specs.ArrayString.{array_string_len};
 ghost use Rattle.pip_core_text.specs.CoreTexts.{core_words};
 ghost use Rattle.pip_io.specs.Causes.{HasCause};
 ghost use Rattle.pip_io.specs.Taken.{Appends, SendsPart};
 ghost use Rattle.pip_io.specs.Writes.{Writes};
 ghost use Rattle.pip_model.specs.Text.{hex_digit, line_text};
-ghost use Rattle.pip_parts.specs.Entries.{Shows, Tells, byte_digits, entry_line};
+ghost use Rattle.pip_parts.specs.Entries.{Shows, Tells, byte_digits, entry_line, number_list};
 ghost use Rattle.pip_search.specs.Keys.{labels};
 ghost use Rattle.pip_search.specs.Parts.{stop_of, stops};
 ghost use Rattle.pip_ways.specs.Texts.{inner};
@@ -16,6 +17,7 @@ use crate::checking::Checked;
 use arrayvec::{ArrayString, ArrayVec};
 use pip_cpu::write_line;
 use pip_io::{Failed, Sink, write_all};
+use pip_parts::PartNumbers;
 use pip_script::push_digits;
 use pip_search::{Found, Reached};
 use pip_ways::inner;
@@ -44,13 +46,7 @@ fn give<K: Sink>(checked: &Checked, sink: &mut K) -> Result<(), Failed>
     write_stops(sink, checked.part.keys.as_slice(), b" +")?;
     write_stops(sink, checked.part.asked.as_slice(), b" ?")?;
     write_labels(sink, checked.part.found.as_slice())?;
-    write_last(
-        sink,
-        checked.about.as_str().as_bytes(),
-        checked.way,
-        checked.keys,
-        checked.asked,
-    )
+    write_last(sink, checked.about.as_str().as_bytes(), &checked.numbers)
 }
 
 // Writes the lines of keys.
@@ -151,31 +147,34 @@ fn write_label<K: Sink>(sink: &mut K, label: &[u8]) -> Result<(), Failed>
 }
 
 // Writes the last line: what the part is of, and its numbers.
-fn write_last<K: Sink>(
-    sink: &mut K,
-    about: &[u8],
-    way: u32,
-    keys: u32,
-    asked: u32,
-) -> Result<(), Failed>
-    ensures { Writes K.told sink.old sink.new result (line_text (entry_line (Tells about.now way keys asked))) }
+fn write_last<K: Sink>(sink: &mut K, about: &[u8], numbers: &PartNumbers) -> Result<(), Failed>
+    ensures { Writes K.told sink.old sink.new result (line_text (entry_line (Tells about.now numbers.now))) }
 {
     write_all(sink, b"part ")?;
     write_all(sink, about)?;
-    write_numbers(sink, way, keys, asked)
+    write_numbers(sink, numbers)
 }
 
-// Writes three numbers, which end a line.
-fn write_numbers<K: Sink>(sink: &mut K, way: u32, keys: u32, asked: u32) -> Result<(), Failed>
-    ensures { Writes K.told sink.old sink.new result (core_words (way ∷ keys ∷ asked ∷ []) ++ 10 ∷ []) }
+// Writes the numbers of a part, which end a line.
+fn write_numbers<K: Sink>(sink: &mut K, numbers: &PartNumbers) -> Result<(), Failed>
+    ensures { Writes K.told sink.old sink.new result (core_words (number_list numbers.now) ++ 10 ∷ []) }
 {
-    let mut text: ArrayString<32> = ArrayString::new();
-    text.push_str(" ");
-    push_digits(&mut text, way);
-    text.push_str(" ");
-    push_digits(&mut text, keys);
-    text.push_str(" ");
-    push_digits(&mut text, asked);
+    let mut text: ArrayString<64> = ArrayString::new();
+    push_word(&mut text, numbers.way);
+    push_word(&mut text, numbers.keys);
+    push_word(&mut text, numbers.asked);
+    push_word(&mut text, numbers.labels);
+    push_word(&mut text, numbers.sum);
     text.push_str("\n");
     write_line(sink, &text)
+}
+
+// Adds a space and the eight digits of a word.
+fn push_word(text: &mut ArrayString<64>, word: u32)
+    requires { array_string_len text.old + 9 ≤ 64 }
+    ensures bytes { text.new.bytes ≡ text.old.bytes ++ core_words (word ∷ []) }
+    ensures length { array_string_len text.new ≡ array_string_len text.old + 9 }
+{
+    text.push_str(" ");
+    push_digits(text, word);
 }

@@ -1,5 +1,5 @@
 -- Lines that could be merged say what their parts say.
-use Rattle.std.specs.Prelude.{◌≡◌, refl, ℕ, zero, suc, ◌+◌, ◌<◌, ◌≤◌, true, List, []}
+use Rattle.std.specs.Prelude.{◌≡◌, refl, ℕ, zero, suc, ◌+◌, ◌^◌, ◌<◌, ◌≤◌, true, List, []}
 use Rattle.std.specs.Prelude.{◌∷◌, ◌++◌, length, map, flat_map, Option, Some, Ok, slice_get}
 use Rattle.std.specs.List.{AllByRecursion, Contains, sum_by}
 use Rattle.std.specs.List.Sorted.{IsPermutation}
@@ -19,11 +19,13 @@ use Rattle.pip_search.proofs.Certified.{certificates_count_all, certificates_say
 use Rattle.pip_search.proofs.Picking.{at_map, map_at}
 use Rattle.pip_ways.specs.Texts.{inner}
 use Rattle.pip_parts.specs.Entries.{Asks, Entry, Own, Shows, Tells, entry_line, entry_of, key_digits}
-use Rattle.pip_parts.specs.MergeLaw.{AreChecked, IsSmallPart, LinesOfPartsMerge, ToldPart, lines_of_part}
+use Rattle.pip_parts.specs.MergeLaw.{AreChecked, IsSmallPart, LinesOfPartsMerge, ToldPart, lines_of_part, told_numbers}
+use Rattle.pip_parts.specs.Sums.{label_sum, sum_after, sum_and}
+use Rattle.pip_parts.specs.declared.lines.PartNumbers.{PartNumbers}
 use Rattle.pip_parts.specs.Merges.{Merging, is_whole, merge_lines, no_merging}
 use Rattle.pip_parts.proofs.EntryLines.{asks_back, digits_are, own_back, same_digits, shows_back, tells_back}
-use Rattle.pip_parts.proofs.Runs.{IsThere, IsTold, IsWithin, asked_there, begin, deep, has_key, is_own}
-use Rattle.pip_parts.proofs.Runs.{none_twice, states_are, told}
+use Rattle.pip_parts.proofs.Runs.{IsOf, IsThere, IsTold, IsWithin, about_of, asked_there, begin, counts, deep, has_key, is_own}
+use Rattle.pip_parts.proofs.Runs.{none_twice, told}
 use Rattle.pip_parts.proofs.Steps.{lines_are, merge_all}
 
 -- ---- lists
@@ -60,34 +62,34 @@ module _ {X : Type 0} where
       omega (arith, sum_by-cons f z xs, two_count f xs i j x y (omega arith) e d)
 
 module _ {X Y : Type 0} (f : X → Y) where
-  sum_mapped : (g : Y → ℕ) (xs : List X) → sum_by g (map f xs) ≡ sum_by (λ x. g (f x)) xs
+  pub sum_mapped : (g : Y → ℕ) (xs : List X) → sum_by g (map f xs) ≡ sum_by (λ x. g (f x)) xs
   sum_mapped g [] = refl
   sum_mapped g (x ∷ xs) =
       omega (arith, sum_by-cons g (f x) (map f xs), sum_mapped g xs, sum_by-cons (λ x. g (f x)) x xs)
 
-sum_ones : {X : Type 0} (xs : List X) → sum_by (λ x. 1) xs ≡ length xs
+pub sum_ones : {X : Type 0} (xs : List X) → sum_by (λ x. 1) xs ≡ length xs
 sum_ones [] = refl
 sum_ones {X = X} (x ∷ xs) = omega (arith, sum_by-cons {X = X} (λ x. 1) x xs, sum_ones xs)
 
 -- ---- what the lines of parts say
 
-abbrev said_own : Stop → Option Entry
+abbrev pub said_own : Stop → Option Entry
 said_own x = Some (Own (key_digits x.key) x.depth)
 
-abbrev said_asks : Stop → Option Entry
+abbrev pub said_asks : Stop → Option Entry
 said_asks x = Some (Asks (key_digits x.key) x.depth)
 
-abbrev said_label : List ℕ → Option Entry
+abbrev pub said_label : List ℕ → Option Entry
 said_label label = Some (Shows (inner label))
 
-abbrev said_part : ToldPart → Option Entry
-said_part t = Some (Tells t.about t.way (length t.portion.keys) (length t.portion.asked))
+abbrev pub said_part : ToldPart → Option Entry
+said_part t = Some (Tells t.about (told_numbers t))
 
-abbrev said_of : ToldPart → List (Option Entry)
+abbrev pub said_of : ToldPart → List (Option Entry)
 said_of t = map said_own t.portion.keys
     ++ (map said_asks t.portion.asked ++ (map said_label t.portion.labels ++ said_part t ∷ []))
 
-abbrev said_all : List ToldPart → List (Option Entry)
+abbrev pub said_all : List ToldPart → List (Option Entry)
 said_all [] = []
 said_all (t ∷ ts) = said_of t ++ said_all ts
 
@@ -99,6 +101,10 @@ back : {X : Type 0} (f : X → List ℕ) (g : X → Option Entry) (xs : List X)
 back f g [] h = refl
 back f g (x ∷ xs) h = cc (h 0 x refl, back f g xs (λ j y e. h (suc j) y e))
 
+small_sum : (ls : List (List ℕ)) (sum : ℕ) → sum < 2 ^ 32 → sum_after sum ls < 2 ^ 32
+small_sum [] sum h = h
+small_sum (l ∷ ls) sum h = small_sum ls (sum_and sum (label_sum l)) (omega arith)
+
 -- the lines of a part say what they are written for
 part_back : (t : ToldPart) → IsSmallPart t → map entry_of (lines_of_part t) ≡ said_of t
 part_back t small = simp (
@@ -108,10 +114,22 @@ part_back t small = simp (
   back (λ x. entry_line (Asks (key_digits x.key) x.depth)) said_asks t.portion.asked
       (λ j x e. asks_back (key_digits x.key) x.depth (digits_are x.key) (small.asked j x e).depth),
   back (λ label. entry_line (Shows (inner label))) said_label t.portion.labels (λ j l e. shows_back (inner l)),
-  tells_back t.about t.way (length t.portion.keys) (length t.portion.asked) small.way small.count small.asks,
+  tells_back t.about (told_numbers t) (
+    small.way,
+    (
+      small.count,
+      (
+        small.asks,
+        (
+          small.labels,
+          (small_sum (map inner t.portion.labels) 0 (omega arith), tt),
+        ),
+      ),
+    ),
+  ),
 )
 
-all_back : (ts : List ToldPart) → ((j : ℕ) (t : ToldPart) → slice_get ts j ≡ Some t → IsSmallPart t)
+pub all_back : (ts : List ToldPart) → ((j : ℕ) (t : ToldPart) → slice_get ts j ≡ Some t → IsSmallPart t)
     → map entry_of (flat_map lines_of_part ts) ≡ said_all ts
 all_back [] small = refl
 all_back (t ∷ ts) small = rw (
@@ -158,6 +176,12 @@ module _ (t : ToldPart) where
       (Contains-append_right (map said_asks t.portion.asked) after_asks (said_label l)
       (Contains-append_left (map said_label t.portion.labels) (said_part t ∷ []) (said_label l)
       (from_place (map said_label t.portion.labels) i (said_label l) (map_at said_label t.portion.labels i l e))))
+
+  part_in : Contains (said_of t) (said_part t)
+  part_in = Contains-append_right (map said_own t.portion.keys) after_own (said_part t)
+      (Contains-append_right (map said_asks t.portion.asked) after_asks (said_part t)
+      (Contains-append_right (map said_label t.portion.labels) (said_part t ∷ []) (said_part t)
+      (0, omega arith, refl)))
 
   -- what is in one of the four lists
   pub data IsFrom (o : Option Entry) : Type 0 where
@@ -218,18 +242,18 @@ own_of ts k d c =
     go j t at (labels i l same) = absurd cc
     go j t at (part same) = absurd cc
 
--- a part that has the first key
-first_of : (ts : List ToldPart) (a : List ℕ) (k q : ℕ) → Contains (said_all ts) (Some (Tells a 0 k q))
-    → (j : ℕ) × ((t : ToldPart) × ((slice_get ts j ≡ Some t) × (t.way ≡ 0)))
-first_of ts a k q c =
-    let (j, (t, (at, has))) = of_parts ts (Some (Tells a 0 k q)) c in go j t at (which t (Some (Tells a 0 k q)) has)
+-- a part that a line is of
+told_of : (ts : List ToldPart) (a : List ℕ) (n : PartNumbers) → Contains (said_all ts) (Some (Tells a n))
+    → (j : ℕ) × ((t : ToldPart) × ((slice_get ts j ≡ Some t) × (told_numbers t ≡ n)))
+told_of ts a n c =
+    let (j, (t, (at, has))) = of_parts ts (Some (Tells a n)) c in go j t at (which t (Some (Tells a n)) has)
   where
-    go : (j : ℕ) (t : ToldPart) → slice_get ts j ≡ Some t → IsFrom t (Some (Tells a 0 k q))
-        → (j : ℕ) × ((t : ToldPart) × ((slice_get ts j ≡ Some t) × (t.way ≡ 0)))
+    go : (j : ℕ) (t : ToldPart) → slice_get ts j ≡ Some t → IsFrom t (Some (Tells a n))
+        → (j : ℕ) × ((t : ToldPart) × ((slice_get ts j ≡ Some t) × (told_numbers t ≡ n)))
     go j t at (keys i x e same) = absurd cc
     go j t at (asks i x same) = absurd cc
     go j t at (labels i l same) = absurd cc
-    go j t at (part same) = let none : t.way ≡ 0 = cc in (j, (t, (at, none)))
+    go j t at (part same) = let is : told_numbers t ≡ n = cc in (j, (t, (at, is)))
 
 stop_in : (ts : List ToldPart) (i : ℕ) (x : Stop) → slice_get (all_stops (portions ts)) i ≡ Some x
     → Contains (said_all ts) (said_own x)
@@ -242,7 +266,7 @@ stop_in (t ∷ ts) i x e = elim (get_either t.portion.keys (all_stops (portions 
 
 -- ---- counts
 
-sum_none : {X : Type 0} (g : X → ℕ) (xs : List X) → ((x : X) → g x ≡ 0) → sum_by g xs ≡ 0
+pub sum_none : {X : Type 0} (g : X → ℕ) (xs : List X) → ((x : X) → g x ≡ 0) → sum_by g xs ≡ 0
 sum_none g [] h = refl
 sum_none g (x ∷ xs) h = omega (arith, sum_by-cons g x xs, sum_none g xs h, h x)
 
@@ -294,7 +318,7 @@ module _ (m : Model) (start : List ℕ) (s : m.State) (ts : List ToldPart) (line
     states_same : length (all_keys ps) ≡ g.keys.states
     states_same = omega (
       arith,
-      states_are os no_merging g all,
+      (counts os no_merging g all).states,
       sum_by-IsPermutation is_own (said_all ts) os same,
       sum_all is_own (λ x. refl) (λ l. refl) (λ t. refl) ts,
       sum_ones (all_stops ps),
@@ -339,8 +363,8 @@ module _ (m : Model) (start : List ℕ) (s : m.State) (ts : List ToldPart) (line
     start_there = elim (begin os no_merging g all begins) [
       | inl not_yet ↦ absurd cc
       | inr b ↦
-          let (j, (t, (at, none))) = first_of ts b.about b.keys b.asked (back_in (Some (Tells b.about 0 b.keys b.asked))
-          b.there) in in_some j t start 0 at (checked.begin j t at none)
+          let (j, (t, (at, is))) = told_of ts b.about b.numbers (back_in (Some (Tells b.about b.numbers)) b.there) in
+          in_some j t start 0 at (checked.begin j t at (ap (λ (n : PartNumbers). n.way) is ∙ b.first))
     ]
       where
         begins : g.parts.begins ≡ true
@@ -406,4 +430,7 @@ lines_merge m one start s ts lines g stands checked shuffled run whole = record 
       (told (map entry_of lines) no_merging g (sym (lines_are no_merging lines) ∙ run)).all
       (forth m start s ts lines g checked shuffled run whole (said_label label)
       (in_part ts j t (said_label label) at (label_in t k label e)));
+  about = λ j t at. of_each (IsOf g.parts.about) (map entry_of lines) (said_part t)
+      (about_of (map entry_of lines) no_merging g (sym (lines_are no_merging lines) ∙ run)).all
+      (forth m start s ts lines g checked shuffled run whole (said_part t) (in_part ts j t (said_part t) at (part_in t)));
 }

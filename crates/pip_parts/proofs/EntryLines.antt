@@ -19,7 +19,8 @@ use Rattle.pip_search.specs.Packing.{packed_key, packed_word, seven_bits, unpack
 use Rattle.pip_search.proofs.Packed.{bits_none, bits_some, key_back, packed_more, packed_none}
 use Rattle.pip_parts.specs.Entries.{Asks, Own, Shows, Tells, are_digits, but_last, byte_digits, entry_line}
 use Rattle.pip_parts.specs.Entries.{entry_of, is_hex, key_digits, key_said, last_bytes, line_of_key, line_of_part}
-use Rattle.pip_parts.specs.Entries.{one_of, three_of}
+use Rattle.pip_parts.specs.Entries.{number_list, numbers_of, one_of}
+use Rattle.pip_parts.specs.declared.lines.PartNumbers.{PartNumbers}
 
 -- ---- numbers
 
@@ -174,21 +175,20 @@ asks_back key depth digits low =
 pub shows_back : (text : List ℕ) → entry_of (entry_line (Shows text)) ≡ Some (Shows text)
 shows_back text = refl
 
-pub tells_back : (about : List ℕ) (way keys asked : ℕ) → way < 2 ^ 32 → keys < 2 ^ 32 → asked < 2 ^ 32
-    → entry_of (entry_line (Tells about way keys asked)) ≡ Some (Tells about way keys asked)
-tells_back about way keys asked a b c =
-    let rest = core_words (way ∷ keys ∷ asked ∷ []) in
-    let size : length rest ≡ 27 = refl in
-    let long : length (about ++ rest) ≡ length about + 27 = length-append about rest in
-    let less : length (about ++ rest) - 27 ≡ length about = omega (arith, long) in
-    let front : but_last 27 (about ++ rest) ≡ about = ap (λ n. take n (about ++ rest)) less
+pub tells_back : (about : List ℕ) (n : PartNumbers) → AllByRecursion (λ w. w < 2 ^ 32) (number_list n)
+    → entry_of (entry_line (Tells about n)) ≡ Some (Tells about n)
+tells_back about n small =
+    let rest = core_words (number_list n) in
+    let size : length rest ≡ 45 = refl in
+    let long : length (about ++ rest) ≡ length about + 45 = length-append about rest in
+    let less : length (about ++ rest) - 45 ≡ length about = omega (arith, long) in
+    let front : but_last 45 (about ++ rest) ≡ about = ap (λ n. take n (about ++ rest)) less
     ∙ take-append_seam about rest in
-    let back : last_bytes 27 (about ++ rest) ≡ rest = ap (λ n. drop n (about ++ rest)) less
+    let back : last_bytes 45 (about ++ rest) ≡ rest = ap (λ n. drop n (about ++ rest)) less
     ∙ drop-append_seam about rest in
-    let most : nat_le 27 (length (about ++ rest)) ≡ true = le-leb 27 (length (about ++ rest)) (omega (arith, long)) in
-    ap (λ t. cond t (option_map (λ n. Tells (but_last 27 (about ++ rest)) n.0 n.1 n.2)
-    (three_of (words_ahead 3 (last_bytes 27 (about ++ rest))))) None) most
-    ∙ ap (λ x. option_map (λ n. Tells x n.0 n.1 n.2) (three_of (words_ahead 3 (last_bytes 27 (about ++ rest))))) front
-    ∙ ap (λ x. option_map (λ n. Tells about n.0 n.1 n.2) (three_of (words_ahead 3 x))) back
-    ∙ ap (λ o. option_map (λ n. Tells about n.0 n.1 n.2) (three_of o))
-    (words_back (way ∷ keys ∷ asked ∷ []) (a, (b, (c, tt))))
+    let most : nat_le 45 (length (about ++ rest)) ≡ true = le-leb 45 (length (about ++ rest)) (omega (arith, long)) in
+    ap (λ t. cond t (option_map (Tells (but_last 45 (about ++ rest)))
+    (numbers_of (words_ahead 5 (last_bytes 45 (about ++ rest))))) None) most
+    ∙ ap (λ x. option_map (Tells x) (numbers_of (words_ahead 5 (last_bytes 45 (about ++ rest))))) front
+    ∙ ap (λ x. option_map (Tells about) (numbers_of (words_ahead 5 x))) back
+    ∙ ap (λ o. option_map (Tells about) (numbers_of o)) (words_back (number_list n) small)

@@ -4,3 +4,4 @@ pub mod EntryLines
 pub mod Steps
 pub mod Runs
 pub mod Certifying
+pub mod Lost

@@ -12,7 +12,8 @@ use Rattle.std.proofs.lemmas.Cmp.{nat_list_cmp_total, tied_itself}
 use Rattle.std.proofs.lemmas.List.Sums.{sum_by-cons}
 use Rattle.std.proofs.lemmas.Slice.Eq.{bytes_eq-Decides}
 use Rattle.pip_parts.specs.Entries.{Asks, Entry, Own, Shows, Tells}
-use Rattle.pip_parts.specs.Merges.{MergedKeys, MergedParts, Merging, merge_entry}
+use Rattle.pip_parts.specs.Merges.{MergedKeys, MergedParts, MergedShown, Merging, merge_entry}
+use Rattle.pip_parts.specs.declared.lines.PartNumbers.{PartNumbers}
 use Rattle.pip_parts.proofs.Steps.{OwnStep, ask_step, label_step, merge_all, on_ok, own_step, part_step}
 
 -- ---- what is counted
@@ -76,26 +77,7 @@ other_step (Some (Asks k d)) m n e =
     let s = ask_step m n k d e in
     record { key = s.key; depth = s.depth; states = s.states; deepest = s.deepest }
 other_step (Some (Shows t)) m n e = same_keys m n (label_step m n t e).keys
-other_step (Some (Tells a w k q)) m n e = same_keys m n (part_step m n a w k q e).keys
-
--- ---- how many keys there are
-
-states_step : (o : Option Entry) (m n : Merging) → merge_entry m o ≡ Ok n → n.keys.states ≡ m.keys.states + is_own o
-states_step None m n e = absurd cc
-states_step (Some (Own k d)) m n e = (own_step m n k d e).states
-states_step (Some (Asks k d)) m n e = (other_step (Some (Asks k d)) m n e).states ∙ omega arith
-states_step (Some (Shows t)) m n e = (other_step (Some (Shows t)) m n e).states ∙ omega arith
-states_step (Some (Tells a w k q)) m n e = (other_step (Some (Tells a w k q)) m n e).states ∙ omega arith
-
-pub states_are : (os : List (Option Entry)) (m g : Merging) → merge_all m os ≡ Ok g
-    → g.keys.states ≡ m.keys.states + sum_by is_own os
-states_are [] m g h = let same : m ≡ g = cc in ap (λ (x : Merging). x.keys.states) (sym same) ∙ omega arith
-states_are (o ∷ os) m g h =
-    let w = on_ok (merge_entry m o) (λ n. merge_all n os) g h in
-    let rest = states_are os w.0 g w.1.1 in
-    let sum = sum_by-cons is_own o os in
-    let one = states_step o m w.0 w.1.0 in
-    omega (arith, rest, sum, one)
+other_step (Some (Tells a k)) m n e = same_keys m n (part_step m n a k e).keys
 
 -- ---- no key comes twice
 
@@ -187,8 +169,8 @@ none_twice (o ∷ os) m g key h =
     go (Some (Own k d)) n e r = comes os m n k key d (own_step m n k d e) r
     go (Some (Asks k d)) n e r = passes (Some (Asks k d)) os m n key refl (other_step (Some (Asks k d)) m n e) r
     go (Some (Shows t)) n e r = passes (Some (Shows t)) os m n key refl (other_step (Some (Shows t)) m n e) r
-    go (Some (Tells a w k q)) n e r =
-        passes (Some (Tells a w k q)) os m n key refl (other_step (Some (Tells a w k q)) m n e) r
+    go (Some (Tells a k)) n e r =
+        passes (Some (Tells a k)) os m n key refl (other_step (Some (Tells a k)) m n e) r
 
 -- ---- what is asked is there
 
@@ -203,7 +185,7 @@ there_before : (o x : Option Entry) (os : List (Option Entry)) (m n : Merging) �
 there_before o None os m n e h = tt
 there_before o (Some (Own k d)) os m n e h = tt
 there_before o (Some (Shows t)) os m n e h = tt
-there_before o (Some (Tells a w k q)) os m n e h = tt
+there_before o (Some (Tells a k)) os m n e h = tt
 there_before o (Some (Asks k d)) os m n e h = elim h [
   | inl has ↦ inl (has_later os o k d has)
   | inr last ↦ go o e last
@@ -229,7 +211,7 @@ there_before o (Some (Asks k d)) os m n e h = elim h [
         })
     go (Some (Asks j c)) e last = still (Some (Asks j c)) (other_step (Some (Asks j c)) m n e) last
     go (Some (Shows t)) e last = still (Some (Shows t)) (other_step (Some (Shows t)) m n e) last
-    go (Some (Tells a w j q)) e last = still (Some (Tells a w j q)) (other_step (Some (Tells a w j q)) m n e) last
+    go (Some (Tells a j)) e last = still (Some (Tells a j)) (other_step (Some (Tells a j)) m n e) last
 
 all_there : (xs os : List (Option Entry)) (o : Option Entry) (m n : Merging) → merge_entry m o ≡ Ok n
     → AllByRecursion (IsThere n os) xs → AllByRecursion (IsThere m (o ∷ os)) xs
@@ -247,7 +229,7 @@ asked_there (o ∷ os) m g h =
     first None n e = tt
     first (Some (Own k d)) n e = tt
     first (Some (Shows t)) n e = tt
-    first (Some (Tells a w k q)) n e = tt
+    first (Some (Tells a k)) n e = tt
     first (Some (Asks k d)) n e = let s = ask_step m n k d e in inr (s.some, (s.same, s.soon))
 
 -- ---- how deep the keys are
@@ -281,7 +263,7 @@ deep_step o os m n g e h = go o e
     go None e = absurd cc
     go (Some (Asks k d)) e = still (Some (Asks k d)) (other_step (Some (Asks k d)) m n e) tt
     go (Some (Shows t)) e = still (Some (Shows t)) (other_step (Some (Shows t)) m n e) tt
-    go (Some (Tells a w k q)) e = still (Some (Tells a w k q)) (other_step (Some (Tells a w k q)) m n e) tt
+    go (Some (Tells a k)) e = still (Some (Tells a k)) (other_step (Some (Tells a k)) m n e) tt
     go (Some (Own k d)) e =
         let s = own_step m n k d e in
         let is = s.deepest in
@@ -335,7 +317,7 @@ labels_keep None m n e t c = absurd cc
 labels_keep (Some (Own k d)) m n e t c = subst (λ ls. Contains ls t) (sym (own_step m n k d e).labels) c
 labels_keep (Some (Asks k d)) m n e t c = subst (λ ls. Contains ls t) (sym (ask_step m n k d e).labels) c
 labels_keep (Some (Shows x)) m n e t c = (label_step m n x e).keeps t c
-labels_keep (Some (Tells a w k q)) m n e t c = subst (λ ls. Contains ls t) (sym (part_step m n a w k q e).labels) c
+labels_keep (Some (Tells a k)) m n e t c = subst (λ ls. Contains ls t) (sym (part_step m n a k e).labels) c
 
 pub told : (os : List (Option Entry)) (m g : Merging) → merge_all m os ≡ Ok g → AreTold m os g
 told [] m g h =
@@ -353,7 +335,7 @@ told (o ∷ os) m g h =
     first None n e r = tt
     first (Some (Own k d)) n e r = tt
     first (Some (Asks k d)) n e r = tt
-    first (Some (Tells a w k q)) n e r = tt
+    first (Some (Tells a k)) n e r = tt
     first (Some (Shows t)) n e r = r.keeps t (label_step m n t e).has
 
 -- ---- how parts begin
@@ -361,16 +343,16 @@ told (o ∷ os) m g h =
 -- a part begins with the first key
 pub record Begins (os : List (Option Entry)) : Type 0 where
   pub about : List ℕ
-  pub keys : ℕ
-  pub asked : ℕ
-  pub there : Contains os (Some (Tells about 0 keys asked))
+  pub numbers : PartNumbers
+  pub first : numbers.way ≡ 0
+  pub there : Contains os (Some (Tells about numbers))
 
 begins_later : (o : Option Entry) (os : List (Option Entry)) → Begins os → Begins (o ∷ os)
 begins_later o os h = record {
   about = h.about;
-  keys = h.keys;
-  asked = h.asked;
-  there = later_is (Some (Tells h.about 0 h.keys h.asked)) o os h.there;
+  numbers = h.numbers;
+  first = h.first;
+  there = later_is (Some (Tells h.about h.numbers)) o os h.there;
 }
 
 or_either : (a b : Bool) → (a || b) ≡ true → (a ≡ true) ⊎ (b ≡ true)
@@ -390,18 +372,15 @@ begins_step o os m n e h = elim h [
     go (Some (Own k d)) e so = inl (ap (λ (x : MergedParts). x.begins) (sym (own_step m n k d e).parts) ∙ so)
     go (Some (Asks k d)) e so = inl (ap (λ (x : MergedParts). x.begins) (sym (ask_step m n k d e).parts) ∙ so)
     go (Some (Shows t)) e so = inl (ap (λ (x : MergedParts). x.begins) (sym (label_step m n t e).parts) ∙ so)
-    go (Some (Tells a w k q)) e so =
-        elim (or_either m.parts.begins (w == 0) (sym (part_step m n a w k q e).begins ∙ so)) [
+    go (Some (Tells a k)) e so =
+        elim (or_either m.parts.begins (k.way == 0) (sym (part_step m n a k e).begins ∙ so)) [
           | inl was ↦ inl was
-          | inr now ↦
-              let zero : w ≡ 0 = eqb-true w 0 now in
-              inr (record {
-                about = a;
-                keys = k;
-                asked = q;
-                there = subst (λ x. Contains (Some (Tells a w k q) ∷ os) (Some (Tells a x k q))) zero
-                    (first_is (Some (Tells a w k q)) os);
-              })
+          | inr now ↦ inr (record {
+            about = a;
+            numbers = k;
+            first = eqb-true k.way 0 now;
+            there = first_is (Some (Tells a k)) os;
+          })
         ]
 
 pub begin : (os : List (Option Entry)) (m g : Merging) → merge_all m os ≡ Ok g → g.parts.begins ≡ true
@@ -410,3 +389,185 @@ begin [] m g h so = let same : m ≡ g = cc in inl (ap (λ (x : Merging). x.part
 begin (o ∷ os) m g h so =
     let w = on_ok (merge_entry m o) (λ n. merge_all n os) g h in
     begins_step o os m w.0 w.1.0 (begin os w.0 g w.1.1 so)
+
+-- ---- what parts are of
+
+-- a part is of this
+abbrev pub IsOf : List ℕ → Option Entry → Type 0
+IsOf about (Some (Tells a k)) = a ≡ about
+IsOf about o = Unit {0}
+
+-- all parts are of one thing, as those before, if there are any
+pub record AreOf (m : Merging) (os : List (Option Entry)) (g : Merging) : Type 0 where
+  pub some : 0 < m.parts.count → g.parts.about ≡ m.parts.about
+  pub all : AllByRecursion (IsOf g.parts.about) os
+
+of_same : (o : Option Entry) (os : List (Option Entry)) (m n g : Merging) → n.parts ≡ m.parts
+    → IsOf g.parts.about o → AreOf n os g → AreOf m (o ∷ os) g
+of_same o os m n g same is h = record {
+  some = λ some. h.some (subst (λ c. 0 < c) (ap (λ (x : MergedParts). x.count) (sym same)) some)
+      ∙ ap (λ (x : MergedParts). x.about) same;
+  all = (is, h.all);
+}
+
+of_step : (o : Option Entry) (os : List (Option Entry)) (m n g : Merging) → merge_entry m o ≡ Ok n → AreOf n os g
+    → AreOf m (o ∷ os) g
+of_step None os m n g e h = absurd cc
+of_step (Some (Own k d)) os m n g e h = of_same (Some (Own k d)) os m n g (own_step m n k d e).parts tt h
+of_step (Some (Asks k d)) os m n g e h = of_same (Some (Asks k d)) os m n g (ask_step m n k d e).parts tt h
+of_step (Some (Shows t)) os m n g e h = of_same (Some (Shows t)) os m n g (label_step m n t e).parts tt h
+of_step (Some (Tells a k)) os m n g e h =
+    let s = part_step m n a k e in
+    let more = s.count in
+    let now : g.parts.about ≡ a = h.some (omega (arith, more)) ∙ s.about_is in
+    record {
+      some = λ some. elim s.alike [
+        | inl none ↦ absurd (omega (arith, none, some))
+        | inr is ↦ now ∙ sym is
+      ];
+      all = (sym now, h.all);
+    }
+
+pub about_of : (os : List (Option Entry)) (m g : Merging) → merge_all m os ≡ Ok g → AreOf m os g
+about_of [] m g h = record { some = λ some. let same : m ≡ g = cc in ap (λ (x : Merging). x.parts.about) (sym same); all = tt }
+about_of (o ∷ os) m g h =
+    let w = on_ok (merge_entry m o) (λ n. merge_all n os) g h in of_step o os m w.0 g w.1.0 (about_of os w.0 g w.1.1)
+
+-- ---- all that is counted
+
+-- one for each line that asks
+abbrev pub is_asks : Option Entry → ℕ
+is_asks (Some (Asks k d)) = 1
+is_asks o = 0
+
+-- one for each line of a label
+abbrev pub is_label : Option Entry → ℕ
+is_label (Some (Shows t)) = 1
+is_label o = 0
+
+-- one for each line that says nothing
+abbrev pub is_none : Option Entry → ℕ
+is_none None = 1
+is_none o = 0
+
+-- one for each line of a part
+abbrev pub is_part : Option Entry → ℕ
+is_part (Some (Tells a k)) = 1
+is_part o = 0
+
+-- how many keys a line says that its part has, how many it asks, and how many labels it has
+abbrev pub says_keys : Option Entry → ℕ
+says_keys (Some (Tells a k)) = k.keys
+says_keys o = 0
+
+abbrev pub says_asked : Option Entry → ℕ
+says_asked (Some (Tells a k)) = k.asked
+says_asked o = 0
+
+abbrev pub says_labels : Option Entry → ℕ
+says_labels (Some (Tells a k)) = k.labels
+says_labels o = 0
+
+-- the counts after some lines, by those before them
+pub record AreCounts (m : Merging) (os : List (Option Entry)) (g : Merging) : Type 0 where
+  pub states : g.keys.states ≡ m.keys.states + sum_by is_own os
+  pub asked : g.keys.asked ≡ m.keys.asked + sum_by is_asks os
+  pub shown : g.shown.count ≡ m.shown.count + sum_by is_label os
+  pub keys : g.parts.keys ≡ m.parts.keys + sum_by says_keys os
+  pub asks : g.parts.asked ≡ m.parts.asked + sum_by says_asked os
+  pub labels : g.parts.labels ≡ m.parts.labels + sum_by says_labels os
+
+-- and after one
+pub record CountStep (m : Merging) (o : Option Entry) (n : Merging) : Type 0 where
+  pub states : n.keys.states ≡ m.keys.states + is_own o
+  pub asked : n.keys.asked ≡ m.keys.asked + is_asks o
+  pub shown : n.shown.count ≡ m.shown.count + is_label o
+  pub keys : n.parts.keys ≡ m.parts.keys + says_keys o
+  pub asks : n.parts.asked ≡ m.parts.asked + says_asked o
+  pub labels : n.parts.labels ≡ m.parts.labels + says_labels o
+
+count_step : (o : Option Entry) (m n : Merging) → merge_entry m o ≡ Ok n → CountStep m o n
+count_step None m n e = absurd cc
+count_step (Some (Own k d)) m n e =
+    let s = own_step m n k d e in
+    let p = s.parts in
+    let h = s.shown in
+    record {
+      states = s.states;
+      asked = s.asked ∙ omega arith;
+      shown = ap (λ (x : MergedShown). x.count) h ∙ omega arith;
+      keys = ap (λ (x : MergedParts). x.keys) p ∙ omega arith;
+      asks = ap (λ (x : MergedParts). x.asked) p ∙ omega arith;
+      labels = ap (λ (x : MergedParts). x.labels) p ∙ omega arith;
+    }
+count_step (Some (Asks k d)) m n e =
+    let s = ask_step m n k d e in
+    let p = s.parts in
+    let h = s.shown in
+    record {
+      states = s.states ∙ omega arith;
+      asked = s.asked;
+      shown = ap (λ (x : MergedShown). x.count) h ∙ omega arith;
+      keys = ap (λ (x : MergedParts). x.keys) p ∙ omega arith;
+      asks = ap (λ (x : MergedParts). x.asked) p ∙ omega arith;
+      labels = ap (λ (x : MergedParts). x.labels) p ∙ omega arith;
+    }
+count_step (Some (Shows t)) m n e =
+    let s = label_step m n t e in
+    let p = s.parts in
+    let k = s.keys in
+    record {
+      states = ap (λ (x : MergedKeys). x.states) k ∙ omega arith;
+      asked = ap (λ (x : MergedKeys). x.asked) k ∙ omega arith;
+      shown = s.count;
+      keys = ap (λ (x : MergedParts). x.keys) p ∙ omega arith;
+      asks = ap (λ (x : MergedParts). x.asked) p ∙ omega arith;
+      labels = ap (λ (x : MergedParts). x.labels) p ∙ omega arith;
+    }
+count_step (Some (Tells a k)) m n e =
+    let s = part_step m n a k e in
+    let h = s.shown in
+    let o = s.keys in
+    record {
+      states = ap (λ (x : MergedKeys). x.states) o ∙ omega arith;
+      asked = ap (λ (x : MergedKeys). x.asked) o ∙ omega arith;
+      shown = ap (λ (x : MergedShown). x.count) h ∙ omega arith;
+      keys = s.own;
+      asks = s.asked;
+      labels = s.told;
+    }
+
+pub counts : (os : List (Option Entry)) (m g : Merging) → merge_all m os ≡ Ok g → AreCounts m os g
+counts [] m g h =
+    let same : m ≡ g = cc in record {
+      states = ap (λ (x : Merging). x.keys.states) (sym same) ∙ omega arith;
+      asked = ap (λ (x : Merging). x.keys.asked) (sym same) ∙ omega arith;
+      shown = ap (λ (x : Merging). x.shown.count) (sym same) ∙ omega arith;
+      keys = ap (λ (x : Merging). x.parts.keys) (sym same) ∙ omega arith;
+      asks = ap (λ (x : Merging). x.parts.asked) (sym same) ∙ omega arith;
+      labels = ap (λ (x : Merging). x.parts.labels) (sym same) ∙ omega arith;
+    }
+counts (o ∷ os) m g h =
+    let w = on_ok (merge_entry m o) (λ n. merge_all n os) g h in
+    let r = counts os w.0 g w.1.1 in
+    let s = count_step o m w.0 w.1.0 in
+    record {
+      states = let a = r.states in let b = s.states in omega (arith, a, b, sum_by-cons is_own o os);
+      asked = let a = r.asked in let b = s.asked in omega (arith, a, b, sum_by-cons is_asks o os);
+      shown = let a = r.shown in let b = s.shown in omega (arith, a, b, sum_by-cons is_label o os);
+      keys = let a = r.keys in let b = s.keys in omega (arith, a, b, sum_by-cons says_keys o os);
+      asks = let a = r.asks in let b = s.asks in omega (arith, a, b, sum_by-cons says_asked o os);
+      labels = let a = r.labels in let b = s.labels in omega (arith, a, b, sum_by-cons says_labels o os);
+    }
+
+-- each line says something
+pub record SaysSomething (o : Option Entry) : Type 0 where
+  pub entry : Entry
+  pub is : o ≡ Some entry
+
+pub each_says : (os : List (Option Entry)) (m g : Merging) → merge_all m os ≡ Ok g → AllByRecursion SaysSomething os
+each_says [] m g h = tt
+each_says (None ∷ os) m g h = absurd cc
+each_says (Some x ∷ os) m g h =
+    let w = on_ok (merge_entry m (Some x)) (λ n. merge_all n os) g h in
+    (record { entry = x; is = refl }, each_says os w.0 g w.1.1)

@@ -9,17 +9,19 @@ use Rattle.std.specs.Str.{bytes_eq}
 use Rattle.std.specs.declared.cmp.Ordering.{Ordering}
 use Rattle.std.specs.declared.cmp.Ordering.TheVariants.{Less, Equal, Greater}
 use Rattle.std.proofs.Common.{inl, inr, ap, sym, subst, ◌∙◌, arith, cond}
-use Rattle.std.proofs.lemmas.Bool.{eqb-true, leb-true, ltb-true}
+use Rattle.std.proofs.lemmas.Bool.{eqb-false, eqb-true, leb-true}
 use Rattle.std.proofs.lemmas.List.Elements.{Contains-append_left, Contains-push}
 use Rattle.std.proofs.lemmas.Map.Lookups.{exact_bytes}
 use Rattle.std.proofs.lemmas.Slice.Eq.{bytes_eq-Decides}
-use Rattle.pip_parts.specs.Entries.{Asks, Entry, Own, Shows, Tells, entry_of}
-use Rattle.pip_parts.specs.Merges.{MergedKeys, MergedParts, Merging, counted, has_asked, is_alike, key_after}
-use Rattle.pip_parts.specs.Merges.{label_order}
-use Rattle.pip_parts.specs.Merges.{merge_entry, merge_lines, on_value, own_after, with_asked, with_label, with_label_by}
-use Rattle.pip_parts.specs.Merges.{with_own, with_told_part}
+use Rattle.pip_parts.specs.Entries.{Asks, Entry, Own, Shows, Tells, entry_of, number_list}
+use Rattle.pip_parts.specs.Merges.{MergedKeys, MergedParts, MergedShown, Merging, asked_after, asked_by, counted}
+use Rattle.pip_parts.specs.Merges.{is_alike, is_at_keys, key_after, label_order, merge_entry, merge_lines, on_value}
+use Rattle.pip_parts.specs.Merges.{own_after, part_after, with_asked, with_label, with_label_by, with_numbers, with_own}
+use Rattle.pip_parts.specs.Merges.{with_shown, with_told_part}
+use Rattle.pip_parts.specs.Sums.{label_sum, sum_and}
 use Rattle.pip_parts.specs.declared.faults.MergeFault.{MergeFault}
 use Rattle.pip_parts.specs.declared.faults.MergeFault.TheVariants as F
+use Rattle.pip_parts.specs.declared.lines.PartNumbers.{PartNumbers}
 
 -- ---- answers
 
@@ -50,7 +52,9 @@ pub record OwnStep (m : Merging) (k : List ℕ) (d : ℕ) (n : Merging) : Type 0
   pub depth : n.keys.depth ≡ d
   pub states : n.keys.states ≡ m.keys.states + 1
   pub deepest : n.keys.deepest ≡ max m.keys.deepest d
+  pub asked : n.keys.asked ≡ m.keys.asked
   pub labels : n.labels ≡ m.labels
+  pub shown : n.shown ≡ m.shown
   pub parts : n.parts ≡ m.parts
 
 order_less : (o : Ordering) (u : Unit {0}) → key_after o ≡ Ok u → o ≡ Less
@@ -69,7 +73,8 @@ own_comes m k u h = go (m.states == 0) refl h
 
 pub own_step : (m n : Merging) (k : List ℕ) (d : ℕ) → merge_entry m (Some (Own k d)) ≡ Ok n → OwnStep m k d n
 own_step m n k d h =
-    let w = on_ok (with_own m.keys k d) (λ ks. Ok (record m { keys = ks })) n h in
+    let time = if_ok (is_at_keys m) (on_value (with_own m.keys k d) (λ ks. Ok (record m { keys = ks }))) F.Order n h in
+    let w = on_ok (with_own m.keys k d) (λ ks. Ok (record m { keys = ks })) n time.1 in
     let ks = w.0 in
     let a = on_ok (own_after m.keys k) (λ _. on_value (counted m.keys.states 1) (λ c. Ok (record {
       key = k;
@@ -77,6 +82,7 @@ own_step m n k d h =
       states = c;
       deepest = max m.keys.deepest d;
       asked = m.keys.asked;
+      latest = 0;
     }))) ks w.1.0 in
     let b = on_ok (counted m.keys.states 1) (λ c. Ok (record {
       key = k;
@@ -84,9 +90,16 @@ own_step m n k d h =
       states = c;
       deepest = max m.keys.deepest d;
       asked = m.keys.asked;
+      latest = 0;
     })) ks a.1.1 in
-    let made : record { key = k; depth = d; states = b.0; deepest = max m.keys.deepest d; asked = m.keys.asked } ≡ ks =
-    ok_same _ ks b.1.1 in
+    let made : record {
+      key = k;
+      depth = d;
+      states = b.0;
+      deepest = max m.keys.deepest d;
+      asked = m.keys.asked;
+      latest = 0;
+    } ≡ ks = ok_same _ ks b.1.1 in
     let all : record m { keys = ks } ≡ n = ok_same _ n w.1.1 in
     record {
       after = own_comes m.keys k a.0 a.1.0;
@@ -95,7 +108,9 @@ own_step m n k d h =
       states = ap (λ (x : Merging). x.keys.states) (sym all) ∙ ap (λ (x : MergedKeys). x.states) (sym made)
           ∙ counted_is m.keys.states 1 b.0 b.1.0;
       deepest = ap (λ (x : Merging). x.keys.deepest) (sym all) ∙ ap (λ (x : MergedKeys). x.deepest) (sym made);
+      asked = ap (λ (x : Merging). x.keys.asked) (sym all) ∙ ap (λ (x : MergedKeys). x.asked) (sym made);
       labels = ap (λ (x : Merging). x.labels) (sym all);
+      shown = ap (λ (x : Merging). x.shown) (sym all);
       parts = ap (λ (x : Merging). x.parts) (sym all);
     }
 
@@ -109,33 +124,64 @@ pub record AskStep (m : Merging) (k : List ℕ) (d : ℕ) (n : Merging) : Type 0
   pub depth : n.keys.depth ≡ m.keys.depth
   pub states : n.keys.states ≡ m.keys.states
   pub deepest : n.keys.deepest ≡ m.keys.deepest
+  pub asked : n.keys.asked ≡ m.keys.asked + 1
   pub labels : n.labels ≡ m.labels
+  pub shown : n.shown ≡ m.shown
   pub parts : n.parts ≡ m.parts
 
-both : (a b : Bool) → (a && b) ≡ true → (a ≡ true) × (b ≡ true)
-both true b h = (refl, h)
-both false b h = absurd cc
+-- a key that may be asked is the last one
+pub record MayAsk (m : MergedKeys) (k : List ℕ) (d : ℕ) : Type 0 where
+  pub some : 0 < m.states
+  pub same : m.key ≡ k
+  pub soon : m.depth ≤ d
+
+may_ask : (m : MergedKeys) (k : List ℕ) (d : ℕ) (u : Unit {0}) → asked_after m k d ≡ Ok u → MayAsk m k d
+may_ask m k d u h = go (m.states == 0) refl h
+  where
+    soon : (b c : Bool) → nat_le m.depth d ≡ c → cond b (Err F.Order) (cond c (Ok tt) (Err F.Open)) ≡ Ok u
+        → m.depth ≤ d
+    soon true c e h = absurd cc
+    soon false true e h = leb-true m.depth d e
+    soon false false e h = absurd cc
+
+    by_order : (o : Ordering) → slice_cmp nat_cmp m.key k ≡ o → 0 < m.states → asked_by o m d ≡ Ok u → MayAsk m k d
+    by_order Less e some h = absurd cc
+    by_order Greater e some h = absurd cc
+    by_order Equal e some h = record {
+      some = some;
+      same = exact_bytes m.key k e;
+      soon = soon (nat_lt d m.latest) (nat_le m.depth d) refl h;
+    }
+
+    go : (b : Bool) → (m.states == 0) ≡ b → cond b (Err F.Open) (asked_by (slice_cmp nat_cmp m.key k) m d) ≡ Ok u
+        → MayAsk m k d
+    go true e h = absurd cc
+    go false e h = by_order (slice_cmp nat_cmp m.key k) refl (grind (arith, eqb-false)) h
 
 pub ask_step : (m n : Merging) (k : List ℕ) (d : ℕ) → merge_entry m (Some (Asks k d)) ≡ Ok n → AskStep m k d n
 ask_step m n k d h =
-    let w = on_ok (with_asked m.keys k d) (λ ks. Ok (record m { keys = ks })) n h in
+    let time = if_ok (is_at_keys m) (on_value (with_asked m.keys k d) (λ ks. Ok (record m { keys = ks }))) F.Order n h
+    in
+    let w = on_ok (with_asked m.keys k d) (λ ks. Ok (record m { keys = ks })) n time.1 in
     let ks = w.0 in
-    let a = if_ok (has_asked m.keys k d) (on_value (counted m.keys.asked 1) (λ c. Ok (record m.keys { asked = c })))
-    F.Open ks w.1.0 in
-    let t = both (nat_lt 0 m.keys.states && bytes_eq m.keys.key k) (nat_le m.keys.depth d) a.0 in
-    let s = both (nat_lt 0 m.keys.states) (bytes_eq m.keys.key k) t.0 in
-    let b = on_ok (counted m.keys.asked 1) (λ c. Ok (record m.keys { asked = c })) ks a.1 in
-    let made : record m.keys { asked = b.0 } ≡ ks = ok_same _ ks b.1.1 in
+    let a = on_ok (asked_after m.keys k d)
+    (λ _. on_value (counted m.keys.asked 1) (λ c. Ok (record m.keys { asked = c; latest = d }))) ks w.1.0 in
+    let b = on_ok (counted m.keys.asked 1) (λ c. Ok (record m.keys { asked = c; latest = d })) ks a.1.1 in
+    let may = may_ask m.keys k d a.0 a.1.0 in
+    let made : record m.keys { asked = b.0; latest = d } ≡ ks = ok_same _ ks b.1.1 in
     let all : record m { keys = ks } ≡ n = ok_same _ n w.1.1 in
     record {
-      some = ltb-true 0 m.keys.states s.0;
-      same = (bytes_eq-Decides m.keys.key k).0 s.1;
-      soon = leb-true m.keys.depth d t.1;
+      some = may.some;
+      same = may.same;
+      soon = may.soon;
       key = ap (λ (x : Merging). x.keys.key) (sym all) ∙ ap (λ (x : MergedKeys). x.key) (sym made);
       depth = ap (λ (x : Merging). x.keys.depth) (sym all) ∙ ap (λ (x : MergedKeys). x.depth) (sym made);
       states = ap (λ (x : Merging). x.keys.states) (sym all) ∙ ap (λ (x : MergedKeys). x.states) (sym made);
       deepest = ap (λ (x : Merging). x.keys.deepest) (sym all) ∙ ap (λ (x : MergedKeys). x.deepest) (sym made);
+      asked = ap (λ (x : Merging). x.keys.asked) (sym all) ∙ ap (λ (x : MergedKeys). x.asked) (sym made)
+          ∙ counted_is m.keys.asked 1 b.0 b.1.0;
       labels = ap (λ (x : Merging). x.labels) (sym all);
+      shown = ap (λ (x : Merging). x.shown) (sym all);
       parts = ap (λ (x : Merging). x.parts) (sym all);
     }
 
@@ -145,6 +191,7 @@ pub record LabelStep (m : Merging) (text : List ℕ) (n : Merging) : Type 0 wher
   pub has : Contains n.labels text
   pub keeps : (x : List ℕ) → Contains m.labels x → Contains n.labels x
   pub keys : n.keys ≡ m.keys
+  pub count : n.shown.count ≡ m.shown.count + 1
   pub parts : n.parts ≡ m.parts
 
 -- the last of labels with which one ties is that one
@@ -158,14 +205,23 @@ tied_last (x ∷ y ∷ ls) text h =
 
 pub label_step : (m n : Merging) (text : List ℕ) → merge_entry m (Some (Shows text)) ≡ Ok n → LabelStep m text n
 label_step m n text h =
-    let w = on_ok (with_label m.labels text) (λ ls. Ok (record m { labels = ls })) n h in
-    let all : record m { labels = w.0 } ≡ n = ok_same _ n w.1.1 in
+    let time = if_ok (m.parts.count == 0) (on_value (with_label m.labels text) (λ ls.
+    on_value (with_shown m.shown text) (λ s. Ok (record m { labels = ls; shown = s })))) F.Order n h in
+    let w = on_ok (with_label m.labels text)
+    (λ ls. on_value (with_shown m.shown text) (λ s. Ok (record m { labels = ls; shown = s }))) n time.1 in
+    let v = on_ok (with_shown m.shown text) (λ s. Ok (record m { labels = w.0; shown = s })) n w.1.1 in
+    let sum : MergedShown → ℕ = λ s. sum_and s.sum (label_sum text) in
+    let c = on_ok (counted m.shown.count 1) (λ n. Ok (record { count = n; sum = sum m.shown })) v.0 v.1.0 in
+    let told : record { count = c.0; sum = sum m.shown } ≡ v.0 = ok_same _ v.0 c.1.1 in
+    let all : record m { labels = w.0; shown = v.0 } ≡ n = ok_same _ n v.1.1 in
     let now : w.0 ≡ n.labels = ap (λ (x : Merging). x.labels) all in
     let f = by_order (label_order m.labels text) refl w.0 w.1.0 in
     record {
       has = subst (λ ls. Contains ls text) now f.0;
       keeps = λ x c. subst (λ ls. Contains ls x) now (f.1 x c);
       keys = ap (λ (x : Merging). x.keys) (sym all);
+      count = ap (λ (x : Merging). x.shown.count) (sym all) ∙ ap (λ (x : MergedShown). x.count) (sym told)
+          ∙ counted_is m.shown.count 1 c.0 c.1.0;
       parts = ap (λ (x : Merging). x.parts) (sym all);
     }
   where
@@ -184,37 +240,65 @@ label_step m n text h =
 
 -- ---- a part
 
-pub record PartStep (m : Merging) (way : ℕ) (n : Merging) : Type 0 where
-  pub begins : n.parts.begins ≡ (m.parts.begins || way == 0)
+pub record PartStep (m : Merging) (about : List ℕ) (k : PartNumbers) (n : Merging) : Type 0 where
+  pub alike : (m.parts.count ≡ 0) ⊎ (m.parts.about ≡ about)
+  pub about_is : n.parts.about ≡ about
+  pub count : n.parts.count ≡ m.parts.count + 1
+  pub begins : n.parts.begins ≡ (m.parts.begins || k.way == 0)
+  pub own : n.parts.keys ≡ m.parts.keys + k.keys
+  pub asked : n.parts.asked ≡ m.parts.asked + k.asked
+  pub told : n.parts.labels ≡ m.parts.labels + k.labels
   pub keys : n.keys ≡ m.keys
   pub labels : n.labels ≡ m.labels
+  pub shown : n.shown ≡ m.shown
 
-pub part_step : (m n : Merging) (about : List ℕ) (way keys asked : ℕ)
-    → merge_entry m (Some (Tells about way keys asked)) ≡ Ok n → PartStep m way n
-part_step m n about way keys asked h =
-    let w = on_ok (with_told_part m.parts about way keys asked) (λ ps. Ok (record m { parts = ps })) n h in
+alike_is : (m : MergedParts) (about : List ℕ) → is_alike m about ≡ true → (m.count ≡ 0) ⊎ (m.about ≡ about)
+alike_is m about h = go (m.count == 0) refl h
+  where
+    go : (b : Bool) → (m.count == 0) ≡ b → (b || bytes_eq m.about about) ≡ true → (m.count ≡ 0) ⊎ (m.about ≡ about)
+    go true e h = inl (eqb-true m.count 0 e)
+    go false e h = inr ((bytes_eq-Decides m.about about).0 h)
+
+pub part_step : (m n : Merging) (about : List ℕ) (k : PartNumbers) → merge_entry m (Some (Tells about k)) ≡ Ok n
+    → PartStep m about k n
+part_step m n about k h =
+    let w = on_ok (with_told_part m.parts about k) (λ ps. Ok (record m { parts = ps })) n h in
     let ps = w.0 in
-    let made : ℕ → ℕ → ℕ → MergedParts = λ c k a. record {
+    let made : ℕ → ℕ → ℕ → ℕ → MergedParts = λ c o a l. record {
       about = about;
       count = c;
-      begins = m.parts.begins || way == 0;
-      keys = k;
+      begins = m.parts.begins || k.way == 0;
+      latest = number_list k;
+      keys = o;
       asked = a;
+      labels = l;
+      sum = sum_and m.parts.sum k.sum;
     } in
-    let a = if_ok (is_alike m.parts about) (on_value (counted m.parts.count 1) (λ c.
-    on_value (counted m.parts.keys keys) (λ k. on_value (counted m.parts.asked asked) (λ a. Ok (made c k a))))) F.Apart
-    ps w.1.0 in
-    let b = on_ok (counted m.parts.count 1) (λ c.
-    on_value (counted m.parts.keys keys) (λ k. on_value (counted m.parts.asked asked) (λ a. Ok (made c k a)))) ps a.1 in
-    let c = on_ok (counted m.parts.keys keys) (λ k.
-    on_value (counted m.parts.asked asked) (λ a. Ok (made b.0 k a))) ps b.1.1 in
-    let d = on_ok (counted m.parts.asked asked) (λ a. Ok (made b.0 c.0 a)) ps c.1.1 in
-    let is : made b.0 c.0 d.0 ≡ ps = ok_same _ ps d.1.1 in
+    let a = if_ok (is_alike m.parts about) (on_value (part_after m.parts k) (λ _. with_numbers m.parts about k))
+    F.Apart ps w.1.0 in
+    let b = on_ok (part_after m.parts k) (λ _. with_numbers m.parts about k) ps a.1 in
+    let c = on_ok (counted m.parts.count 1) (λ c. on_value (counted m.parts.keys k.keys) (λ o.
+    on_value (counted m.parts.asked k.asked) (λ a. on_value (counted m.parts.labels k.labels) (λ l.
+    Ok (made c o a l))))) ps b.1.1 in
+    let d = on_ok (counted m.parts.keys k.keys) (λ o. on_value (counted m.parts.asked k.asked) (λ a.
+    on_value (counted m.parts.labels k.labels) (λ l. Ok (made c.0 o a l)))) ps c.1.1 in
+    let e = on_ok (counted m.parts.asked k.asked) (λ a.
+    on_value (counted m.parts.labels k.labels) (λ l. Ok (made c.0 d.0 a l))) ps d.1.1 in
+    let f = on_ok (counted m.parts.labels k.labels) (λ l. Ok (made c.0 d.0 e.0 l)) ps e.1.1 in
+    let is : made c.0 d.0 e.0 f.0 ≡ ps = ok_same _ ps f.1.1 in
     let all : record m { parts = ps } ≡ n = ok_same _ n w.1.1 in
+    let has : made c.0 d.0 e.0 f.0 ≡ n.parts = is ∙ ap (λ (x : Merging). x.parts) all in
     record {
-      begins = ap (λ (x : Merging). x.parts.begins) (sym all) ∙ ap (λ (x : MergedParts). x.begins) (sym is);
+      alike = alike_is m.parts about a.0;
+      about_is = ap (λ (x : MergedParts). x.about) (sym has);
+      count = ap (λ (x : MergedParts). x.count) (sym has) ∙ counted_is m.parts.count 1 c.0 c.1.0;
+      begins = ap (λ (x : MergedParts). x.begins) (sym has);
+      own = ap (λ (x : MergedParts). x.keys) (sym has) ∙ counted_is m.parts.keys k.keys d.0 d.1.0;
+      asked = ap (λ (x : MergedParts). x.asked) (sym has) ∙ counted_is m.parts.asked k.asked e.0 e.1.0;
+      told = ap (λ (x : MergedParts). x.labels) (sym has) ∙ counted_is m.parts.labels k.labels f.0 f.1.0;
       keys = ap (λ (x : Merging). x.keys) (sym all);
       labels = ap (λ (x : Merging). x.labels) (sym all);
+      shown = ap (λ (x : Merging). x.shown) (sym all);
     }
 
 -- ---- all lines, by what they say

@@ -9,6 +9,7 @@ use Rattle.pip_core_text.specs.Lines.{words_ahead}
 use Rattle.pip_model.specs.Grammar.{hex_value}
 use Rattle.pip_model.specs.Text.{hex_digit}
 use Rattle.pip_search.specs.Packing.{packed_key}
+use Rattle.pip_parts.specs.declared.lines.PartNumbers.{PartNumbers}
 
 -- what a line says
 pub data Entry : Type 0 where
@@ -18,8 +19,12 @@ pub data Entry : Type 0 where
   Asks : List ℕ → ℕ → Entry
   -- what a choice shows
   Shows : List ℕ → Entry
-  -- the part: what it is of, how many choices lead to its first key, how many keys it has, and how many it asks
-  Tells : List ℕ → ℕ → ℕ → ℕ → Entry
+  -- the part: what it is of, and its numbers
+  Tells : List ℕ → PartNumbers → Entry
+
+-- the numbers of a part, in their order
+abbrev pub number_list : PartNumbers → List ℕ
+number_list n = n.way ∷ n.keys ∷ n.asked ∷ n.labels ∷ n.sum ∷ []
 
 -- ---- texts
 
@@ -36,7 +41,7 @@ abbrev pub entry_line : Entry → List ℕ
 entry_line (Own key depth) = key ++ codes " +" ++ core_words (depth ∷ [])
 entry_line (Asks key depth) = key ++ codes " ?" ++ core_words (depth ∷ [])
 entry_line (Shows text) = codes "line" ++ text
-entry_line (Tells about way keys asked) = codes "part " ++ about ++ core_words (way ∷ keys ∷ asked ∷ [])
+entry_line (Tells about numbers) = codes "part " ++ about ++ core_words (number_list numbers)
 
 -- ---- what a line says
 
@@ -66,6 +71,11 @@ abbrev pub three_of : Option (List ℕ) → Option (ℕ × ℕ × ℕ)
 three_of (Some (a ∷ b ∷ c ∷ [])) = Some (a, b, c)
 three_of _ = None
 
+-- the numbers of a part, if there are five
+abbrev pub numbers_of : Option (List ℕ) → Option PartNumbers
+numbers_of (Some (a ∷ b ∷ c ∷ d ∷ e ∷ [])) = Some (record { way = a; keys = b; asked = c; labels = d; sum = e })
+numbers_of _ = None
+
 -- a key before its kind and its depth
 abbrev pub key_said : List ℕ → List ℕ → Option Entry
 key_said key rest =
@@ -79,11 +89,11 @@ line_of_key line =
     if nat_le 11 (length line) && are_digits (but_last 11 line)
     then key_said (but_last 11 line) (last_bytes 11 line) else None
 
--- what a part is of, and three numbers
+-- what a part is of, and its numbers
 abbrev pub line_of_part : List ℕ → Option Entry
 line_of_part text =
-    if nat_le 27 (length text)
-    then option_map (λ n. Tells (but_last 27 text) n.0 n.1 n.2) (three_of (words_ahead 3 (last_bytes 27 text)))
+    if nat_le 45 (length text)
+    then option_map (Tells (but_last 45 text)) (numbers_of (words_ahead 5 (last_bytes 45 text)))
     else None
 
 -- what a line says, if it says anything

@@ -1,4 +1,5 @@
 pub mod Entries
+pub mod Sums
 pub mod Merges
 pub mod Seen
 pub mod MergeLaw

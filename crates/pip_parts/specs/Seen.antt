@@ -2,8 +2,8 @@
 use Rattle.std.specs.Prelude.{◌≡◌, ℕ, List, map, Result, Ok, Err}
 use Rattle.std.specs.declared.alloc.Global.{Global}
 use Rattle.std.specs.declared.vec.Vec.{Vec}
-use Rattle.pip_parts.specs.Entries.{Asks, Entry, Own, Shows, Tells}
-use Rattle.pip_parts.specs.Merges.{MergedKeys, MergedParts, Merging}
+use Rattle.pip_parts.specs.Entries.{Asks, Entry, Own, Shows, Tells, number_list}
+use Rattle.pip_parts.specs.Merges.{MergedKeys, MergedParts, MergedShown, Merging}
 use Rattle.pip_parts.specs.declared.faults.MergeError.{MergeError}
 use Rattle.pip_parts.specs.declared.faults.MergeError.TheVariants as E
 use Rattle.pip_parts.specs.declared.faults.MergeFault.{MergeFault}
@@ -11,6 +11,7 @@ use Rattle.pip_parts.specs.declared.lines.PartLine.{PartLine}
 use Rattle.pip_parts.specs.declared.lines.PartLine.TheVariants as L
 use Rattle.pip_parts.specs.declared.merging.KeyRun.{KeyRun}
 use Rattle.pip_parts.specs.declared.merging.Merger.{Merger}
+use Rattle.pip_parts.specs.declared.merging.LabelRun.{LabelRun}
 use Rattle.pip_parts.specs.declared.merging.PartRun.{PartRun}
 
 -- a line that was read
@@ -18,7 +19,7 @@ abbrev pub entry_seen : PartLine → Entry
 entry_seen (L.Own key depth) = Own key.now depth
 entry_seen (L.Asks key depth) = Asks key.now depth
 entry_seen (L.Shows text) = Shows text.now
-entry_seen (L.Tells about way keys asked) = Tells about.now way keys asked
+entry_seen (L.Tells about numbers) = Tells about.now numbers
 
 -- the keys so far
 abbrev pub merged_keys_of : KeyRun → MergedKeys
@@ -28,11 +29,25 @@ merged_keys_of k = record {
   states = k.states;
   deepest = k.deepest;
   asked = k.asked;
+  latest = k.latest;
 }
 
 -- the parts so far
 abbrev pub merged_parts_of : PartRun → MergedParts
-merged_parts_of p = record { about = p.about.items; count = p.count; begins = p.begins; keys = p.keys; asked = p.asked }
+merged_parts_of p = record {
+  about = p.about.items;
+  count = p.count;
+  begins = p.begins;
+  latest = number_list p.latest;
+  keys = p.keys;
+  asked = p.asked;
+  labels = p.labels;
+  sum = p.sum;
+}
+
+-- how many labels came so far
+abbrev pub merged_shown_of : LabelRun → MergedShown
+merged_shown_of s = record { count = s.count; sum = s.sum }
 
 -- the labels so far
 abbrev pub label_texts : List (Vec ℕ Global) → List (List ℕ)
@@ -43,6 +58,7 @@ abbrev pub merging_of : Merger → Merging
 merging_of m = record {
   keys = merged_keys_of m.keys;
   labels = label_texts m.labels.items;
+  shown = merged_shown_of m.shown;
   parts = merged_parts_of m.parts;
 }
 

@@ -18,6 +18,17 @@ pub enum MergeFault {
     Many,
 }
 
+/// Of what there isn't as much as the parts say, where all lines could be merged.
+#[derive(Clone, Copy, Debug, PartialEq, Eq)]
+pub enum Uneven {
+    /// There are more keys, or fewer.
+    Keys,
+    /// There are more keys that are asked, or fewer.
+    Asks,
+    /// There are more lines of labels, or fewer, or others.
+    Labels,
+}
+
 /// Why a line wasn't merged.
 #[derive(Clone, Copy, Debug, PartialEq, Eq)]
 pub enum MergeError {

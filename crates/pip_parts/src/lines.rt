@@ -2,10 +2,25 @@
 ghost use Rattle.std.specs.Prelude.{◌≡◌, option_map};
 ghost use Rattle.pip_core_text.specs.Lines.{words_ahead};
 ghost use Rattle.pip_parts.specs.Entries.{are_digits, entry_of, is_hex, key_said, line_of_key, line_of_part};
-ghost use Rattle.pip_parts.specs.Entries.{one_of, three_of};
+ghost use Rattle.pip_parts.specs.Entries.{numbers_of, one_of, three_of};
 ghost use Rattle.pip_parts.specs.Seen.{entry_seen};
 
 use pip_core_text::take_word;
+
+/// The numbers that a part says of itself.
+#[derive(Clone, Copy, Debug, PartialEq, Eq)]
+pub struct PartNumbers {
+    /// How many choices lead to its first key.
+    pub way: u32,
+    /// How many keys it has.
+    pub keys: u32,
+    /// How many it asks.
+    pub asked: u32,
+    /// How many labels it has.
+    pub labels: u32,
+    /// The sum of its labels.
+    pub sum: u32,
+}
 
 /// What a line says, its newline left off.
 #[derive(Clone, Copy, Debug)]
@@ -24,12 +39,10 @@ pub enum PartLine<'a> {
     Shows {
         text: &'a [u8],
     },
-    /// The part: what it is of, how many choices lead to its first key, how many keys it has, and how many it asks.
+    /// The part: what it is of, and its numbers.
     Tells {
         about: &'a [u8],
-        way: u32,
-        keys: u32,
-        asked: u32,
+        numbers: PartNumbers,
     },
 }
 
@@ -72,6 +85,22 @@ fn read_three(text: &[u8]) -> Option<(u32, u32, u32)>
     Some((first, second, third))
 }
 
+// The numbers of a part, each after a space, and nothing after them.
+fn read_numbers(text: &[u8]) -> Option<PartNumbers>
+    ensures { result ≡ numbers_of (words_ahead 5 text.now) }
+{
+    let (way, rest) = take_word(text)?;
+    let (keys, rest) = take_word(rest)?;
+    let (asked, labels, sum) = read_three(rest)?;
+    Some(PartNumbers {
+        way,
+        keys,
+        asked,
+        labels,
+        sum,
+    })
+}
+
 // A key before its kind and its depth.
 fn read_after_key<'a>(key: &'a [u8], rest: &[u8]) -> Option<PartLine<'a>>
     ensures { option_map entry_seen result ≡ key_said key.now rest.now }
@@ -101,21 +130,16 @@ fn read_key(line: &[u8]) -> Option<PartLine<'_>>
     read_after_key(key, rest)
 }
 
-// What a part is of, and three numbers.
+// What a part is of, and its numbers.
 fn read_part(text: &[u8]) -> Option<PartLine<'_>>
     ensures { option_map entry_seen result ≡ line_of_part text.now }
 {
-    if text.len() < 27 {
+    if text.len() < 45 {
         return None;
     }
-    let (about, numbers) = text.split_at(text.len() - 27);
-    let (way, keys, asked) = read_three(numbers)?;
-    Some(PartLine::Tells {
-        about,
-        way,
-        keys,
-        asked,
-    })
+    let (about, rest) = text.split_at(text.len() - 45);
+    let numbers = read_numbers(rest)?;
+    Some(PartLine::Tells { about, numbers })
 }
 
 /// What a line says, its newline left off, or None where it says nothing (docs/CERTIFICATES.md).

@@ -1,17 +1,20 @@
 //! Lines of parts, merged one after another.
-ghost use Rattle.std.specs.Prelude.{◌≡◌, [], ◌∷◌, ◌++◌, IfOk};
-ghost use Rattle.pip_parts.specs.Merges.{counted, has_asked, is_alike, is_whole, label_order, merge_entry, no_merging};
-ghost use Rattle.pip_parts.specs.Merges.{own_after, with_asked, with_label, with_own, with_told_part};
-ghost use Rattle.pip_parts.specs.Entries.{entry_of};
-ghost use Rattle.pip_parts.specs.Seen.{GivesMerge, merged_keys_of, label_texts, merging_of, merged_parts_of};
+ghost use Rattle.std.specs.Prelude.{◌≡◌, [], ◌∷◌, ◌++◌, IfOk, Some};
+ghost use Rattle.pip_parts.specs.Merges.{asked_after, asked_to, counted, has_labels, is_alike, is_at_keys, is_whole};
+ghost use Rattle.pip_parts.specs.Merges.{label_order, merge_entry, no_merging, own_after, part_after, uneven_of};
+ghost use Rattle.pip_parts.specs.Merges.{with_asked, with_label, with_own, with_shown, with_told_part};
+ghost use Rattle.pip_parts.specs.Entries.{Shows, entry_of, number_list};
+ghost use Rattle.pip_parts.specs.Seen.{GivesMerge, label_texts, merged_keys_of, merged_parts_of, merged_shown_of};
+ghost use Rattle.pip_parts.specs.Seen.{merging_of};
 
-use crate::faults::{MergeError, MergeFault};
-use crate::lines::{PartLine, read_line};
+use crate::faults::{MergeError, MergeFault, Uneven};
+use crate::lines::{PartLine, PartNumbers, read_line};
+use crate::sums::{label_sum, sum_and};
 use std::alloc::{AllocError, Global};
 use std::cmp::Ordering;
 
-/// The keys so far: the last one that a part has, with its depth, how many there are, the greatest depth, and how many
-/// were asked.
+/// The keys so far: the last one that a part has, with its depth, how many there are, the greatest depth, how many were
+/// asked, and the depth of the last line that asks the last key, 0 if none does.
 #[derive(Drop)]
 pub struct KeyRun {
     key: Vec<u8>,
@@ -19,17 +22,28 @@ pub struct KeyRun {
     states: u64,
     deepest: u32,
     asked: u64,
+    latest: u32,
 }
 
-/// The parts so far: what they are of, how many there are, whether one begins with the first key, and how many keys
-/// they say that they have and ask.
+/// The lines of labels so far, of which some may be equal: how many, and their sum.
+#[derive(Drop)]
+pub struct LabelRun {
+    count: u64,
+    sum: u32,
+}
+
+/// The parts so far: what they are of, how many there are, whether one begins with the first key, the numbers of the
+/// last one, how many keys they say that they have and ask, how many labels, and the sum of these.
 #[derive(Drop)]
 pub struct PartRun {
     about: Vec<u8>,
     count: u64,
     begins: bool,
+    latest: PartNumbers,
     keys: u64,
     asked: u64,
+    labels: u64,
+    sum: u32,
 }
 
 /// What was merged so far. It holds one key, and each label once.
@@ -37,6 +51,7 @@ pub struct PartRun {
 pub struct Merger {
     keys: KeyRun,
     labels: Vec<Vec<u8>>,
+    shown: LabelRun,
     parts: PartRun,
 }
 
@@ -84,26 +99,67 @@ impl KeyRun {
         self.depth = depth;
         self.states = states;
         self.deepest = self.deepest.max(depth);
+        self.latest = 0;
         Ok(())
     }
 
-    // Whether the last key is this one, and no deeper.
-    fn has(&self, key: &[u8], depth: u32) -> bool
-        ensures { result ≡ has_asked (merged_keys_of self.now) key.now depth }
+    // Whether the last key may be asked to this depth next: it is no deeper, and no line before asks it deeper.
+    fn is_asked_to(&self, depth: u32) -> Result<(), MergeFault>
+        ensures { result ≡ asked_to (merged_keys_of self.now) depth }
     {
-        self.states > 0 && self.key.as_slice() == key && self.depth <= depth
+        if depth < self.latest {
+            return Err(MergeFault::Order);
+        }
+        if self.depth > depth {
+            return Err(MergeFault::Open);
+        }
+        Ok(())
+    }
+
+    // Whether a key may be asked next: it is the last one.
+    fn is_asked_after(&self, key: &[u8], depth: u32) -> Result<(), MergeFault>
+        ensures { result ≡ asked_after (merged_keys_of self.now) key.now depth }
+    {
+        if self.states == 0 {
+            return Err(MergeFault::Open);
+        }
+        match self.key.as_slice().cmp(key) {
+            Ordering::Less => Err(MergeFault::Open),
+            Ordering::Equal => self.is_asked_to(depth),
+            Ordering::Greater => Err(MergeFault::Order),
+        }
     }
 
     // Takes a key that a part asks.
     fn asks(&mut self, key: &[u8], depth: u32) -> Result<(), MergeError>
         ensures { GivesMerge result (merged_keys_of self.new) (with_asked (merged_keys_of self.old) key.now depth) }
     {
-        if !self.has(key, depth) {
-            return Err(MergeError::Fault(MergeFault::Open));
-        }
+        self.is_asked_after(key, depth)?;
         let asked = counted(self.asked, 1)?;
         self.asked = asked;
+        self.latest = depth;
         Ok(())
+    }
+}
+
+impl LabelRun {
+    // Counts a line of a label.
+    fn add(&mut self, text: &[u8]) -> Result<(), MergeError>
+        ensures { GivesMerge result (merged_shown_of self.new) (with_shown (merged_shown_of self.old) text.now) }
+    {
+        let count = counted(self.count, 1)?;
+        self.count = count;
+        self.sum = sum_and(self.sum, label_sum(text));
+        Ok(())
+    }
+}
+
+impl PartNumbers {
+    // All of them, in their order.
+    fn listed(&self) -> [u32; 5]
+        ensures { result ≡ number_list self.now }
+    {
+        [self.way, self.keys, self.asked, self.labels, self.sum]
     }
 }
 
@@ -115,22 +171,41 @@ impl PartRun {
         self.count == 0 || self.about.as_slice() == about
     }
 
+    // Whether numbers come after those of the last part, or are the same.
+    fn comes_after(&self, numbers: &PartNumbers) -> Result<(), MergeFault>
+        ensures { result ≡ part_after (merged_parts_of self.now) numbers.now }
+    {
+        if self.count == 0 {
+            return Ok(());
+        }
+        let (latest, next) = (self.latest.listed(), numbers.listed());
+        match latest.as_slice().cmp(next.as_slice()) {
+            Ordering::Greater => Err(MergeFault::Order),
+            Ordering::Less | Ordering::Equal => Ok(()),
+        }
+    }
+
     // Takes what a part says of itself.
-    fn add(&mut self, about: &[u8], way: u32, keys: u32, asked: u32) -> Result<(), MergeError>
+    fn add(&mut self, about: &[u8], numbers: &PartNumbers) -> Result<(), MergeError>
         ensures { GivesMerge result (merged_parts_of self.new)
-            (with_told_part (merged_parts_of self.old) about.now way keys asked) }
+            (with_told_part (merged_parts_of self.old) about.now numbers.now) }
     {
         if !self.is_alike(about) {
             return Err(MergeError::Fault(MergeFault::Apart));
         }
+        self.comes_after(numbers)?;
         let count = counted(self.count, 1)?;
-        let keys = counted(self.keys, u64::from(keys))?;
-        let asked = counted(self.asked, u64::from(asked))?;
+        let keys = counted(self.keys, u64::from(numbers.keys))?;
+        let asked = counted(self.asked, u64::from(numbers.asked))?;
+        let labels = counted(self.labels, u64::from(numbers.labels))?;
         put(&mut self.about, about)?;
         self.count = count;
-        self.begins = self.begins || way == 0;
+        self.begins = self.begins || numbers.way == 0;
+        self.latest = *numbers;
         self.keys = keys;
         self.asked = asked;
+        self.labels = labels;
+        self.sum = sum_and(self.sum, numbers.sum);
         Ok(())
     }
 }
@@ -182,14 +257,25 @@ impl Merger {
                 states: 0,
                 deepest: 0,
                 asked: 0,
+                latest: 0,
             },
             labels: Vec::new(alloc),
+            shown: LabelRun { count: 0, sum: 0 },
             parts: PartRun {
                 about: Vec::new(alloc),
                 count: 0,
                 begins: false,
+                latest: PartNumbers {
+                    way: 0,
+                    keys: 0,
+                    asked: 0,
+                    labels: 0,
+                    sum: 0,
+                },
                 keys: 0,
                 asked: 0,
+                labels: 0,
+                sum: 0,
             },
         }
     }
@@ -200,27 +286,70 @@ impl Merger {
     {
         match read_line(line) {
             None => Err(MergeError::Fault(MergeFault::Form)),
-            Some(PartLine::Own { key, depth }) => self.keys.own(key, depth),
-            Some(PartLine::Asks { key, depth }) => self.keys.asks(key, depth),
-            Some(PartLine::Shows { text }) => add_label(alloc, &mut self.labels, text),
-            Some(
-                PartLine::Tells {
-                    about,
-                    way,
-                    keys,
-                    asked,
-                },
-            ) => self.parts.add(about, way, keys, asked),
+            Some(PartLine::Own { key, depth }) if self.is_at_keys() => self.keys.own(key, depth),
+            Some(PartLine::Asks { key, depth }) if self.is_at_keys() => self.keys.asks(key, depth),
+            Some(PartLine::Own { .. } | PartLine::Asks { .. }) => Err(MergeError::Fault(
+                MergeFault::Order,
+            )),
+            Some(PartLine::Shows { text }) => self.shows(alloc, text),
+            Some(PartLine::Tells { about, numbers }) => self.parts.add(about, &numbers),
         }
     }
 
-    /// Whether there are as many keys, and as many asked, as the parts say, and one part begins with the first key.
+    // Whether a key may come: no label and no part has come.
+    fn is_at_keys(&self) -> bool
+        ensures { result ≡ is_at_keys (merging_of self.now) }
+    {
+        self.shown.count == 0 && self.parts.count == 0
+    }
+
+    // Takes a label.
+    fn shows(&mut self, alloc: Global, text: &[u8]) -> Result<(), MergeError>
+        ensures { GivesMerge result (merging_of self.new) (merge_entry (merging_of self.old) (Some (Shows text.now))) }
+    {
+        if self.parts.count > 0 {
+            return Err(MergeError::Fault(MergeFault::Order));
+        }
+        add_label(alloc, &mut self.labels, text)?;
+        self.shown.add(text)
+    }
+
+    /// Whether there are as many keys, as many asked and as many labels as the parts say, which are theirs, and one part
+    /// begins with the first key.
     pub fn is_whole(&self) -> bool
         ensures { result ≡ is_whole (merging_of self.now) }
     {
         self.parts.begins
             && self.keys.states == self.parts.keys
             && self.keys.asked == self.parts.asked
+            && self.has_labels()
+    }
+
+    // Whether the labels are those of the parts.
+    fn has_labels(&self) -> bool
+        ensures { result ≡ has_labels (merging_of self.now) }
+    {
+        self.shown.count == self.parts.labels && self.shown.sum == self.parts.sum
+    }
+
+    /// The first of which there isn't as much as the parts say, where the merge isn't whole, and begins.
+    pub fn uneven(&self) -> Uneven
+        ensures { result ≡ uneven_of (merging_of self.now) }
+    {
+        if self.keys.states != self.parts.keys {
+            return Uneven::Keys;
+        }
+        if self.keys.asked != self.parts.asked {
+            return Uneven::Asks;
+        }
+        Uneven::Labels
+    }
+
+    /// What the parts are of, nothing where there is none.
+    pub fn about(&self) -> &[u8]
+        ensures { result.now ≡ (merging_of self.now).parts.about }
+    {
+        self.parts.about.as_slice()
     }
 
     /// Whether a part begins with the first key.

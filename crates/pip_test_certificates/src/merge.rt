@@ -4,38 +4,57 @@ use pip_io::{MemSink, MemSource};
 use std::process::Abort;
 use std::test::Fail;
 
-const CLOSED: &str = "line 0 out 0x00000001\nstates 2 depth 1 closed\n";
+const CLOSED: &str = "image x\nline 0 out 0x00000001\nstates 2 depth 1 closed\n";
 
 // The lines of all parts, the status, and what is written.
-static ROWS: [(&str, u8, &str); 14] = [
+static ROWS: [(&str, u8, &str); 19] = [
     (
-        "0a + 00000000\n0b + 00000001\n0b ? 00000002\nline 0 out 0x00000001\npart x 00000000 00000002 00000001\n",
+        "0a + 00000000\n0b + 00000001\n0b ? 00000002\nline 0 out 0x00000001\npart x 00000000 00000002 00000001 00000001 2007a678\n",
         0,
         CLOSED,
     ),
     // Of two parts, and without the last newline.
     (
         "0a + 00000000\n0a ? 00000000\n0b + 00000001\nline 0 out 0x00000001\nline 0 out 0x00000001\n\
-         part x 00000000 00000001 00000000\npart x 00000001 00000001 00000001",
+         part x 00000000 00000001 00000000 00000001 2007a678\npart x 00000001 00000001 00000001 00000001 2007a678",
         0,
         CLOSED,
     ),
     (
-        "0a + 00000000\n0a ? 00000000\npart x 00000001 00000001 00000001\n",
+        "0a + 00000000\n0a ? 00000000\npart x 00000001 00000001 00000001 00000000 00000000\n",
         9,
         "no start\n",
     ),
     (
-        "0a + 00000000\npart x 00000000 00000002 00000000\n",
+        "0a + 00000000\npart x 00000000 00000002 00000000 00000000 00000000\n",
         9,
-        "apart\n",
+        "apart keys\n",
     ),
     (
-        "0a + 00000000\npart x 00000000 00000001 00000001\n",
+        "0a + 00000000\npart x 00000000 00000001 00000001 00000000 00000000\n",
         9,
-        "apart\n",
+        "apart asks\n",
+    ),
+    // A label is lost, or another, or comes once too often.
+    (
+        "0a + 00000000\npart x 00000000 00000001 00000000 00000001 2007a678\n",
+        9,
+        "apart labels\n",
+    ),
+    (
+        "0a + 00000000\nline 0 out 0x00000002\npart x 00000000 00000001 00000000 00000001 2007a678\n",
+        9,
+        "apart labels\n",
+    ),
+    (
+        "0a + 00000000\nline 0 out 0x00000001\nline 0 out 0x00000001\n\
+         part x 00000000 00000001 00000000 00000001 2007a678\n",
+        9,
+        "apart labels\n",
     ),
     ("", 9, "no start\n"),
+    ("line 0 out 0x00000001\n0a + 00000000\n", 2, "bad line 2 order\n"),
+    ("0a + 00000000\n0a ? 00000002\n0a ? 00000001\n", 2, "bad line 3 order\n"),
     ("\n", 2, "bad line 1 form\n"),
     ("0a + 00000000\n0A + 00000000\n", 2, "bad line 2 form\n"),
     ("0b + 00000000\n0a + 00000000\nx", 2, "bad line 2 order\n"),
@@ -48,7 +67,7 @@ static ROWS: [(&str, u8, &str); 14] = [
         "twice 0a + 00000002\n",
     ),
     (
-        "part x 00000000 00000000 00000000\npart y 00000000 00000000 00000000\n",
+        "part x 00000000 00000000 00000000 00000000 00000000\npart y 00000000 00000000 00000000 00000000 00000000\n",
         9,
         "apart 2\n",
     ),
@@ -95,8 +114,8 @@ fn long_line(rt: &(impl Abort + AllocGlobal), kind: &[u8]) -> Result<Vec<u8>, Fa
 #[test]
 fn a_line_may_be_long(rt: HostRuntime) -> Result<(), Fail> {
     let mut lines = long_line(&rt, b" +")?;
-    lines.extend_from_slice(b"part x 00000000 00000001 00000000\n")?;
-    check(&rt, &lines, 0, 64, 0, b"states 1 depth 0 closed\n")
+    lines.extend_from_slice(b"part x 00000000 00000001 00000000 00000000 00000000\n")?;
+    check(&rt, &lines, 0, 64, 0, b"image x\nstates 1 depth 0 closed\n")
 }
 
 #[test]

@@ -1,4 +1,4 @@
-//! Tests of pip_parts: lines that are written and read, and merges of a few of them.
+//! Tests of pip_parts: lines that are read, and merges of a few of them.
 #![tactic(auto)]
 
 #[cfg(test)]

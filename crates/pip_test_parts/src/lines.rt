@@ -1,7 +1,5 @@
-use crate::compare::{holds, same};
-use pip_parts::{PartLine, asks_line, own_line, read_line, shows_line, tells_line};
-use pip_search::reached;
-use std::test::Fail;
+use crate::compare::holds;
+use pip_parts::{PartLine, PartNumbers, label_sum, read_line, sum_and};
 
 // Whether a line is of a key with these digits and this depth.
 fn is_own(line: &[u8], digits: &[u8], at: u32) -> bool {
@@ -28,64 +26,50 @@ fn is_shown(line: &[u8], what: &[u8]) -> bool {
 }
 
 // Whether it is of a part of this, with these numbers.
-fn is_told(line: &[u8], what: &[u8], numbers: (u32, u32, u32)) -> bool {
+fn is_told(line: &[u8], what: &[u8], of: PartNumbers) -> bool {
     match read_line(line) {
-        Some(
-            PartLine::Tells {
-                about,
-                way,
-                keys,
-                asked,
-            },
-        ) => about == what && (way, keys, asked) == numbers,
+        Some(PartLine::Tells { about, numbers }) => about == what && numbers == of,
         _ => false,
     }
 }
 
 #[test]
-fn lines_are_read_as_they_are_written(rt: HostRuntime) -> Result<(), Fail> {
-    let key = reached(rt.alloc(), &[1, 200], 0x3fa)?;
-    let mut line = Vec::new(rt.alloc());
-    own_line(&mut line, &key)?;
-    same(
+fn each_form_of_a_line_is_read(rt: HostRuntime) {
+    holds(
         &rt,
-        line.as_slice(),
-        b"018148 + 000003fa".as_slice(),
-        "a line",
-    );
-    holds(&rt, is_own(&line, b"018148", 0x3fa), "what is read");
-    asks_line(&mut line, &key)?;
-    same(
-        &rt,
-        line.as_slice(),
-        b"018148 ? 000003fa".as_slice(),
-        "a line",
-    );
-    holds(&rt, is_asked(&line, b"018148", 0x3fa), "what is read");
-    shows_line(&mut line, b"0 1 out 0x00000002\n")?;
-    same(
-        &rt,
-        line.as_slice(),
-        b"line 1 out 0x00000002".as_slice(),
-        "a line",
-    );
-    holds(&rt, is_shown(&line, b" 1 out 0x00000002"), "what is read");
-    tells_line(&mut line, b"16 1 0 0", 0, 28, 0xabcdef)?;
-    same(
-        &rt,
-        line.as_slice(),
-        b"part 16 1 0 0 00000000 0000001c 00abcdef".as_slice(),
-        "a line",
+        is_own(b"018148 + 000003fa", b"018148", 0x3fa),
+        "a key",
     );
     holds(
         &rt,
-        is_told(&line, b"16 1 0 0", (0, 28, 0xabcdef)),
-        "what is read",
+        is_asked(b"018148 ? 000003fa", b"018148", 0x3fa),
+        "a key that is asked",
     );
-    Ok(())
+    holds(
+        &rt,
+        is_shown(b"line 1 out 0x00000002", b" 1 out 0x00000002"),
+        "a label",
+    );
+    let numbers = PartNumbers {
+        way: 0,
+        keys: 28,
+        asked: 0xabcdef,
+        labels: 2,
+        sum: 0xffffffff,
+    };
+    let line = b"part 16 1 0 0 00000000 0000001c 00abcdef 00000002 ffffffff";
+    holds(&rt, is_told(line, b"16 1 0 0", numbers), "a part");
 }
 
-static OTHERS: [&str; 11] = [
+#[test]
+fn labels_are_summed(rt: HostRuntime) {
+    holds(&rt, label_sum(b"") == 0x811c9dc5, "no byte");
+    holds(&rt, label_sum(b"a") == 0xe40c292c, "a");
+    holds(&rt, label_sum(b"foobar") == 0xbf9cf968, "foobar");
+    holds(&rt, sum_and(0xffffffff, 3) == 2, "a sum that wraps");
+}
+
+static OTHERS: [&str; 13] = [
     "",
     "01814 + 00000001",
     "01814A + 00000001",
@@ -94,9 +78,11 @@ static OTHERS: [&str; 11] = [
     "018148 +  0000001",
     "018148 + 0000000A",
     "018148  + 00000001",
-    "part 00000000 00000001 0000002",
-    "part x 00000000 00000001 0000000g",
-    "parts x 00000000 00000001 00000002",
+    "part 00000000 00000001 00000002 00000003 0000004",
+    "part x 00000000 00000001 00000002 00000003 0000000g",
+    "part x 00000000 00000001 00000002  0000003 00000004",
+    "part x 00000000 00000001 00000002",
+    "parts x 00000000 00000001 00000002 00000003 00000004",
 ];
 
 #[test]

@@ -1,5 +1,5 @@
 use crate::compare::holds;
-use pip_parts::{MergeError, MergeFault, Merger};
+use pip_parts::{MergeError, MergeFault, Merger, Uneven};
 use std::alloc::Global;
 use std::test::Fail;
 
@@ -59,27 +59,48 @@ fn parts_that_have_what_they_ask_are_merged(rt: HostRuntime) -> Result<(), Fail>
             b"line 0 a",
             b"line 0 a",
             b"line 0 b",
-            b"part x 00000000 00000001 00000000",
-            b"part x 00000003 00000001 00000002",
+            b"part x 00000000 00000001 00000000 00000001 252b5252",
+            b"part x 00000003 00000001 00000002 00000002 4956a311",
         ],
     );
     holds(&rt, counts == Some((true, 2, 3, 2)), "the counts");
     Ok(())
 }
 
+const PART: &[u8] = b"part x 00000001 00000002 00000003 00000004 00000005";
+
 // Lines, of which the last one has a fault.
-static FAULTS: [(&[&[u8]], MergeFault); 8] = [
+static FAULTS: [(&[&[u8]], MergeFault); 18] = [
     (&[b"00 + 0"], MergeFault::Form),
     (&[SECOND, FIRST], MergeFault::Order),
     (&[b"line b", b"line a"], MergeFault::Order),
+    (&[b"line a", FIRST], MergeFault::Order),
+    (&[FIRST, b"line a", ASKED], MergeFault::Order),
+    (&[PART, FIRST], MergeFault::Order),
+    (&[FIRST, PART, ASKED], MergeFault::Order),
+    (&[PART, b"line a"], MergeFault::Order),
+    (&[FIRST, ASKED, b"00 ? 00000001"], MergeFault::Order),
+    (&[FIRST, SECOND, ASKED], MergeFault::Order),
+    (
+        &[
+            PART,
+            b"part x 00000001 00000002 00000003 00000004 00000004",
+        ],
+        MergeFault::Order,
+    ),
     (&[ASKED], MergeFault::Open),
     (&[FIRST, b"0001 ? 00000002"], MergeFault::Open),
     (&[SECOND, b"0001 ? 00000002"], MergeFault::Open),
+    (
+        &[SECOND, b"0001 ? 00000003", FIRST],
+        MergeFault::Order,
+    ),
     (&[FIRST, b"00 + 00000001"], MergeFault::Twice),
+    (&[FIRST, ASKED, b"00 + 00000003"], MergeFault::Twice),
     (
         &[
-            b"part x 00000000 00000001 00000000",
-            b"part y 00000000 00000001 00000000",
+            PART,
+            b"part y 00000001 00000002 00000003 00000004 00000005",
         ],
         MergeFault::Apart,
     ),
@@ -93,15 +114,91 @@ fn each_fault_is_found(rt: HostRuntime) -> Result<(), Fail> {
     Ok(())
 }
 
+// Of what there isn't as much as the parts say, of lines that can be merged to what isn't whole.
+fn uneven_of(alloc: Global, lines: &[&[u8]]) -> Option<Uneven> {
+    match merged(alloc, lines) {
+        Ok(merger) if merger.begins() && !merger.is_whole() => Some(merger.uneven()),
+        _ => None,
+    }
+}
+
+// Lines of a part that has too much or too little of this.
+static UNEVEN: [(&[&[u8]], Uneven); 7] = [
+    (
+        &[
+            FIRST,
+            b"part x 00000000 00000002 00000000 00000000 00000000",
+        ],
+        Uneven::Keys,
+    ),
+    (
+        &[
+            FIRST,
+            SECOND,
+            b"part x 00000000 00000001 00000000 00000000 00000000",
+        ],
+        Uneven::Keys,
+    ),
+    (
+        &[
+            FIRST,
+            b"part x 00000000 00000001 00000001 00000000 00000000",
+        ],
+        Uneven::Asks,
+    ),
+    // A label is lost, comes twice, is another, or there is one of which no part says.
+    (
+        &[
+            FIRST,
+            b"part x 00000000 00000001 00000000 00000001 252b5252",
+        ],
+        Uneven::Labels,
+    ),
+    (
+        &[
+            FIRST,
+            b"line 0 a",
+            b"line 0 a",
+            b"part x 00000000 00000001 00000000 00000001 252b5252",
+        ],
+        Uneven::Labels,
+    ),
+    (
+        &[
+            FIRST,
+            b"line 0 b",
+            b"part x 00000000 00000001 00000000 00000001 252b5252",
+        ],
+        Uneven::Labels,
+    ),
+    (
+        &[
+            FIRST,
+            b"line 0 a",
+            b"part x 00000000 00000001 00000000 00000000 00000000",
+        ],
+        Uneven::Labels,
+    ),
+];
+
 #[test]
 fn what_isnt_whole_is_told(rt: HostRuntime) -> Result<(), Fail> {
-    let alloc = rt.alloc();
-    for lines in [
-        [FIRST, b"part x 00000001 00000001 00000000".as_slice()],
-        [FIRST, b"part x 00000000 00000002 00000000"],
-        [FIRST, b"part x 00000000 00000001 00000001"],
-    ] {
-        holds(&rt, is_cut(alloc, &lines), "lines");
+    for (lines, what) in &UNEVEN {
+        holds(&rt, uneven_of(rt.alloc(), lines) == Some(*what), "lines");
+    }
+    let after = [
+        FIRST,
+        b"part x 00000001 00000001 00000000 00000000 00000000",
+    ];
+    holds(&rt, is_cut(rt.alloc(), &after), "no first key");
+    Ok(())
+}
+
+#[test]
+fn a_merge_says_what_its_parts_are_of(rt: HostRuntime) -> Result<(), Fail> {
+    match merged(rt.alloc(), &[FIRST, PART]) {
+        Ok(merger) => holds(&rt, merger.about() == b"x".as_slice(), "what they are of"),
+        Err(_) => holds(&rt, false, "lines"),
     }
     Ok(())
 }

@@ -10,10 +10,10 @@ use crate::Stop;
 /// In each byte a 1.
 const ONES: u64 = 0x0101010101010101;
 
-/// The bytes of a number after its space, those of a kind and a depth, and those of three numbers.
+/// The bytes of a number after its space, those of a kind and a depth, and those of a part's five numbers.
 const NUMBER: usize = 9;
 const ENDING: usize = 2 + NUMBER;
-const NUMBERS: usize = 3 * NUMBER;
+const NUMBERS: usize = 5 * NUMBER;
 
 pub fn merge(input: &mut Input, output: &mut Output) -> Result<(), Stop> {
     let mut merger = Merger::default();
@@ -110,13 +110,21 @@ struct Merger {
     deepest: u32,
     asked: u64,
     labels: Vec<Vec<u8>>,
-    /// What all parts are of.
+    /// The depth of the last line that asks the last key, 0 if none does.
+    latest: u32,
+    /// How many lines of labels came, of which some may be equal, and their sum.
+    shown: u64,
+    sum: u32,
+    /// What all parts are of, and the numbers of the last one.
     about: Option<Vec<u8>>,
+    numbers: [u32; 5],
     /// Whether a part has the first key.
     begins: bool,
-    /// How many keys the parts say that they have, and that they ask.
+    /// How many keys the parts say that they have, how many they ask, how many labels, and the sum of these.
     keys_told: u64,
     asked_told: u64,
+    labels_told: u64,
+    sum_told: u32,
 }
 
 impl Merger {
@@ -139,25 +147,43 @@ impl Merger {
         if order != Ordering::Equal && !is_key(key) {
             return Err(Fault::Form);
         }
-        match (&ending[..2], order) {
-            (b" ?", Ordering::Equal) if self.depth <= depth => self.asked += 1,
-            (b" ?", _) => return Err(Fault::Open),
-            (b" +", Ordering::Less) => {
+        let is_own = match &ending[..2] {
+            b" +" => true,
+            b" ?" => false,
+            _ => return Err(Fault::Form),
+        };
+        if self.shown > 0 || self.about.is_some() {
+            return Err(Fault::Order);
+        }
+        match (is_own, order) {
+            (false, Ordering::Equal) if self.keys > 0 && depth < self.latest => return Err(Fault::Order),
+            (false, Ordering::Equal) if self.depth <= depth => {
+                self.asked += 1;
+                self.latest = depth;
+            }
+            (false, Ordering::Greater) => return Err(Fault::Order),
+            (false, _) => return Err(Fault::Open),
+            (true, Ordering::Less) => {
                 self.key.clear();
                 self.key.try_reserve(key.len())?;
                 self.key.extend_from_slice(key);
                 self.depth = depth;
                 self.deepest = self.deepest.max(depth);
                 self.keys += 1;
+                self.latest = 0;
             }
-            (b" +", Ordering::Equal) => return Err(Fault::Twice),
-            (b" +", Ordering::Greater) => return Err(Fault::Order),
-            _ => return Err(Fault::Form),
+            (true, Ordering::Equal) => return Err(Fault::Twice),
+            (true, Ordering::Greater) => return Err(Fault::Order),
         }
         Ok(())
     }
 
     fn take_label(&mut self, label: &[u8]) -> Result<(), Fault> {
+        if self.about.is_some() {
+            return Err(Fault::Order);
+        }
+        self.shown += 1;
+        self.sum = self.sum.wrapping_add(label_sum(label));
         match self.labels.last().map_or(Ordering::Less, |last| last.as_slice().cmp(label)) {
             Ordering::Less => {
                 self.labels.try_reserve(1)?;
@@ -173,15 +199,21 @@ impl Merger {
         let (about, numbers) = told.split_at(told.len().checked_sub(NUMBERS).ok_or(Fault::Form)?);
         let mut numbers = numbers.chunks_exact(NUMBER).map(|text| number(text).ok_or(Fault::Form));
         let mut next = || numbers.next().unwrap_or(Err(Fault::Form));
-        let (way, keys, asked) = (next()?, next()?, next()?);
+        let numbers = [next()?, next()?, next()?, next()?, next()?];
+        let [way, keys, asked, labels, sum] = numbers;
         match &self.about {
             None => self.about = Some(copied(about)?),
-            Some(first) if first == about => {}
-            Some(_) => return Err(Fault::Apart),
+            Some(first) if first != about => return Err(Fault::Apart),
+            Some(_) if numbers < self.numbers => return Err(Fault::Order),
+            Some(_) => {}
         }
+        self.numbers = numbers;
         self.begins |= way == 0;
-        self.keys_told = self.keys_told.checked_add(u64::from(keys)).ok_or(Fault::Many)?;
-        self.asked_told = self.asked_told.checked_add(u64::from(asked)).ok_or(Fault::Many)?;
+        let more = |told: u64, count: u32| told.checked_add(u64::from(count)).ok_or(Fault::Many);
+        self.keys_told = more(self.keys_told, keys)?;
+        self.asked_told = more(self.asked_told, asked)?;
+        self.labels_told = more(self.labels_told, labels)?;
+        self.sum_told = self.sum_told.wrapping_add(sum);
         Ok(())
     }
 
@@ -190,9 +222,17 @@ impl Merger {
         if !self.begins {
             return Err(Stop::Unsound("no start".into()));
         }
-        if (self.keys, self.asked) != (self.keys_told, self.asked_told) {
-            return Err(Stop::Unsound("apart".into()));
+        if self.keys != self.keys_told {
+            return Err(Stop::Unsound("apart keys".into()));
         }
+        if self.asked != self.asked_told {
+            return Err(Stop::Unsound("apart asks".into()));
+        }
+        if (self.shown, self.sum) != (self.labels_told, self.sum_told) {
+            return Err(Stop::Unsound("apart labels".into()));
+        }
+        output.text("image ").write(self.about.as_deref().unwrap_or_default())?;
+        output.end_line()?;
         for label in &self.labels {
             output.text("line").write(label)?;
             output.end_line()?;
@@ -200,6 +240,11 @@ impl Merger {
         output.text("states ").text(&self.keys.to_string()).text(" depth ").number(self.deepest);
         output.text(" closed").end_line()
     }
+}
+
+/// The number of a label in a sum of labels. The space before it counts.
+pub fn label_sum(label: &[u8]) -> u32 {
+    label.iter().fold(0x811c9dc5, |sum, &byte| (sum ^ u32::from(byte)).wrapping_mul(0x01000193))
 }
 
 /// Whether this is two hexadecimal digits for each byte of a key.

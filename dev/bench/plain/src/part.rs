@@ -6,7 +6,8 @@ use crate::cpu::{put_line, Line};
 use crate::explorer::{turns_after, Explorer, Key, KeyList};
 use crate::frames::WORDS;
 use crate::hash::Keys;
-use crate::image::{load_first, Head, Loaded, Plan, Reader};
+use crate::image::{load_first, Head, Loaded, Reader};
+use crate::merge::label_sum;
 use crate::menu::Menu;
 use crate::output::{Input, Output};
 use crate::{Stop, MOST_STEPS};
@@ -18,19 +19,22 @@ pub fn part(input: &mut Input, output: &mut Output, from: u32) -> Result<(), Sto
     let mut reader = Reader::new(input, output);
     let mut loaded = load_first(&mut reader, 0)?;
     reader.what = "part";
+    let lines = loaded.plans.iter().map(|plan| plan.line);
+    let own = summed(0xcbf29ce484222325, lines.chain(loaded.world.frames.words().iter().copied()));
     let base = base(&mut reader, loaded.world.frames.words())?;
     let (length, turns) = walk(&mut reader, &mut loaded, from)?;
     let marks = Marks::read(&mut reader)?;
     reader.end()?;
     let Loaded { world, head, plans } = loaded;
-    let sum = sum(&plans, &base);
+    let sum = summed(own, base.iter().copied());
     let mut explorer = Explorer::new(world, plans, Menu::default(), from, base, turns);
     let checked = Checked::of(&mut explorer, length, &marks)?;
-    let counts = [length, checked.own.count()?, checked.asked.count()?];
-    checked.put(output, head.cpus)?;
+    let labels = u32::try_from(checked.labels.len()).map_err(|_| Stop::Memory)?;
+    let counts = [length, checked.own.count()?, checked.asked.count()?, labels];
+    let sum_of_labels = checked.put(output, head.cpus)?;
     put_about(output, &head, from, sum);
-    for count in counts {
-        output.text(" ").digits(count);
+    for number in counts.into_iter().chain([sum_of_labels]) {
+        output.text(" ").digits(number);
     }
     output.end_line()
 }
@@ -179,7 +183,8 @@ impl Checked {
         Ok(Checked { own, asked, labels })
     }
 
-    fn put(&self, output: &mut Output, cpus: u32) -> Result<(), Stop> {
+    /// Writes the lines, and sums the labels.
+    fn put(&self, output: &mut Output, cpus: u32) -> Result<u32, Stop> {
         let mut packed = Vec::new();
         for (stops, kind) in [(&self.own, " + "), (&self.asked, " ? ")] {
             for (at, &depth) in stops.depths.iter().enumerate() {
@@ -187,10 +192,15 @@ impl Checked {
                 output.pairs(&packed)?.text(kind).digits(depth).end_line()?;
             }
         }
+        let mut sum = 0u32;
         for &(cpu, line) in &self.labels {
-            put_line(output.text("line ").number(cpu).text(" "), line).end_line()?;
+            let label = output.written(|output| {
+                put_line(output.text(" ").number(cpu).text(" "), line);
+            });
+            sum = sum.wrapping_add(label_sum(&label));
+            output.text("line").bytes(&label).end_line()?;
         }
-        Ok(())
+        Ok(sum)
     }
 }
 
@@ -232,12 +242,10 @@ fn push(packed: &mut Vec<u8>, number: u32) {
     packed.push(number as u8 & 0x7f);
 }
 
-/// The sum over the lines that can be raised, and the words that keys are compared with.
-fn sum(plans: &[Plan], base: &[u32]) -> u64 {
-    let lines = plans.iter().map(|plan| plan.line);
-    lines
-        .chain(base.iter().copied())
-        .fold(0xcbf29ce484222325, |sum, number| (sum ^ u64::from(number)).wrapping_mul(0x100000001b3))
+/// A sum and more numbers. That of a part is over the lines that can be raised, the words of the image's frames, and
+/// those that keys are compared with.
+fn summed(sum: u64, numbers: impl Iterator<Item = u32>) -> u64 {
+    numbers.fold(sum, |sum, number| (sum ^ u64::from(number)).wrapping_mul(0x100000001b3))
 }
 
 fn put_about(output: &mut Output, head: &Head, from: u32, sum: u64) {

@@ -41,6 +41,6 @@ returns-clause-found g c = if_ok c.counted.result _ _ (λ k is i b.
           (c.in_ok-found.ensures.begins c.in-Some.part i.frames (image_word i.frames i.pages) c.in-Some.is b.booted)
           (c.about_text-about.ensures ∙ ap₂ (λ n s. about_numbers h.frames h.cpus n h.pages c.args.from s)
           c.len.ensures.value
-          (c.part_sum-sum.ensures ∙ ap (λ l. part_sum l words)
+          (c.part_sum-sum.ensures ∙ ap (λ l. part_sum l m words)
           (c.as_slice-3.ensures.value ∙ sym c.as_slice-4.ensures.value))),
     )) c.counted.ensures

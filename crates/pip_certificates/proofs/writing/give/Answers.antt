@@ -77,7 +77,7 @@ returns g c =
           (g.K.Sink.told c.write_labels.new.sink).written (flat_map label_line (labels v)))
           c.as_slice-3.ensures.value c.in_ok-write_labels.ensures.wrote)
           (subst (λ t. Wrote c.write_last.result (g.K.Sink.told c.write_labels.new.sink).written
-          (g.K.Sink.told c.write_last.new.sink).written (line_text (entry_line (Tells t k.way k.keys k.asked))))
+          (g.K.Sink.told c.write_last.new.sink).written (line_text (entry_line (Tells t k.numbers))))
           (c.as_bytes.ensures.value ∙ c.as_str.ensures.value) c.write_last.ensures.wrote)));
       cause = search rules;
     })

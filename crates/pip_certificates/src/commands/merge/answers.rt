@@ -5,13 +5,13 @@ ghost use Rattle.pip_model.specs.Text.{line_text};
 ghost use Rattle.pip_parts.specs.Seen.{label_texts, merging_of};
 ghost use Rattle.pip_due.specs.EndsBy.{EndsWithResponse};
 ghost use Rattle.pip_due.specs.Streams.{EndsLine};
-ghost use Rattle.pip_certificates.specs.MergeDues.{bad_numbered, fault_status, fault_text, label_line};
-ghost use Rattle.pip_certificates.specs.MergeDues.{merge_response, merged_text};
+ghost use Rattle.pip_certificates.specs.MergeDues.{about_line, bad_numbered, fault_status, fault_text, label_line};
+ghost use Rattle.pip_certificates.specs.MergeDues.{merge_response, merged_front, merged_text, uneven_text};
 
 use arrayvec::ArrayString;
 use pip_due::{Ended, end_with, push_decimal};
 use pip_io::{Failed, Sink, write_all};
-use pip_parts::{MergeFault, Merger};
+use pip_parts::{MergeFault, Merger, Uneven};
 use pip_search::Extent;
 use pip_ways::write_verdict;
 
@@ -27,7 +27,7 @@ pub fn end_merged<K: Sink>(merger: &Merger, sink: &mut K) -> Ended
         return end_with(sink, b"no start\n", 9);
     }
     if !merger.is_whole() {
-        return end_with(sink, b"apart\n", 9);
+        return end_with(sink, uneven_line(merger.uneven()), 9);
     }
     match write_merged(merger, sink) {
         Ok(()) => Ended::with_status(0),
@@ -35,14 +35,42 @@ pub fn end_merged<K: Sink>(merger: &Merger, sink: &mut K) -> Ended
     }
 }
 
-// Writes each label, and the last line, and settles.
+// The line that names what there isn't as much of as the parts say.
+fn uneven_line(what: Uneven) -> &'static [u8]
+    ensures { result.now ≡ line_text (uneven_text what) }
+{
+    match what {
+        Uneven::Keys => b"apart keys\n",
+        Uneven::Asks => b"apart asks\n",
+        Uneven::Labels => b"apart labels\n",
+    }
+}
+
+// Writes what the parts are of, each label, and the last line, and settles.
 fn write_merged<K: Sink>(merger: &Merger, sink: &mut K) -> Result<(), Failed>
     ensures { WritesOut K.told sink.old sink.new result (merged_text (merging_of merger.now)) }
 {
-    write_labels(merger.labels(), sink)?;
+    write_front(merger, sink)?;
     let depth = merger.deepest();
     write_verdict(sink, merger.states(), Extent::Closed { depth })?;
     sink.settle()
+}
+
+// Writes what the parts are of, and each label.
+fn write_front<K: Sink>(merger: &Merger, sink: &mut K) -> Result<(), Failed>
+    ensures { Writes K.told sink.old sink.new result (merged_front (merging_of merger.now)) }
+{
+    write_about(merger.about(), sink)?;
+    write_labels(merger.labels(), sink)
+}
+
+// Writes the line of what the parts are of.
+fn write_about<K: Sink>(about: &[u8], sink: &mut K) -> Result<(), Failed>
+    ensures { Writes K.told sink.old sink.new result (about_line about.now) }
+{
+    write_all(sink, b"image ")?;
+    write_all(sink, about)?;
+    write_all(sink, b"\n")
 }
 
 // Writes the lines of labels.
