@@ -12,6 +12,7 @@ from collections.abc import Iterator, Sequence
 from pathlib import Path
 
 from certifier.certify import CHECK_PARTS, ENGINE
+from common import calling
 from common.calling import Failed
 from reference import generate_parts, parts
 from common.machine import image as images
@@ -29,9 +30,9 @@ def certificates(program: str) -> None:
         states = int(told[-1].split()[1])
         lines = [checked(program, name, first, image + text) for text in texts]
         merged = together(lines)
-        expect(f"{name}: the merge", run([program, "merge"], b"".join(merged)), (said(told), 0))
+        expect(f"{name}: the merge", run([calling.lab(program), "merge"], b"".join(merged)), (said(told), 0))
         for tried, (what, wrong) in enumerate(wrong_certificates(program, name, first, image, texts, lines), tried + 1):
-            answer, status = run([program, "merge"], b"".join(wrong))
+            answer, status = run([calling.lab(program), "merge"], b"".join(wrong))
             if status not in (2, 9):
                 raise Differs(f"{name}: a wrong certificate ({what}) ends with status {status}: {answer.decode()}")
         if states < 200:
@@ -93,7 +94,7 @@ def said(told: Sequence[str]) -> bytes:
 
 def checked(program: str, name: str, first: int, data: bytes) -> list[bytes]:
     """The lines of a part."""
-    text, status = run([program, "part", str(first)], data)
+    text, status = run([calling.lab(program), "part", str(first)], data)
     same(f"{name}: the end of a part", status, 0)
     return text.splitlines(keepends=True)
 
@@ -125,7 +126,7 @@ def wrong_certificates(program: str, name: str, first: int, image: bytes, texts:
     for place in range(len(lines)):
         yield "a part is missing", together([*lines[:place], *lines[place + 1:]])
     for what, place, text in wrong_parts(chance, image, texts):
-        own, _ = run([program, "part", str(first)], image + text)
+        own, _ = run([calling.lab(program), "part", str(first)], image + text)
         yield what, together([*lines[:place], own.splitlines(keepends=True), *lines[place + 1:]])
 
 

@@ -16,6 +16,7 @@ from concurrent.futures import ThreadPoolExecutor
 from typing import Any, TypeVar
 
 from common.blocks import blocks, escaped, repeated
+from common import calling
 from common.calling import REPOSITORY as REPOSITORY, first_difference
 from reference import generate
 
@@ -242,7 +243,7 @@ def agree(what: str, other: Sequence[str], program: str, cases: Iterable[Case]) 
     """Refuses another program that doesn't answer each case as the program does."""
     def judge(case: Case) -> None:
         told, words, text = case
-        expect(f"{what}, {told}", run([*other, *words], text, stderr=subprocess.DEVNULL), run([program, *words], text))
+        expect(f"{what}, {told}", run([*other, *words], text, stderr=subprocess.DEVNULL), run(calling.called(program, words), text))
 
     each(judge, cases)
 
