@@ -110,8 +110,11 @@ build() {
     [ "$report" = : ] || { "$report" 9>&- >/dev/null & reporter=$!; }
     "$@" </dev/null >"$log" 2>&1 9>&- &
     builder=$!
-    wait "$builder" && [ -x "$target" ]
+    wait "$builder"
     ended=$?
+    # Over an empty input the lab says that no part is there, with status 9
+    [ "$first:$ended" != merge:9 ] || ended=0
+    [ -x "$target" ] || ended=1
     [ -z "$reporter" ] || kill "$reporter" 2>/dev/null
     [ $ended != 0 ] || mv "$begun" "$kept"
     rm -f "$begun"
@@ -120,9 +123,8 @@ build() {
     return $ended
 }
 
-# rt_run: over an empty input, of which the lab says that no part is there, with status 9
 rt_run() {
-    cd "$here/crates/$crate" && rt run -- "$first" || [ "$crate:$?" = pip_lab:9 ]
+    cd "$here/crates/$crate" && exec rt run -- "$first"
 }
 
 prove() {
