@@ -2,7 +2,7 @@
 #
 #     ./pip asm < examples/two_guests.s > two_guests.img
 #     ./pip run 3000 1 < two_guests.img
-#     ./pip apart 1000 2100 1 < two_guests.img
+#     ./lab apart 1000 2100 1 < two_guests.img
 #
 # A guest is a partition, its top, with a worker below it. The worker counts to 64, over and over; with every eighth
 # number it asks its top by `int 70` to show it, and then loads an address at which it has no page. Both come to the

@@ -12,6 +12,7 @@ from collections.abc import Iterator, Sequence
 from pathlib import Path
 
 from certifier.certify import CHECK_PARTS, ENGINE
+from common import calling
 from common.calling import Failed
 from reference import generate_parts, parts
 from common.machine import image as images
@@ -30,9 +31,9 @@ def certificates(program: str) -> None:
         lines = [checked(program, name, first, image + text) for text in texts]
         merged = together(lines)
         about = parts.about(images.read(image), first, base_of(image, texts[0]))
-        expect(f"{name}: the merge", run([program, "merge"], b"".join(merged)), (said(about, told), 0))
+        expect(f"{name}: the merge", run([calling.lab(program), "merge"], b"".join(merged)), (said(about, told), 0))
         for tried, (what, wrong) in enumerate(wrong_certificates(program, name, first, image, texts, lines), tried + 1):
-            answer, status = run([program, "merge"], b"".join(wrong))
+            answer, status = run([calling.lab(program), "merge"], b"".join(wrong))
             if status not in (2, 9):
                 raise Differs(f"{name}: a wrong certificate ({what}) ends with status {status}: {answer.decode()}")
         if states < 200:
@@ -50,7 +51,7 @@ def goes_on(program: str, image: bytes) -> None:
         words = ("certify", str(path), "--to", str(folder), "--size")
         says(program, (*words, "50", "--cut"))
         for task in "01":
-            shared = {**os.environ, "PIP": program, "OMPI_COMM_WORLD_RANK": task, "OMPI_COMM_WORLD_SIZE": "2"}
+            shared = {**os.environ, "LAB": calling.lab(program), "OMPI_COMM_WORLD_RANK": task, "OMPI_COMM_WORLD_SIZE": "2"}
             subprocess.run([CHECK_PARTS, folder], env=shared, check=True)
         next(folder.glob("*.lines")).unlink()
         says(program, (*words, "50"), 0, " parts were checked before", " closed\n")
@@ -102,7 +103,7 @@ def base_of(image: bytes, text: bytes) -> list[tuple[int, int, int]]:
 
 def checked(program: str, name: str, first: int, data: bytes) -> list[bytes]:
     """The lines of a part."""
-    text, status = run([program, "part", str(first)], data)
+    text, status = run([calling.lab(program), "part", str(first)], data)
     same(f"{name}: the end of a part", status, 0)
     return text.splitlines(keepends=True)
 
@@ -134,7 +135,7 @@ def wrong_certificates(program: str, name: str, first: int, image: bytes, texts:
     for place in range(len(lines)):
         yield "a part is missing", together([*lines[:place], *lines[place + 1:]])
     for what, place, text in wrong_parts(chance, image, texts):
-        own, _ = run([program, "part", str(first)], image + text)
+        own, _ = run([calling.lab(program), "part", str(first)], image + text)
         yield what, together([*lines[:place], own.splitlines(keepends=True), *lines[place + 1:]])
 
 

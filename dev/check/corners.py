@@ -81,8 +81,8 @@ def cases() -> Iterator[tuple[list[str], bytes]]:
 
 def corners(program: str) -> None:
     for words, text in cases():
-        expect(f"pip {' '.join(words)} of {text[:60]!r}..{text[-60:]!r}", run([program, *words], text),
-               reference.pip(words, text))
+        expect(f"pip {' '.join(words)} of {text[:60]!r}..{text[-60:]!r}", run(calling.called(program, words), text),
+               reference.told(words, text))
 
 
 # Audits

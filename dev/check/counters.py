@@ -15,7 +15,8 @@ from common.blocks import blocks, parted
 from .running import REPOSITORY, Differs, planted
 from .sources import sources
 
-COMMANDS, TESTS = ("pip_searches", "pip_certificates", "pip_commands"), "pip_test_"
+COMMANDS = "pip_children", "pip_commands", "pip_searches", "pip_certificates", "pip_lab_commands"
+TESTS = "pip_test_"
 KERNEL = "crates/pip_mmu/src/lib.rt"
 NAMES = re.compile(r"\b(?:ledger|Blank|Brand|pip_test_\w+)\b")
 

@@ -54,8 +54,7 @@ def stop(name: str, words: tuple[str, ...], program: str) -> None:
 
 # Nothing is built: no tool begins a proof
 
-PARTS = ("tools", "class", "dev", "examples", "docs", "pip", "crates.txt", "README.md",
-         "crates/pip_commands/src/top.rt")
+PARTS = ("tools", "class", "dev", "examples", "docs", "pip", "lab", "VERSION", "crates.txt", "README.md")
 IMAGE = b"PIPIMG2\n"
 # Each tool that needs a program, with words and an input with which it comes to need it.
 NEEDING = (("asmx", "examples/monitor.s", "--image", "/dev/null"), ("why", "examples/first.pip"),
@@ -74,6 +73,7 @@ def nothing_is_proved(program: str) -> None:
         environment = {**os.environ, "PATH": path + os.pathsep + os.environ["PATH"],
                        "PROOFS": os.path.join(path, "begun")}
         environment.pop("PIP", None)
+        environment.pop("LAB", None)
         for name, *words in NEEDING:
             for option, due in (((), "no program is here, as new as the sources: "),
                                 (("--unproved",), "no program that cargo built is here")):

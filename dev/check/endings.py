@@ -8,7 +8,7 @@ import threading
 from collections.abc import Iterator
 
 from authors import asmx
-from common import forms
+from common import calling, forms
 from reference import commands as reference
 from reference import parts
 from .running import REPOSITORY, SECONDS, Differs, Output, contents, expect, finished, run, same, write
@@ -18,10 +18,12 @@ MOST = 1 << 24           # bytes of an input
 
 
 def endings(program: str) -> None:
-    """Wrong words, an empty input, bad lines, a closed input, a full device, and inputs at the limit."""
-    for words in map(forms.words, ("--help", *forms.WRONG)):      # to --help alone ./pip answers itself
-        expect(f"the words {words}", run([program, *words]), (reference.USAGE, 1))
-    expect("a word that isn't UTF-8", run([program.encode(), b"\xff"]), (b"", 10))
+    """Wrong words of both programs, an empty input, bad lines, a closed input, a full device, and inputs at the limit."""
+    lab = calling.lab(program)
+    for path, wrong, usage in (program, forms.WRONG, reference.USAGE), (lab, forms.LAB_WRONG, reference.LAB_USAGE):
+        for words in map(forms.words, wrong):
+            expect(f"{path}, the words {words}", run([path, *words]), (usage, 1))
+        expect(f"{path}, a word that isn't UTF-8", run([path.encode(), b"\xff"]), (b"", 10))
     expect("a closed standard input", run(["sh", "-c", 'exec "$0" script <&-', program]), (b"", 3))
     with open("/dev/full", "wb") as device:
         expect("a full device", run([program, "script"], b"boot 32 1\n", stdout=device), (None, 4))
@@ -122,7 +124,7 @@ def cases() -> Iterator[tuple[list[str], bytes]]:
     yield ["apart", "40", "400", "1"], guests
     part = image + parts.written(parts.Part([(1, 2, 3)], [0], [1, 0]))
     yield ["part", "3"], part
-    yield ["merge"], b"".join(sorted(reference.pip(["part"], image + parts.written(parts.Part([], [], [])))[0]
+    yield ["merge"], b"".join(sorted(reference.lab(["part"], image + parts.written(parts.Part([], [], [])))[0]
                                      .splitlines(keepends=True)))
 
 
@@ -130,20 +132,21 @@ def refused_memory(program: str) -> None:
     with tempfile.TemporaryDirectory() as place:
         library, counted = preloaded("refuse", place), os.path.join(place, "count")
 
-        def refused(words: list[str], text: bytes, number: int) -> tuple[Output, int]:
-            """Runs the program with an allocation refused, and answers how many there were, too."""
+        def refused(path: str, words: list[str], text: bytes, number: int) -> tuple[Output, int]:
+            """Runs a program with an allocation refused, and answers how many there were, too."""
             settings = dict(os.environ, LD_PRELOAD=library, REFUSE=str(number), COUNT=counted)
-            return run([program, *words], text, env=settings), int(contents(counted))
+            return run([path, *words], text, env=settings), int(contents(counted))
 
         for words, text in cases():
-            whole, count = refused(words, text, 0)
-            expect(f"pip {words[0]}, with a counted memory", whole, reference.pip(words, text))
-            _, for_words = refused(["none", *words[1:]], b"", 0)
+            path = calling.called(program, words)[0]
+            whole, count = refused(path, words, text, 0)
+            expect(f"{words[0]}, with a counted memory", whole, reference.told(words, text))
+            _, for_words = refused(path, ["none", *words[1:]], b"", 0)
             if count <= for_words:
-                raise Differs(f"pip {words[0]} takes no memory")
+                raise Differs(f"{words[0]} takes no memory")
             for number in range(1, count + 1):
-                (output, status), _ = refused(words, text, number)
+                (output, status), _ = refused(path, words, text, number)
                 allowed = [NO_MEMORY, NO_WORDS] if number <= for_words else [NO_MEMORY]
                 if output or status not in allowed:
-                    raise Differs(f"pip {words[0]}, with allocation {number} of {count} refused: status {status}, "
+                    raise Differs(f"{words[0]}, with allocation {number} of {count} refused: status {status}, "
                                   f"{output[:80]!r}")

@@ -79,11 +79,11 @@ def answers(program: str, kind: str) -> list[str]:
         told, text = contents(path).decode().split("\n", 1)
         words, _, file = told.partition(" < ")
         if kind not in ("against", "again"):
-            expect(f"{name}, '{told}' by the reference", reference.pip(words.split(), image), (text.encode(), 0))
+            expect(f"{name}, '{told}' by the reference", reference.told(words.split(), image), (text.encode(), 0))
             menu = b""
         elif file:
             menu = contents(os.path.join(os.path.dirname(path), file))
-        expect(f"{name}, '{told}'", run([program, *words.split()], image + menu), (text.encode(), 0))
+        expect(f"{name}, '{told}'", run(calling.called(program, words.split()), image + menu), (text.encode(), 0))
         names.append(name)
     return names
 

@@ -54,7 +54,7 @@ def by_cargo(program: str) -> None:
     built = programs(place)
     check_example(built)
     check_own_crate(place)
-    agree("the exported program", [built("pip")], program, generated(FIRST_SEED, CASES))
+    agree("the exported program", built("pip"), program, generated(FIRST_SEED, CASES))
 
 
 def of_registry(program: str) -> None:
@@ -65,14 +65,14 @@ def of_registry(program: str) -> None:
             raise Skipped("no public crates for cargo")
         built = programs(place)
         check_example(built)
-        agree("the exported program", [built("pip")], program, generated(FIRST_SEED, CASES_OF_REGISTRY))
+        agree("the exported program", built("pip"), program, generated(FIRST_SEED, CASES_OF_REGISTRY))
 
 
 def unproved(program: str) -> None:
     """./pip --unproved answers an example where nothing is built, and says that nothing is proved of it."""
     need_cargo()
     with tempfile.TemporaryDirectory() as place:
-        copied(place, "pip", "crates.txt", "LICENSE", "crates", "dev/export", "tools/common",
+        copied(place, "pip", "lab", "VERSION", "crates.txt", "LICENSE", "crates", "dev/export", "tools/common",
                "dev/exporter", without=("proofs", "specs", "must-fail", "tried"))
         given = contents("examples/first.pip")
         done = subprocess.run([os.path.join(place, "pip"), "--unproved", "script"], input=given,
@@ -141,7 +141,7 @@ def tests_in(place: str) -> int:
 
 def programs(place: str) -> Callable[[str], str]:
     """Builds the programs, with tests of requirements and overflows, and answers their paths by their names."""
-    cargo(place, "build", "--quiet", "-p", "pip", "-p", "pip_example", **WARNINGS)
+    cargo(place, "build", "--quiet", "-p", "pip", "-p", "pip_lab", "-p", "pip_example", **WARNINGS)
     return lambda name: os.path.join(place, "target", "debug", name)
 
 

@@ -16,6 +16,7 @@ from concurrent.futures import ThreadPoolExecutor
 from typing import Any, TypeVar
 
 from common.blocks import blocks, escaped, repeated
+from common import calling
 from common.calling import REPOSITORY as REPOSITORY, first_difference
 from reference import generate
 
@@ -238,11 +239,13 @@ def generated(first: int, count: int) -> Iterator[Case]:
             yield f"{command} with the case of seed {seed}", *generate.case(command, seed)
 
 
-def agree(what: str, other: Sequence[str], program: str, cases: Iterable[Case]) -> None:
-    """Refuses another program that doesn't answer each case as the program does."""
+def agree(what: str, other: str, program: str, cases: Iterable[Case], is_both: bool = False) -> None:
+    """Refuses another program that doesn't answer each case as the program does. The other one is pip, with the lab's
+    beside it, or both in one."""
     def judge(case: Case) -> None:
         told, words, text = case
-        expect(f"{what}, {told}", run([*other, *words], text, stderr=subprocess.DEVNULL), run([program, *words], text))
+        call = [other, *words] if is_both else calling.called(other, words)
+        expect(f"{what}, {told}", run(call, text, stderr=subprocess.DEVNULL), run(calling.called(program, words), text))
 
     each(judge, cases)
 

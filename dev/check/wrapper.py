@@ -1,10 +1,9 @@
-"""./pip builds where it has to, says so in one sentence, and runs the program. Stand-ins for `rt` and `cargo` build
-here, in a small checkout."""
+"""./pip and ./lab build where they have to, say so in one sentence, and run the program. Stand-ins for `rt` and `cargo`
+build here, in a small checkout."""
 
 from __future__ import annotations
 
 import os
-import pty
 import re
 import shutil
 import signal
@@ -12,22 +11,22 @@ import subprocess
 import sys
 import tempfile
 import time
-from collections.abc import Sequence
 from typing import Any, IO
 
-from common import forms
+from common import calling
 from common.blocks import blocks
-from .running import (REPOSITORY, SECONDS, Differs, contents, expect as expect_output, heed_interrupts,
-                      needed, part, run, same, text_of, write, write_program)
+from .running import (REPOSITORY, SECONDS, Differs, heed_interrupts, needed, part, run, same, text_of, write,
+                      write_program)
 
 Process = subprocess.Popen[bytes]
 Ended = tuple[str, str, int, int]    # output, messages and status of ./pip, and how often it built
 
 SOURCES = ("crates/pip/src/main.rt", "crates/pip_base/specs/Words.antt", "crates/pip_base/proofs/Lib.antt",
            "crates.txt")
-FOLDERS = ("bin", "crates/pip/src", "crates/pip_base/specs", "crates/pip_base/proofs", "crates/pip_commands/src",
-           "dev/exporter", "dev/reference")
-USAGE = "crates/pip_commands/src/top.rt"    # the source with the usage line, which ./pip takes from there
+FOLDERS = ("bin", "crates/pip/src", "crates/pip_lab/src", "crates/pip_base/specs", "crates/pip_base/proofs",
+           "dev/exporter", "dev/reference", "tools/common")
+# The wrappers, and the script that serves both.
+WRAPPERS = ("pip", "lab", "VERSION", "tools/common/program.sh", "tools/common/pip.txt", "tools/common/lab.txt")
 
 
 class Checkout:
@@ -38,9 +37,9 @@ class Checkout:
         self.builds = 0
         for name in FOLDERS:
             os.makedirs(self.path(name))
-        for name in ("pip", USAGE):
+        for name in WRAPPERS:
             shutil.copy(os.path.join(REPOSITORY, name), self.path(name))
-        for name in (*SOURCES, USAGE):
+        for name in SOURCES:
             self.touch(name, 1000)
         for name, text in blocks("data/standins.txt", __file__).items():
             (write_program if name.startswith("bin/") else write)(text, place, name)
@@ -82,13 +81,10 @@ class Checkout:
 
 
 BUILDS = "proving and building pip; this takes a quarter of an hour or more, and what the prover says goes into "
-BY_CARGO = "building pip of its export by cargo; this takes about a minute, and what cargo says goes into "
+OF_LAB = BUILDS.replace("building pip", "building lab")
+BY_CARGO = "building pip and the lab of their export by cargo; this takes about a minute, and what cargo says goes into "
 OF_CARGO = "unproved: cargo built this program of the same text, and nothing is proved of it\n"
 OF_REFERENCE = "unproved: the reference answers, a second telling of the model in Python, and nothing is proved of it\n"
-READS_INPUT = "pip reads standard input: ./pip script < crates.txt\n"
-# What is said of a status.
-STATUSES = ((3, "status 3: standard input can't be read"), (4, "status 4: standard output can't be written"),
-            (5, "status 5: no memory was found"), (6, "status 6: the input goes on after 16777216 bytes"))
 
 
 def expect(what: str, got: object, wanted: object) -> None:
@@ -110,11 +106,11 @@ def expect_built(what: str, got: Ended, builds: int = 1) -> None:
 
 def wrapper(program: str) -> None:
     with tempfile.TemporaryDirectory() as place:
-        for act in (builds_when_needed, tells_its_progress, sees_an_edit_during_the_build, says_where_it_fails,
-                    is_stopped, is_ended, runs_unproved, says_what_a_status_means, hands_on, says_what_is_built,
-                    of_an_unproved_release, explains_wrong_words, follows_a_link):
+        for act in (builds_when_needed, builds_the_lab, tells_its_progress, sees_an_edit_during_the_build,
+                    says_where_it_fails, is_stopped, is_ended, runs_unproved, hands_on, says_what_is_built,
+                    says_its_version, says_its_forms, of_an_unproved_release, follows_a_link):
             act(Checkout(os.path.join(place, act.__name__)))
-        answers_wrong_words(Checkout(os.path.join(place, "wrong")), program)
+    forms_are_the_programs(program)
 
 
 def builds_when_needed(checkout: Checkout) -> None:
@@ -131,6 +127,21 @@ def builds_when_needed(checkout: Checkout) -> None:
     checkout.touch("crates.txt", 3000)
     expect_built("where a build changes nothing", checkout.run("script", UNCHANGED="1"))
     expect_built("after a build that changed nothing", checkout.run("script"), builds=0)
+
+
+def builds_the_lab(checkout: Checkout) -> None:
+    """By a run of its own, over an input of which the program says that no part is there."""
+    lab = checkout.path("lab")
+    expect_told("the lab", checkout.run("merge", command=lab, STATUS="9"), "ran merge\n", 7, OF_LAB, builds=1)
+    expect("the lab, built", checkout.run("every", "1", command=lab), ("ran every 1\n", "", 7, 0))
+    expect_built("after the lab", checkout.run("script"))
+    os.remove(checkout.path("crates/pip_lab/out/pip_lab"))
+    expect_told("a lab that isn't built", checkout.run("merge", command=lab, STATUS="2"), "", 11,
+                "lab wasn't built. The end of")
+    expect_told("the lab, unproved", checkout.run("--unproved", "merge", command=lab), "cargo ran merge\n", 8, BY_CARGO,
+                OF_CARGO, builds=1)
+    expect("the program, unproved, after that", checkout.run("--unproved", "script"),
+           ("cargo ran script\n", OF_CARGO, 8, 0))
 
 
 def tells_its_progress(checkout: Checkout) -> None:
@@ -235,66 +246,31 @@ def runs_unproved(checkout: Checkout) -> None:
            ("the reference ran script\n", "cargo isn't in the PATH\n" + OF_REFERENCE, 9))
 
 
-def says_what_a_status_means(checkout: Checkout) -> None:
-    """A sentence on standard error; on a terminal also of status 2."""
-    checkout.run("script")
-    write_program("#!/bin/sh\necho 'bad line 5 operand'\nexit \"$STATUS\"\n", checkout.path("crates/pip/out/pip"))
-    for number, due in STATUSES:
-        status, told = beside_terminal(checkout, subprocess.PIPE, number)
-        expect(f"status {number}", (status, told.startswith(due)), (number, True))
-        expect_told(f"status {number}, without a terminal", checkout.run("script", STATUS=str(number)),
-                    "bad line 5 operand\n", number, due)
-    expect("status 2, without a terminal", checkout.run("script", STATUS="2")[:3], ("bad line 5 operand\n", "", 2))
-    with open(checkout.path("image"), "wb") as image:
-        expect("status 2, into a file", beside_terminal(checkout, image, 2), (2, "status 2: bad line 5 operand\n"))
-    expect("what is in the file", contents(checkout.path("image")), b"bad line 5 operand\n")
-    expect("status 2, into a pipe", beside_terminal(checkout, subprocess.PIPE, 2),
-           (2, "status 2: the input is bad, and the last line of the output says where\n"))
-    expect("status 0", beside_terminal(checkout, subprocess.PIPE, 0), (0, ""))
-    write_program("#!/bin/sh\nexit 4\n", checkout.path("crates/pip/out/pip"))
-    closed = ("-c", 'exec "$0" asm >&-', checkout.path("pip"))
-    status, told = beside_terminal(checkout, subprocess.PIPE, 4, closed, "/bin/sh")
-    expect("a closed output", (status, told.startswith(STATUSES[1][1])), (4, True))
-
-
-def beside_terminal(checkout: Checkout, stdout: int | IO[bytes], number: int, words: Sequence[str] = ("asm",),
-                    command: str | None = None) -> tuple[int, str]:
-    """The status of a ./pip whose standard error is a terminal, and what it says there."""
-    master, slave = pty.openpty()
-    begun = checkout.begin(*words, command=command, stdout=stdout, stderr=slave, STATUS=str(number))
-    os.close(slave)
-    begun.communicate(timeout=SECONDS)
-    try:
-        told = os.read(master, 4096).decode().replace("\r\n", "\n")
-    except OSError:
-        told = ""  # nothing was written, and the other end is closed
-    os.close(master)
-    return begun.returncode, told
-
-
 def hands_on(checkout: Checkout) -> None:
-    """Without a terminal the program has the same input, also a closed one, and a signal to ./pip alone ends it."""
+    """The program takes the wrapper's place: it has its input, also a closed one, its signals and any words."""
     checkout.run("script")
     write_program("#!/bin/sh\ncat || exit 3\n", checkout.path("crates/pip/out/pip"))
     told = subprocess.run([checkout.path("pip"), "script"], input=b"a line\n", stdout=subprocess.PIPE,
                           stderr=subprocess.PIPE)
     expect("its input", (told.stdout, told.stderr, told.returncode), (b"a line\n", b"", 0))
     closed = checkout.run("-c", 'exec "$0" script <&-', checkout.path("pip"), command="/bin/sh")
-    expect("a closed input", (closed[1].splitlines()[-1:], closed[2]),
-           ([STATUSES[0][1] + ": is it open, and no folder?"], 3))
+    expect("a closed input", closed[2], 3)
+    write_program('#!/bin/sh\nprintf "%s|" "$@"\nexit 1\n', checkout.path("crates/pip/out/pip"))
+    for words in ((), ("",), ("every", "100"), ("x y", "*"), ("-h", "script"), ("--version", "1"), ("--built", "x")):
+        expect(f"the words {words}", checkout.run(*words), ("".join(f"{word}|" for word in words or ("",)), "", 1, 0))
     write_program("#!/bin/sh\necho $$\nexec sleep 300\n", checkout.path("crates/pip/out/pip"))
     for number in (signal.SIGTERM, signal.SIGINT, signal.SIGHUP):
         begun = checkout.begin("script")
         assert begun.stdout
         running = begun.stdout.readline().decode().strip()
         begun.send_signal(number)
-        expect(f"after signal {number}", checkout.ended(begun)[2], 128 + number)
+        expect(f"after signal {number}", checkout.ended(begun)[2], -number)
         if os.path.exists("/proc/" + running):
             raise Differs(f"./pip, after signal {number}, leaves the program running")
 
 
 def says_what_is_built(checkout: Checkout) -> None:
-    """--built builds nothing, and --help is no error."""
+    """--built builds nothing."""
     expect("--built, where nothing is", checkout.run("--built"), ("", "", 0, 0))
     checkout.run("script")
     proved = f"proved {checkout.path('crates/pip/out/pip')}\n"
@@ -304,8 +280,37 @@ def says_what_is_built(checkout: Checkout) -> None:
     expect("--built, both", checkout.run("--built"), (proved + by_cargo, "", 0, 0))
     checkout.touch(SOURCES[0], time.time() + 100)
     expect("--built, with a newer source", checkout.run("--built"), ("", "", 0, 0))
-    output, messages, status, builds = checkout.run("--help")
-    expect("--help", (output.startswith("./pip script < FILE "), messages, status, builds), (True, "", 0, 0))
+
+
+def says_its_version(checkout: Checkout) -> None:
+    """The version, the commit, the kit's line, and what is built."""
+    for name in "pip", "lab":
+        path, version = checkout.path(name), text_of("VERSION").strip()
+        for due, words in (("not built", ()), ("not proved: built by cargo", ("--unproved",)), ("proved", ())):
+            if due != "not built":
+                checkout.run(*words, "script", command=path)
+            lines = checkout.run("--version", command=path)
+            expect("--version", (lines[0].splitlines(), *lines[1:]),
+                   ([f"{name} {version}", "commit of no repository", "the kit's line", due], "", 0, 0))
+
+
+def says_its_forms(checkout: Checkout) -> None:
+    """-h and --help are no error, build nothing, and name the other program last."""
+    for name, first, last in ("pip", "./pip script < FILE ", "./lab -h "), ("lab", "./lab slots N ", "./pip -h "):
+        for word in "-h", "--help":
+            output, messages, status, builds = checkout.run(word, command=checkout.path(name))
+            lines = output.splitlines()
+            expect(f"{name} {word}", (lines[0].startswith(first), lines[-1].startswith(last), messages, status, builds),
+                   (True, True, "", 0, 0))
+
+
+def forms_are_the_programs(program: str) -> None:
+    """Each form that -h names is one of the program's usage line, in its order, and no form of that is missing."""
+    for path, name in (program, "pip"), (calling.lab(program), "lab"):
+        usage = run([path])[0].decode().split(":", 1)[1].split(" ", 2)[2].strip().split(" | ")
+        told = re.findall(rf"^\./{name} ([a-z]+)", text_of(f"tools/common/{name}.txt"), re.M)
+        expect(f"the forms of {name}", list(dict.fromkeys(told)),
+               list(dict.fromkeys(form.split(" ")[0] for form in usage)))
 
 
 def of_an_unproved_release(checkout: Checkout) -> None:
@@ -315,40 +320,6 @@ def of_an_unproved_release(checkout: Checkout) -> None:
     os.remove(checkout.path("bin/rt"))
     os.remove(checkout.path("bin/cargo"))
     expect("of an unproved release", checkout.run("script"), ("cargo ran script\n", OF_CARGO, 8, 0))
-
-
-def explains_wrong_words(checkout: Checkout) -> None:
-    """What may be meant, on standard error; the rest is as ever, built or not."""
-    for words, due in blocks("data/explained.txt", __file__).items():
-        got = checkout.run(*(words.split() if words != "(nothing)" else ()), cwd=checkout.place)
-        expect_told(f"with {words}", got, got[0] if got[0].startswith("usage: pip script") else "the usage line", 1,
-                    builds=0)
-        expect(f"with {words}, that it says {due!r}", begins(got[1], due), True)
-    checkout.run("script")
-    output, messages, status, _ = checkout.run("script", "crates.txt", cwd=checkout.place)
-    expect("built, with a file as a word", (output, messages, status), ("ran script crates.txt\n", READS_INPUT, 7))
-
-
-def begins(told: str, due: str) -> bool:
-    """Whether what is told begins with these lines; one that ends with ` ..` goes on."""
-    lines = [line.partition(" ..") for line in due.splitlines()]
-    pattern = "".join(re.escape(line) + (r"\b.*" if goes_on else "") + "\n" for line, goes_on, _ in lines)
-    return re.match(pattern, told) is not None
-
-
-def answers_wrong_words(checkout: Checkout, program: str) -> None:
-    """Wrong words need no build, and are answered as the program answers them."""
-    for words in map(forms.words, forms.WRONG):
-        told = run([program, *words])
-        output, messages, status, builds = checkout.run(*words)
-        expect(f"not built, with {words}", (bool(messages), builds), (True, 0))
-        expect_output(f"./pip, not built, with {words}", (output.encode(), status), told)
-    with open("/dev/full", "wb") as full:
-        status = subprocess.run([checkout.path("pip")], stdout=full, stderr=subprocess.DEVNULL).returncode
-    expect("wrong words, and a full device", status, 4)
-    for words in map(forms.words, forms.RIGHT):
-        checkout.touch("crates.txt")
-        expect(f"not built, with {words}", checkout.run(*words)[2:], (7, 1))
 
 
 def follows_a_link(checkout: Checkout) -> None:

@@ -1,8 +1,9 @@
-"""The whole program: what it writes for the words of its command line and its input, and its status.
+"""Both programs whole: what they write for the words of their command line and their input, and their status.
 
 Statuses that come from outside (3, 4, 5 and 10) aren't here: reading, writing and memory never fail.
 
-    dev/reference/program.py [--counts] WORD ..
+    dev/reference/program.py [--counts] WORD ..      as pip
+    dev/reference/lab.py WORD ..                     as the lab
 
 With --counts a line for each processor comes after the output, where the command leaves a machine: what its translation
 cache counted.
@@ -10,17 +11,20 @@ cache counted.
 
 from __future__ import annotations
 
+import os
 import sys
 from collections.abc import Callable, Iterable, Sequence
 from typing import Any, NamedTuple, Optional
 
+from common.calling import LAB
 from common.machine import against, assembly, every, image, runs, script
 
 from . import apart, audit, native, parts
 from common.machine.model import World
 
 USAGE = b"usage: pip script | run STEPS SEED | asm | dis | tree STEPS SEED | core STEPS SEED | soak COUNT SEED" \
-    b" | native N STEPS | slots N TURNS ROUNDS | slots N ROUNDS K:TURNS .. | audit FRAMES" \
+    b" | native N STEPS | audit FRAMES\n"
+LAB_USAGE = b"usage: pip-lab slots N TURNS ROUNDS | slots N ROUNDS K:TURNS .." \
     b" | every STATES [FROM [DEPTH]] [after STEPS SEED] | against STATES [FROM [DEPTH]] [after STEPS SEED]" \
     b" | apart STATES STEPS SEED | part [FROM] | merge\n"
 Ended = tuple[bytes, int, Optional[World]]       # output and status, and the world that the command leaves
@@ -92,14 +96,25 @@ def after_of(words: Sequence[str]) -> every.After | None:
 
 
 def pip(words: Sequence[str], text: bytes) -> tuple[bytes, int]:
-    """Output and status."""
-    return ended(words, text)[:2]
+    """Output and status of pip."""
+    return ended(of_pip, USAGE, words, text)[:2]
 
 
-def ended(words: Sequence[str], text: bytes) -> Ended:
+def lab(words: Sequence[str], text: bytes) -> tuple[bytes, int]:
+    """Output and status of the lab."""
+    return ended(of_lab, LAB_USAGE, words, text)[:2]
+
+
+def told(words: Sequence[str], text: bytes) -> tuple[bytes, int]:
+    """Output and status of the program whose command it is."""
+    return (lab if words and words[0] in LAB else pip)(words, text)
+
+
+def ended(answered: Callable[[Sequence[str], bytes], Ended | None], usage: bytes, words: Sequence[str],
+          text: bytes) -> Ended:
     """Output and status, and the world that the command leaves; None where it leaves none, or the status isn't 0."""
     try:
-        return answered(words, text)
+        return answered(words, text) or (usage, 1, None)
     except image.BadImage as bad:
         return in_lines([f"bad image {bad.kind} {bad.at}"]), 2, None
     except parts.BadPart as bad:
@@ -110,7 +125,8 @@ def ended(words: Sequence[str], text: bytes) -> Ended:
         return in_lines([f"short {few.frames - 13} {few.least - 13}"]), 8, None
 
 
-def answered(words: Sequence[str], text: bytes) -> Ended:
+def of_pip(words: Sequence[str], text: bytes) -> Ended | None:
+    """What pip answers, or None where the words are no form of it."""
     command, *rest = words or [""]
     if command in ON_TEXTS and not rest:
         return ON_TEXTS[command](text)
@@ -121,11 +137,17 @@ def answered(words: Sequence[str], text: bytes) -> Ended:
         return in_lines(told), 0, world
     if command == "native" and (given := numbers_of(rest, (1, native.MOST_CHILDREN), STEPS)):
         return on_image(native.native, text, *given, children=given[0])
-    if command == "slots" and (slots := slots_of(rest)):
-        return on_image(native.slots, text, *slots, children=slots[0])
     if command == "audit" and (given := numbers_of(rest, (audit.LEAST_FRAMES, audit.MOST_FRAMES))):
         told, status = audit.audit(given[0], text)
         return in_lines(told), status, None
+    return None
+
+
+def of_lab(words: Sequence[str], text: bytes) -> Ended | None:
+    """What the lab answers, or None where the words are no form of it."""
+    command, *rest = words or [""]
+    if command == "slots" and (slots := slots_of(rest)):
+        return on_image(native.slots, text, *slots, children=slots[0])
     if command == "every" and (asked := search_of(rest)):
         return in_lines(every.every(image.read(text), *asked)), 0, None
     if command == "against" and (asked := search_of(rest)):
@@ -134,12 +156,14 @@ def answered(words: Sequence[str], text: bytes) -> Ended:
         return in_lines(apart.apart(image.read(text), *given)), 0, None
     if command == "part" and (given := numbers_of(rest or ["0"], (0, every.MOST))):
         return in_lines(parts.part(text, *given)), 0, None
-    return USAGE, 1, None
+    if command == "merge" and not rest:
+        return merge(text)
+    return None
 
 
 def with_counts(words: Sequence[str], text: bytes) -> tuple[bytes, int]:
     """Output with the counts of the caches after it, and status."""
-    output, status, world = ended(words, text)
+    output, status, world = ended(of_pip, USAGE, words, text)
     return output + in_lines(str(cache) for cache in (world.caches if world else ())), status
 
 
@@ -165,7 +189,7 @@ def merge(text: bytes) -> Ended:
     return *parts.merged(text), None
 
 
-ON_TEXTS: dict[str, Callable[[bytes], Ended]] = {"script": script.ended, "asm": asm, "dis": dis, "merge": merge}
+ON_TEXTS: dict[str, Callable[[bytes], Ended]] = {"script": script.ended, "asm": asm, "dis": dis}
 
 
 def on_image(command: OnImage, data: bytes, *words: Any, children: int = 0) -> Ended:
@@ -187,6 +211,10 @@ def shown(text: bytes) -> None:
 
 
 def main() -> None:
+    if os.path.basename(sys.argv[0]) == "lab.py":
+        output, status = lab(sys.argv[1:], sys.stdin.buffer.read())
+        shown(output)
+        sys.exit(status)
     if sys.argv[1:] == ["script"]:
         sys.exit(script.answered(sys.stdin.buffer.readline, shown)[0])
     told_of, given = (with_counts, sys.argv[2:]) if sys.argv[1:2] == ["--counts"] else (pip, sys.argv[1:])

@@ -27,9 +27,9 @@ SECONDS = 120            # a run of the built program that takes longer counts a
 def difference(path: str, command: str, seed: int) -> Difference | None:
     """None, or the case of this seed and what both answer to it."""
     words, text = generate.case(command, seed)
-    expected = commands.pip(words, text)
+    expected = commands.told(words, text)
     try:
-        done = subprocess.run([path, *words], input=text, stdout=subprocess.PIPE, timeout=SECONDS)
+        done = subprocess.run(calling.called(path, words), input=text, stdout=subprocess.PIPE, timeout=SECONDS)
     except subprocess.TimeoutExpired:
         return words, text, expected, (b"nothing in time", -1)
     got = done.stdout, done.returncode

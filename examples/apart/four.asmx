@@ -1,7 +1,7 @@
 # Four guests on four processors. Each counts from 0 to 3 over and over, and shows each count on top of its own number.
 #
 #     tools/asmx examples/apart/four.asmx --image four.img
-#     ./pip apart 1000 1200 1 < four.img
+#     ./lab apart 1000 1200 1 < four.img
 #
 # Look at the sum of the states, and at what all of them make together: a search by `every` needs their product.
 .equ A 0x410000

@@ -1,7 +1,7 @@
 # Two guests, one of which leaves: it divides 12 by 3, by 2, by 1 and then by 0, and no partition takes that.
 #
 #     tools/asmx examples/apart/leaves.asmx --image leaves.img
-#     ./pip apart 1000 400 1 < leaves.img
+#     ./lab apart 1000 400 1 < leaves.img
 #
 # Look at the line `leaves`: after it comes the way from step 400 on, and what can happen then is not searched.
 .equ A 0x410000

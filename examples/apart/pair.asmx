@@ -2,7 +2,7 @@
 # another processor meanwhile, shows each and empties the box.
 #
 #     tools/asmx examples/apart/pair.asmx --image pair.img
-#     ./pip apart 1000 1500 1 < pair.img
+#     ./lab apart 1000 1500 1 < pair.img
 #
 # Look at the ways: the first guest is searched by all orders of the turns of both its processors.
 .equ PAIR 0x410000

@@ -2,7 +2,7 @@
 # is refused. So the root shows 4 and nothing else, on every interleaving. It is a small retry.s, with counts that end.
 #
 #     tools/asmx examples/every/asked_again.asmx --image again.img
-#     ./pip every 20000 < again.img
+#     ./lab every 20000 < again.img
 #
 # Look at `call 8 reply 14`. The root runs on one processor at a time, so it never adds on both at once; a child that
 # asks meanwhile on the other one is refused. The root is refused a turn for a child that runs, and takes the other.

@@ -2,7 +2,7 @@
 # are: the monitor to copy. It never parks, and is refused no call that it needs.
 #
 #     tools/asmx examples/every/guarded.asmx --against guarded.img
-#     ./pip against 100000 < guarded.img
+#     ./lab against 100000 < guarded.img
 #
 # Look at what isn't there: `park 1`, `out 0x0000dead` and a refused call of the root, but for a yield to a child that
 # threw its handler away (16) and a page that a child gave away (12). Four rules, each against an attack:

@@ -1,7 +1,7 @@
 # The race of race.asmx, mended: the root shows 4 and nothing else, whenever line 0 comes, and as often as it likes.
 #
 #     tools/asmx examples/every/mended.asmx --image mended.img
-#     ./pip every 20000 < mended.img
+#     ./lab every 20000 < mended.img
 #
 # Root and child have a counter each. A child that was interrupted goes on by a yield of the root. One that is done
 # yields to the root, which is refused (14) where the root runs on the other processor, and waits. And vector 32 gets

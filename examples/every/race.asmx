@@ -2,7 +2,7 @@
 # can the root show at the end, if line 0 comes at any time?
 #
 #     tools/asmx examples/every/race.asmx --image race.img
-#     ./pip every 10000 < race.img
+#     ./lab every 10000 < race.img
 #
 # Look at the `out` lines: 4 is what is meant. It shows 3 or 2, too, where one comes between the load and the store of
 # the other: the way says when.

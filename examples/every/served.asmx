@@ -2,7 +2,7 @@
 # timer_and_services.s. The child's requests are 0 and 1 in turns.
 #
 #     tools/asmx examples/every/served.asmx --image served.img
-#     ./pip every 20000 < served.img
+#     ./lab every 20000 < served.img
 #
 # Look at `switch 1 1 32`: a line came before the root's vcli, and r0 to r3 of the request are in the root's block for
 # 63. The root goes on with them (`call 8 switch 1 1 63`). And `out 0x0000dead`, by which a lost request would show,

@@ -2,7 +2,7 @@
 # would never come to an end, and nor would the search.
 #
 #     tools/asmx examples/every/turns.asmx --image turns.img
-#     ./pip every 10000 < turns.img
+#     ./lab every 10000 < turns.img
 #
 # Look at what isn't there: no call is refused, and nothing faults or parks, for any number of lines at any times. And
 # with ../any_child.may nothing parks, and only yields to a child that threw its handler away are refused (16): then the

@@ -75,7 +75,7 @@ def memory_of(pid: int) -> str:
 def searched(program: str, words: list[str], image: bytes) -> list[str]:
     """The lines of the program's search. How far it is is told on standard error."""
     with calling.running(program):
-        process = subprocess.Popen([calling.direct(program), *words], stdin=subprocess.PIPE, stdout=subprocess.PIPE)
+        process = subprocess.Popen(calling.called(program, words), stdin=subprocess.PIPE, stdout=subprocess.PIPE)
     progress = Progress()
     given: bytes | None = image
     try:

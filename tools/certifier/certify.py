@@ -50,7 +50,7 @@ def main() -> None:
 def certify(given: argparse.Namespace) -> int:
     folder: Path = given.to or given.image.with_suffix(".parts")
     folder.mkdir(parents=True, exist_ok=True)
-    program = calling.direct(given.program)
+    program = calling.lab(given.program)
     parts = cut(given, folder)
     waiting = [part for part in parts if not lines_of(part).exists()]
     if len(waiting) < len(parts):
@@ -111,7 +111,7 @@ def check(program: str, given: argparse.Namespace, folder: Path, parts: Sequence
 
 
 def check_one(program: str, folder: Path, part: Path) -> None:
-    done = subprocess.run([CHECK_PARTS, folder, part], env={**os.environ, "PIP": program}, stderr=subprocess.PIPE,
+    done = subprocess.run([CHECK_PARTS, folder, part], env={**os.environ, "LAB": program}, stderr=subprocess.PIPE,
                           text=True, check=False)
     if done.returncode:
         raise Failed(done.stderr.strip())

@@ -1,4 +1,4 @@
-"""How the tools find and call the program. None of them builds it: only ./pip does."""
+"""How the tools find and call the programs, pip and the lab's. None of them builds one: only ./pip and ./lab do."""
 
 from __future__ import annotations
 
@@ -13,8 +13,11 @@ from collections.abc import Callable, Iterator, Sequence
 from typing import NoReturn, TypeVar
 
 REPOSITORY = os.path.dirname(os.path.dirname(os.path.dirname(os.path.abspath(__file__))))
-WRAPPER = os.path.join(REPOSITORY, "pip")
-PROVED, UNPROVED = "proved", "unproved"      # programs by what ./pip calls them
+WRAPPER, LAB_WRAPPER = (os.path.join(REPOSITORY, name) for name in ("pip", "lab"))
+PROVED, UNPROVED = "proved", "unproved"      # programs by what ./pip and ./lab call them
+LAB = ("slots", "every", "against", "apart", "part", "merge")        # the commands of the lab
+# Where the lab's program is, seen from the folder of pip's: beside it, and at the same place of its own crate.
+BESIDE = {"pip": ("pip_lab", os.path.join(os.pardir, os.pardir, "pip_lab", "out", "pip_lab")), "program.py": ("lab.py",)}
 MOST = 1 << 24           # bytes of a script or of an assembly text
 
 
@@ -28,8 +31,8 @@ class Failed(Exception):
 def take_program(parser: argparse.ArgumentParser) -> None:
     """The options --program and --unproved of a tool."""
     parser.add_argument("--program", default=os.environ.get("PIP") or PROVED, metavar="PATH",
-                        help="the program; without it the environment's PIP, else the one that ./pip has proved and "
-                             "built")
+                        help="the program pip, beside which the lab's is; without it the environment's PIP and LAB, "
+                             "else those that ./pip and ./lab have proved and built")
     parser.add_argument("--unproved", dest="program", action="store_const", const=UNPROVED,
                         help="the program that ./pip --unproved has built by cargo: the same text, and nothing is "
                              "proved of it")
@@ -55,17 +58,47 @@ def take_jobs(parser: argparse.ArgumentParser) -> None:
 
 @functools.lru_cache(maxsize=None)
 def direct(program: str) -> str:
-    """The program itself, by a path or by what ./pip of this checkout has built."""
-    if os.path.realpath(program) == os.path.realpath(WRAPPER):
+    """The program pip itself, by a path or by what ./pip of this checkout has built."""
+    return found(program, WRAPPER)
+
+
+@functools.lru_cache(maxsize=None)
+def lab(program: str) -> str:
+    """The lab's program: the environment's LAB, or what ./lab has built, or the one that is beside the program pip."""
+    given = os.environ.get("LAB")
+    if given:
+        return found(given, LAB_WRAPPER)
+    if program in (PROVED, UNPROVED) or is_same(program, WRAPPER):
+        return found(program if program == UNPROVED else PROVED, LAB_WRAPPER)
+    folder, name = os.path.split(program)
+    paths = [os.path.normpath(os.path.join(folder, path)) for path in BESIDE.get(name, ())]
+    there = next(filter(os.path.isfile, paths), None)
+    if there is None:
+        raise Failed(f"no program of the lab is beside {program}: say by the environment's LAB which one it is")
+    return there
+
+
+def called(program: str, words: Sequence[str]) -> list[str]:
+    """The words that call the program of a command: a command of the lab takes the lab's."""
+    return [(lab if words and words[0] in LAB else direct)(program), *words]
+
+
+def is_same(program: str, wrapper: str) -> bool:
+    return os.path.realpath(program) == os.path.realpath(wrapper)
+
+
+def found(program: str, wrapper: str) -> str:
+    """A program by its path, or by what this wrapper has built."""
+    if is_same(program, wrapper):
         program = PROVED
     if program not in (PROVED, UNPROVED):
         return program
-    found = built()
-    if program not in found:
-        raise Failed(missing(program, found))
+    there = built(wrapper)
+    if program not in there:
+        raise Failed(missing(program, there, wrapper))
     if program == UNPROVED:
         print("unproved: cargo built this program of the same text, and nothing is proved of it", file=sys.stderr)
-    return found[program]
+    return there[program]
 
 
 def built(wrapper: str = WRAPPER) -> dict[str, str]:
@@ -76,11 +109,12 @@ def built(wrapper: str = WRAPPER) -> dict[str, str]:
     return {line[0]: line[1] for line in lines}
 
 
-def missing(program: str, found: dict[str, str]) -> str:
+def missing(program: str, found: dict[str, str], wrapper: str = WRAPPER) -> str:
     """Which program there is, and how the one that isn't there comes to be."""
-    by_cargo = ("./pip --unproved script < examples/first.pip builds one by cargo in about a minute, "
-                "and nothing is proved of it")
-    proves = "./pip script < examples/first.pip proves and builds it, in a quarter of an hour or more"
+    name = "./lab" if wrapper == LAB_WRAPPER else "./pip"
+    first = "merge < /dev/null" if wrapper == LAB_WRAPPER else "script < examples/first.pip"
+    by_cargo = f"{name} --unproved {first} builds one by cargo in about a minute, and nothing is proved of it"
+    proves = f"{name} {first} proves and builds it, in a quarter of an hour or more"
     if program == UNPROVED:
         there = "the proved one is, and is taken without --unproved" if PROVED in found else "nor is a proved one"
         return f"no program that cargo built is here, as new as the sources, and {there}: {by_cargo}"
@@ -124,15 +158,15 @@ def running(program: str) -> Iterator[None]:
 
 
 def output(program: str, words: Sequence[str], text: bytes, seconds: float | None = None) -> tuple[bytes, int]:
-    """What the program writes, and its status."""
-    program = direct(program)
+    """What the program of a command writes, and its status."""
+    call = called(program, words)
     try:
-        with running(program):
-            done = subprocess.run([program, *words], input=text, stdout=subprocess.PIPE, timeout=seconds)
+        with running(call[0]):
+            done = subprocess.run(call, input=text, stdout=subprocess.PIPE, timeout=seconds)
     except subprocess.TimeoutExpired:
-        raise Failed(f"{program} {' '.join(words)} took more than {seconds} seconds") from None
+        raise Failed(f"{' '.join(call)} took more than {seconds} seconds") from None
     if done.returncode not in (0, 2, 6, 9):
-        raise Failed(f"{program} {' '.join(words)} ends with status {done.returncode}")
+        raise Failed(f"{' '.join(call)} ends with status {done.returncode}")
     return done.stdout, done.returncode
 
 

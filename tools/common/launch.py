@@ -18,6 +18,7 @@ COMMANDS = {
     "export": "exporter.export",
     "gate": "bench.gate",
     "grade": "exercises.grade",
+    "lab.py": "reference.commands",
     "language_server": "debugger.language",
     "make_judge": "judge.building",
     "make_module": "playground.module",

@@ -20,7 +20,7 @@ use Rattle.pip_commands.specs.AuditLaw.{CoreIsAudited, IsGiven, core_of}
 use Rattle.pip_commands.specs.AuditTexts.{yes_line}
 use Rattle.pip_due.specs.EndsBy.{Response, EndsBy, IsAnswered, IsOfAnswer, IsWithin, or_nothing, plainly}
 use Rattle.pip_due.specs.Streams.{Streams}
-use Rattle.pip_commands.proofs.Answered.{answered}
+use Rattle.pip_words.proofs.Answered.{answered}
 use Rattle.pip_commands.proofs.Audited.{text_shape, text_words}
 use Rattle.pip_commands.proofs.LayoutWords.{layout_words}
 

@@ -6,10 +6,8 @@ pub mod Whole
 pub mod Settled
 -- where a command waits at first
 pub mod Waiting
--- words of no form, and all inputs
-pub mod Usage
-pub mod Asked
-pub mod Answered
+-- the words of the command line
+pub mod Bounds
 -- `dis`
 pub mod Driven
 pub mod Disassembly
@@ -20,18 +18,7 @@ pub mod Reports
 pub mod Running
 -- `soak`
 pub mod Soaked
--- `native` and `slots`
-pub mod Shortness
-pub mod Bounds
-pub mod Monitored
-pub mod Monitoring
-pub mod Rounds
-pub mod RoundWords
 -- `audit`
 pub mod Audited
 pub mod LayoutWords
 pub mod CoreAudited
--- the law on `slots`
-pub mod SlotsApart
--- the law on certificates
-pub mod CertifiedRuns

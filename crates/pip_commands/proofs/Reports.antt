@@ -18,25 +18,11 @@ use Rattle.pip_model.specs.Worlds.{World}
 use Rattle.pip_model.proofs.OnLists.Acts.{text-append}
 use Rattle.pip_switch.specs.Standing.{StandsAs, State}
 use Rattle.pip_switch.proofs.Running.{root_held}
+use Rattle.pip_children.proofs.Cuts.{cut_part}
 use Rattle.pip_commands.specs.Shown.{ShowsOut, ShowsReport}
 use Rattle.pip_due.specs.Loading.{Begins}
 use Rattle.pip_commands.specs.declared.commands.run.report.Report.{Report}
 use Rattle.pip_commands.specs.declared.commands.run.report.Report.TheVariants as R
-
--- acts that were cut have written a part of their text
-pub cut_part : (S : World → Type 0) (old new : Taken) (w : World) (acts : List Act) → Cut S old new w acts
-    → AppendsPart old new (text_of acts)
-cut_part S old new w acts m = (
-  text_of m.front ++ m.part,
-  m.missing ++ text_of m.rest,
-  m.text,
-  append_assoc (text_of m.front) m.part (m.missing ++ text_of m.rest)
-      ∙ ap (λ k. text_of m.front ++ k) (sym (append_assoc m.part m.missing (text_of m.rest))
-      ∙ ap (λ l. l ++ text_of m.rest) m.split)
-      ∙ sym (text-append m.front (Writes m.line ∷ m.rest))
-      ∙ ap text_of m.whole,
-  left_more m.missing (text_of m.rest) m.some,
-)
 
 module _ (i : Image) (frames pages : ℕ) (plans : List Plan)
     (p q : State) (count seed : ℕ) (b : Begins i frames pages plans p) where

@@ -1,19 +1,16 @@
 -- Where a command waits: at first nothing was read.
 use Rattle.std.specs.Prelude.{◌≡◌, refl, ℕ, []}
-use Rattle.std.proofs.Common.{ap, sym, subst, arith, inl}
+use Rattle.std.proofs.Common.{ap, sym, arith, inl}
 use Rattle.pip_core_text.specs.Core.{at_first}
 use Rattle.pip_core_text.specs.CoreRead.{BeginsLines}
 use Rattle.pip_core_text.proofs.FirstBad.{can_end}
-use Rattle.pip_image.specs.Reading.{LacksHeader}
 use Rattle.pip_model.specs.DisText.{parts_lines, text_of_lines}
-use Rattle.pip_commands.specs.Dues.{asm_due, audit_due, children_due, dis_due, run_due}
+use Rattle.pip_commands.specs.Dues.{asm_due, audit_due, dis_due, run_due}
 use Rattle.pip_commands.specs.Dues.{script_due}
 use Rattle.pip_due.specs.Pacing.{Waits}
 use Rattle.pip_due.specs.Streams.{Streams}
-use Rattle.pip_commands.specs.declared.commands.children.scheduling.Scheduling.{Scheduling}
 use Rattle.pip_commands.specs.declared.commands.run.report.Report.{Report}
 use Rattle.pip_due.proofs.Waiting.{no_fault, nothing_told, waits_first}
-use Rattle.pip_commands.proofs.Shortness.{unshort_lacking}
 
 -- and begins the text of a memory
 begins_none : (n : ℕ) → BeginsLines n []
@@ -52,13 +49,6 @@ module _ (a : Streams) (none : a.written.held ≡ []) where
 
   pub run_waits : (r : Report) (count seed : ℕ) → Waits (run_due r count seed) a a
   run_waits r count seed = waits_first a none (run_due r count seed) (no_fault, refl) tt
-
-  pub children_waits : (s : Scheduling) (n : ℕ) → Waits (children_due s n) a a
-  children_waits s n = waits_first a none (children_due s n) (
-    no_fault,
-    unshort_lacking n [] (subst LacksHeader (sym (ap (λ t. t.parts) nothing_told)) tt),
-    refl,
-  ) tt
 
   pub audit_waits : (n : ℕ) → Waits (audit_due n) a a
   audit_waits n = waits_first a none (audit_due n) (begins_none n, refl) tt

@@ -2,7 +2,6 @@
 use Rattle.std.specs.Prelude.{◌≡◌, ℕ, ◌^◌, ◌+◌, ◌≤◌, ◌<◌, ◌==◌, ◌⊎◌, false, List, [], ◌∷◌, ◌++◌, length}
 use Rattle.std.specs.Prelude.{Option, Some, None, Result, Ok, Err, option_map}
 use Rattle.std.specs.Io.KnownBytes.{IsAtEnd}
-use Rattle.arrayvec.specs.ArrayVec.{ArrayVec}
 use Rattle.pip_core_text.specs.Core.{BadAt, CoreText, Whole, core_text}
 use Rattle.pip_core_text.specs.CoreRead.{AreWholeLines, BeginsLines}
 use Rattle.pip_dis.specs.Dues.{IsAtPart}
@@ -22,28 +21,19 @@ use Rattle.pip_model.specs.Tree.{Tree}
 use Rattle.pip_model.specs.Worlds.{World}
 use Rattle.pip_model.specs.declared.image.ImageError.{ImageError}
 use Rattle.pip_model.specs.declared.script.ScriptLine.TheVariants.{Boot}
-use Rattle.pip_slots.specs.declared.time_slot.RoundSlot.{RoundSlot}
-use Rattle.pip_watch.specs.Watching.{pages_taken, short_line}
-use Rattle.pip_certificates.specs.MergeDues.{merge_due}
-use Rattle.pip_certificates.specs.PartDues.{part_due}
+use Rattle.pip_watch.specs.Watching.{native_text, native_world}
+use Rattle.pip_children.specs.Dues.{children_due}
+use Rattle.pip_words.specs.Usage.{unknown_due}
 use Rattle.pip_commands.specs.AuditTexts.{bad_line, differs_line, unread_line, unsound_line, yes_line}
-use Rattle.pip_commands.specs.Children.{children_text, children_world}
 use Rattle.pip_due.specs.EndsBy.{Due, Response, plainly}
 use Rattle.pip_commands.specs.Faults.{asm_line}
 use Rattle.pip_due.specs.Faults.{image_line}
 use Rattle.pip_commands.specs.Words.{usage}
-use Rattle.pip_commands.specs.declared.commands.children.scheduling.Scheduling.{Scheduling}
-use Rattle.pip_commands.specs.declared.commands.children.scheduling.Scheduling.TheVariants as V
 use Rattle.pip_commands.specs.declared.commands.run.report.Report.{Report}
 use Rattle.pip_commands.specs.declared.commands.run.report.Report.TheVariants as R
 use Rattle.pip_commands.specs.declared.words.Command.{Command}
 use Rattle.pip_commands.specs.declared.words.Command.TheVariants as C
-use Rattle.pip_due.specs.ImageDues.{IsFaulty, IsHeaderText, image_due, without_reading}
-use Rattle.pip_searches.specs.SearchDues.{against_due, apart_due, every_due}
-
--- words of no form: the usage line
-abbrev pub usage_due : Due
-usage_due = without_reading (plainly 1 (line_text usage) None) ⊥
+use Rattle.pip_due.specs.ImageDues.{IsHeaderText, image_due, without_reading}
 
 -- `soak`: the text of the load, and its last world
 abbrev pub soak_due : ℕ → ℕ → Due
@@ -183,47 +173,9 @@ dis_due = record (image_due (λ input v. dis_answer (dis_text input) (image inpu
   midway = IsAtPart image_parts;
 }
 
--- this many frames have room for n children
-abbrev pub IsRoomy : ℕ → ℕ → Type 0
-IsRoomy n frames = pages_taken n + 13 ≤ frames
-
--- these bytes are a header of too few frames for n children
-pub record IsShort (n : ℕ) (bytes : List ℕ) : Type 0 where
-  pub header : IsHeaderText bytes
-  pub few : header.fields.frames < pages_taken n + 13
-
--- no such header stands at the front of these bytes
-abbrev pub IsUnshort : ℕ → List ℕ → Type 0
-IsUnshort n bytes = (front back : List ℕ) → bytes ≡ front ++ back → IsShort n front → ⊥
-
--- the text of the run of an image's children, if it has room, and its last world; or the line that names the first
--- fault, where no header of too few frames stands before it
-abbrev pub IsChildrenAnswer : Scheduling → ℕ → List ℕ → Result Image ImageError → Response → Type 0
-IsChildrenAnswer s n bytes (Ok i) v =
-    IsRoomy n i.frames × (v ≡ plainly 0 (children_text s i n) (Some (children_world s i n)))
-IsChildrenAnswer s n bytes (Err e) v =
-    IsUnshort n bytes × (option_map (λ line. plainly 2 line None) (image_line e) ≡ Some v)
-
--- the line of a header of too few frames
-abbrev pub IsShortAnswer : ℕ → List ℕ → Response → Type 0
-IsShortAnswer n bytes v = (s : IsShort n bytes) × (v ≡ plainly 8 (short_line s.header.fields.frames n) None)
-
--- `native` and `slots` stop after a header of too few frames, too. They ask for memory after a header with room
-abbrev pub children_due : Scheduling → ℕ → Due
-children_due s n = record (image_due
-    (λ input v. IsShortAnswer n input v ⊎ IsChildrenAnswer s n input (image input) v)
-    (λ bytes left. (h : IsHeaderText bytes) × IsRoomy n h.fields.frames)) {
-      enough = λ bytes. IsShort n bytes ⊎ IsFaulty bytes;
-      so_far = λ bytes text. EndsAtMost (image_parts bytes).fault × IsUnshort n bytes × (text ≡ []);
-    }
-
--- `native`: a monitor runs n children for this many steps
+-- `native`: a monitor runs n children of an image for this many steps
 abbrev pub native_due : ℕ → ℕ → Due
-native_due n count = children_due (V.Monitor count) n
-
--- `slots`: n children have the slots of a round, in this many rounds
-abbrev pub slots_due : ℕ → ℕ → ArrayVec RoundSlot → Due
-slots_due n rounds round = children_due (V.Slots round rounds) n
+native_due n count = children_due (λ i. native_text i n count) (λ i. native_world i n count) n
 
 -- the text of a tree, and `yes`
 abbrev pub yes_text : Tree → List ℕ
@@ -255,7 +207,7 @@ audit_due n = record {
 
 -- what is due of the words of the command line
 abbrev pub due_of : Option Command → Due
-due_of None = usage_due
+due_of None = unknown_due (line_text usage)
 due_of (Some C.Script) = script_due
 due_of (Some C.Assemble) = asm_due
 due_of (Some C.Disassemble) = dis_due
@@ -264,10 +216,4 @@ due_of (Some (C.Tree count seed)) = run_due R.Tree count seed
 due_of (Some (C.Core count seed)) = run_due R.Frames count seed
 due_of (Some (C.Soak count seed)) = soak_due count seed
 due_of (Some (C.Native n count)) = native_due n count
-due_of (Some (C.Slots n rounds round)) = slots_due n rounds round
 due_of (Some (C.Audit frames)) = audit_due frames
-due_of (Some (C.Every states from depth start)) = every_due states from depth start
-due_of (Some (C.Against states from depth start)) = against_due states from depth start
-due_of (Some (C.Apart states count seed)) = apart_due states count seed
-due_of (Some (C.Part from)) = part_due from
-due_of (Some C.Merge) = merge_due

@@ -1,14 +1,10 @@
 pub mod Words
 pub mod Runs
-pub mod Answered
-pub mod Children
 pub mod Dues
+pub mod Children
 pub mod Progress
 pub mod Faults
 pub mod Shown
-pub mod NativeLoading
 pub mod AuditTexts
 pub mod AuditLaw
-pub mod SlotsLaw
 pub mod Pacing
-pub mod CertifiedRuns

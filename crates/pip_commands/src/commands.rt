@@ -1,10 +1,8 @@
 //! The commands, one file each.
 pub mod asm;
 pub mod audit;
-pub mod children;
 pub mod dis;
 pub mod native;
 pub mod run;
 pub mod script;
-pub mod slots;
 pub mod soak;

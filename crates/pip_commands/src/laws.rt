@@ -1,8 +1,7 @@
 //! Laws of the commands. They compute nothing: what each says is its contract.
-ghost use Rattle.pip_commands.specs.Answered.{InputsAreAnswered};
+ghost use Rattle.pip_words.specs.Answered.{AreInputsAnswered};
 ghost use Rattle.pip_commands.specs.AuditLaw.{CoreIsAudited};
-ghost use Rattle.pip_commands.specs.CertifiedRuns.{CertificatesNameRuns};
-ghost use Rattle.pip_commands.specs.SlotsLaw.{ChildrenAreSeparate};
+ghost use Rattle.pip_commands.specs.Dues.{due_of};
 
 /// What `core` writes of a sound tree's frames, `audit` answers with the text of that tree and `yes`.
 pub fn law_core_audited()
@@ -11,16 +10,5 @@ pub fn law_core_audited()
 
 /// Where no read and no write fails, an input within the limit is answered, or there is no memory.
 pub fn law_inputs_answered()
-    ensures { InputsAreAnswered }
-{}
-
-/// What `slots` writes in the time slots of a child is a matter of that child alone.
-pub fn law_slots_apart()
-    ensures { ChildrenAreSeparate }
-{}
-
-/// Where a text has the lines of the texts of parts of an image, in any order, and these could be merged to a whole,
-/// each line of any run is one of the labels that were merged.
-pub fn law_certified_runs()
-    ensures { CertificatesNameRuns }
+    ensures { AreInputsAnswered due_of }
 {}

@@ -1,17 +1,16 @@
 //! The commands of the program, over any source and any sink.
 //!
-//! [`pip`] and the fifteen commands carry the headline: by the words and the status, what was read and what was
-//! written (`EndsBy` of pip_due, one record for all). What is due of a command, a value of `Due`, is in specs/Dues,
-//! which chooses it by the words. `words` reads the command line, `commands/` has a file for each command but the
-//! searches of pip_searches and the commands of pip_certificates, and `text` has the lines that the commands write
-//! themselves.
+//! [`pip`] and the nine commands carry the headline: by the words and the status, what was read and what was written
+//! (`EndsBy` of pip_due, one record for all). What is due of a command, a value of `Due`, is in specs/Dues, which
+//! chooses it by the words. `words` reads the command line, `commands/` has a file for each command, where those that
+//! differ in their last step alone share one, and `text` has the lines that the commands write themselves.
 //!
 //! - `script`: `line` runs one line, over any port once there is one; `turn` takes a line from the input and runs it
 //!   (`LineComes`); the sink is settled before more is read, and at the end. Between two turns `HasRun` holds: all
 //!   lines before were run, their text was given to the sink, and the machine, if there is one, represents their world.
 //! - `run`, `tree` and `core` are one body: an image is read into a new machine, `run/report` makes the steps and shows
-//!   the trace, the tree or the frames. So are `native` and `slots`: `children/loading` judges the frames of the header
-//!   before the rest is read, `children/showing` builds the children and `children/scheduling` makes their steps.
+//!   the trace, the tree or the frames.
+//! - `native` has pip_children read an image and build the children, and its monitor is the scheduling of their steps.
 //! - `soak` has pip_soak make its load on a new machine, and write the counts with pip_dump's totals of its frames.
 //! - `audit` takes all its memory, has pip_core_text read frames and pip_audit judge them (`found_answer`).
 //!   `law_core_audited` joins two commands: what `core` writes of a sound tree's frames is read as these frames, and
@@ -32,14 +31,9 @@ pub use commands::dis::dis;
 pub use commands::native::native;
 pub use commands::run::{core_dump, run, tree};
 pub use commands::script::script;
-pub use commands::slots::slots;
 pub use commands::soak::soak;
-pub use laws::{law_certified_runs, law_core_audited, law_inputs_answered, law_slots_apart};
+pub use laws::{law_core_audited, law_inputs_answered};
 pub use machines::new_machine;
 pub use monitor::MONITOR;
-pub use pip_certificates::{law_certified, merge, part};
 pub use pip_due::Ended;
-pub use pip_searches::{
-    Start, against, apart, every, law_against, law_apart, law_every, law_every_runs,
-};
 pub use top::pip;

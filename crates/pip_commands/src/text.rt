@@ -2,7 +2,6 @@
 ghost use Rattle.std.specs.Prelude.{◌≡◌, ◌+◌, ◌≤◌, ◌++◌, None, Some, MatchOption, codes, decimal, length};
 ghost use Rattle.pip_model.specs.Text.{line_text};
 ghost use Rattle.arrayvec.specs.ArrayString.{array_string_len};
-ghost use Rattle.pip_watch.specs.Watching.{short_line as short_text};
 ghost use Rattle.pip_audit.specs.Verdict.{verdict_of};
 ghost use Rattle.pip_model.specs.Audit.{Finding};
 ghost use Rattle.pip_commands.specs.AuditTexts.{differs_line, no_line, place_text, unread_line, unsound_line};
@@ -51,20 +50,6 @@ fn asm_kind(kind: AsmKind) -> &'static str
         AsmKind::Twice => "twice",
         AsmKind::Size => "size",
     }
-}
-
-/// `short`, how many pages can be had of that many frames, how many `n` children need, and a newline.
-pub fn short_line(frames: u32, n: u32) -> ArrayString<64>
-    requires { n ≤ 8 }
-    ensures { result.bytes ≡ short_text frames n }
-{
-    let mut text = ArrayString::new();
-    text.push_str("short ");
-    push_decimal(&mut text, u64::from(frames.saturating_sub(13)));
-    text.push_str(" ");
-    push_decimal(&mut text, u64::from(13 * n));
-    text.push_str("\n");
-    text
 }
 
 /// The line of a verdict and a newline; none where it is yes.

@@ -1,6 +1,6 @@
 //! The program as one call.
-ghost use Rattle.std.specs.Prelude.{◌≡◌, [], map, string_bytes};
-ghost use Rattle.pip_commands.specs.Dues.{due_of, usage_due};
+ghost use Rattle.std.specs.Prelude.{map, string_bytes};
+ghost use Rattle.pip_commands.specs.Dues.{due_of};
 ghost use Rattle.pip_commands.specs.Words.{command_of};
 ghost use Rattle.pip_due.specs.Commands.{Fulfils, MayStart};
 
@@ -10,17 +10,15 @@ use crate::commands::dis::dis;
 use crate::commands::native::native;
 use crate::commands::run::{core_dump, run, tree};
 use crate::commands::script::script;
-use crate::commands::slots::slots;
 use crate::commands::soak::soak;
 use crate::words::{Command, read_words};
-use pip_certificates::{merge, part};
-use pip_due::{Ended, end_with};
+use pip_due::Ended;
 use pip_io::{Sink, Source};
-use pip_searches::{against, apart, every};
+use pip_words::show_usage;
 use std::alloc::Global;
 
 const USAGE: &[u8] =
-    b"usage: pip script | run STEPS SEED | asm | dis | tree STEPS SEED | core STEPS SEED | soak COUNT SEED | native N STEPS | slots N TURNS ROUNDS | slots N ROUNDS K:TURNS .. | audit FRAMES | every STATES [FROM [DEPTH]] [after STEPS SEED] | against STATES [FROM [DEPTH]] [after STEPS SEED] | apart STATES STEPS SEED | part [FROM] | merge\n";
+    b"usage: pip script | run STEPS SEED | asm | dis | tree STEPS SEED | core STEPS SEED | soak COUNT SEED | native N STEPS | audit FRAMES\n";
 
 /// Does what the words of the command line ask for. The words leave out the program's name (docs/FORMATS.md,
 /// "Statuses"). The sink holds nothing at first, and at each status but 4 it holds nothing at the end. Whatever the
@@ -46,47 +44,7 @@ pub fn pip<S: Source, K: Sink>(
         Some(Command::Core { count, seed }) => core_dump(alloc, count, seed, source, sink),
         Some(Command::Soak { count, seed }) => soak(alloc, count, seed, source, sink),
         Some(Command::Native { children, count }) => native(alloc, children, count, source, sink),
-        Some(
-            Command::Slots {
-                children,
-                rounds,
-                round,
-            },
-        ) => slots(alloc, children, rounds, round, source, sink),
         Some(Command::Audit { frames }) => audit(alloc, frames, source, sink),
-        Some(
-            Command::Every {
-                states,
-                from,
-                depth,
-                start,
-            },
-        ) => every(alloc, states, from, depth, start, source, sink),
-        Some(
-            Command::Against {
-                states,
-                from,
-                depth,
-                start,
-            },
-        ) => against(alloc, states, from, depth, start, source, sink),
-        Some(
-            Command::Apart {
-                states,
-                count,
-                seed,
-            },
-        ) => apart(alloc, states, count, seed, source, sink),
-        Some(Command::Part { from }) => part(alloc, from, source, sink),
-        Some(Command::Merge) => merge(alloc, source, sink),
-        None => show_usage(source, sink),
+        None => show_usage(USAGE, source, sink),
     }
-}
-
-// Shows which words there are. Nothing is read.
-fn show_usage<S: Source, K: Sink>(_source: &mut S, sink: &mut K) -> Ended
-    requires { (K.told sink.old).written.held ≡ [] }
-    ensures ends { Fulfils usage_due result S.told K.told _source.old sink.old _source.new sink.new }
-{
-    end_with(sink, USAGE, 1)
 }

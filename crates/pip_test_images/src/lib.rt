@@ -2,24 +2,14 @@
 #![tactic(auto)]
 
 #[cfg(test)]
-mod against;
-#[cfg(test)]
-mod apart;
-#[cfg(test)]
 mod asm;
 #[cfg(test)]
 mod audit;
 #[cfg(test)]
 mod dis;
 #[cfg(test)]
-mod ends;
-#[cfg(test)]
-mod every;
-#[cfg(test)]
 mod native;
 #[cfg(test)]
 mod run;
-#[cfg(test)]
-mod slots;
 #[cfg(test)]
 mod soak;

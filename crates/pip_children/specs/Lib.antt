@@ -1,0 +1,4 @@
+pub mod Children
+pub mod Dues
+pub mod Loading
+pub mod Pacing

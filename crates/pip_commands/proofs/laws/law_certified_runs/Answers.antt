@@ -1,5 +1,0 @@
-use Rattle.pip_commands.proofs.CertifiedRuns.{certificates_name_runs}
-use Rattle.pip_commands.proofs.laws.law_certified_runs.Goals as goal
-
-pub returns : goal.returns
-returns c = certificates_name_runs

@@ -1,5 +1,0 @@
-use Rattle.pip_commands.proofs.SlotsApart.{children_are_separate}
-use Rattle.pip_commands.proofs.laws.law_slots_apart.Goals as goal
-
-pub returns : goal.returns
-returns c = children_are_separate

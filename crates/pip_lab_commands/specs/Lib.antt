@@ -1,0 +1,5 @@
+pub mod Words
+pub mod Children
+pub mod Dues
+pub mod SlotsLaw
+pub mod CertifiedRuns

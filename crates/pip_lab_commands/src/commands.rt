@@ -1,0 +1,2 @@
+//! The commands that are of no crate below.
+pub mod slots;

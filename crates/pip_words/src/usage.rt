@@ -1,0 +1,15 @@
+//! What a program does with words of no form.
+ghost use Rattle.std.specs.Prelude.{◌≡◌, []};
+ghost use Rattle.pip_due.specs.Commands.{Fulfils};
+ghost use Rattle.pip_words.specs.Usage.{unknown_due};
+
+use pip_due::{Ended, end_with};
+use pip_io::{Sink, Source};
+
+/// Shows which words there are, by a line with its newline. Nothing is read.
+pub fn show_usage<S: Source, K: Sink>(usage: &[u8], _source: &mut S, sink: &mut K) -> Ended
+    requires { (K.told sink.old).written.held ≡ [] }
+    ensures ends { Fulfils (unknown_due usage.now) result S.told K.told _source.old sink.old _source.new sink.new }
+{
+    end_with(sink, usage, 1)
+}
