@@ -1,5 +1,5 @@
-"""The figures of dev/bench/run: the instructions that a program takes for each thing, as callgrind counts them. Those that
-are in the tables of docs/PERFORMANCE.md have the names that their rows have there."""
+"""The figures of dev/bench/run: the instructions that a program takes for each thing, as callgrind counts them. Those
+that are in the tables of docs/PERFORMANCE.md have the names that their rows have there."""
 
 import os
 from collections.abc import Iterator

@@ -4,8 +4,8 @@
 
 They are of its start, of a line of each kind, of partitions that are made and deleted, of events that switch, of
 assembly texts, of the steps of runs, of texts of frames, and of a generated load. The program is the built one, unless
-PATH is given: build it first, by ./pip. --plain builds the plain program of dev/bench/plain by cargo, and puts its figures
-beside; --beside does so for any program of the same commands. --tables prints the rows of the tables of
+PATH is given: build it first, by ./pip. --plain builds the plain program of dev/bench/plain by cargo, and puts its
+figures beside; --beside does so for any program of the same commands. --tables prints the rows of the tables of
 docs/PERFORMANCE.md, with times and worst inputs, too; it takes half an hour. --growth writes the figures of deletions
 that dev/bench/growth.gp draws."""
 

@@ -6,7 +6,7 @@
     dev/bench/worst build WANTS COUNT        a script: a child is built with that many wants and ended, again and again
     dev/bench/worst calls                    an assembly text, for `run`: its root makes and ends a child in a loop
     dev/bench/worst faults                   an assembly text, for `native`, `slots`: children fault at each instruction
-    dev/bench/worst fill                     an assembly text, for `every`: it stores a word in one place after the other
+    dev/bench/worst fill                     an assembly text, for `every`: it stores a word in each place in turn
 
 KIND of a chain: `create` makes and ends a child again and again, `prepare` gives a child tables and takes them back.
 BYTES is the size of the script, at most. WANTS, at most 990, are each in a directory of its own."""

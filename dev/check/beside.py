@@ -1,5 +1,5 @@
-"""The program beside others: the plain program of dev/bench/plain, to which docs/PERFORMANCE.md compares, writes what it
-writes; and what the translation caches count is what they count in the reference.
+"""The program beside others: the plain program of dev/bench/plain, to which docs/PERFORMANCE.md compares, writes what
+it writes; and what the translation caches count is what they count in the reference.
 
 No output of the program depends on the caches. So a program that says after its output what they counted is made here:
 in a copy of the sources counts_program.txt stands in the place of crates/pip/src/main.rt. `rt try` builds it, without

@@ -17,7 +17,7 @@ import time
 from common import calling
 from . import (authors, beside, certificates, cheats, corners, counters, documents, ended, endings, examples,
                exercises, exporting, grading, guests, house, links, meanings, pages, playground, playing,
-               public_calls, releasing, shells, sources, tools, wrapper)
+               public_calls, releasing, shells, sources, tools, wrapper, wrong_bodies)
 from .running import Check, Differs, Skipped
 
 # A name, and its parts: functions that are given the program's path and raise Differs if something is wrong, or Skipped
@@ -31,7 +31,8 @@ CHECKS: dict[str, Check | tuple[Check, ...]] = {
     "step-counters": counters.step_counters,
     "house": (house.house, sources.ghost_imports),
     "public-calls": public_calls.public_calls,
-    "edits": sources.edits,
+    "edits": wrong_bodies.edits,
+    "drawn-edits": wrong_bodies.drawn_edits,
     "types": tools.types,
     "examples": (examples.examples, examples.programs, examples.retries, examples.monitor, documents.tutorial_sessions),
     "searches": examples.searches,

@@ -102,6 +102,6 @@ def judged(mypy: str, top: str) -> tuple[str, int]:
     """What mypy says of the tools below a folder, and its status. It keeps nothing."""
     command = [mypy, "--strict", "--python-version", "3.9", "--cache-dir", os.devnull, "--explicit-package-bases",
                *(folder for folder in OF if os.path.isdir(os.path.join(top, folder)))]
-    done = subprocess.run(command, cwd=top, env=dict(os.environ, MYPYPATH=":".join(OF)), stdin=subprocess.DEVNULL, stdout=subprocess.PIPE, stderr=subprocess.STDOUT,
-                          timeout=SECONDS)
+    done = subprocess.run(command, cwd=top, env=dict(os.environ, MYPYPATH=":".join(OF)), stdin=subprocess.DEVNULL,
+                          stdout=subprocess.PIPE, stderr=subprocess.STDOUT, timeout=SECONDS)
     return done.stdout.decode("utf-8", "replace"), done.returncode

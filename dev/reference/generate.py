@@ -9,8 +9,8 @@ import random
 from collections.abc import Callable
 
 from . import generate_apart, generate_audit, generate_every, generate_native, generate_parts, generate_programs
-from common.machine.model import (HANDLERS, LAST_BLOCK, LINES, NOWHERE, PAGE, READ, ROOT, SAVED, SLOTS, WORDS, WRITE, Node, Tree,
-                    World, pages_needed)
+from common.machine.model import (HANDLERS, LAST_BLOCK, LINES, NOWHERE, PAGE, READ, ROOT, SAVED, SLOTS, WORDS, WRITE,
+                                  Node, Tree, World, pages_needed)
 from .phrases import LINES as SPOILT, Drawing, spoilt_line
 from common.machine.script import LONGEST, Script
 

@@ -8,8 +8,8 @@ from collections import deque
 from collections.abc import Iterable, Sequence
 
 from common.machine.image import Image, world as image_world
-from common.machine.model import (EXECUTE, HANDLERS, NOWHERE, PAGE, READ, ROOT, SAVED, WRITE, Done, Reply, Status, Switched, World,
-                    pages_needed)
+from common.machine.model import (EXECUTE, HANDLERS, NOWHERE, PAGE, READ, ROOT, SAVED, WRITE, Done, Reply, Status,
+                                  Switched, World, pages_needed)
 from common.machine.runs import Turn, first_line, raise_lines
 from common.machine.script import call, outcome_text, word_text
 
