@@ -1,6 +1,6 @@
 """The repository's own checks of the built program. The list of them is CHECKS.
 
-    dev/check/run.py [--only NAME ..] [--all] [--program PATH | --unproved] [--list] [--write-calls]
+    dev/check/run.py [--only NAME ..] [--but NAME ..] [--all] [--program PATH | --unproved] [--list] [--write-calls]
                        [--write-meanings]
 
 The status is 0 if none fails, and 1 if one does; each that fails says why. One for which a tool is missing is skipped:
@@ -16,7 +16,7 @@ import time
 
 from common import calling
 from . import (authors, beside, certificates, cheats, corners, counters, documents, ended, endings, examples,
-               exercises, exporting, grading, guests, house, links, meanings, pages, playground, playing,
+               exercises, exporting, gate, grading, guests, house, links, meanings, pages, playground, playing,
                public_calls, releasing, shells, sources, tools, wrapper, wrong_bodies)
 from .running import Check, Differs, Skipped
 
@@ -28,6 +28,7 @@ CHECKS: dict[str, Check | tuple[Check, ...]] = {
     "answering": (endings.typed_script, endings.gathered_answers),
     "documents": (documents.readme_sessions, documents.examples_with_arrows, documents.tutorial_blocks, links.links,
                   meanings.same),
+    "gate": gate.gate,
     "step-counters": counters.step_counters,
     "house": (house.house, sources.ghost_imports),
     "public-calls": public_calls.public_calls,
@@ -106,6 +107,7 @@ def main() -> None:
 def checked() -> int:
     parser = argparse.ArgumentParser(description="Checks the built program.")
     parser.add_argument("--only", nargs="+", choices=CHECKS, metavar="NAME", help="these checks alone")
+    parser.add_argument("--but", nargs="+", choices=CHECKS, metavar="NAME", default=[], help="all but these")
     calling.take_program(parser)
     parser.add_argument("--all", action="store_true", help="one that is skipped fails")
     parser.add_argument("--list", action="store_true", help="print the names of the checks")
@@ -124,11 +126,12 @@ def checked() -> int:
         meanings.rewrite()
         return 0
     program = os.path.abspath(calling.direct(given.program))
-    return summed_up({name: made(name, CHECKS[name], program) for name in given.only or CHECKS}, given.all)
+    names = [name for name in given.only or CHECKS if name not in given.but]
+    return summed_up({name: made(name, CHECKS[name], program) for name in names}, given.all, given.but)
 
 
-def summed_up(endings: dict[str, tuple[str, str]], is_all: bool) -> int:
-    """Says which checks failed and which were skipped, and answers the status."""
+def summed_up(endings: dict[str, tuple[str, str]], is_all: bool, but: list[str]) -> int:
+    """Says which checks failed, which were skipped and which were left out, and answers the status."""
     failed = [name for name, (ending, _) in endings.items() if ending == "fails"]
     skipped = [f"{name} ({why})" for name, (ending, why) in endings.items() if ending == "skipped"]
     if failed:
@@ -136,5 +139,7 @@ def summed_up(endings: dict[str, tuple[str, str]], is_all: bool) -> int:
     else:
         print(f"check: {len(endings) - len(skipped)} of {len(endings)} checks pass")
     if skipped:
-        print(f"{len(skipped)} skipped: {', '.join(skipped)}")
+        print(f"check: {len(skipped)} skipped: {', '.join(skipped)}")
+    if but:
+        print(f"check: {len(but)} left out: {', '.join(but)}")
     return int(bool(failed or is_all and skipped))
