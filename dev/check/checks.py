@@ -1,7 +1,7 @@
 """The repository's own checks of the built program. The list of them is CHECKS.
 
     dev/check/run.py [--only NAME ..] [--but NAME ..] [--all] [--program PATH | --unproved] [--list] [--write-calls]
-                       [--write-meanings]
+                       [--write-meanings] [--write-index]
 
 The status is 0 if none fails, and 1 if one does; each that fails says why. One for which a tool is missing is skipped:
 the last line names it, and with --all it fails."""
@@ -16,8 +16,8 @@ import time
 
 from common import calling
 from . import (authors, beside, certificates, cheats, corners, counters, documents, ended, endings, examples,
-               exercises, exporting, gate, grading, guests, house, links, meanings, pages, playground, playing,
-               public_calls, releasing, shells, sources, tools, wrapper, wrong_bodies)
+               exercises, exporting, gate, grading, guests, house, indexed, links, meanings, pages, playground,
+               playing, public_calls, releasing, shells, sources, tools, versions, wrapper, wrong_bodies)
 from .running import Check, Differs, Skipped
 
 # A name, and its parts: functions that are given the program's path and raise Differs if something is wrong, or Skipped
@@ -26,14 +26,15 @@ CHECKS: dict[str, Check | tuple[Check, ...]] = {
     "endings": endings.endings,
     "refused-memory": endings.refused_memory,
     "answering": (endings.typed_script, endings.gathered_answers),
-    "documents": (documents.readme_sessions, documents.examples_with_arrows, documents.tutorial_blocks, links.links,
-                  meanings.same),
+    "documents": (documents.shown_sessions, documents.examples_with_arrows, documents.tutorial_blocks, links.links,
+                  meanings.same, indexed.index),
     "gate": gate.gate,
     "step-counters": counters.step_counters,
     "house": (house.house, sources.ghost_imports),
     "public-calls": public_calls.public_calls,
     "edits": wrong_bodies.edits,
     "drawn-edits": wrong_bodies.drawn_edits,
+    "versions": versions.versions,
     "types": tools.types,
     "examples": (examples.examples, examples.programs, examples.retries, examples.monitor, documents.tutorial_sessions),
     "searches": examples.searches,
@@ -115,6 +116,8 @@ def checked() -> int:
                         help="write public_calls.txt as the sources have its calls")
     parser.add_argument("--write-meanings", action="store_true",
                         help="write meanings.json as the documents have its rows")
+    parser.add_argument("--write-index", action="store_true",
+                        help="write the lines of examples/README.md as the files have their remarks")
     given = parser.parse_args()
     if given.list:
         print("\n".join(CHECKS))
@@ -124,6 +127,9 @@ def checked() -> int:
         return 0
     if given.write_meanings:
         meanings.rewrite()
+        return 0
+    if given.write_index:
+        indexed.rewrite()
         return 0
     program = os.path.abspath(calling.direct(given.program))
     names = [name for name in given.only or CHECKS if name not in given.but]

@@ -54,7 +54,7 @@ def stop(name: str, words: tuple[str, ...], program: str) -> None:
 
 # Nothing is built: no tool begins a proof
 
-PARTS = ("tools", "class", "dev", "examples", "docs", "pip", "crates.txt", "README.md",
+PARTS = ("tools", "class", "dev", "examples", "docs", "pip", "crates.txt", "README.md", "VERSION",
          "crates/pip_commands/src/top.rt")
 IMAGE = b"PIPIMG2\n"
 # Each tool that needs a program, with words and an input with which it comes to need it.

@@ -72,7 +72,7 @@ def unproved(program: str) -> None:
     """./pip --unproved answers an example where nothing is built, and says that nothing is proved of it."""
     need_cargo()
     with tempfile.TemporaryDirectory() as place:
-        copied(place, "pip", "crates.txt", "LICENSE", "crates", "dev/export", "tools/common",
+        copied(place, "pip", "crates.txt", "LICENSE", "VERSION", "crates", "dev/export", "tools/common",
                "dev/exporter", without=("proofs", "specs", "must-fail", "tried"))
         given = contents("examples/first.pip")
         done = subprocess.run([os.path.join(place, "pip"), "--unproved", "script"], input=given,
