@@ -14,7 +14,8 @@ from pathlib import Path
 
 TOP = Path(__file__).resolve().parents[2]
 BLOCK = re.compile(r"^([^ #\n].*)\n((?:(?: .*)?\n)*)", re.M)
-HEAD = """# Wrong bodies of {crate} that the prover refused. The gate tries none of them but those that the check drawn-edits
+HEAD = """\
+# Wrong bodies of {crate} that the prover refused. The gate tries none of them but those that the check drawn-edits
 # draws. The contracts admit those that are marked so. CONTRIBUTING.md, "A must-fail edit", says how one is written.
 """
 

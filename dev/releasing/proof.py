@@ -15,8 +15,8 @@ TEXTS = blocks("proof.txt", __file__)
 
 
 def text(version: str, record: Record | None, found: Checkout, page_sum: str | None) -> str:
-    """That of a release, for which no gate was run where there is no record of one, and which has no page where there is
-    no sum of it."""
+    """That of a release, for which no gate was run where there is no record of one, and which has no page where there
+    is no sum of it."""
     program = PROGRAM if record else repository.UNPROVED
     told = {"version": version, "commit": found.commit(), "tree": found.tree(),
             "copies": TEXTS["with page" if page_sum else "no page"].rstrip("\n").format(page=PAGE)}

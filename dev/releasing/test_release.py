@@ -66,8 +66,8 @@ class Releases(unittest.TestCase):
             return gate.run(self.found)
 
     def made(self, version: str = "1.2", to: str | None = "to", unproved: bool = False, no_page: bool = False) -> Path:
-        """Makes a release, and answers its folder; where `to` is None it goes beside the checkout. Its page is made of a
-        module that is there."""
+        """Makes a release, and answers its folder; where `to` is None it goes beside the checkout. Its page is made of
+        a module that is there."""
         given = argparse.Namespace(version=version, gate=False, unproved=unproved, no_page=no_page, debian=None,
                                    module=self.place / "module", to=None if to is None else self.place / to)
         with contextlib.redirect_stdout(io.StringIO()), contextlib.redirect_stderr(io.StringIO()):
