@@ -27,7 +27,7 @@ def index(program: str) -> None:
     before, _, after = text_of(INDEX).partition(BEGIN)
     if after != listed(REPOSITORY):
         raise Differs(f"{INDEX} isn't as the files are: dev/check/run.py --write-index")
-    endings = {os.path.splitext(path)[1] for path in paths("examples/**/*.*") if not path.endswith(".md")}
+    endings = {os.path.splitext(path)[1] for path in paths("examples/**/*.*") if not path.endswith((".md", ".html"))}
     if missing := sorted(ending for ending in endings if f"`{ending}`" not in before):
         raise Differs(f"{INDEX} doesn't say what a file {missing[0]} is")
 
