@@ -1,7 +1,7 @@
 """The repository's own checks of the built program. The list of them is CHECKS.
 
-    dev/check/run.py [--only NAME ..] [--all] [--program PATH | --unproved] [--list] [--write-calls]
-                       [--write-meanings]
+    dev/check/run.py [--only NAME ..] [--but NAME ..] [--all] [--program PATH | --unproved] [--list] [--write-calls]
+                       [--write-meanings] [--write-index]
 
 The status is 0 if none fails, and 1 if one does; each that fails says why. One for which a tool is missing is skipped:
 the last line names it, and with --all it fails."""
@@ -16,8 +16,8 @@ import time
 
 from common import calling
 from . import (authors, beside, certificates, cheats, corners, counters, documents, ended, endings, examples,
-               exercises, exporting, grading, guests, house, links, meanings, pages, playground, playing,
-               public_calls, releasing, shells, sources, tools, wrapper)
+               exercises, exporting, gate, grading, guests, house, indexed, links, meanings, pages, playground,
+               playing, public_calls, releasing, shells, sources, tools, versions, wrapper, wrong_bodies)
 from .running import Check, Differs, Skipped
 
 # A name, and its parts: functions that are given the program's path and raise Differs if something is wrong, or Skipped
@@ -26,12 +26,15 @@ CHECKS: dict[str, Check | tuple[Check, ...]] = {
     "endings": endings.endings,
     "refused-memory": endings.refused_memory,
     "answering": (endings.typed_script, endings.gathered_answers),
-    "documents": (documents.readme_sessions, documents.examples_with_arrows, documents.tutorial_blocks, links.links,
-                  meanings.same),
+    "documents": (documents.shown_sessions, documents.examples_with_arrows, documents.tutorial_blocks, links.links,
+                  meanings.same, indexed.index),
+    "gate": gate.gate,
     "step-counters": counters.step_counters,
     "house": (house.house, sources.ghost_imports),
     "public-calls": public_calls.public_calls,
-    "edits": sources.edits,
+    "edits": wrong_bodies.edits,
+    "drawn-edits": wrong_bodies.drawn_edits,
+    "versions": versions.versions,
     "types": tools.types,
     "examples": (examples.examples, examples.programs, examples.retries, examples.monitor, documents.tutorial_sessions),
     "searches": examples.searches,
@@ -105,6 +108,7 @@ def main() -> None:
 def checked() -> int:
     parser = argparse.ArgumentParser(description="Checks the built program.")
     parser.add_argument("--only", nargs="+", choices=CHECKS, metavar="NAME", help="these checks alone")
+    parser.add_argument("--but", nargs="+", choices=CHECKS, metavar="NAME", default=[], help="all but these")
     calling.take_program(parser)
     parser.add_argument("--all", action="store_true", help="one that is skipped fails")
     parser.add_argument("--list", action="store_true", help="print the names of the checks")
@@ -112,6 +116,8 @@ def checked() -> int:
                         help="write public_calls.txt as the sources have its calls")
     parser.add_argument("--write-meanings", action="store_true",
                         help="write meanings.json as the documents have its rows")
+    parser.add_argument("--write-index", action="store_true",
+                        help="write the lines of examples/README.md as the files have their remarks")
     given = parser.parse_args()
     if given.list:
         print("\n".join(CHECKS))
@@ -122,12 +128,16 @@ def checked() -> int:
     if given.write_meanings:
         meanings.rewrite()
         return 0
+    if given.write_index:
+        indexed.rewrite()
+        return 0
     program = os.path.abspath(calling.direct(given.program))
-    return summed_up({name: made(name, CHECKS[name], program) for name in given.only or CHECKS}, given.all)
+    names = [name for name in given.only or CHECKS if name not in given.but]
+    return summed_up({name: made(name, CHECKS[name], program) for name in names}, given.all, given.but)
 
 
-def summed_up(endings: dict[str, tuple[str, str]], is_all: bool) -> int:
-    """Says which checks failed and which were skipped, and answers the status."""
+def summed_up(endings: dict[str, tuple[str, str]], is_all: bool, but: list[str]) -> int:
+    """Says which checks failed, which were skipped and which were left out, and answers the status."""
     failed = [name for name, (ending, _) in endings.items() if ending == "fails"]
     skipped = [f"{name} ({why})" for name, (ending, why) in endings.items() if ending == "skipped"]
     if failed:
@@ -135,5 +145,7 @@ def summed_up(endings: dict[str, tuple[str, str]], is_all: bool) -> int:
     else:
         print(f"check: {len(endings) - len(skipped)} of {len(endings)} checks pass")
     if skipped:
-        print(f"{len(skipped)} skipped: {', '.join(skipped)}")
+        print(f"check: {len(skipped)} skipped: {', '.join(skipped)}")
+    if but:
+        print(f"check: {len(but)} left out: {', '.join(but)}")
     return int(bool(failed or is_all and skipped))

@@ -15,30 +15,46 @@ from .running import REPOSITORY, Differs, commands_of, expect, part, paths, run,
 MARK = b"-- the next command --\n"
 
 
-def readme_sessions(program: str) -> None:
-    """Each session of README.md gives what it shows; and a build names as many crates as the page has it."""
-    with tempfile.TemporaryDirectory() as place:
-        os.symlink(os.path.join(REPOSITORY, "examples"), os.path.join(place, "examples"))
-        os.symlink(os.path.abspath(program), os.path.join(place, "pip"))
-        for session in sessions(text_of("README.md")):
-            commands = [command for command, _ in session]
-            shown = b"".join(output + MARK for _, output in session)
-            told = "; ".join(f"{{ {command}\n}}; s=$?; printf '%s' '{MARK.decode()}'; (exit $s)"
-                             for command in commands)
-            output, status = run(["sh", "-c", told], cwd=place)
-            expect(f"README.md, the session from '$ {commands[0]}' on", (output, status), (shown, 0))
+# Documents with sessions: blocks that are indented and begin with a command after `$ `
+WITH_SESSIONS = ("README.md", "docs/FORMATS.md")
+
+
+def shown_sessions(program: str) -> None:
+    """Each session of these documents gives what it shows; and a build names as many crates as README.md has it."""
+    for name in WITH_SESSIONS:
+        sessions_give(program, name)
     named = part(r"`crate \d+ of (\d+)`", text_of("README.md"))
     count = len(crates.chosen(crates.crates_of(Path(REPOSITORY)), ["pip"]))
     if named != str(count):
         raise Differs(f"README.md has a build of {named} crates, where {count} make the program")
 
 
-def sessions(text: str) -> list[list[tuple[str, bytes]]]:
-    """The sessions of a text, each a list of a command and the output shown below it."""
-    blocks = re.findall(r"(?:^    .*\n)+", text, re.M)
+def sessions_give(program: str, name: str) -> None:
+    """Runs the sessions of a document, each in a folder of its own."""
+    for session in sessions(name):
+        with tempfile.TemporaryDirectory() as place:
+            beside(place, program)
+            commands = [command for command, _ in session]
+            shown = b"".join(output + MARK for _, output in session)
+            told = "; ".join(f"{{ {command}\n}}; s=$?; printf '%s' '{MARK.decode()}'; (exit $s)"
+                             for command in commands)
+            output, status = run(["sh", "-c", told], cwd=place)
+            expect(f"{name}, the session from '$ {commands[0]}' on", (output, status), (shown, 0))
+
+
+def beside(place: str, program: str) -> None:
+    """Puts beside a session what its commands name: examples/, the folders of tools and ./pip."""
+    for folder in ("examples", "tools", "class", "dev"):
+        os.symlink(os.path.join(REPOSITORY, folder), os.path.join(place, folder))
+    os.symlink(os.path.abspath(program), os.path.join(place, "pip"))
+
+
+def sessions(name: str) -> list[list[tuple[str, bytes]]]:
+    """The sessions of a document, each a list of a command and the output shown below it."""
+    blocks = re.findall(r"(?:^    .*\n)+", text_of(name), re.M)
     found = [commands for block in blocks if (commands := commands_of(re.sub("^    ", "", block, flags=re.M)))]
     if not found:
-        raise Differs("README.md has no session")
+        raise Differs(f"{name} has no session")
     return found
 
 
@@ -97,9 +113,7 @@ def tutorial_sessions(program: str) -> None:
 def commands_give(name: str, pip: str, by: str) -> None:
     """Runs the commands of a session in a folder of its own, with examples/, the folders of tools and ./pip."""
     with tempfile.TemporaryDirectory() as place:
-        for folder in ("examples", "tools", "class", "dev"):
-            os.symlink(os.path.join(REPOSITORY, folder), os.path.join(place, folder))
-        os.symlink(pip, os.path.join(place, "pip"))
+        beside(place, pip)
         text = text_of(name)
         if not text.startswith("$ "):
             raise Differs(f"{name} doesn't begin with a command")

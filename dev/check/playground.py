@@ -27,6 +27,8 @@ MOST_BYTES = 460_000     # of the page
 FIRST_SEED = 900_000     # no other check has these
 # A sum that wraps and a broken requirement end a run: a usize has 32 bits in a module.
 CHECKED = {"CARGO_PROFILE_RELEASE_OVERFLOW_CHECKS": "true", "CARGO_PROFILE_RELEASE_DEBUG_ASSERTIONS": "true"}
+WEB = os.environ.get("RUSTC_WEB") or os.path.join(
+    os.environ.get("XDG_CACHE_HOME") or os.path.expanduser("~/.cache"), "pip", "rustc-web")
 NO_TARGET = "make_module: cargo can't make a module"
 
 
@@ -66,8 +68,9 @@ def page_of(path: str) -> str:
 
 
 def make(path: str) -> None:
-    """The compiler is the one in the PATH, or Debian's, unpacked where the environment's RUSTC_WEB says."""
-    debian = ("--debian", os.environ["RUSTC_WEB"]) if "RUSTC_WEB" in os.environ else ()
+    """The compiler is the one in the PATH, or Debian's, unpacked where the environment's RUSTC_WEB says, or where
+    dev/install puts it."""
+    debian = ("--debian", WEB) if os.path.isdir(WEB) else ()
     words = called("playground/make_module", "--to", path, *debian)
     done = subprocess.run(words, env=dict(os.environ, **CHECKED), stdout=subprocess.PIPE, stderr=subprocess.STDOUT,
                           timeout=SECONDS)

@@ -8,8 +8,9 @@ import tempfile
 from typing import Any
 
 from .exporting import SECONDS
-from .running import REPOSITORY, Differs, contents, expect, finished, needed, run, write, write_program
+from .running import REPOSITORY, Differs, contents, expect, finished, needed, run, text_of, write, write_program
 
+VERSION = text_of("VERSION").strip()
 GATE = "#!/bin/sh\ncp {program} crates/pip/out/pip\necho '1 passed, 0 failed'\n"
 # Stands in for the kit, which prints its line, and for the page's module
 RT = "#!/bin/sh\necho a kit\n"
@@ -25,13 +26,13 @@ def works(program: str) -> None:
         checkout, tools = os.path.join(place, "checkout"), os.path.join(place, "bin")
         copied(checkout, program, tools)
         to, environment = os.path.join(place, "to"), dict(os.environ, PATH=tools + os.pathsep + os.environ["PATH"])
-        for words in (["--gate"], ["1.0", "--to", to, "--module", os.path.join(place, "module")]):
+        for words in (["--gate"], [VERSION, "--to", to, "--module", os.path.join(place, "module")]):
             finished("dev/release", [os.path.join(checkout, "dev", "release"), *words], SECONDS, cwd=checkout,
                      env=environment)
-        with tarfile.open(os.path.join(to, "pip-1.0.tar.gz")) as archive:
+        with tarfile.open(os.path.join(to, f"pip-{VERSION}.tar.gz")) as archive:
             archive.extractall(os.path.join(place, "reader"))
         shutil.rmtree(checkout)
-        used(os.path.join(place, "reader", "pip-1.0"), os.path.join(place, "plain"))
+        used(os.path.join(place, "reader", f"pip-{VERSION}"), os.path.join(place, "plain"))
 
 
 def copied(checkout: str, program: str, tools: str) -> None:

@@ -1,12 +1,9 @@
-"""What holds of the sources beside what is proved: no clause imports in vain, and the wrong bodies that are kept beside
-the crates fit. And how checks read sources."""
+"""What holds of the sources beside what is proved: no clause imports in vain. And how checks read sources."""
 
-import collections
 import os
 import re
 from collections.abc import Iterator
 
-from edits.reading import NotApplied, all_edits, edited
 from .running import REPOSITORY, Differs, planted_for, text_of
 
 IMPORT = re.compile(r"^\s*ghost use [^{\n]*\{([^}\n]*)\};$")
@@ -55,27 +52,3 @@ def texts(top: str, parts: tuple[str, ...], ending: str) -> Iterator[tuple[str, 
                     if name.endswith(ending):
                         path = os.path.join(folder, name)
                         yield crate, os.path.relpath(path, top), text_of(path)
-
-
-# Edits
-
-def troubles(top: str) -> list[str]:
-    """Each edit that doesn't apply, and each name that two edits of a crate have."""
-    found = []
-    names: collections.Counter[tuple[str, str]] = collections.Counter()
-    for edit in all_edits(top):
-        names[edit.crate, edit.name] += 1
-        try:
-            edited(top, edit)
-        except NotApplied as why:
-            found.append(f"crates/{edit.crate}/{edit.folder}/{edit.name}.edit: {why}")
-    return found + [f"two edits of {crate} are called {name}" for (crate, name), count in names.items() if count > 1]
-
-
-def edits(program: str) -> None:
-    """Each edit of must-fail/ and tried/ applies, and no two of a crate have one name. Planted ones are tried first."""
-    with planted_for("edits") as place:
-        if len(troubles(place)) != 5:
-            raise Differs(f"planted edits: {troubles(place)}")
-    if found := troubles(REPOSITORY):
-        raise Differs("; ".join(found))

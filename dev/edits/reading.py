@@ -1,11 +1,17 @@
-"""Edits that put a wrong body into a crate: files of `must-fail/`, `tried/` and `tried/admitted/`."""
+"""Edits that put a wrong body into a crate: files of `must-fail/`, which the gate tries, and the blocks of the crate's
+file in dev/edits/tried/."""
+
+from __future__ import annotations
 
 import os
+import re
 from collections.abc import Iterator
 from dataclasses import dataclass
 from pathlib import Path
 
-FOLDERS = ("must-fail", "tried", os.path.join("tried", "admitted"))
+GATE, TRIED, ADMITTED = "must-fail", "tried", "admitted"      # the kinds of edits
+KEPT = os.path.join("dev", "edits", "tried")
+BLOCK = re.compile(r"^([^ #\n].*)\n((?:(?: .*)?\n)*)", re.M)
 
 
 class NotApplied(Exception):
@@ -24,13 +30,20 @@ class Change:
 @dataclass(frozen=True)
 class Edit:
     crate: str
-    folder: str
+    kind: str
     name: str
     changes: tuple[Change, ...]
 
+    @property
+    def place(self) -> str:
+        """The file in which it is, with its name, as messages have it."""
+        if self.kind == GATE:
+            return f"crates/{self.crate}/{GATE}/{self.name}.edit"
+        return f"{KEPT}/{self.crate}.txt, {self.name}"
 
-def read_edit(crate: str, folder: str, name: str, text: str) -> Edit:
-    """An edit from the text of its file: lines `file: PATH`, `old: TEXT` and `new: TEXT`; no other line is read."""
+
+def read_changes(text: str) -> tuple[Change, ...]:
+    """The changes of an edit: lines `file: PATH`, `old: TEXT` and `new: TEXT`; no other line is read."""
     path = old = ""
     changes = []
     for line in text.split("\n"):
@@ -41,22 +54,32 @@ def read_edit(crate: str, folder: str, name: str, text: str) -> Edit:
         elif line.startswith("new:"):
             changes.append(Change(path, old, line[len("new: "):]))
             old = ""
-    return Edit(crate, folder, name, tuple(changes))
+    return tuple(changes)
+
+
+def kept_edits(crate: str, text: str) -> Iterator[Edit]:
+    """The edits of a crate's file: a block each, whose title is `NAME`, or `NAME: admitted` where the contracts admit
+    it."""
+    for title, lines in BLOCK.findall(text):
+        name, _, mark = title.partition(": ")
+        body = re.sub("^    ", "", lines, flags=re.M)
+        yield Edit(crate, ADMITTED if mark == ADMITTED else TRIED, name, read_changes(body))
 
 
 def edits_of(top: str, crate: str) -> Iterator[Edit]:
     """The edits of a crate, those of the gate first."""
-    for folder in FOLDERS:
-        place = os.path.join(top, "crates", crate, folder)
-        for entry in sorted(os.listdir(place)) if os.path.isdir(place) else ():
-            if entry.endswith(".edit"):
-                text = Path(place, entry).read_text(encoding="utf-8")
-                yield read_edit(crate, folder, entry[:-len(".edit")], text)
+    place = Path(top, "crates", crate, GATE)
+    for path in sorted(place.glob("*.edit")):
+        yield Edit(crate, GATE, path.stem, read_changes(path.read_text(encoding="utf-8")))
+    kept = Path(top, KEPT, f"{crate}.txt")
+    if kept.is_file():
+        yield from kept_edits(crate, kept.read_text(encoding="utf-8"))
 
 
 def all_edits(top: str) -> Iterator[Edit]:
     """The edits of all crates."""
-    for crate in sorted(os.listdir(os.path.join(top, "crates"))):
+    kept = {path.stem for path in Path(top, KEPT).glob("*.txt")}
+    for crate in sorted(kept.union(os.listdir(os.path.join(top, "crates")))):
         yield from edits_of(top, crate)
 
 

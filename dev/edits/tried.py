@@ -2,9 +2,9 @@
 
     dev/tried [NAME [EDIT ..]]
 
-Without an edit it prints crate, folder and name of each. An edit is put into a copy of the crate and of those below it,
+Without an edit it prints crate, kind and name of each. An edit is put into a copy of the crate and of those below it,
 where `rt check` keeps what was proved; a line says what came of it. The status is 1 if one of them isn't refused by a
-goal, or is of `tried/admitted/` and a goal refuses it."""
+goal, or is admitted and a goal refuses it."""
 
 from __future__ import annotations
 
@@ -14,12 +14,13 @@ import re
 import shutil
 import subprocess
 import tempfile
+from collections.abc import Iterator
 from pathlib import Path
 
 from common import calling
 from common.calling import REPOSITORY, Failed
 from exporter import crates
-from .reading import FOLDERS, Edit, NotApplied, edited, edits_of
+from .reading import ADMITTED, Edit, NotApplied, edited, edits_of
 
 TOLD = re.compile(r"(?:note: )?\S+?:\d+:\d+: (.*)")         # a line of the prover about a place
 LOST = re.compile(r"has no field|is not in scope|has no `|was not admitted")
@@ -44,19 +45,22 @@ def tried() -> int:
     edits = [edit for crate in ([given.crate] if given.crate else known) for edit in edits_of(REPOSITORY, crate)]
     if not given.edits:
         for edit in edits:
-            print(edit.crate, edit.folder, edit.name)
+            print(edit.crate, edit.kind, edit.name)
         return 0
     by_name = {edit.name: edit for edit in edits}
     for name in given.edits:
         if name not in by_name:
             raise Failed(f"{given.crate} has no edit {name}: dev/tried {given.crate} lists them")
-    outcomes = {name: outcome_of(by_name[name], known[given.crate]) for name in given.edits}
-    return int(any(not is_due(by_name[name].folder, outcome) for name, outcome in outcomes.items()))
+    is_well = True
+    for edit, outcome in outcomes([by_name[name] for name in given.edits], known[given.crate]):
+        print(f"{edit.crate} {edit.name}: {outcome}", flush=True)
+        is_well = is_well and is_due(edit.kind, outcome)
+    return int(not is_well)
 
 
-def is_due(folder: str, outcome: str) -> bool:
-    """Whether an edit of this folder may have this outcome. One that is admitted may lose names: it needs a proof."""
-    if folder == FOLDERS[-1]:
+def is_due(kind: str, outcome: str) -> bool:
+    """Whether an edit of this kind may have this outcome. One that is admitted may lose names: it needs a proof."""
+    if kind == ADMITTED:
         return outcome == "passes" or outcome.startswith("refused, but names were lost")
     return outcome.startswith("refused: ")
 
@@ -67,21 +71,27 @@ def chains(top: str) -> dict[str, list[str]]:
     return {name: sorted(crate.name for crate in crates.chosen(found, [name])) for name in found}
 
 
-def outcome_of(edit: Edit, chain: list[str]) -> str:
-    """What becomes of an edit, which is printed too."""
+def outcomes(edits: list[Edit], chain: list[str]) -> Iterator[tuple[Edit, str]]:
+    """What becomes of edits of one crate, which are put into a copy of it and of those below it one after another."""
+    with tempfile.TemporaryDirectory(prefix="pip-tried-") as place:
+        copy_crates(place, chain)
+        for edit in edits:
+            yield edit, outcome_of(edit, os.path.join(place, "crates", edit.crate))
+
+
+def outcome_of(edit: Edit, crate: str) -> str:
+    """What becomes of an edit in a copy of its crate, which is as it was afterwards."""
     try:
         texts = edited(REPOSITORY, edit)
     except NotApplied as why:
-        outcome = f"does not apply: {why}"
-    else:
-        with tempfile.TemporaryDirectory(prefix="pip-tried-") as place:
-            copy_crates(place, chain)
-            crate = os.path.join(place, "crates", edit.crate)
-            for path, text in texts.items():
-                Path(crate, path).write_text(text, encoding="utf-8")
-            outcome = judged(crate, place_of(edit))
-    print(f"{edit.crate} {edit.name}: {outcome}", flush=True)
-    return outcome
+        return f"does not apply: {why}"
+    try:
+        for path, text in texts.items():
+            Path(crate, path).write_text(text, encoding="utf-8")
+        return judged(crate, place_of(edit))
+    finally:
+        for path in texts:
+            shutil.copy2(os.path.join(REPOSITORY, "crates", edit.crate, path), Path(crate, path))
 
 
 def copy_crates(place: str, chain: list[str]) -> None:

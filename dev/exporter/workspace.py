@@ -13,9 +13,10 @@ from .tokens import Trouble
 HERE = Path(__file__).resolve().parent
 MARK = "# An export of ordinary Rust: dev/export made it, and makes it again.\n"
 MADE = ("crates", "shims", ".cargo")  # the folders of which nothing else is left in an export
-PACKAGE = """[package]
-name = "{name}"
-version = "0.1.0"
+VERSION = (HERE.parent.parent / "VERSION").read_text(encoding="utf-8").strip()
+PACKAGE = f"""[package]
+name = "{{name}}"
+version = "{VERSION}"
 edition = "2024"
 license = "Apache-2.0"
 publish = false

@@ -15,7 +15,8 @@ from . import repository
 from .repository import Checkout
 
 CLOSING = re.compile(r"\d+ passed, \d+ failed|check: ")     # the last line of `rt ci`, and those that sum up the checks
-RUN_IT = "say dev/release --gate first, which runs .ci/run"
+OF_PAGE = ("playground", "playground-browser")               # checks that need its module
+RUN_IT = "say dev/release --gate first, which runs .ci/run --all"
 
 
 @dataclass(frozen=True)
@@ -32,14 +33,15 @@ class Record:
     program: str | None
 
 
-def run(found: Checkout) -> int:
-    """Runs .ci/run over a clean checkout, shows what it says, keeps a record, and answers the gate's status."""
+def run(found: Checkout, no_page: bool = False) -> int:
+    """Runs .ci/run --all over a clean checkout, without the checks of the page if none is wanted, shows what it says,
+    keeps a record, and answers the gate's status."""
     found.need_clean()
     found.record.parent.mkdir(parents=True, exist_ok=True)
     found.record.unlink(missing_ok=True)
     commit, tree, begun = found.commit(), found.tree(), now()
     with open(found.record.with_suffix(".log"), "wb") as log:
-        status, lines = shown(found, log)
+        status, lines = shown(found, log, ["--all", *(["--but", *OF_PAGE] if no_page else [])])
     found.need_clean()
     if found.tree() != tree:
         raise Failed("another commit was checked out while the gate ran: that run counts for nothing")
@@ -49,10 +51,10 @@ def run(found: Checkout) -> int:
     return status
 
 
-def shown(found: Checkout, log: IO[bytes]) -> tuple[int, list[str]]:
+def shown(found: Checkout, log: IO[bytes], words: list[str]) -> tuple[int, list[str]]:
     """The status of the gate, and its lines, which are passed on as they come."""
     lines = []
-    with subprocess.Popen([str(found.place / ".ci" / "run")], stdin=subprocess.DEVNULL, stdout=subprocess.PIPE,
+    with subprocess.Popen([str(found.place / ".ci" / "run"), *words], stdin=subprocess.DEVNULL, stdout=subprocess.PIPE,
                           stderr=subprocess.STDOUT) as gate:
         assert gate.stdout is not None
         for line in gate.stdout:

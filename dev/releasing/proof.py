@@ -14,14 +14,16 @@ MARK = "UNPROVED"            # a file by which ./pip sees that a release is unpr
 TEXTS = blocks("proof.txt", __file__)
 
 
-def text(version: str, record: Record | None, found: Checkout, page_sum: str) -> str:
-    """That of a release, for which no gate was run where there is no record of one."""
+def text(version: str, record: Record | None, found: Checkout, page_sum: str | None) -> str:
+    """That of a release, for which no gate was run where there is no record of one, and which has no page where there
+    is no sum of it."""
     program = PROGRAM if record else repository.UNPROVED
-    told = {"version": version, "page": PAGE, "commit": found.commit(), "tree": found.tree()}
+    told = {"version": version, "commit": found.commit(), "tree": found.tree(),
+            "copies": TEXTS["with page" if page_sum else "no page"].rstrip("\n").format(page=PAGE)}
     if record:
         told.update(vars(record), closing="\n".join(f"          {line}" for line in record.closing),
                     trusted=trusted(found))
-    sums = [(repository.sum_of(found.place / program), program), (page_sum, PAGE)]
+    sums = [(repository.sum_of(found.place / program), program), *([(page_sum, PAGE)] if page_sum else [])]
     sums += [(repository.sum_of(found.place / name), name) for name in found.files()]
     return (TEXTS["proved" if record else "unproved"].format_map({**told, "program": program}) + "\n"
             + TEXTS["sums"].format(sums="\n".join(f"{total}  {name}" for total, name in sums)))

@@ -1,6 +1,8 @@
 """Makes a release: what is committed, with the program that the gate built, the page, the documents as HTML, the
 export, and PROOF."""
 
+from __future__ import annotations
+
 import argparse
 import os
 import re
@@ -20,6 +22,7 @@ VERSION = re.compile(r"\d+(\.\d+)*(-[a-z0-9]+)?")
 MARK = "crates/pip/out/sources-seen"       # by which ./pip sees that the program is as new as the sources
 UNPROVED_MARK = "out/sources-seen"         # the same of what cargo built
 EXPORT = "rust"
+NO_COMPILER = "no compiler here has the target wasm32: --debian names a folder with one"
 BESIDE = "pip-release"                     # beside the checkout
 
 
@@ -29,13 +32,16 @@ def main() -> None:
         epilog="It refuses a checkout that isn't clean, and one on which 'release --gate' hasn't passed.")
     parser.add_argument("version", nargs="?", metavar="VERSION", help="as 1.2, or 1.2-rc1")
     parser.add_argument("--gate", action="store_true",
-                        help="run .ci/run, and keep a record of it in out/; its status is the gate's")
+                        help="run .ci/run --all, and keep a record of it in out/; its status is the gate's")
     parser.add_argument("--unproved", action="store_true",
                         help="without a gate, of the program that ./pip --unproved has built: the folder, PROOF and "
                              "./pip say so")
     parser.add_argument("--to", type=Path, metavar="FOLDER",
                         help="where the folder and the tarball go, outside the checkout; without it pip-release beside "
                              "it")
+    parser.add_argument("--no-page", action="store_true",
+                        help="without pip.html, which needs a compiler with the target wasm32; PROOF says so. It is so "
+                             "where there is no such compiler, too. With --gate: without the checks of the page")
     module.take_module(parser)
     calling.started(parser, lambda given: work(given, Checkout(Path(calling.REPOSITORY))))
 
@@ -44,10 +50,12 @@ def work(given: argparse.Namespace, found: Checkout) -> int:
     if given.gate:
         if given.version:
             raise Failed("--gate needs no version: it runs the gate, and a release comes after it")
-        return gate.run(found)
+        return gate.run(found, given.no_page)
     if not given.version or not VERSION.fullmatch(given.version):
         raise Failed(f"a version is numbers with points between them, as 1.2, and not {given.version!r}"
                      if given.version else "which version?")
+    if given.version.partition("-")[0] != (named := found.version()):
+        raise Failed(f"the file VERSION says {named}: a release of {given.version} needs another commit")
     print(made(given, found, place_of(given, found)))
     return 0
 
@@ -75,11 +83,11 @@ def made(given: argparse.Namespace, found: Checkout, to: Path) -> Path:
     with tempfile.TemporaryDirectory(dir=to) as place:
         top = Path(place) / name
         copied(found, top, program)
-        make_page(given, found, top / proof.PAGE)
+        page_sum = make_page(given, found, top / proof.PAGE)
         documents(top)
         export(found, top / EXPORT)
         run("the judge", found, "class/judge/make_judge", "--to", str(top / "class" / "judge" / "pip_judge"))
-        told = proof.text(given.version, record, found, repository.sum_of(top / proof.PAGE))
+        told = proof.text(given.version, record, found, page_sum)
         (top / "PROOF").write_text(told, encoding="utf-8")
         packed(top, Path(place) / tarball.name, found.seconds())
         os.rename(top, folder)
@@ -106,12 +114,17 @@ def copied(found: Checkout, top: Path, program: Path) -> None:
         (top / MARK).touch()
 
 
-def make_page(given: argparse.Namespace, found: Checkout, path: Path) -> None:
+def make_page(given: argparse.Namespace, found: Checkout, path: Path) -> str | None:
+    """Makes the page and answers its sum; None where it isn't wanted, or nothing here can make its module."""
+    if given.no_page or not given.module and module.compiler_of(given.debian) is None:
+        sys.stderr.write(f"release: without {path.name}{'' if given.no_page else ', since ' + NO_COMPILER}\n")
+        return None
     parts = {"--module": given.module, "--debian": None if given.module else given.debian}
     words = [word for option, path in parts.items() if path for word in (option, str(path.resolve()))]
     run("the page", found, "class/playground/make_page", "--to", str(path), *words)
     if not path.is_file():
         raise Failed(f"the page isn't there: class/playground/make_page made no {path.name}")
+    return repository.sum_of(path)
 
 
 def export(found: Checkout, path: Path) -> None:

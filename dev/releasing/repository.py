@@ -38,6 +38,10 @@ class Checkout:
         """What `dev/release --gate` leaves."""
         return self.place / "out" / "gate.json"
 
+    def version(self) -> str:
+        """What the file VERSION says."""
+        return (self.place / "VERSION").read_text(encoding="utf-8").strip()
+
     def git(self, *words: str) -> str:
         done = subprocess.run(["git", "-C", str(self.place), *words], stdout=subprocess.PIPE, stderr=subprocess.PIPE)
         if done.returncode:

@@ -65,11 +65,12 @@ class Releases(unittest.TestCase):
         with contextlib.redirect_stdout(io.TextIOWrapper(io.BytesIO())):
             return gate.run(self.found)
 
-    def made(self, version: str = "1.2", to: str | None = "to", unproved: bool = False) -> Path:
-        """Makes a release, and answers its folder; where `to` is None it goes beside the checkout."""
-        given = argparse.Namespace(version=version, gate=False, unproved=unproved, module=None, debian=None,
-                                   to=None if to is None else self.place / to)
-        with contextlib.redirect_stdout(io.StringIO()):
+    def made(self, version: str = "1.2", to: str | None = "to", unproved: bool = False, no_page: bool = False) -> Path:
+        """Makes a release, and answers its folder; where `to` is None it goes beside the checkout. Its page is made of
+        a module that is there."""
+        given = argparse.Namespace(version=version, gate=False, unproved=unproved, no_page=no_page, debian=None,
+                                   module=self.place / "module", to=None if to is None else self.place / to)
+        with contextlib.redirect_stdout(io.StringIO()), contextlib.redirect_stderr(io.StringIO()):
             release.work(given, self.found)
         return self.place / (release.BESIDE if to is None else to) / f"pip-{version}{'-unproved' if unproved else ''}"
 
@@ -96,9 +97,21 @@ class Releases(unittest.TestCase):
         for part in ("pip 1.2\n", self.found.commit(), KIT, "3 passed, 0 failed", "check: 2 of 2 checks pass",
                      "- The kit."):
             self.assertIn(part, told)
+        self.assertNotIn("has no pip.html", told)
         self.assertIn('<a href="docs/PROVED.html#trusted">', (made / "README.html").read_text())
         one, two = (path.with_name(path.name + ".tar.gz").read_bytes() for path in (made, beside))
         self.assertEqual(one, two)
+
+    def test_without_a_page_proof_says_so(self) -> None:
+        self.pass_gate()
+        made = self.made(no_page=True)
+        self.assertNotIn("pip.html", self.parts(made))
+        self.assertIn("This release has no pip.html", (made / "PROOF").read_text())
+        log = self.found.record.with_suffix(".log")
+        self.assertIn("words: --all\n", log.read_text())
+        with contextlib.redirect_stdout(io.TextIOWrapper(io.BytesIO())):
+            gate.run(self.found, no_page=True)
+        self.assertIn("words: --all --but playground playground-browser\n", log.read_text())
 
     def test_an_unproved_one_needs_no_gate_and_says_so(self) -> None:
         self.refused("say ./pip --unproved script", unproved=True)
@@ -129,6 +142,7 @@ class Releases(unittest.TestCase):
 
     def test_a_version_that_is_none_or_is_there_and_a_folder_in_the_checkout(self) -> None:
         self.refused("a version is numbers", version="../x")
+        self.refused("VERSION says 1.2", version="1.3")
         self.pass_gate()
         for to in ("here", "here/out/release"):
             self.refused("is inside the checkout", to=to)

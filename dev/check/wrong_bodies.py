@@ -1,0 +1,102 @@
+"""The wrong bodies that are kept apply to the sources, and are as many as CONTRIBUTING.md says; and of those that the
+gate doesn't try ten are tried again, drawn by the commit."""
+
+from __future__ import annotations
+
+import collections
+import hashlib
+import time
+from collections.abc import Iterable
+
+from common.calling import Failed
+from edits import tried
+from edits.reading import ADMITTED, GATE, TRIED, Edit, NotApplied, all_edits, edited
+from .running import REPOSITORY, Differs, Skipped, each, needed, part, planted_for, run, text_of
+
+DRAWN, CRATES = 10, 2    # how many are tried, and of how many crates at most
+SECONDS = 1800           # after which no further one is begun
+COUNTS = {GATE: r"tries (\d+) edits", TRIED: r"(\d+) others", ADMITTED: r"admits? (\d+) more"}      # in CONTRIBUTING.md
+
+
+def edits(program: str) -> None:
+    """Each edit applies, no two of a crate have one name, and CONTRIBUTING.md has their numbers. Planted ones are tried
+    first."""
+    with planted_for("edits") as place:
+        if len(troubles(place)) != 6:
+            raise Differs(f"planted edits: {troubles(place)}")
+    if found := troubles(REPOSITORY):
+        raise Differs("; ".join(found))
+    counts = collections.Counter(edit.kind for edit in all_edits(REPOSITORY))
+    for kind, words in COUNTS.items():
+        named = part(words, text_of("CONTRIBUTING.md"))
+        if named != str(counts[kind]):
+            raise Differs(f"CONTRIBUTING.md has {named} edits of the kind {kind}, and there are {counts[kind]}")
+
+
+def troubles(top: str) -> list[str]:
+    """Each edit that doesn't apply, and each name that two edits of a crate have."""
+    found = []
+    names: collections.Counter[tuple[str, str]] = collections.Counter()
+    for edit in all_edits(top):
+        names[edit.crate, edit.name] += 1
+        try:
+            edited(top, edit)
+        except NotApplied as why:
+            found.append(f"{edit.place}: {why}")
+    return found + [f"two edits of {crate} are called {name}" for (crate, name), count in names.items() if count > 1]
+
+
+def drawn_edits(program: str) -> None:
+    """The prover refuses each edit that is drawn, as it did once."""
+    drawing()
+    needed("rt")
+    commit, status = run([needed("git"), "rev-parse", "HEAD"])
+    if status:
+        raise Skipped("no commit")
+    chosen = drawn(all_edits(REPOSITORY), commit.decode().strip())
+    crates = sorted({edit.crate for edit in chosen})
+    known, until = tried.chains(REPOSITORY), time.monotonic() + SECONDS
+    results = each(lambda crate: refused([edit for edit in chosen if edit.crate == crate], known[crate], until), crates)
+    wrong = [f"{edit.place}: {outcome}" for found in results for edit, outcome in found
+             if not tried.is_due(edit.kind, outcome)]
+    if wrong:
+        raise Differs(f"an edit that was refused once isn't: mend it, or the contract. {'; '.join(wrong)}")
+    left = len(chosen) - sum(map(len, results))
+    if left:
+        raise Skipped(f"{left} of {len(chosen)} edits not begun in {SECONDS} seconds")
+
+
+def refused(chosen: list[Edit], chain: list[str], until: float) -> list[tuple[Edit, str]]:
+    """What becomes of edits of one crate, up to a time."""
+    found = []
+    try:
+        for outcome in tried.outcomes(chosen, chain):
+            found.append(outcome)
+            if time.monotonic() > until:
+                break
+    except Failed as why:
+        raise Differs(str(why)) from None
+    return found
+
+
+def drawn(edits: Iterable[Edit], commit: str) -> list[Edit]:
+    """Ten edits, none of which the gate tries or a contract admits, of the crates of the first that are drawn."""
+    order = sorted((edit for edit in edits if edit.kind == TRIED), key=lambda edit: hashlib.sha256(
+        f"{commit} {edit.crate} {edit.name}".encode()).digest())
+    crates = list(dict.fromkeys(edit.crate for edit in order))[:CRATES]
+    return [edit for edit in order if edit.crate in crates][:DRAWN]
+
+
+def drawing() -> None:
+    """What is drawn is another for another commit, and comes to each edit."""
+    kinds = (GATE, TRIED, TRIED, TRIED, TRIED, TRIED, TRIED, ADMITTED)
+    planted = [Edit(f"pip_{crate}", kind, f"edit_{k}", ()) for crate in "abc" for k, kind in enumerate(kinds)]
+    seen = set()
+    for commit in range(60):
+        chosen = drawn(planted, str(commit))
+        seen.update(chosen)
+        few = len({edit.crate for edit in chosen}) <= CRATES
+        if len(chosen) != DRAWN or not few or chosen != drawn(planted, str(commit)):
+            raise Differs(f"of planted edits {chosen} are drawn")
+    if seen != {edit for edit in planted if edit.kind == TRIED}:
+        raise Differs(f"of planted edits {len(seen)} are drawn in all")
