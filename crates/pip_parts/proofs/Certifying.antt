@@ -24,7 +24,8 @@ use Rattle.pip_parts.specs.Sums.{label_sum, sum_after, sum_and}
 use Rattle.pip_parts.specs.declared.lines.PartNumbers.{PartNumbers}
 use Rattle.pip_parts.specs.Merges.{Merging, is_whole, merge_lines, no_merging}
 use Rattle.pip_parts.proofs.EntryLines.{asks_back, digits_are, own_back, same_digits, shows_back, tells_back}
-use Rattle.pip_parts.proofs.Runs.{IsOf, IsThere, IsTold, IsWithin, about_of, asked_there, begin, counts, deep, has_key, is_own}
+use Rattle.pip_parts.proofs.Runs.{IsOf, IsThere, IsTold, IsWithin, about_of}
+use Rattle.pip_parts.proofs.Runs.{asked_there, begin, counts, deep, has_key, is_own}
 use Rattle.pip_parts.proofs.Runs.{none_twice, told}
 use Rattle.pip_parts.proofs.Steps.{lines_are, merge_all}
 
@@ -432,5 +433,6 @@ lines_merge m one start s ts lines g stands checked shuffled run whole = record 
       (in_part ts j t (said_label label) at (label_in t k label e)));
   about = λ j t at. of_each (IsOf g.parts.about) (map entry_of lines) (said_part t)
       (about_of (map entry_of lines) no_merging g (sym (lines_are no_merging lines) ∙ run)).all
-      (forth m start s ts lines g checked shuffled run whole (said_part t) (in_part ts j t (said_part t) at (part_in t)));
+      (forth m start s ts lines g checked shuffled run whole (said_part t)
+      (in_part ts j t (said_part t) at (part_in t)));
 }

@@ -19,7 +19,7 @@ use Rattle.pip_search.specs.Packing.{packed_key, packed_word, seven_bits, unpack
 use Rattle.pip_search.proofs.Packed.{bits_none, bits_some, key_back, packed_more, packed_none}
 use Rattle.pip_parts.specs.Entries.{Asks, Own, Shows, Tells, are_digits, but_last, byte_digits, entry_line}
 use Rattle.pip_parts.specs.Entries.{entry_of, is_hex, key_digits, key_said, last_bytes, line_of_key, line_of_part}
-use Rattle.pip_parts.specs.Entries.{number_list, numbers_of, one_of}
+use Rattle.pip_parts.specs.Entries.{number_list, part_numbers_of, one_of}
 use Rattle.pip_parts.specs.declared.lines.PartNumbers.{PartNumbers}
 
 -- ---- numbers
@@ -188,7 +188,7 @@ tells_back about n small =
     ∙ drop-append_seam about rest in
     let most : nat_le 45 (length (about ++ rest)) ≡ true = le-leb 45 (length (about ++ rest)) (omega (arith, long)) in
     ap (λ t. cond t (option_map (Tells (but_last 45 (about ++ rest)))
-    (numbers_of (words_ahead 5 (last_bytes 45 (about ++ rest))))) None) most
-    ∙ ap (λ x. option_map (Tells x) (numbers_of (words_ahead 5 (last_bytes 45 (about ++ rest))))) front
-    ∙ ap (λ x. option_map (Tells about) (numbers_of (words_ahead 5 x))) back
-    ∙ ap (λ o. option_map (Tells about) (numbers_of o)) (words_back (number_list n) small)
+    (part_numbers_of (words_ahead 5 (last_bytes 45 (about ++ rest))))) None) most
+    ∙ ap (λ x. option_map (Tells x) (part_numbers_of (words_ahead 5 (last_bytes 45 (about ++ rest))))) front
+    ∙ ap (λ x. option_map (Tells about) (part_numbers_of (words_ahead 5 x))) back
+    ∙ ap (λ o. option_map (Tells about) (part_numbers_of o)) (words_back (number_list n) small)

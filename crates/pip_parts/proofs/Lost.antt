@@ -1,5 +1,6 @@
 -- No line of the texts of parts is lost alone.
-use Rattle.std.specs.Prelude.{◌≡◌, ◌≢◌, refl, ℕ, suc, ◌+◌, ◌==◌, ◌&&◌, true, List, [], ◌∷◌, ◌++◌, length, map, flat_map, Option}
+use Rattle.std.specs.Prelude.{◌≡◌, ◌≢◌, refl, ℕ, suc, ◌+◌, ◌==◌, ◌&&◌}
+use Rattle.std.specs.Prelude.{true, List, [], ◌∷◌, ◌++◌, length, map, flat_map, Option}
 use Rattle.std.specs.Prelude.{Some, None, Ok}
 use Rattle.std.specs.List.{AllByRecursion, sum_by}
 use Rattle.std.specs.List.Sorted.{IsPermutation}
@@ -14,7 +15,8 @@ use Rattle.pip_parts.specs.Merges.{Merging, has_labels, is_whole, merge_lines, n
 use Rattle.pip_parts.specs.declared.lines.PartNumbers.{PartNumbers}
 use Rattle.pip_parts.proofs.Certifying.{all_back, said_all, said_asks, said_label, said_of, said_own, said_part}
 use Rattle.pip_parts.proofs.Certifying.{sum_mapped, sum_none, sum_ones}
-use Rattle.pip_parts.proofs.Runs.{AreCounts, SaysSomething, counts, each_says, first_is, is_asks, is_label, is_none, is_own, is_part}
+use Rattle.pip_parts.proofs.Runs.{AreCounts, SaysSomething, counts, each_says, first_is}
+use Rattle.pip_parts.proofs.Runs.{is_asks, is_label, is_none, is_own, is_part}
 use Rattle.pip_parts.proofs.Runs.{later_is, says_asked, says_keys, says_labels}
 use Rattle.pip_parts.proofs.Steps.{lines_are}
 

@@ -3,7 +3,7 @@ use Rattle.std.specs.Prelude.{◌≡◌, refl, ℕ, suc, ◌<◌, List, [], ◌�
 use Rattle.std.proofs.Common.{ap, sym, ◌∙◌, arith}
 use Rattle.pip_core_text.specs.Lines.{word_ahead, words_ahead}
 use Rattle.pip_model.specs.Grammar.{cons_number}
-use Rattle.pip_parts.specs.Entries.{numbers_of, one_of, three_of}
+use Rattle.pip_parts.specs.Entries.{part_numbers_of, one_of, three_of}
 use Rattle.pip_parts.specs.declared.lines.PartNumbers.{PartNumbers}
 
 next_ahead : (k : ℕ) (text : List ℕ)
@@ -82,7 +82,7 @@ abbrev pub with_three : ℕ → ℕ → ℕ × ℕ × ℕ → PartNumbers
 with_three a b t = record { way = a; keys = b; asked = t.0; labels = t.1; sum = t.2 }
 
 five_after : (a b : ℕ) (o : Option (List ℕ))
-    → numbers_of (cons_number (Some a) (cons_number (Some b) o)) ≡ option_map (with_three a b) (three_of o)
+    → part_numbers_of (cons_number (Some a) (cons_number (Some b) o)) ≡ option_map (with_three a b) (three_of o)
 five_after a b None = refl
 five_after a b (Some []) = refl
 five_after a b (Some (c ∷ [])) = refl
@@ -90,28 +90,28 @@ five_after a b (Some (c ∷ d ∷ [])) = refl
 five_after a b (Some (c ∷ d ∷ e ∷ [])) = refl
 five_after a b (Some (c ∷ d ∷ e ∷ f ∷ fs)) = refl
 
-pub five_none : (text : List ℕ) → word_ahead text ≡ None → numbers_of (words_ahead 5 text) ≡ None
+pub five_none : (text : List ℕ) → word_ahead text ≡ None → part_numbers_of (words_ahead 5 text) ≡ None
 five_none text none =
-    ap numbers_of (next_ahead 4 text ∙ ap (λ o. cons_number o (words_ahead 4 (drop 9 text))) none)
+    ap part_numbers_of (next_ahead 4 text ∙ ap (λ o. cons_number o (words_ahead 4 (drop 9 text))) none)
 
-none_of_five : (a : ℕ) (o : Option (List ℕ)) → numbers_of (cons_number (Some a) (cons_number None o)) ≡ None
+none_of_five : (a : ℕ) (o : Option (List ℕ)) → part_numbers_of (cons_number (Some a) (cons_number None o)) ≡ None
 none_of_five a None = refl
 none_of_five a (Some ns) = refl
 
 pub five_second : (text rest : List ℕ) (a : ℕ) → word_ahead text ≡ Some a → rest ≡ drop 9 text → word_ahead rest ≡ None
-    → numbers_of (words_ahead 5 text) ≡ None
+    → part_numbers_of (words_ahead 5 text) ≡ None
 five_second text rest a some is none =
-    ap numbers_of (next_ahead 4 text ∙ ap (λ o. cons_number o (words_ahead 4 (drop 9 text))) some
+    ap part_numbers_of (next_ahead 4 text ∙ ap (λ o. cons_number o (words_ahead 4 (drop 9 text))) some
     ∙ ap (λ x. cons_number (Some a) (words_ahead 4 x)) (sym is)
     ∙ ap (cons_number (Some a)) (next_ahead 3 rest ∙ ap (λ o. cons_number o (words_ahead 3 (drop 9 rest))) none))
     ∙ none_of_five a (words_ahead 3 (drop 9 rest))
 
 pub five_is : (text rest last : List ℕ) (a b : ℕ) (o : Option (ℕ × ℕ × ℕ)) → word_ahead text ≡ Some a
     → rest ≡ drop 9 text → word_ahead rest ≡ Some b → last ≡ drop 9 rest → o ≡ three_of (words_ahead 3 last)
-    → option_map (with_three a b) o ≡ numbers_of (words_ahead 5 text)
+    → option_map (with_three a b) o ≡ part_numbers_of (words_ahead 5 text)
 five_is text rest last a b o first is second then third =
     ap (option_map (with_three a b)) third
-    ∙ sym (ap numbers_of (next_ahead 4 text ∙ ap (λ o. cons_number o (words_ahead 4 (drop 9 text))) first
+    ∙ sym (ap part_numbers_of (next_ahead 4 text ∙ ap (λ o. cons_number o (words_ahead 4 (drop 9 text))) first
     ∙ ap (λ x. cons_number (Some a) (words_ahead 4 x)) (sym is)
     ∙ ap (cons_number (Some a)) (next_ahead 3 rest ∙ ap (λ o. cons_number o (words_ahead 3 (drop 9 rest))) second
     ∙ ap (λ x. cons_number (Some b) (words_ahead 3 x)) (sym then)))

@@ -429,7 +429,10 @@ of_step (Some (Tells a k)) os m n g e h =
     }
 
 pub about_of : (os : List (Option Entry)) (m g : Merging) → merge_all m os ≡ Ok g → AreOf m os g
-about_of [] m g h = record { some = λ some. let same : m ≡ g = cc in ap (λ (x : Merging). x.parts.about) (sym same); all = tt }
+about_of [] m g h = record {
+  some = λ some. let same : m ≡ g = cc in ap (λ (x : Merging). x.parts.about) (sym same);
+  all = tt;
+}
 about_of (o ∷ os) m g h =
     let w = on_ok (merge_entry m o) (λ n. merge_all n os) g h in of_step o os m w.0 g w.1.0 (about_of os w.0 g w.1.1)
 

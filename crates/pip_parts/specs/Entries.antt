@@ -72,9 +72,9 @@ three_of (Some (a ∷ b ∷ c ∷ [])) = Some (a, b, c)
 three_of _ = None
 
 -- the numbers of a part, if there are five
-abbrev pub numbers_of : Option (List ℕ) → Option PartNumbers
-numbers_of (Some (a ∷ b ∷ c ∷ d ∷ e ∷ [])) = Some (record { way = a; keys = b; asked = c; labels = d; sum = e })
-numbers_of _ = None
+abbrev pub part_numbers_of : Option (List ℕ) → Option PartNumbers
+part_numbers_of (Some (a ∷ b ∷ c ∷ d ∷ e ∷ [])) = Some (record { way = a; keys = b; asked = c; labels = d; sum = e })
+part_numbers_of _ = None
 
 -- a key before its kind and its depth
 abbrev pub key_said : List ℕ → List ℕ → Option Entry
@@ -93,7 +93,7 @@ line_of_key line =
 abbrev pub line_of_part : List ℕ → Option Entry
 line_of_part text =
     if nat_le 45 (length text)
-    then option_map (Tells (but_last 45 text)) (numbers_of (words_ahead 5 (last_bytes 45 text)))
+    then option_map (Tells (but_last 45 text)) (part_numbers_of (words_ahead 5 (last_bytes 45 text)))
     else None
 
 -- what a line says, if it says anything

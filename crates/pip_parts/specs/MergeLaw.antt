@@ -61,8 +61,8 @@ pub record AreChecked (m : Model) (s : m.State) (start : List ℕ) (ts : List To
   pub begin : (j : ℕ) (t : ToldPart) → slice_get ts j ≡ Some t → BeginsAtStart start t
   pub small : (j : ℕ) (t : ToldPart) → slice_get ts j ≡ Some t → IsSmallPart t
 
--- what a merge says of parts: they say all that can happen, what they count is what was merged, and so are their labels,
--- and what they are of
+-- what a merge says of parts: they say all that can happen, what they count is what was merged, and so are their
+-- labels, and what they are of
 pub record MergeSays (m : Model) (s : m.State) (ts : List ToldPart) (g : Merging) : Type 0 where
   pub all : SayAll m s (map (λ t. t.portion) ts)
   pub count : CountAll m s (map (λ t. t.portion) ts) g.keys.deepest
@@ -88,8 +88,8 @@ AreNoLast lines = (line about : List ℕ) (numbers : PartNumbers) → Contains l
     → entry_of line ≢ Some (Tells about numbers)
 
 -- The law of lost lines: where lines of the texts of parts were lost, and others of no text came, in any order, but the
--- last line of each text is there, once, and all could be merged to a whole, as many came as were lost: none came alone,
--- and none was lost alone
+-- last line of each text is there, once, and all could be merged to a whole, as many came as were lost: none came
+-- alone, and none was lost alone
 abbrev pub NoneIsLost : Type 0
 NoneIsLost = (ts : List ToldPart) (lines lost more : List (List ℕ)) (g : Merging) → AreSmallParts ts
     → IsPermutation (flat_map lines_of_part ts ++ more) (lines ++ lost) → AreNoLast lost → AreNoLast more

@@ -83,7 +83,8 @@ abbrev pub asked_to : MergedKeys → ℕ → Result (Unit {0}) MergeFault
 asked_to m depth =
     if nat_lt depth m.latest then Err F.Order else if nat_le m.depth depth then Ok tt else Err F.Open
 
--- the key that is asked is the last one that a part has; one before that was asked too late, and one after it is missing
+-- the key that is asked is the last one that a part has; one before that was asked too late, and one after it is
+-- missing
 abbrev pub asked_by : Ordering → MergedKeys → ℕ → Result (Unit {0}) MergeFault
 asked_by Less m depth = Err F.Open
 asked_by Equal m depth = asked_to m depth

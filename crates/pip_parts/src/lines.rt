@@ -2,7 +2,7 @@
 ghost use Rattle.std.specs.Prelude.{◌≡◌, option_map};
 ghost use Rattle.pip_core_text.specs.Lines.{words_ahead};
 ghost use Rattle.pip_parts.specs.Entries.{are_digits, entry_of, is_hex, key_said, line_of_key, line_of_part};
-ghost use Rattle.pip_parts.specs.Entries.{numbers_of, one_of, three_of};
+ghost use Rattle.pip_parts.specs.Entries.{part_numbers_of, one_of, three_of};
 ghost use Rattle.pip_parts.specs.Seen.{entry_seen};
 
 use pip_core_text::take_word;
@@ -87,7 +87,7 @@ fn read_three(text: &[u8]) -> Option<(u32, u32, u32)>
 
 // The numbers of a part, each after a space, and nothing after them.
 fn read_numbers(text: &[u8]) -> Option<PartNumbers>
-    ensures { result ≡ numbers_of (words_ahead 5 text.now) }
+    ensures { result ≡ part_numbers_of (words_ahead 5 text.now) }
 {
     let (way, rest) = take_word(text)?;
     let (keys, rest) = take_word(rest)?;

@@ -314,8 +314,8 @@ impl Merger {
         self.shown.add(text)
     }
 
-    /// Whether there are as many keys, as many asked and as many labels as the parts say, which are theirs, and one part
-    /// begins with the first key.
+    /// Whether there are as many keys, as many asked and as many labels as the parts say, which are theirs, and one
+    /// part begins with the first key.
     pub fn is_whole(&self) -> bool
         ensures { result ≡ is_whole (merging_of self.now) }
     {

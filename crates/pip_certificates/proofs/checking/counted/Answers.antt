@@ -26,8 +26,8 @@ returns c =
       part = refl;
       about = refl;
       way = refl;
-      counts = same_numbers c.args.way c.in_ok-keys.keys c.in_ok-asked.asked c.in_ok-labels.labels c.found_sum-sum.result
-          (keys ∙ sym one) (asked ∙ sym two) (labels ∙ sym three)
+      counts = same_numbers c.args.way c.in_ok-keys.keys c.in_ok-asked.asked c.in_ok-labels.labels
+          c.found_sum-sum.result (keys ∙ sym one) (asked ∙ sym two) (labels ∙ sym three)
           (c.found_sum-sum.ensures ∙ ap (λ fs. labels_sum (map inner (label_list fs))) c.as_slice-3.ensures.value);
       small = record {
         keys = small_stops p.keys.items c.deepest.result (search (rules, arith))
