@@ -40,7 +40,7 @@ def solution(name: str, path: str) -> None:
 def drawn_again() -> None:
     """A verdict is the same with its secret, and without it draws another: here the timer with which a root fails that
     knows its own by heart."""
-    cheat = next(cheat for cheat in cheats.all_cheats() if cheat.told.endswith("tell-apart/by_heart.asmx"))
+    cheat = next(cheat for cheat in cheats.all_cheats() if (cheat.name, cheat.title) == ("tell-apart", "by_heart.asmx"))
     found = [cheats.judged(cheat.name, *cheats.edited(cheat), True, secret=secret) for secret in ("1", "1", None, None)]
     told = [one.lines(True) for one in found]
     if told[0] != told[1] or told[2] == told[3] or found[2].secret == found[3].secret:
