@@ -28,19 +28,22 @@ const PAGE: usize = 4100;
 #[derive(Clone)]
 pub struct Image(Vec<u8>);
 
-/// When interrupt lines are raised.
+/// A timer in the place of the text's own plans for its line: the line is raised first at a step and then at distances
+/// that are drawn between two bounds; and, where it strikes, also within a few steps after some of the entries of the
+/// root by a trap or a yield.
 #[derive(Clone)]
-pub enum Timer {
-    /// By the plans of the text.
-    Own,
-    /// This line alone, first at a step and then at distances that are drawn between two bounds; and, where it strikes,
-    /// also within a few steps after some of the entries of the root by a trap or a yield.
-    Drawn { line: u32, first: u32, least: u32, most: u32, strikes: bool, seed: u64 },
+pub struct Timer {
+    pub line: u32,
+    pub first: u32,
+    pub least: u32,
+    pub most: u32,
+    pub strikes: bool,
+    pub seed: u64,
 }
 
 /// What is different from the run of the text alone.
 pub struct Course {
-    pub timer: Timer,
+    pub timer: Option<Timer>,
     pub steps: u32,
     pub hostile: Option<Hostile>,
     /// Children stay where they are in some of their steps, by this seed.
@@ -51,7 +54,7 @@ pub struct Course {
 
 impl Course {
     pub fn plain(steps: u32) -> Course {
-        Course { timer: Timer::Own, steps, hostile: None, stalls: None, edit: None }
+        Course { timer: None, steps, hostile: None, stalls: None, edit: None }
     }
 }
 
@@ -94,7 +97,7 @@ impl Image {
         let (mut world, plans) = self.load()?;
         world.hostile = course.hostile;
         world.stalls = course.stalls.map(Random::new);
-        let mut lines = Lines::new(&course.timer, plans);
+        let mut lines = Lines::new(course.timer, plans);
         let mut generator = Generator::new(1);
         for step in 0..course.steps {
             lines.raise(&mut world, step);
@@ -130,59 +133,60 @@ impl Image {
     }
 }
 
-// The lines that are raised.
-enum Lines {
-    Plans(Vec<Plan>),
-    Drawn { line: u32, next: u32, least: u32, most: u32, strikes: bool, left: Option<u32>, random: Random },
+// The lines that are raised: by the plans of the text, and by a timer.
+struct Lines {
+    plans: Vec<Plan>,
+    timer: Option<Drawn>,
+}
+
+struct Drawn {
+    timer: Timer,
+    next: u32,
+    /// In how many steps it strikes.
+    left: Option<u32>,
+    random: Random,
 }
 
 // A strike comes this many steps after the entry at most.
 const LATEST_STRIKE: u32 = 3;
 
 impl Lines {
-    fn new(timer: &Timer, plans: Vec<Plan>) -> Lines {
-        match *timer {
-            Timer::Own => Lines::Plans(plans),
-            Timer::Drawn { line, first, least, most, strikes, seed } => {
-                Lines::Drawn { line, next: first, least, most, strikes, left: None, random: Random::new(seed) }
-            }
-        }
+    fn new(timer: Option<Timer>, mut plans: Vec<Plan>) -> Lines {
+        let timer = timer.map(|timer| {
+            plans.retain(|plan| plan.line != timer.line);
+            Drawn { next: timer.first, left: None, random: Random::new(timer.seed), timer }
+        });
+        Lines { plans, timer }
     }
 
     fn raise(&mut self, world: &mut World, step: u32) {
-        match self {
-            Lines::Plans(plans) => {
-                for plan in plans.iter().filter(|plan| due(plan, u64::from(step))) {
-                    world.raise(plan.line, &mut steps());
-                }
-            }
-            Lines::Drawn { line, next, least, most, random, .. } => {
-                if step == *next {
-                    world.raise(*line, &mut steps());
-                    *next += random.within(*least, *most);
-                }
-            }
+        for plan in self.plans.iter().filter(|plan| due(plan, u64::from(step))) {
+            world.raise(plan.line, &mut steps());
+        }
+        if let Some(drawn) = self.timer.as_mut().filter(|drawn| drawn.next == step) {
+            world.raise(drawn.timer.line, &mut steps());
+            drawn.next += drawn.random.within(drawn.timer.least, drawn.timer.most);
         }
     }
 
     // Raises the line soon after some of the entries of the root by a child's own act: before the root's first
     // instruction, or after a few of them.
     fn strike(&mut self, world: &mut World, known: usize) {
-        let Lines::Drawn { line, strikes: true, left, random, .. } = self else { return };
+        let Some(drawn) = self.timer.as_mut().filter(|drawn| drawn.timer.strikes) else { return };
         let entered = world.events.get(known).and_then(|event| event.moved.as_ref());
         let is_act = entered.is_some_and(|moved| moved.to == Some(ROOT) && matches!(moved.why, Why::Trap | Why::Yield));
-        if is_act && random.within(0, 2) == 0 {
-            *left = Some(random.within(0, LATEST_STRIKE));
+        if is_act && drawn.random.within(0, 2) == 0 {
+            drawn.left = Some(drawn.random.within(0, LATEST_STRIKE));
         }
-        if *left == Some(0) {
-            world.raise(*line, &mut steps());
+        if drawn.left == Some(0) {
+            world.raise(drawn.timer.line, &mut steps());
         }
-        *left = left.and_then(|left| left.checked_sub(1));
+        drawn.left = drawn.left.and_then(|left| left.checked_sub(1));
     }
 
     // Whether no line can wake a processor any more.
     fn is_over(&self) -> bool {
-        matches!(self, Lines::Plans(plans) if plans.is_empty())
+        self.plans.is_empty() && self.timer.is_none()
     }
 }
 
@@ -235,18 +239,27 @@ pub fn trouble(world: &World) -> Vec<String> {
 
 // Children that the judge puts in the place of a program's own
 
-/// Instructions that set registers and wait, with some others between them.
-pub fn restless(random: &mut Random, acts: &[Vec<Instr>], waits: (u32, u32)) -> Vec<u32> {
+/// Instructions that set registers and wait, with some others between them. Some registers are set once and keep that.
+/// At times a register gets an edge, or one of the halves that mean something to the root.
+pub fn restless(random: &mut Random, acts: &[Vec<Instr>], meant: &[u16], waits: (u32, u32)) -> Vec<u32> {
     let mut text = Vec::new();
+    let (kept, free): (Vec<u32>, Vec<u32>) = (0..16).partition(|a| *a > 0 && random.within(0, 3) == 0);
+    text.extend(kept.iter().map(|a| encode(&li(*a, edge(random, meant)))));
     for _ in 0..40 {
         for _ in 0..random.within(waits.0, waits.1) {
-            let a = random.within(0, 15);
-            text.push(encode(&li(a, random.word() as u16)));
+            let a = random.one_of(&free);
+            let value = if random.within(0, 2) == 0 { edge(random, meant) } else { random.word() as u16 };
+            text.push(encode(&if random.within(0, 3) == 0 { lih(a, value) } else { li(a, value) }));
         }
-        let act = &acts[random.within(0, acts.len() as u32 - 1) as usize];
-        text.extend(act.iter().map(encode));
+        let act = random.within(0, acts.len() as u32 - 1) as usize;
+        text.extend(acts[act].iter().map(encode));
     }
     text
+}
+
+fn edge(random: &mut Random, meant: &[u16]) -> u16 {
+    let all: Vec<u16> = [0, 0, 1, u16::MAX].iter().chain(meant).copied().collect();
+    random.one_of(&all)
 }
 
 pub fn lih(register: u32, value: u16) -> Instr {

@@ -35,4 +35,9 @@ impl Random {
     pub fn within(&mut self, least: u32, most: u32) -> u32 {
         least + (self.next() % u64::from(most - least + 1)) as u32
     }
+
+    /// One of some, of which there is at least one.
+    pub fn one_of<T: Copy>(&mut self, all: &[T]) -> T {
+        all[self.within(0, all.len() as u32 - 1) as usize]
+    }
 }
