@@ -50,6 +50,9 @@ def drawn_again() -> None:
 def by_seeds(program: str) -> None:
     """With a seed the text has other values; a solution for these is good, and that of the repository isn't."""
     cheats.need_judge()
+    for one, other in (("ada lovelace", " Ada_Lovelace "), ("\u00e9", "E\u0301")):
+        if judging.values("map", one) != judging.values("map", other):
+            raise Differs(f"class/exercise --seed: {one!r} and {other!r} are two names")
     work = [(seed, name, one.is_program) for seed, (name, one) in itertools.product(SEEDS, judging.exercises().items())]
     each(lambda one: by_seed(*one), work)
 
