@@ -18,7 +18,7 @@ from . import alone, judging, likeness
 
 SCRIPTS, PROGRAMS = (".pip",), (".s", ".asmx")
 SOLUTION = "the solution of examples/solutions"
-FORMULA = tuple("=+-@\t\r\n\uff1d\uff0b\uff0d\uff20")       # with what begins a formula in a spreadsheet; the last are wide
+FORMULA = tuple("=+-@\t\r\n\uff1d\uff0b\uff0d\uff20")       # what begins one in a spreadsheet, also as a wide letter
 
 
 @dataclass(frozen=True)

@@ -8,7 +8,7 @@ from collections.abc import Iterator, Mapping, Sequence
 
 MOST_LINES = 3000            # of a work that are looked at
 LEAST_LINES = 16             # a shorter work is like another one only where it is the same
-LEAST_MOVED = 12             # lines of a work that is like one with other registers or pages: shorter ones are by nature
+LEAST_MOVED = 12             # and is like one with other registers or pages only from here on
 NEAR = 0.92                  # of the lines are in both
 WORD = re.compile(r"[<>]?[A-Za-z_.][A-Za-z0-9_.]*|0x[0-9a-f]+|-?[0-9]+|\S")
 NUMBER = re.compile(r"0x[0-9a-f]{1,16}|[0-9]{1,16}")

@@ -1,9 +1,9 @@
 """class/exercise: each cheat of class/exercises/cheats misses the goals that it names; where nothing is drawn no more.
 
-EXERCISE.txt has a block for each (common/blocks.py): its title is the file that it would be, and below it the text is
-four columns further in. A block NAME.pip, NAME.s or NAME.asmx is a whole text, and NAME.edit an edit of the exercise's
-solution: `old: ` is a line, or a part of one, that is in it once, and the lines `new: ` after it take its place; without
-any it goes. `file: ` names another file than the solution, whose edited text is judged. The first lines of a block are
+EXERCISE.txt there has a block for each work (common/blocks.py): a title at the left edge, and below it the text, four
+columns further in. NAME.pip, NAME.s or NAME.asmx is a whole text, and NAME.edit an edit of the exercise's solution:
+`old: ` is a line, or a part of one, that is in it once, and the lines `new: ` after it take its place; without any it
+goes. `file: ` names another file than the solution, whose edited text is judged. The first lines of a block are
 `# misses: ` and a goal; a line `# says: ` has words of the verdict. A block good_NAME is another way that reaches all
 goals, so that no goal asks for more than the exercise: `# misses: nothing`."""
 

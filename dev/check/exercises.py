@@ -93,7 +93,8 @@ def without_cargo(path: str) -> None:
         script = ("from dataclasses import replace; from exercises import exercise; from judge import "
                   "building; building.JUDGE = replace(building.JUDGE, name='none'); exercise.main()")
         words = [sys.executable, "-B", "-c", script, "map", path]
-        done = subprocess.run(words, cwd=REPOSITORY, env={"PATH": place, "PYTHONPATH": os.pathsep.join(folders_of(REPOSITORY))}, timeout=SECONDS, stdout=subprocess.PIPE,
+        where = {"PATH": place, "PYTHONPATH": os.pathsep.join(folders_of(REPOSITORY))}
+        done = subprocess.run(words, cwd=REPOSITORY, env=where, timeout=SECONDS, stdout=subprocess.PIPE,
                               stderr=subprocess.PIPE)
     told = done.stderr.decode()
     if done.returncode != 2 or "there is no cargo here" not in told or len(told.splitlines()) != 1:

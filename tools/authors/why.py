@@ -35,8 +35,8 @@ Form = tuple[Optional[int], ...]      # what each number of a line is below; Non
 
 
 class Cause(Exception):
-    """What is wrong with a line: a row of the tables, the column (from 1 on), what stands there in words, and what to do
-    if it isn't what the row says."""
+    """What is wrong with a line: a row of the tables, the column (from 1 on), what stands there in words, and what to
+    do, if that isn't what the row says."""
 
     def __init__(self, name: str, column: int, here: str, act: str = "") -> None:
         super().__init__(name)
