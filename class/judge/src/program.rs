@@ -3,6 +3,7 @@
 use crate::random::Random;
 use crate::script::{Refused, memory};
 use crate::world::{Act, Hostile, Id, ROOT, Why, World, steps};
+use alloc::collections::BTreeSet;
 use alloc::format;
 use alloc::string::{String, ToString};
 use alloc::vec::Vec;
@@ -12,7 +13,7 @@ use pip_cpu::turn;
 use pip_frames::RawFrames;
 use pip_image::{ImageReader, load_image};
 use pip_io::{Discard, SureSource};
-use pip_isa::{Instr, Register, encode};
+use pip_isa::{Instr, Register, decode, encode};
 use pip_kern::boot_zeros;
 use pip_model::{Port, due};
 use pip_script::{Generator, outcome_text};
@@ -23,6 +24,8 @@ use rattle_std::marker::Brand;
 const HEAD: usize = 24;
 const PLAN: usize = 12;
 const PAGE: usize = 4100;
+/// Words of an image that are looked at for constants.
+const MOST_WORDS: usize = 1 << 14;
 
 /// An image, as `asm` writes it.
 #[derive(Clone)]
@@ -90,6 +93,38 @@ impl Image {
         if let Some(at) = self.place(address) {
             self.0[at..at + 4].copy_from_slice(&word.to_le_bytes());
         }
+    }
+
+    /// Numbers that the text has, where it may do something else: its words, the constants of its instructions, the two
+    /// halves that make one, and the neighbours of these.
+    pub fn constants(&self) -> BTreeSet<u32> {
+        let words: Vec<u32> = self.words().collect();
+        let half = |word: u32| word & 0xffff;
+        let alone = words.iter().flat_map(|word| {
+            let constant = half(*word);
+            [*word, constant, half(constant.wrapping_neg())]
+        });
+        let whole = words.windows(2).filter_map(|pair| match (decode(pair[0])?, decode(pair[1])?) {
+            (Instr::Li { value, .. }, Instr::LiHigh { value: high, .. }) => Some(u32::from(high) << 16 | u32::from(value)),
+            _ => None,
+        });
+        alone.chain(whole).flat_map(|number| [number.wrapping_sub(1), number, number.wrapping_add(1)]).collect()
+    }
+
+    /// The half words that its instructions put into registers.
+    pub fn halves(&self) -> BTreeSet<u16> {
+        let constants = self.words().filter_map(|word| match decode(word)? {
+            Instr::Li { value, .. } => Some(value),
+            _ => None,
+        });
+        constants.collect()
+    }
+
+    // The words of its pages that aren't 0, as far as they are looked at.
+    fn words(&self) -> impl Iterator<Item = u32> {
+        let first = HEAD + PLAN * self.field(16) as usize;
+        let places = (first..self.0.len()).step_by(PAGE).flat_map(|page| (page + 4..page + PAGE).step_by(4));
+        places.map(|at| self.field(at)).filter(|word| *word != 0).take(MOST_WORDS)
     }
 
     /// The machine after some steps.
@@ -240,7 +275,7 @@ pub fn trouble(world: &World) -> Vec<String> {
 // Children that the judge puts in the place of a program's own
 
 /// Instructions that set registers and wait, with some others between them. Some registers are set once and keep that.
-/// At times a register gets an edge, or one of the halves that mean something to the root.
+/// At times a register gets an edge, or a half word that may mean something to the root.
 pub fn restless(random: &mut Random, acts: &[Vec<Instr>], meant: &[u16], waits: (u32, u32)) -> Vec<u32> {
     let mut text = Vec::new();
     let (kept, free): (Vec<u32>, Vec<u32>) = (0..16).partition(|a| *a > 0 && random.within(0, 3) == 0);
@@ -258,8 +293,7 @@ pub fn restless(random: &mut Random, acts: &[Vec<Instr>], meant: &[u16], waits: 
 }
 
 fn edge(random: &mut Random, meant: &[u16]) -> u16 {
-    let all: Vec<u16> = [0, 0, 1, u16::MAX].iter().chain(meant).copied().collect();
-    random.one_of(&all)
+    if random.within(0, 1) == 0 { random.one_of(&[0, 0, 1, u16::MAX]) } else { random.one_of(meant) }
 }
 
 pub fn lih(register: u32, value: u16) -> Instr {

@@ -27,8 +27,11 @@ const FIRST: [u32; 2] = [400, 700];
 
 // sum
 
-/// All numbers up to this one are tried, the largest, powers of two with their neighbours, and of each that many others
-/// one that is drawn.
+/// Numbers of a program's own text that are tried: drawn, where there are more.
+const CONSTANTS: usize = 300;
+
+/// All numbers up to this one are tried, the largest, powers of two with their neighbours, those of the text, and of each
+/// that many others one that is drawn.
 const MOST: u32 = 300;
 const LARGEST: u32 = 5000;
 const APART: u32 = 25;
@@ -43,7 +46,10 @@ pub fn sum(v: &Values, image: &Image, secret: u64, verdict: &mut Verdict) -> Res
         return Ok(());
     }
     let mut holds = [size, true, true, true, true, true];
-    for last in [100, 0, MOST, LARGEST].into_iter().chain(1..MOST).chain(larger(&mut Random::new(secret))) {
+    let mut random = Random::new(secret);
+    let of_text = image.constants().into_iter().filter(|last| (MOST..=LARGEST).contains(last)).collect();
+    let others = random.some_of(of_text, CONSTANTS).into_iter().chain(larger(&mut random));
+    for last in [100, 0, MOST, LARGEST].into_iter().chain(1..MOST).chain(others) {
         let mut changed = image.clone();
         changed.put(place, last);
         let world = changed.run(Course::plain(STEPS_OF_SUM))?;
@@ -95,7 +101,7 @@ pub fn child_program(v: &Values, image: &Image, secret: u64, verdict: &mut Verdi
             verdict.story(&[true, false, false, false, false]);
             continue;
         };
-        let is_of_block = follows_block(image, &world, id, at, word, &others(word, &mut random))?;
+        let is_of_block = follows_block(image, &world, id, at, word, &others(image, word, &mut random))?;
         let trap = world.moves().find(|(k, _, moved)| *k > at && moved.from == Some(id));
         let trap = trap.filter(|(_, event, moved)| {
             moved.to == Some(ROOT) && moved.why == Why::Trap && matches!(event.act, Act::Trap { vector: 64.. })
@@ -119,9 +125,11 @@ fn has_had_handlers(image: &Image, world: &World, id: Id, at: usize) -> Result<b
 }
 
 // The words that are put into the register.
-fn others(word: u32, random: &mut Random) -> Vec<u32> {
+fn others(image: &Image, word: u32, random: &mut Random) -> Vec<u32> {
     let edges = [0, 1, word - 1, word + 1, 0xffff, 0x1_0000, u32::MAX >> 1, 1 << 31, u32::MAX];
-    edges.into_iter().chain((0..WORDS).map(|_| random.word() >> random.within(0, 31))).collect()
+    let of_text = random.some_of(image.constants().into_iter().collect(), CONSTANTS);
+    let drawn = (0..WORDS).map(|_| random.word() >> random.within(0, 31));
+    edges.into_iter().chain(drawn).chain(of_text).collect()
 }
 
 // Whether the child shows what a register of a block has by which it began, where that has the word: another word there
@@ -267,6 +275,11 @@ fn two(world: &World) -> Option<[Id; 2]> {
     alive.next().is_none().then_some(pair)
 }
 
+/// Half words that may mean something to a program: these, and those of its text.
+fn halves_of(image: &Image, known: &[u16]) -> Vec<u16> {
+    known.iter().copied().chain(image.halves()).collect()
+}
+
 // monitor
 
 pub fn monitor(v: &Values, image: &Image, secret: u64, verdict: &mut Verdict) -> Result<(), Refused> {
@@ -289,15 +302,16 @@ pub fn monitor(v: &Values, image: &Image, secret: u64, verdict: &mut Verdict) ->
         let told = format!("one child waits {} steps for a turn, the other {}", quiet[0], quiet[1]);
         (good, told)
     };
-    let hostile = |random: &mut Random| Some(Hostile::new(halves.map(|half| showing(half, random)).into()));
+    let meant = halves_of(image, &[32 + line as u16]);
+    let hostile = |random: &mut Random| Some(Hostile::new(halves.map(|half| showing(half, &meant, random)).into()));
     with_timers(image, line, (5000, 10_000), secret, hostile, judge, verdict)
 }
 
 // A child that shows words with an upper half, whatever its registers have.
-fn showing(half: u32, random: &mut Random) -> Vec<u32> {
+fn showing(half: u32, meant: &[u16], random: &mut Random) -> Vec<u32> {
     let out = |low: u16| vec![li(1, low), lih(1, half as u16), Instr::Out { a: Register::new(1) }];
     let acts: Vec<Vec<Instr>> = [0, u16::MAX].into_iter().chain((0..4).map(|_| random.word() as u16)).map(out).collect();
-    restless(random, &acts, &[half as u16], (0, 40))
+    restless(random, &acts, meant, (0, 40))
 }
 
 // Whether one child shows words with the one upper half alone, and the other with the other, without a long silence.
@@ -328,7 +342,7 @@ pub fn tell_apart(v: &Values, image: &Image, secret: u64, verdict: &mut Verdict)
         (vec![come(Why::Line), come(Why::Yield), owed, on, calm], told)
     };
     let forge = vec![li(1, 0), li(2, vector as u16), li(3, 63), Instr::Sys { value: 8 }];
-    let meant = [vector as u16, 63];
+    let meant = halves_of(image, &[vector as u16, 63]);
     let hostile =
         |random: &mut Random| Some(Hostile::new(vec![restless(random, &[forge.clone()], &meant, (0, 40))]));
     with_timers(image, line, (3000, 6000), secret, hostile, judge, verdict)
