@@ -32,7 +32,8 @@ def main() -> None:
     parser.add_argument("--script", action="store_true",
                         help="of break-in write the whole script that is run, and judge nothing")
     parser.add_argument("--seed", metavar="STUDENT",
-                        help="the exercise with other addresses, words and numbers, which depend on this name alone")
+                        help="the exercise with other addresses, words and numbers, which depend on this name alone, "
+                             "whatever its case is")
     parser.add_argument("--again", metavar="SECRET", help="draw what the verdict drew that named this secret")
     calling.started(parser, work)
 
@@ -46,6 +47,8 @@ def work(given: argparse.Namespace) -> int:
                      else "which exercise? See --list")
     if given.again and not re.fullmatch("[0-9a-f]{1,16}", given.again):
         raise Failed(f"--again is at most 16 digits 0 to f, as a verdict has them, and not {given.again!r}")
+    if given.seed is not None and not given.seed.strip():
+        raise Failed("--seed is a student's name")
     if given.file is None:
         print(told(given.name, given.seed))
         return 0

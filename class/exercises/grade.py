@@ -18,6 +18,7 @@ from . import alone, judging, likeness
 
 SCRIPTS, PROGRAMS = (".pip",), (".s", ".asmx")
 SOLUTION = "the solution of examples/solutions"
+FORMULA = tuple("=+-@\t\r\n\uff1d\uff0b\uff0d\uff20")       # what begins one in a spreadsheet, also as a wide letter
 
 
 @dataclass(frozen=True)
@@ -106,7 +107,7 @@ def work(given: argparse.Namespace) -> int:
     table = Table(students, {(one.student, one.exercise): one for one in judged}, goals,
                   alike(exercises, judged, given.seeds))
     if given.csv:
-        csv.writer(sys.stdout, lineterminator="\n").writerows(csv_rows(table))
+        csv.writer(sys.stdout, lineterminator="\n", quoting=csv.QUOTE_NONNUMERIC).writerows(csv_rows(table))
     else:
         print("\n".join([*lines(table), f"(--again {given.secret} draws the same)"]))
     return 0
@@ -115,15 +116,17 @@ def work(given: argparse.Namespace) -> int:
 def found(folder: str, exercises: dict[str, judging.Exercise]) -> tuple[list[str], list[Work], list[tuple[str, str]]]:
     """The students of a folder, their works, and the other files with what they are."""
     try:
-        students = sorted(entry.name for entry in os.scandir(folder)
-                          if entry.is_dir(follow_symlinks=False) and not entry.name.startswith("."))
+        entries = sorted((entry for entry in os.scandir(folder) if not entry.name.startswith(".")),
+                         key=lambda entry: entry.name)
+        students = [entry.name for entry in entries if entry.is_dir(follow_symlinks=False)]
         files = [(student, file) for student in students for file in sorted(os.listdir(os.path.join(folder, student)))]
     except OSError as error:
         raise Failed(f"{error.filename or folder} can't be read: {error.strerror}") from None
     if not students:
         raise Failed(f"{folder} has no folder of a student")
     works: dict[tuple[str, str], Work] = {}
-    others = []
+    others = [(entry.path, "is a link, and no folder of a student" if entry.is_symlink() else
+               "is in no student's folder") for entry in entries if entry.name not in students]
     for student, file in files:
         name, ending = os.path.splitext(file)
         path = os.path.join(folder, student, file)
@@ -188,4 +191,9 @@ def csv_rows(table: Table) -> list[list[object]]:
                 if other != student]
         cells = (work.count if work else "" for work in works)
         rows.append([student, *cells, table.count(student), table.whole(student), "; ".join(like)])
-    return rows
+    return [[as_text(cell) for cell in row] for row in rows]
+
+
+def as_text(cell: object) -> object:
+    """A cell that no spreadsheet takes for a formula."""
+    return "'" + cell if isinstance(cell, str) and cell.startswith(FORMULA) else cell

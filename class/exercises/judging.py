@@ -5,6 +5,7 @@ from __future__ import annotations
 import os
 import secrets
 import subprocess
+import unicodedata
 from dataclasses import dataclass, field
 
 from authors import asmx, trace, why
@@ -19,9 +20,10 @@ SOLUTIONS = os.path.join(REPOSITORY, "examples", "solutions")
 
 def ask(act: str, name: str = "", seed: str | None = None, secret: str = "", text: bytes = b"") -> str:
     """What the judge answers: class/judge/src/lib.rs says which lines."""
-    if any("\n" in word for word in (name, seed or "", secret)):
+    seed = unicodedata.normalize("NFC", seed or "")      # a folder's name may have an accent beside its letter
+    if any("\n" in word for word in (name, seed, secret)):
         raise Failed("a name and a seed have one line")
-    head = "\n".join((act, name, seed or "", secret, ""))
+    head = "\n".join((act, name, seed, secret, ""))
     program = building.program()
     with calling.running(program):
         done = subprocess.run([program], input=head.encode() + text, stdout=subprocess.PIPE)

@@ -1,4 +1,5 @@
-"""Which works are the same text but for remarks, names and how numbers are written, or nearly so."""
+"""Which works are the same text but for remarks, names and how numbers are written, or for registers and pages, too, or
+nearly so."""
 
 import itertools
 import re
@@ -7,11 +8,13 @@ from collections.abc import Iterator, Mapping, Sequence
 
 MOST_LINES = 3000            # of a work that are looked at
 LEAST_LINES = 16             # a shorter work is like another one only where it is the same
+LEAST_MOVED = 12             # and is like one with other registers or pages only from here on
 NEAR = 0.92                  # of the lines are in both
 WORD = re.compile(r"[<>]?[A-Za-z_.][A-Za-z0-9_.]*|0x[0-9a-f]+|-?[0-9]+|\S")
 NUMBER = re.compile(r"0x[0-9a-f]{1,16}|[0-9]{1,16}")
 NAME = re.compile(r"[A-Za-z_][A-Za-z0-9_]*")
 REGISTER = re.compile(r"r([0-9]|1[0-5])")
+PAGE = 4096
 
 
 def essence(text: bytes, is_program: bool) -> list[str]:
@@ -37,16 +40,47 @@ def plain(words: list[str], names: dict[str, str], is_program: bool) -> Iterator
             yield word
 
 
+def shape(text: Sequence[str]) -> tuple[str, ...]:
+    """The same lines with registers, pages and frames numbered as they come: those that were renamed or moved are the
+    same."""
+    known: dict[tuple[str, int], int] = {}
+
+    def number(kind: str, value: int) -> str:
+        return f"{kind}{known.setdefault((kind, value), len(known))}"
+
+    def moved(words: list[str], place: int) -> str:
+        word, before = words[place], words[:place]
+        if REGISTER.fullmatch(word):
+            return number("r", int(word[1:]))
+        if not word.isdigit():
+            return word
+        value = int(word)
+        if before == ["peek"] or before[:1] == ["lih"]:
+            return number(before[0], value)
+        return word if value < PAGE else f"{number('page', value // PAGE)}+{value % PAGE}"
+
+    lines = (line.split(" ") for line in text)
+    return tuple(" ".join(moved(words, place) for place in range(len(words))) for words in lines)
+
+
 def alike(texts: Mapping[str, Sequence[str]]) -> list[tuple[str, list[str]]]:
-    """The works that are the same text, and of different texts those that are nearly the same: how, and whose they are.
-    """
+    """The works that are the same text, and of different texts those that are the same but for registers and pages, or
+    nearly the same: how, and whose they are."""
     same: dict[tuple[str, ...], list[str]] = {}
     for who, text in texts.items():
         if text:
             same.setdefault(tuple(text), []).append(who)
-    near = [("nearly the same text", [who[0], others[0]])
-            for (a, who), (b, others) in itertools.combinations(same.items(), 2) if is_near(a, b)]
-    return [("the same text", who) for who in same.values() if len(who) > 1] + near
+    shapes = {text: shape(text) for text in same}
+    pairs = ((likeness(a, b, shapes), [who[0], others[0]])
+             for (a, who), (b, others) in itertools.combinations(same.items(), 2))
+    return [("the same text", who) for who in same.values() if len(who) > 1] + [(how, who) for how, who in pairs if how]
+
+
+def likeness(a: tuple[str, ...], b: tuple[str, ...], shapes: Mapping[tuple[str, ...], tuple[str, ...]]) -> str:
+    """How two different texts are alike; nothing where they aren't."""
+    if len(a) >= LEAST_MOVED and shapes[a] == shapes[b]:
+        return "the same text with other registers or pages"
+    return "nearly the same text" if is_near(a, b) or is_near(shapes[a], shapes[b]) else ""
 
 
 def is_near(a: Sequence[str], b: Sequence[str]) -> bool:

@@ -17,6 +17,7 @@ const takes = {
 function wrongOperand(words, line) {
   const [[, name], ...operands] = words, due = facts.assembly.operands[name] || [];
   const wrong = operands.find(([, word], k) => k < due.length && !takes[due[k]](word));
+  if (wrong && takes[due[operands.indexOf(wrong)]](wrong[1].toLowerCase())) return inUpperCase(...wrong);
   if (wrong) return [wrong[0], quoted(wrong[1]) + " isn't " + facts.assembly.called[due[operands.indexOf(wrong)]] + hint(wrong[1])];
   const column = operands.length > due.length ? operands[due.length][0] : encoder.encode(line).length + 1;
   return [column, name + " has " + andHere(due.length, "operand", operands.length)];
@@ -31,15 +32,20 @@ function wrongRange(words) {
 const wrongName = words => [words[words.length - 1][0], "no line defines " + quoted(words[words.length - 1][1].replace(/^[<>]+/, ""))];
 const wrongTwice = words => [words[words.length - 1][0], quoted(words[words.length - 1][1].replace(/:+$/, "")) + " was defined before"];
 
+// Why no line begins with this word there
 function unknownWord(word) {
-  const {operands, ofAsmx, like} = facts.assembly, isKnown = name => Object.hasOwn(operands, name);
-  if (/[A-Z]/.test(word) && isKnown(word.toLowerCase()) && !word.startsWith(".")) return quoted(word) + " has a letter in upper case";
-  if (isKnown(word) || word.endsWith(":")) return quoted(word) + " doesn't stand here, or is no good name";
-  if (ofAsmx.includes(word)) return "no line of an assembly text begins with " + quoted(word) + ": the file is a source of tools/asmx";
-  const near = closest(word, [...Object.keys(operands).filter(name => !name.startsWith(".")), ...Object.keys(like)]);
+  const {operands, ofAsmx, like} = facts.assembly, isOne = name => Object.hasOwn(operands, name) && !name.startsWith(".");
+  const unknown = (here, act) => cause("asm unknown", 1, here, act);
+  if (isOne(word.toLowerCase()) && !isOne(word)) return inUpperCase(1, word);
+  const isOfPage = isOne(word) || [".word", ".zero"].includes(word) || word.endsWith(":") && LABEL.test(word.slice(0, -1));
+  if (isOfPage) return cause("asm place", 1, quoted(word) + " stands in a page, and no .page is above it");
+  if (Object.hasOwn(operands, word)) return cause("asm place", 1, quoted(word) + " doesn't stand here");
+  if (word.endsWith(":")) return unknown(quoted(word.slice(0, -1)) + " is no good name", "a name has 1 to 32 letters, digits or `_`, no digit first");
+  if (ofAsmx.includes(word)) return unknown("no line of an assembly text begins with " + quoted(word), "`" + word + "` is of a source of `tools/asmx`, which writes an assembly text");
+  const near = closest(word, [...Object.keys(operands).filter(isOne), ...Object.keys(like)]);
   const meant = [...new Set(near.map(name => like[name] || name))].join(" or ");
   const what = word.startsWith(".") ? "no line begins with " + quoted(word) : quoted(word) + " is no instruction";
-  return what + (meant ? "; did you mean " + meant + "?" : hint(word));
+  return unknown(what + (meant ? "; did you mean " + meant + "?" : hint(word)));
 }
 
 // What to do about a sign that other assemblers have
@@ -47,14 +53,15 @@ const hint = word => facts.assembly.signs.filter(([sign]) => word.includes(sign)
 
 // What is wrong with line `place`, of this kind
 function judgeAssembly(lines, place, kind) {
-  if (place > lines.length) return cause("asm unknown", 1, "the text ends before its two header lines, .frames and .cpus");
+  if (place > lines.length) return cause("asm head", 1, "the text ends before its two header lines, .frames and .cpus");
   const line = lines[place - 1], found = ["unknown", "operand"].includes(kind) ? judgeBytes(line, place) : null;
   if (found) return found;
   const words = wordsAt(line), [, last] = words[words.length - 1];
-  if (kind === "unknown") return cause("asm unknown", 1, unknownWord(words[0][1]));
+  if (kind === "unknown") return unknownWord(words[0][1]);
   const judges = {operand: wrongOperand, range: wrongRange, label: wrongName, twice: wrongTwice, size: () => [1, "the page has 1024 words"]};
   const isFar = kind === "range" && facts.assembly.distances.includes(words[0][1]) && !SIGNED.test(last);
-  return cause(isFar ? "asm distance" : "asm " + kind, ...judges[kind](words, line));
+  const wrong = judges[kind](words, line);
+  return Array.isArray(wrong) ? cause(isFar ? "asm distance" : "asm " + kind, ...wrong) : wrong;
 }
 
 // Words like another one: the likeness is twice the letters of common pieces by all letters

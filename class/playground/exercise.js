@@ -11,7 +11,7 @@ function judged(engine, name, text, seed) {
     trouble: told => found.trouble.push(told.split("\t")), more: told => { found.more = Number(told); },
     cant: told => { found.cant = told; }, refused: told => { [found.refused, found.kind] = [Number(told.split(" ")[0]), told.split(" ")[1]]; },
   };
-  for (const line of engine.judge(["judge", name, seed, secret, text].join("\n")).split("\n").filter(line => line)) {
+  for (const line of engine.judge(["judge", name, ofStudent(seed), secret, text].join("\n")).split("\n").filter(line => line)) {
     const at = line.indexOf(" ");
     takes[line.slice(0, at)](line.slice(at + 1));
   }
@@ -19,4 +19,7 @@ function judged(engine, name, text, seed) {
 }
 
 // An exercise's text with the numbers of a seed in the place of the usual ones
-const retold = (engine, name, text, seed) => engine.judge(["tell", name, seed, "", text].join("\n"));
+const retold = (engine, name, text, seed) => engine.judge(["tell", name, ofStudent(seed), "", text].join("\n"));
+
+// A name as the tools have it: an accent is a part of its letter
+const ofStudent = name => name.normalize("NFC");

@@ -2,8 +2,9 @@
 "use strict";
 const NUMBER = /^(0|[1-9][0-9]*|0x[0-9a-f]{1,8})$/, MOST_WORD = 2 ** 32;
 
-const cause = (name, column, here) => ({name, column, here});
+const cause = (name, column, here, act = "") => ({name, column, here, act});
 const quoted = word => "'" + word + "'";
+const inUpperCase = (column, word) => cause("case", column, quoted(word) + " has a letter in upper case", "write it in lower case: `" + word.toLowerCase() + "`");
 const wordsAt = line => {
   let column = 1;
   return line.split(" ").map(word => { const found = [column, word]; column += encoder.encode(word).length + 1; return found; });
@@ -26,7 +27,7 @@ function judgeBytes(line, place) {
 
 function judgeNumber([column, word]) {
   if (!NUMBER.test(word)) {
-    if (/[A-Z]/.test(word)) return cause("case", column, quoted(word) + " has a letter in upper case");
+    if (/[A-Z]/.test(word)) return inUpperCase(column, word);
     if (/^0x[0-9a-f]{9,}$/.test(word)) return cause("large", column, quoted(word) + " has more than eight digits");
     return cause("number", column, quoted(word) + " is no number");
   }
@@ -35,7 +36,7 @@ function judgeNumber([column, word]) {
 
 function judgeName(name) {
   if (Object.hasOwn(facts.forms, name)) return null;
-  if (/[A-Z]/.test(name)) return cause("case", 1, quoted(name) + " has a letter in upper case");
+  if (/[A-Z]/.test(name)) return inUpperCase(1, name);
   const near = closest(name, Object.keys(facts.forms)).join(" or ");
   return cause("form", 1, "no line begins with " + quoted(name) + (near ? "; did you mean " + near + "?" : ""));
 }
@@ -84,5 +85,5 @@ function explained(lines, place, kind = "") {
   const found = kind ? judgeAssembly(lines, place, kind) : judge(lines, place);
   if (!found) return {place, column: null, here: "the program refuses this line", rule: "", act: ""};
   const [, rule, act] = facts.causes[found.name];
-  return {place, column: found.column, here: found.here, rule, act: act || ""};
+  return {place, column: found.column, here: found.here, rule, act: found.act || act || ""};
 }

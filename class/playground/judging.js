@@ -47,5 +47,12 @@ function drawVerdict(told) {
     const remarks = [...told.remarks, ...(told.trouble.length ? ["what was refused or parked:"] : []), ...told.trouble.map(troubleText), ...more];
     fill("verdict", make("h2", head + count + " of " + told.goals.length + " goals are reached"), make("ul", ...rows), ...remarks.map(remark => make("p", remark)));
   }
-  say(told.goals && told.goals.every(({good}) => good) ? "all goals are reached" : "judged", false);
+  say(...inShort(told));
+}
+
+// The verdict in a few words, and whether they are about a text that isn't judged
+function inShort({name, cant, refused, goals}) {
+  if (cant || refused) return [name + (cant ? " can't be judged" : " isn't judged: line " + refused + " is refused"), true];
+  const count = goals.filter(({good}) => good).length;
+  return [count === goals.length ? "all goals are reached" : count + " of " + goals.length + " goals are reached", false];
 }

@@ -32,11 +32,22 @@ function means(line, answer, isShort = false) {
 
 const decimal = word => Number(word) > 9 ? ", " + Number(word) : "";
 
+// Bits of a word of a page table: those that are 0, and those that each one has
+const NO_BITS = 0xfe0, EACH_ROW = 5;
+
+// What a word of a frame is as one of a page table, where it can be one
+function tableWord(word) {
+  const row = Number(word), frame = Math.floor(row / 4096);
+  if (!frame || row & NO_BITS || (row & EACH_ROW) !== EACH_ROW) return "";
+  return "; in a page table: frame " + frame + ", " + rightsOf([0, row]) + ", " + (row & 2 ? "visible" : "hidden");
+}
+
 function ofLine([name, ...given], [answer, ...numbers]) {
   if (answer === "boot") return "a machine of " + counted(numbers[0], "frame") + " and " + counted(numbers[1], "processor") + "; the root runs on processor 0";
   if (answer === "idle") return "nothing runs there";
   if (answer === "none") return "there is no such word";
-  return answer === "done" ? DONE[name] || "" : SHOWN[name] ? SHOWN[name](given) + decimal(answer) : "";
+  if (answer === "done") return DONE[name] || "";
+  return SHOWN[name] ? SHOWN[name](given) + (name === "peek" && tableWord(answer) || decimal(answer)) : "";
 }
 
 function ofTrace([first, ...words]) {

@@ -2,6 +2,7 @@
 "use strict";
 const STATUSES = facts.ends, NEAR = 5, MORE = 10;       // rows above those in view, and more than are in view
 const NOTHING = {lines: [], answers: [], answered: [], why: null, run: null};   // `answered` are the lines that have an answer
+const USAGE = 1, COUNTS = "a run has 0 to 10000000 steps, and a seed from 1 to 4294967295";
 let shown = NOTHING;
 let ended = ["", false];                                // what was said of the text
 let typed = null;                                       // the line in which something was typed last
@@ -11,7 +12,7 @@ function say(text, isRefused = false) {
   by("status").classList.toggle("refused", isRefused);
 }
 function sayStatus(status, more = "") {
-  ended = ["status " + status + ": " + STATUSES[status] + more, status !== 0];
+  ended = [status === USAGE ? COUNTS : "status " + status + ": " + STATUSES[status] + more, status !== 0];
   if (isPart()) ended = ["the judge runs these lines, on a machine of its own", false];
   else if (isHalfTyped()) ended = ["line " + typed + " isn't whole yet: " + shown.why.here, false];
   say(...ended);

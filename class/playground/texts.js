@@ -1,6 +1,6 @@
 // Where a text comes from and goes to: the examples, files, the address of the page, and what the browser keeps.
 "use strict";
-const KEPT = "the texts of the page of pip", OWN = "";
+const KEPT = "the texts of the page of pip", OWN = "", CHANGED = "changed ", FOR = "&exercise=";
 let examples = [];                                 // what there is to choose from
 let large = null;                                  // the bytes of a file that is too long to be edited
 let taken = "";                                    // the text as it was taken, before something was typed
@@ -29,7 +29,21 @@ function takeLarge(bytes, name) {
   act();
 }
 
-// What the browser keeps: a text of one's own, and one for each exercise. It may refuse to
+// What the browser keeps: a text of one's own, one for each exercise, and one for each example that was changed. It may refuse to
+
+const isOwn = name => name === OWN || name.startsWith(CHANGED);
+
+// Where it keeps what is typed in the text that is chosen
+function placeOfChosen() {
+  const name = by("choice").value;
+  return chosenExercise() || (isOwn(name) ? name : CHANGED + name);
+}
+
+function chooseOwn(name) {
+  if (![...by("choice").options].some(option => option.value === name)) by("own").append(ownOption(name));
+  by("choice").value = name;
+}
+const ownOption = name => new Option(name === OWN ? "your own" : name.slice(CHANGED.length) + ", changed", name);
 
 function works() {
   try { return JSON.parse(localStorage.getItem(KEPT)) || {}; } catch (error) { return {}; }
@@ -37,14 +51,14 @@ function works() {
 
 function keep(more = {}) {
   if (large) return;
-  const place = chosenExercise() || OWN, work = {text: by("text").value, kind: by("kind").value, steps: by("steps").value, seed: by("seed").value};
+  const place = placeOfChosen(), work = {text: by("text").value, kind: by("kind").value, steps: by("steps").value, seed: by("seed").value};
   const all = {...works(), last: place, student: by("student").value, ["of " + place]: {...work, at: by("text").selectionStart, ...more}};
   try { localStorage.setItem(KEPT, JSON.stringify(all)); } catch (error) { notice("this browser keeps no texts: save yours"); }
 }
 
 // Whether another text may take the place of the one that is kept there, and that is none of these; asks where it would be lost
 function mayReplace(...same) {
-  const old = works()["of " + (chosenExercise() || OWN)];
+  const old = works()["of " + placeOfChosen()];
   if (!old || old.isSaved || same.includes(old.text) || !old.text.trim()) return true;
   return confirm("The text that you wrote here before isn't saved, and this one would take its place. Replace it?");
 }
@@ -52,7 +66,7 @@ function mayReplace(...same) {
 // Something was typed
 function edited() {
   if (!isKept && !mayReplace(taken, by("text").value)) { take(taken, by("kind").value); return; }
-  if (!chosenExercise()) by("choice").value = OWN;
+  if (!chosenExercise()) chooseOwn(placeOfChosen());
   if (!isKept) history.replaceState(null, "", "#");
   isKept = true;
   typed = cursorLine();
@@ -71,16 +85,17 @@ function takeKept(work) {
 
 // Goes on where the browser has kept a text, or begins with the first example
 function goOn() {
-  const all = works(), name = all.last ? "exercise " + all.last : OWN;
+  const all = works(), name = !all.last || isOwn(all.last) ? all.last : "exercise " + all.last;
   by("student").value = all.student || "";
   if (all.last === undefined || !chooseText(name)) chooseText(examples[0].name);
 }
 
 // Chooses an example, an exercise, or one's own text; answers whether there is such a one
 function chooseText(name) {
-  const found = examples.find(example => example.name === name || example.exercise === name), work = works()["of " + (found ? found.exercise : OWN)];
-  if (!found && name !== OWN) return false;
-  by("choice").value = found ? found.name : OWN;
+  const found = examples.find(example => example.name === name || example.exercise === name), work = works()["of " + (found ? found.exercise : name)];
+  if (!found && name !== OWN && !(isOwn(name) && work)) return false;
+  if (found) by("choice").value = found.name;
+  else chooseOwn(name);
   drawExercise();
   isKept = false;
   if (work) takeKept(work);
@@ -102,7 +117,7 @@ async function opened() {
   const text = new TextDecoder("utf-8", {ignoreBOM: true}).decode(bytes);
   by("open").value = "";
   if (chosenExercise() && !mayReplace(text)) return;
-  if (!chosenExercise()) by("choice").value = OWN;
+  if (!chosenExercise()) chooseOwn(OWN);
   isKept = false;
   if (bytes.length > facts.most) {
     by("kind").value = "script";
@@ -140,7 +155,8 @@ function unpacked(packed) {
 
 function link() {
   if (large) { say("the text is too long for a link", true); return; }
-  history.replaceState(null, "", "#" + by("kind").value + "=" + packed(by("text").value));
+  const exercise = chosenExercise();
+  history.replaceState(null, "", "#" + by("kind").value + "=" + packed(by("text").value) + (exercise ? FOR + exercise : ""));
   const copied = navigator.clipboard ? navigator.clipboard.writeText(location.href) : Promise.reject(new Error("no clipboard"));
   copied.then(() => say("the address of this page holds the text, and was copied"), () => say("the address of this page holds the text"));
 }
@@ -164,14 +180,14 @@ function fromAddress() {
 
 // Takes what an address names; says what is wrong with it otherwise
 function wrongAddress(told) {
-  const [kind, text] = told.split("=");
+  const [whole, exercise] = told.split(FOR), [kind, text] = whole.split("=");
   try {
     if (text === undefined || kind !== "script" && kind !== ASSEMBLY) {
       const name = decodeURIComponent(told);
       return chooseText(name) ? "" : "the address of this page ends with #" + name + ", and no example and no exercise is called so";
     }
     const found = unpacked(text);
-    chooseText(OWN);
+    if (!chooseText(exercise ? "exercise " + exercise : OWN)) return "the address of this page ends with " + FOR + exercise + ", and no exercise is called so";
     take(found, kind);
     isKept = false;
     return "";
@@ -181,10 +197,14 @@ function wrongAddress(told) {
 }
 
 function fillChoice() {
+  const kept = Object.keys(works()).map(name => name.slice("of ".length)).filter(name => name.startsWith(CHANGED));
   const groups = [...new Set(examples.map(({group}) => group))];
-  fill("choice", new Option("your own", OWN), ...groups.map(name => {
-    const made = make("optgroup", ...examples.filter(({group}) => group === name).map(example => new Option(example.exercise || example.name, example.name)));
-    made.label = name;
-    return made;
-  }));
+  const ofGroup = name => examples.filter(({group}) => group === name).map(example => new Option(example.exercise || example.name, example.name));
+  const made = [["Yours", [OWN, ...kept].map(ownOption)], ...groups.map(name => [name, ofGroup(name)])].map(([label, options]) => {
+    const group = make("optgroup", ...options);
+    group.label = label;
+    return group;
+  });
+  made[0].id = "own";
+  fill("choice", ...made);
 }

@@ -1,10 +1,11 @@
 """class/exercise: each cheat of class/exercises/cheats misses the goals that it names; where nothing is drawn no more.
 
-A file there is a whole text, or NAME.edit, an edit of the exercise's solution: `old: ` is a line, or a part of one,
-that is in it once, and the lines `new: ` after it take its place; without any it goes. `file: ` names another file than
-the solution, whose edited text is judged. Its first lines are `# misses: ` and a goal; a line `# says: ` has words of
-the verdict. A file good_NAME is another way that reaches all goals, so that no goal asks for more than the exercise:
-`# misses: nothing`."""
+EXERCISE.txt there has a block for each work (common/blocks.py): a title at the left edge, and below it the text, four
+columns further in. NAME.pip, NAME.s or NAME.asmx is a whole text, and NAME.edit an edit of the exercise's solution:
+`old: ` is a line, or a part of one, that is in it once, and the lines `new: ` after it take its place; without any it
+goes. `file: ` names another file than the solution, whose edited text is judged. The first lines of a block are
+`# misses: ` and a goal; a line `# says: ` has words of the verdict. A block good_NAME is another way that reaches all
+goals, so that no goal asks for more than the exercise: `# misses: nothing`."""
 
 from __future__ import annotations
 
@@ -15,6 +16,7 @@ import tempfile
 from collections import Counter
 from dataclasses import dataclass
 
+from common.blocks import blocks
 from common.calling import Failed
 from exercises import exercise, judging
 from judge import building
@@ -28,19 +30,20 @@ LEAST_CHEATS, LEAST_GOOD = 10, 5     # of each exercise
 @dataclass(frozen=True)
 class Cheat:
     name: str            # of the exercise
-    path: str
+    title: str
+    text: str
 
     @property
     def told(self) -> str:
-        return told_path(self.path)
+        return f"{told_path(CHEATS)}/{self.name}.txt: {self.title}"
 
     @property
     def is_good(self) -> bool:
-        return os.path.basename(self.path).startswith("good_")
+        return self.title.startswith("good_")
 
     def marked(self, mark: str) -> list[str]:
         """What is after such a remark."""
-        return re.findall(rf"^# {mark}: (.*)$", text_of(self.path), re.M)
+        return re.findall(rf"^# {mark}: (.*)$", self.text, re.M)
 
 
 def need_judge() -> None:
@@ -52,9 +55,9 @@ def need_judge() -> None:
 
 def edited(cheat: Cheat) -> tuple[str, str]:
     """The text of a cheat, and the ending of its file."""
-    if not cheat.path.endswith(".edit"):
-        return text_of(cheat.path), os.path.splitext(cheat.path)[1]
-    lines = [line.split(": ", 1) for line in text_of(cheat.path).splitlines() if not line.startswith("#")]
+    if not cheat.title.endswith(".edit"):
+        return cheat.text, os.path.splitext(cheat.title)[1]
+    lines = [line.split(": ", 1) for line in cheat.text.splitlines() if not line.startswith("#")]
     source = next((os.path.join(REPOSITORY, rest) for mark, rest in lines if mark == "file"),
                   judging.solutions()[cheat.name])
     pairs: list[tuple[str, list[str]]] = []
@@ -91,7 +94,7 @@ def fault(cheat: Cheat, is_program: bool) -> str | None:
         found = judged(cheat.name, *edited(cheat), is_program)
     except (Failed, Differs) as failed:
         return f"{cheat.told}: {failed}"
-    if not due or not text_of(cheat.path).startswith("# misses: "):
+    if not due or not cheat.text.startswith("# misses: "):
         return f"{cheat.told}: its first line doesn't name the goal that it misses"
     missing = found.missing() or ["nothing"]
     if found.refused or not set(due) <= set(missing) or missing != due and cheat.name not in exercise.DRAWS:
@@ -104,8 +107,8 @@ def fault(cheat: Cheat, is_program: bool) -> str | None:
 
 
 def all_cheats() -> list[Cheat]:
-    return [Cheat(name, os.path.join(CHEATS, name, file)) for name in sorted(os.listdir(CHEATS))
-            for file in sorted(os.listdir(os.path.join(CHEATS, name)))]
+    return [Cheat(os.path.splitext(file)[0], title, text) for file in sorted(os.listdir(CHEATS))
+            for title, text in blocks(os.path.join(CHEATS, file)).items()]
 
 
 def cheats(program: str) -> None:
@@ -116,7 +119,7 @@ def cheats(program: str) -> None:
         few = [name for name in exercises if counts[name] < least]
         if few or set(counts) != set(exercises):
             what = "good works" if is_good else "cheats"
-            raise Differs(f"class/exercises/cheats has less than {least} {what} of {few}, or a folder of none")
+            raise Differs(f"class/exercises/cheats has less than {least} {what} of {few}, or a file of no exercise")
     told = each(lambda cheat: fault(cheat, exercises[cheat.name].is_program), found)
     if wrong := list(filter(None, told)):
         raise Differs("\n".join(wrong))

@@ -40,7 +40,7 @@ def solution(name: str, path: str) -> None:
 def drawn_again() -> None:
     """A verdict is the same with its secret, and without it draws another: here the timer with which a root fails that
     knows its own by heart."""
-    cheat = next(cheat for cheat in cheats.all_cheats() if cheat.told.endswith("tell-apart/by_heart.asmx"))
+    cheat = next(cheat for cheat in cheats.all_cheats() if (cheat.name, cheat.title) == ("tell-apart", "by_heart.asmx"))
     found = [cheats.judged(cheat.name, *cheats.edited(cheat), True, secret=secret) for secret in ("1", "1", None, None)]
     told = [one.lines(True) for one in found]
     if told[0] != told[1] or told[2] == told[3] or found[2].secret == found[3].secret:
@@ -50,6 +50,9 @@ def drawn_again() -> None:
 def by_seeds(program: str) -> None:
     """With a seed the text has other values; a solution for these is good, and that of the repository isn't."""
     cheats.need_judge()
+    for one, other in (("ada lovelace", " Ada_Lovelace "), ("\u00e9", "E\u0301")):
+        if judging.values("map", one) != judging.values("map", other):
+            raise Differs(f"class/exercise --seed: {one!r} and {other!r} are two names")
     work = [(seed, name, one.is_program) for seed, (name, one) in itertools.product(SEEDS, judging.exercises().items())]
     each(lambda one: by_seed(*one), work)
 

@@ -1,6 +1,7 @@
 """class/grade: a class as a table, works that are alike, and hostile ones, none of which gets beyond its folder."""
 
 import os
+import re
 import shutil
 import signal
 import subprocess
@@ -9,7 +10,7 @@ import tempfile
 import time
 
 from common.blocks import blocks
-from exercises import alone, judging
+from exercises import alone, judging, likeness
 from judge import building
 from . import cheats
 from .running import (REPOSITORY, Differs, contents, heed_interrupts, says, session, text_of, tool, write,
@@ -28,15 +29,16 @@ def grades(program: str) -> None:
     with tempfile.TemporaryDirectory() as place:
         for path, content in (("ada/map.pip", script), ("ada/sum.s", text), ("bob/map.s", text),
                               ("bob/map.pip", script.replace(b" 3\nst", b" 7\nst")), ("bob/sum.asmx", b"lix r1\n"),
-                              ("eve x/break-in.pip", b"peek 1 1\n"), ("eve x/map.pip", CLASS["again"].encode()),
-                              ("eve x/notes", b"")):
+                              ("=eve x/break-in.pip", b"peek 1 1\n"), ("=eve x/map.pip", CLASS["again"].encode()),
+                              ("=eve x/notes", b""), ("loose.pip", script), (".hidden", b"")):
             write(content, place, path)
+        os.symlink("ada", os.path.join(place, "jo"))
         output, messages, status = tool(None, "grade", place, "--again", "1")
         due = ("map.s is no work: map ends with .pip", "notes is no work: there is no exercise notes",
-               "break-in.pip: line 1: the child can't say")
+               "break-in.pip: line 1: the child can't say", "loose.pip is in no student's folder", "jo is a link")
         lacks = [part for part in due if part not in messages]
         wanted = CLASS["table"] + "(--again 1 draws the same)\n"
-        if (output, status) != (wanted, 0) or lacks or len(messages.splitlines()) != 3:
+        if (output, status) != (wanted, 0) or lacks or len(messages.splitlines()) != len(due):
             raise Differs(f"class/grade: status {status}, {output}{messages}")
         if (got := tool(None, "grade", place, "--csv")[0]) != CLASS["spreadsheet"]:
             raise Differs(f"class/grade --csv: {got}")
@@ -44,8 +46,23 @@ def grades(program: str) -> None:
         if "0/3       0/3  0/3" not in seeds:
             raise Differs(f"class/grade --seeds: {seeds}")
         session("grade", program, CLASS=place)
+    moved_works()
     hostile_works()
     stopped()
+
+
+def moved_works() -> None:
+    """A work is like one with other pages, or with other registers, and not like one that does another thing."""
+    pages = {b"0x%x" % page: b"0x%x" % (page + 0x40000) for page in (0x406000, 0x407000, 0x408000)}
+    for name, changes in (("end", pages), ("child-program", {b"r7": b"r8", b"r8": b"r7"})):
+        is_program = judging.exercises()[name].is_program
+        text = judging.plain_solution(name, is_program)
+        changed = re.sub(rb"\b(%s)\b" % b"|".join(changes), lambda found: changes[found[0]], text)
+        other = judging.plain_solution("monitor" if is_program else "forged", is_program)
+        texts = {"ada": text, "bob": changed, "eve": other}
+        told = likeness.alike({who: likeness.essence(one, is_program) for who, one in texts.items()})
+        if told != [("the same text with other registers or pages", ["ada", "bob"])]:
+            raise Differs(f"class/grade: of {name}, once with other pages or registers, is told {told}")
 
 
 def hostile_works() -> None:

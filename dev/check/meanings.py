@@ -19,7 +19,11 @@ OF_LINES = {"return": "a carriage return", "mark": "a byte order mark", "spaces"
             "boot": "`boot 15 1`",
             "second": "a second `boot`", "range": "`sb 0 0x400000 256`", "form": "`load 0 0`", "count": "`ld 0`",
             "long": "121 bytes or more"}
-OF_TEXTS = ("unknown", "operand", "range", "twice", "size", "label")
+# and a line of an assembly text, by its kind and how the second cell of its row begins
+OF_TEXTS = {"asm unknown": ("unknown", "it has no form"), "asm place": ("unknown", "its form"),
+            "asm head": ("unknown", "one of the two header lines"), "asm operand": ("operand", ""),
+            "asm range": ("range", "a number"), "asm distance": ("range", "the distance"), "asm twice": ("twice", ""),
+            "asm size": ("size", ""), "asm label": ("label", "")}
 OF_MENUS = ("who", "what", "many")
 
 
@@ -93,10 +97,9 @@ def assembly(text: str) -> dict[str, str]:
 
 def causes(text: str) -> dict[str, list[str]]:
     bad, kinds = rows(text, "### Why is my line bad?"), rows(text, "### Faults of a text")
-    far = [row for row in kinds if row[1].startswith("the distance")]
     told = {name: [row for row in bad if row[0].startswith(begins)] for name, begins in OF_LINES.items()}
-    told.update({"asm " + kind: [row for row in kinds if row[0] == f"`{kind}`" and row not in far]
-                 for kind in OF_TEXTS}, **{"asm distance": far})
+    told.update({name: [row for row in kinds if row[0] == f"`{kind}`" and row[1].startswith(begins)]
+                 for name, (kind, begins) in OF_TEXTS.items()})
     menus = rows(text, "## against")
     told.update({"menu " + kind: [row for row in menus if row[0] == f"`{kind}`"] for kind in OF_MENUS})
     lacks = [name for name, row in told.items() if len(row) != 1]

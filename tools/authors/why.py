@@ -35,11 +35,17 @@ Form = tuple[Optional[int], ...]      # what each number of a line is below; Non
 
 
 class Cause(Exception):
-    """What is wrong with a line: a row of the tables, the column (from 1 on), and what stands there in words."""
+    """What is wrong with a line: a row of the tables, the column (from 1 on), what stands there in words, and what to
+    do, if that isn't what the row says."""
 
-    def __init__(self, name: str, column: int, here: str) -> None:
+    def __init__(self, name: str, column: int, here: str, act: str = "") -> None:
         super().__init__(name)
-        self.name, self.column, self.here = name, column, here
+        self.name, self.column, self.here, self.act = name, column, here, act
+
+
+def in_upper_case(column: int, word: bytes) -> Cause:
+    return Cause("case", column, f"{shown(word)} has a letter in upper case",
+                 f"write it in lower case: `{word.lower().decode('utf-8', 'replace')}`")
 
 
 # What is wrong with a line of either kind
@@ -72,7 +78,7 @@ def judge_bytes(line: bytes, place: int) -> None:
 def judge_number(column: int, word: bytes) -> None:
     if not NUMBER.fullmatch(word):
         if re.search(rb"[A-Z]", word):
-            raise Cause("case", column, f"{shown(word)} has a letter in upper case")
+            raise in_upper_case(column, word)
         if re.fullmatch(rb"0x[0-9a-f]{9,}", word):
             raise Cause("large", column, f"{shown(word)} has more than eight digits")
         raise Cause("number", column, f"{shown(word)} is no number")
@@ -91,7 +97,7 @@ def judge_script(lines: list[bytes], place: int, _fault: str = "") -> NoReturn:
     forms: dict[bytes, Form | None] = {**script.FORMS, b"boot": (script.WORD, script.WORD), b"call": None}
     if name not in forms:
         if re.search(rb"[A-Z]", name):
-            raise Cause("case", 1, f"{shown(name)} has a letter in upper case")
+            raise in_upper_case(1, name)
         near = difflib.get_close_matches(name.decode("utf-8", "replace"), [form.decode() for form in forms], 2, 0.6)
         meant = f"; did you mean {' or '.join(near)}?" if near else ""
         raise Cause("form", 1, f"no line begins with {shown(name)}{meant}")
@@ -167,13 +173,13 @@ def judge_menu(lines: list[bytes], place: int, kind: str) -> NoReturn:
 def judge_assembly(lines: list[bytes], place: int, kind: str) -> NoReturn:
     """Why line `place` of an assembly text is refused with this kind."""
     if place > len(lines):
-        raise Cause("asm unknown", 1, "the text ends before its two header lines, .frames and .cpus")
+        raise Cause("asm head", 1, "the text ends before its two header lines, .frames and .cpus")
     line = lines[place - 1]
     if kind in ("unknown", "operand"):
         judge_bytes(line, place)
     words = words_of(line)
     if kind == "unknown":
-        raise Cause("asm unknown", 1, unknown(words[0][1]))
+        raise unknown(words[0][1])
     judge = {"operand": wrong_operand, "range": wrong_range, "label": wrong_name}.get(kind)
     column, here = judge(words, line) if judge else (words[-1][0] if kind == "twice" else 1, {
         "twice": f"{shown(words[-1][1].rstrip(b':'))} was defined before", "size": "the page has 1024 words"}[kind])
@@ -181,14 +187,26 @@ def judge_assembly(lines: list[bytes], place: int, kind: str) -> NoReturn:
     raise Cause("asm distance" if is_far else "asm " + kind, column, here)
 
 
-def unknown(word: bytes) -> str:
-    if re.search(rb"[A-Z]", word) and word.lower().decode("latin1") in instructions.OPCODES:
-        return f"{shown(word)} has a letter in upper case"
-    if word in DIRECTIVES or word.decode("latin1") in instructions.OPCODES or word.endswith(b":"):
-        return f"{shown(word)} doesn't stand here, or is no good name"
-    if word.decode("latin1") in OF_ASMX:
-        return f"no line of an assembly text begins with {shown(word)}: the file is a source of tools/asmx"
-    return no_instruction(word.decode("utf-8", "replace"), list(instructions.OPCODES), LIKE)
+def unknown(word: bytes) -> Cause:
+    """Why no line begins with this word there."""
+    name = word.decode("utf-8", "replace")
+    if name.lower() in instructions.OPCODES and name not in instructions.OPCODES:
+        return in_upper_case(1, word)
+    if name in instructions.OPCODES or word in (b".word", b".zero") or is_label(word):
+        return Cause("asm place", 1, f"{shown(word)} stands in a page, and no .page is above it")
+    if word in DIRECTIVES:
+        return Cause("asm place", 1, f"{shown(word)} doesn't stand here")
+    if word.endswith(b":"):
+        return Cause("asm unknown", 1, f"{shown(word[:-1])} is no good name",
+                     "a name has 1 to 32 letters, digits or `_`, no digit first")
+    if name in OF_ASMX:
+        return Cause("asm unknown", 1, f"no line of an assembly text begins with {shown(word)}",
+                     f"`{name}` is of a source of `tools/asmx`, which writes an assembly text")
+    return Cause("asm unknown", 1, no_instruction(name, list(instructions.OPCODES), LIKE))
+
+
+def is_label(word: bytes) -> bool:
+    return word.endswith(b":") and assembly.NAME.fullmatch(word[:-1]) is not None
 
 
 def no_instruction(word: str, names: list[str], like: dict[str, str]) -> str:
@@ -242,6 +260,8 @@ def wrong_operand(words: list[tuple[int, bytes]], line: bytes) -> tuple[int, str
     (_, name), *operands = words
     due = operands_of(name)
     for (column, word), what in zip(operands, due):
+        if not IS[what](word) and IS[what](word.lower()):
+            raise in_upper_case(column, word)
         if not IS[what](word):
             return column, f"{shown(word)} isn't {CALLED[what]}{hint(word.decode('utf-8', 'replace'))}"
     column = operands[len(due)][0] if len(operands) > len(due) else len(line) + 1
@@ -312,7 +332,7 @@ def bad_lines(kind: Kind, judge: Judge, lines: list[bytes], most: int = MOST_TOL
         place, fault = found
         cause = cause_of(kind, lines, place, fault)
         yield place, fault, cause
-        if place > len(lines) or cause.name in ("second", "menu many") or is_head(lines[place - 1]):
+        if place > len(lines) or cause.name in ("second", "menu many", "asm place") or is_head(lines[place - 1]):
             return
         lines[place - 1] = kind.good
         most -= 1
@@ -370,8 +390,8 @@ def told(name: str, place: int, lines: list[bytes], cause: Cause) -> list[str]:
     if line.isprintable() and line and cause.column <= 121:
         sentences += ["    " + line[:120], "    " + " " * (cause.column - 1) + "^"]
     sentences.append(f"rule: {row[1]}")
-    sentences += [f"what to do: {row[2]}"] if len(row) > 2 and row[2] else []
-    return sentences
+    act = cause.act or "".join(row[2:])
+    return sentences + [f"what to do: {act}"] * bool(act)
 
 
 def main() -> None:

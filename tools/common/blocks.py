@@ -20,6 +20,8 @@ def parted(text: str) -> dict[str, str]:
         if line.startswith("    ") or not line:
             lines.append(line[4:])
         elif not line.startswith("#"):
+            if line in found:
+                raise ValueError(f"two blocks have the title {line!r}")
             lines = found[line] = []
     return {title: "\n".join(lines).strip("\n") + "\n" for title, lines in found.items()}
 

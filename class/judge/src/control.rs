@@ -5,6 +5,7 @@ use crate::script::Script;
 use crate::values::Values;
 use crate::verdict::Verdict;
 use crate::world::{Act, At, Call, Event, HANDLERS, Id, Moved, NOBODY, ROOT, SAVED, Why, World};
+use alloc::vec::Vec;
 use pip_base::{Outcome, Size, Status};
 
 fn moved(event: &Event) -> Option<&Moved> {
@@ -118,12 +119,13 @@ pub fn interrupt(v: &Values, script: &Script, verdict: &mut Verdict) {
             continue;
         }
         let was_at = event.before.is_some_and(|ctx| ctx.pc == pc);
-        let back = world
-            .moves()
-            .find(|(_, _, later)| later.to == moved.from && later.from == Some(ROOT) && later.resumed == Some(k));
-        let back = back.filter(|(number, later, _)| world.last_moved(later.cpu.unwrap_or(0)) == Some(*number));
-        let is_same = back.is_some_and(|(_, later, _)| later.cpu.and_then(|cpu| world.ctx(cpu)) == event.before);
-        verdict.story(&[true, was_at, moved.saved.is_some(), back.is_some(), is_same, is_calm]);
+        let back = || {
+            world.moves().map(|(_, _, later)| later).filter(|later| {
+                later.to == moved.from && later.from == Some(ROOT) && later.resumed == Some(k)
+            })
+        };
+        let is_same = back().any(|later| Some(later.entered) == event.before);
+        verdict.story(&[true, was_at, moved.saved.is_some(), back().next().is_some(), is_same, is_calm]);
     }
 }
 
@@ -143,31 +145,60 @@ pub fn forged(v: &Values, script: &Script, verdict: &mut Verdict) {
     let once = entries().filter(|(_, _, moved)| moved.why == Why::Line).count() == 1;
     for id in world.children() {
         let of = |why: Why| entries().filter(move |(_, _, moved)| moved.from == Some(id) && moved.why == why);
-        let shows = |k: usize, numbers: &[u32]| {
-            numbers.iter().all(|number| looks(world, k).any(|event| event.act == Act::Reg { number: *number }))
+        let shown = |why: Why, numbers: &[u32]| -> Vec<&Moved> {
+            of(why).filter(|(k, _, _)| shows(world, *k, numbers)).map(|(_, _, moved)| moved).collect()
         };
-        let is_shown = |why: Why, numbers: &[u32]| of(why).any(|(k, _, _)| shows(k, numbers));
-        let differs = |(_, _, moved): (usize, &Event, &Moved)| moved.entered.regs[1..4] != [0; 3];
-        let is_free = |event: &Event| match event.act {
-            Act::Peek { at: At { frame: 1, index: 15 }, word: Some(lines), .. } => lines >> line & 1 == 0,
-            _ => false,
+        let (lines, traps) = (shown(Why::Line, &[0, 3]), shown(Why::Trap, &[0, 3]));
+        let mut yields = shown(Why::Yield, &[0, 1, 2, 3]);
+        let is_shown = !yields.is_empty();
+        if !is_shown {
+            yields = of(Why::Yield).map(|(_, _, moved)| moved).collect();
+        }
+        // The root can't write another block for what is to come next, as it doesn't know that.
+        let differs = |moved: &&Moved| {
+            let words = words_of(moved);
+            let is_same = |others: &[&Moved]| others.is_empty() || others.iter().any(|other| words_of(other) == words);
+            words.is_some_and(|words| words != [0; 3]) && is_same(&lines) && is_same(&traps)
+        };
+        let is_free = |k: usize| {
+            after(world, k).take_while(|(_, event)| !is_of_line(event, line)).any(|(_, event)| shows_free(event, line))
         };
         verdict.story(&[
-            once && is_shown(Why::Line, &[0, 3]),
-            is_shown(Why::Trap, &[0, 3]),
-            is_shown(Why::Yield, &[0, 1, 2, 3]),
-            of(Why::Yield).next().is_some() && of(Why::Yield).all(differs),
-            [Why::Trap, Why::Yield].into_iter().any(|why| of(why).any(|(k, _, _)| looks(world, k).any(is_free))),
+            once && !lines.is_empty(),
+            !traps.is_empty(),
+            is_shown,
+            yields.iter().any(differs),
+            [Why::Trap, Why::Yield].into_iter().any(|why| of(why).any(|(k, _, _)| is_free(k))),
         ]);
     }
+}
+
+// What the block has for r1 to r3 by which a partition is entered.
+fn words_of(moved: &Moved) -> Option<[u32; 3]> {
+    let [_, one, two, three, ..] = moved.block?.regs;
+    Some([one, two, three])
+}
+
+fn shows(world: &World, number: usize, registers: &[u32]) -> bool {
+    registers.iter().all(|register| looks(world, number).any(|event| event.act == Act::Reg { number: *register }))
+}
+
+fn is_of_line(event: &Event, line: u32) -> bool {
+    matches!(event.act, Act::Raise { line: raised, .. } if raised == line)
+        || moved(event).is_some_and(|moved| moved.why == Why::Line && moved.vector == 32 + line)
+}
+
+// Whether peek 1 15 shows that a line isn't pending.
+fn shows_free(event: &Event, line: u32) -> bool {
+    let Act::Peek { at, word: Some(lines), .. } = event.act else { return false };
+    at == At { frame: 1, index: 15 } && lines >> line & 1 == 0
 }
 
 // What follows an entry as long as the registers there are those of the entry.
 fn looks(world: &World, number: usize) -> impl Iterator<Item = &Event> {
     let cpu = world.events[number].cpu;
-    let changes = move |event: &Event| {
-        event.cpu == cpu && (event.moved.is_some() || matches!(event.act, Act::Call { .. } | Act::SetPc))
-    };
+    let changes =
+        move |event: &Event| event.cpu == cpu && (event.moved.is_some() || matches!(event.act, Act::Call { .. }));
     after(world, number)
         .map(|(_, event)| event)
         .take_while(move |event| !changes(event))
@@ -185,7 +216,7 @@ pub fn two_processors(v: &Values, script: &Script, verdict: &mut Verdict) {
         let stored = |event: &Event| event.who == Some(id) && event.cpu == Some(0);
         let is_loaded = |event: &Event| match event.act {
             Act::Load { size: Size::Word, writers, .. } if event.who == Some(ROOT) && event.cpu == Some(1) => {
-                event.outcome == Outcome::Word(word) && world.stored_by(word, &writers, stored)
+                event.outcome == Outcome::Word(word) && world.stored_by(&writers, stored)
             }
             _ => false,
         };

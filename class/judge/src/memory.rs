@@ -4,8 +4,12 @@ use crate::script::Script;
 use crate::values::Values;
 use crate::verdict::Verdict;
 use crate::world::{Act, At, Call, Event, HANDLERS, Id, ROOT, World, Writers};
+use alloc::collections::BTreeSet;
 use alloc::vec::Vec;
 use pip_base::{Outcome, Size, Status};
+
+/// Words that a script may look at, where it is asked which one it is.
+pub const MOST_SHOWN: usize = 8;
 
 pub fn by_root(event: &Event) -> bool {
     event.who == Some(ROOT)
@@ -31,15 +35,16 @@ pub fn after(world: &World, event: usize) -> impl Iterator<Item = (usize, &Event
 pub fn store(v: &Values, script: &Script, verdict: &mut Verdict) {
     let (world, at, word) = (&script.world, v.get("at"), v.get("word"));
     let size = script.boot.0 == 64;
-    verdict.story(&[size, false, false, false, false]);
+    let few = shown(world) <= MOST_SHOWN;
+    verdict.story(&[size, false, false, false, false, few]);
     let (_, row) = world.leaf(ROOT, at);
     let is_there = world.finds(ROOT, at, word, by_root);
+    let by_store = |found: u32, writers: &Writers| found == word && world.stored_by(writers, by_root);
     for (number, event) in world.events.iter().enumerate().filter(|(_, event)| by_root(event)) {
         let Act::Store { at: place, now, writers, .. } = event.act else { continue };
-        if place.is_none() || place != world.at(ROOT, at) || now != word || !world.stored_by(now, &writers, by_root) {
+        if place.is_none() || place != world.at(ROOT, at) || !by_store(now, &writers) {
             continue;
         }
-        let by_store = |found: u32, writers: &Writers| found == word && world.stored_by(found, writers, by_root);
         let is_loaded = |event: &Event| match (event.act, event.outcome) {
             (Act::Load { va, size: Size::Word, writers, .. }, Outcome::Word(found)) => {
                 by_root(event) && va == at && by_store(found, &writers)
@@ -59,11 +64,26 @@ pub fn store(v: &Values, script: &Script, verdict: &mut Verdict) {
             any(&is_loaded),
             any(&|event| is_shown(event, row, false)),
             any(&|event| is_shown(event, place, true)),
+            few,
         ]);
     }
 }
 
+// How many different words a script shows.
+fn shown(world: &World) -> usize {
+    different(world.events.iter().filter_map(|event| match event.act {
+        Act::Peek { at, .. } => Some(at),
+        _ => None,
+    }))
+}
+
+pub fn different<T: Ord>(items: impl Iterator<Item = T>) -> usize {
+    items.collect::<BTreeSet<T>>().len()
+}
+
 // child
+
+const MOST_ASKED: usize = 5;
 
 pub fn make_child(v: &Values, script: &Script, verdict: &mut Verdict) {
     let world = &script.world;
@@ -72,11 +92,15 @@ pub fn make_child(v: &Values, script: &Script, verdict: &mut Verdict) {
         let created = world.events[part.made].call();
         let is_its = |page: u32| matches!(created, Some(Call::Create { pages }) if pages.contains(&page));
         let is_asked = |event: &Event| matches!(event.of_root(Status::Ok), Some(Call::Ask { page }) if is_its(page));
+        let asked = different(world.events.iter().filter_map(|event| match event.call() {
+            Some(Call::Ask { page }) => Some(page),
+            _ => None,
+        }));
         verdict.story(&[
             part.name == v.get("name"),
             descriptor(world, id, 3) == v.get("directory"),
             descriptor(world, id, 9) == v.get("list"),
-            after(world, part.made).any(|(_, event)| is_asked(event)),
+            after(world, part.made).any(|(_, event)| is_asked(event)) && asked <= MOST_ASKED,
         ]);
     }
 }

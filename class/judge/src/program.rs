@@ -3,6 +3,7 @@
 use crate::random::Random;
 use crate::script::{Refused, memory};
 use crate::world::{Act, Hostile, Id, ROOT, Why, World, steps};
+use alloc::collections::BTreeSet;
 use alloc::format;
 use alloc::string::{String, ToString};
 use alloc::vec::Vec;
@@ -12,7 +13,7 @@ use pip_cpu::turn;
 use pip_frames::RawFrames;
 use pip_image::{ImageReader, load_image};
 use pip_io::{Discard, SureSource};
-use pip_isa::{Instr, Register, encode};
+use pip_isa::{Instr, Register, decode, encode};
 use pip_kern::boot_zeros;
 use pip_model::{Port, due};
 use pip_script::{Generator, outcome_text};
@@ -23,24 +24,29 @@ use rattle_std::marker::Brand;
 const HEAD: usize = 24;
 const PLAN: usize = 12;
 const PAGE: usize = 4100;
+/// Words of an image that are looked at for constants.
+const MOST_WORDS: usize = 1 << 14;
 
 /// An image, as `asm` writes it.
 #[derive(Clone)]
 pub struct Image(Vec<u8>);
 
-/// When interrupt lines are raised.
+/// A timer in the place of the text's own plans for its line: the line is raised first at a step and then at distances
+/// that are drawn between two bounds; and, where it strikes, also within a few steps after some of the entries of the
+/// root by a trap or a yield.
 #[derive(Clone)]
-pub enum Timer {
-    /// By the plans of the text.
-    Own,
-    /// This line alone, first at a step and then at distances that are drawn between two bounds; and, where it strikes,
-    /// also within a few steps after some of the entries of the root by a trap or a yield.
-    Drawn { line: u32, first: u32, least: u32, most: u32, strikes: bool, seed: u64 },
+pub struct Timer {
+    pub line: u32,
+    pub first: u32,
+    pub least: u32,
+    pub most: u32,
+    pub strikes: bool,
+    pub seed: u64,
 }
 
 /// What is different from the run of the text alone.
 pub struct Course {
-    pub timer: Timer,
+    pub timer: Option<Timer>,
     pub steps: u32,
     pub hostile: Option<Hostile>,
     /// Children stay where they are in some of their steps, by this seed.
@@ -51,7 +57,7 @@ pub struct Course {
 
 impl Course {
     pub fn plain(steps: u32) -> Course {
-        Course { timer: Timer::Own, steps, hostile: None, stalls: None, edit: None }
+        Course { timer: None, steps, hostile: None, stalls: None, edit: None }
     }
 }
 
@@ -89,12 +95,44 @@ impl Image {
         }
     }
 
+    /// Numbers that the text has, where it may do something else: its words, the constants of its instructions, the two
+    /// halves that make one, and the neighbours of these.
+    pub fn constants(&self) -> BTreeSet<u32> {
+        let words: Vec<u32> = self.words().collect();
+        let half = |word: u32| word & 0xffff;
+        let alone = words.iter().flat_map(|word| {
+            let constant = half(*word);
+            [*word, constant, half(constant.wrapping_neg())]
+        });
+        let whole = words.windows(2).filter_map(|pair| match (decode(pair[0])?, decode(pair[1])?) {
+            (Instr::Li { value, .. }, Instr::LiHigh { value: high, .. }) => Some(u32::from(high) << 16 | u32::from(value)),
+            _ => None,
+        });
+        alone.chain(whole).flat_map(|number| [number.wrapping_sub(1), number, number.wrapping_add(1)]).collect()
+    }
+
+    /// The half words that its instructions put into registers.
+    pub fn halves(&self) -> BTreeSet<u16> {
+        let constants = self.words().filter_map(|word| match decode(word)? {
+            Instr::Li { value, .. } => Some(value),
+            _ => None,
+        });
+        constants.collect()
+    }
+
+    // The words of its pages that aren't 0, as far as they are looked at.
+    fn words(&self) -> impl Iterator<Item = u32> {
+        let first = HEAD + PLAN * self.field(16) as usize;
+        let places = (first..self.0.len()).step_by(PAGE).flat_map(|page| (page + 4..page + PAGE).step_by(4));
+        places.map(|at| self.field(at)).filter(|word| *word != 0).take(MOST_WORDS)
+    }
+
     /// The machine after some steps.
     pub fn run(&self, course: Course) -> Result<World, Refused> {
         let (mut world, plans) = self.load()?;
         world.hostile = course.hostile;
         world.stalls = course.stalls.map(Random::new);
-        let mut lines = Lines::new(&course.timer, plans);
+        let mut lines = Lines::new(course.timer, plans);
         let mut generator = Generator::new(1);
         for step in 0..course.steps {
             lines.raise(&mut world, step);
@@ -130,59 +168,60 @@ impl Image {
     }
 }
 
-// The lines that are raised.
-enum Lines {
-    Plans(Vec<Plan>),
-    Drawn { line: u32, next: u32, least: u32, most: u32, strikes: bool, left: Option<u32>, random: Random },
+// The lines that are raised: by the plans of the text, and by a timer.
+struct Lines {
+    plans: Vec<Plan>,
+    timer: Option<Drawn>,
+}
+
+struct Drawn {
+    timer: Timer,
+    next: u32,
+    /// In how many steps it strikes.
+    left: Option<u32>,
+    random: Random,
 }
 
 // A strike comes this many steps after the entry at most.
 const LATEST_STRIKE: u32 = 3;
 
 impl Lines {
-    fn new(timer: &Timer, plans: Vec<Plan>) -> Lines {
-        match *timer {
-            Timer::Own => Lines::Plans(plans),
-            Timer::Drawn { line, first, least, most, strikes, seed } => {
-                Lines::Drawn { line, next: first, least, most, strikes, left: None, random: Random::new(seed) }
-            }
-        }
+    fn new(timer: Option<Timer>, mut plans: Vec<Plan>) -> Lines {
+        let timer = timer.map(|timer| {
+            plans.retain(|plan| plan.line != timer.line);
+            Drawn { next: timer.first, left: None, random: Random::new(timer.seed), timer }
+        });
+        Lines { plans, timer }
     }
 
     fn raise(&mut self, world: &mut World, step: u32) {
-        match self {
-            Lines::Plans(plans) => {
-                for plan in plans.iter().filter(|plan| due(plan, u64::from(step))) {
-                    world.raise(plan.line, &mut steps());
-                }
-            }
-            Lines::Drawn { line, next, least, most, random, .. } => {
-                if step == *next {
-                    world.raise(*line, &mut steps());
-                    *next += random.within(*least, *most);
-                }
-            }
+        for plan in self.plans.iter().filter(|plan| due(plan, u64::from(step))) {
+            world.raise(plan.line, &mut steps());
+        }
+        if let Some(drawn) = self.timer.as_mut().filter(|drawn| drawn.next == step) {
+            world.raise(drawn.timer.line, &mut steps());
+            drawn.next += drawn.random.within(drawn.timer.least, drawn.timer.most);
         }
     }
 
     // Raises the line soon after some of the entries of the root by a child's own act: before the root's first
     // instruction, or after a few of them.
     fn strike(&mut self, world: &mut World, known: usize) {
-        let Lines::Drawn { line, strikes: true, left, random, .. } = self else { return };
+        let Some(drawn) = self.timer.as_mut().filter(|drawn| drawn.timer.strikes) else { return };
         let entered = world.events.get(known).and_then(|event| event.moved.as_ref());
         let is_act = entered.is_some_and(|moved| moved.to == Some(ROOT) && matches!(moved.why, Why::Trap | Why::Yield));
-        if is_act && random.within(0, 2) == 0 {
-            *left = Some(random.within(0, LATEST_STRIKE));
+        if is_act && drawn.random.within(0, 2) == 0 {
+            drawn.left = Some(drawn.random.within(0, LATEST_STRIKE));
         }
-        if *left == Some(0) {
-            world.raise(*line, &mut steps());
+        if drawn.left == Some(0) {
+            world.raise(drawn.timer.line, &mut steps());
         }
-        *left = left.and_then(|left| left.checked_sub(1));
+        drawn.left = drawn.left.and_then(|left| left.checked_sub(1));
     }
 
     // Whether no line can wake a processor any more.
     fn is_over(&self) -> bool {
-        matches!(self, Lines::Plans(plans) if plans.is_empty())
+        self.plans.is_empty() && self.timer.is_none()
     }
 }
 
@@ -235,18 +274,26 @@ pub fn trouble(world: &World) -> Vec<String> {
 
 // Children that the judge puts in the place of a program's own
 
-/// Instructions that set registers and wait, with some others between them.
-pub fn restless(random: &mut Random, acts: &[Vec<Instr>], waits: (u32, u32)) -> Vec<u32> {
+/// Instructions that set registers and wait, with some others between them. Some registers are set once and keep that.
+/// At times a register gets an edge, or a half word that may mean something to the root.
+pub fn restless(random: &mut Random, acts: &[Vec<Instr>], meant: &[u16], waits: (u32, u32)) -> Vec<u32> {
     let mut text = Vec::new();
+    let (kept, free): (Vec<u32>, Vec<u32>) = (0..16).partition(|a| *a > 0 && random.within(0, 3) == 0);
+    text.extend(kept.iter().map(|a| encode(&li(*a, edge(random, meant)))));
     for _ in 0..40 {
         for _ in 0..random.within(waits.0, waits.1) {
-            let a = random.within(0, 15);
-            text.push(encode(&li(a, random.word() as u16)));
+            let a = random.one_of(&free);
+            let value = if random.within(0, 2) == 0 { edge(random, meant) } else { random.word() as u16 };
+            text.push(encode(&if random.within(0, 3) == 0 { lih(a, value) } else { li(a, value) }));
         }
-        let act = &acts[random.within(0, acts.len() as u32 - 1) as usize];
-        text.extend(act.iter().map(encode));
+        let act = random.within(0, acts.len() as u32 - 1) as usize;
+        text.extend(acts[act].iter().map(encode));
     }
     text
+}
+
+fn edge(random: &mut Random, meant: &[u16]) -> u16 {
+    if random.within(0, 1) == 0 { random.one_of(&[0, 0, 1, u16::MAX]) } else { random.one_of(meant) }
 }
 
 pub fn lih(register: u32, value: u16) -> Instr {

@@ -16,17 +16,25 @@ use pip_isa::{Instr, Register};
 
 /// Steps in which a timer has to give each child its turn, and each child has to show or to ask something.
 const LONGEST_SILENCE: u32 = 2000;
-const TIMERS: usize = 24;
-/// The number of the run that is longer than the others, and how many times as long it is.
-const LONG_RUN: usize = TIMERS / 4;
+const TIMERS: usize = 48;
+/// The numbers of the runs that are longer than the others, by the program's own timer and by another one, and how many
+/// times as long they are.
+const LONG_RUNS: [usize; 2] = [0, TIMERS / 4];
 const TIMES_AS_LONG: u32 = 6;
+/// The distances at which the timers raise the line, in steps, and the step at which they begin.
+const DISTANCES: [u32; 2] = [40, 160];
+const FIRST: [u32; 2] = [400, 700];
 
 // sum
 
-/// All numbers up to this one are tried, and some larger ones that are drawn.
+/// Numbers of a program's own text that are tried: drawn, where there are more.
+const CONSTANTS: usize = 300;
+
+/// All numbers up to this one are tried, the largest, powers of two with their neighbours, those of the text, and of each
+/// that many others one that is drawn.
 const MOST: u32 = 300;
 const LARGEST: u32 = 5000;
-const LARGER: usize = 8;
+const APART: u32 = 25;
 const STEPS_OF_SUM: u32 = 100_000;
 
 pub fn sum(v: &Values, image: &Image, secret: u64, verdict: &mut Verdict) -> Result<(), Refused> {
@@ -39,8 +47,9 @@ pub fn sum(v: &Values, image: &Image, secret: u64, verdict: &mut Verdict) -> Res
     }
     let mut holds = [size, true, true, true, true, true];
     let mut random = Random::new(secret);
-    let larger: Vec<u32> = (0..LARGER).map(|_| random.within(MOST + 1, LARGEST)).collect();
-    for last in [100, 0, MOST].into_iter().chain(1..MOST).chain(larger) {
+    let of_text = image.constants().into_iter().filter(|last| (MOST..=LARGEST).contains(last)).collect();
+    let others = random.some_of(of_text, CONSTANTS).into_iter().chain(larger(&mut random));
+    for last in [100, 0, MOST, LARGEST].into_iter().chain(1..MOST).chain(others) {
         let mut changed = image.clone();
         changed.put(place, last);
         let world = changed.run(Course::plain(STEPS_OF_SUM))?;
@@ -66,9 +75,17 @@ pub fn sum(v: &Values, image: &Image, secret: u64, verdict: &mut Verdict) -> Res
     Ok(())
 }
 
+fn larger(random: &mut Random) -> Vec<u32> {
+    let edges = (9..13).flat_map(|power| [(1 << power) - 1, 1 << power, (1 << power) + 1]);
+    let drawn = (MOST + 1..LARGEST).step_by(APART as usize).map(|least| random.within(least, least + APART - 1));
+    [MOST + 1, LARGEST - 1].into_iter().chain(edges).chain(drawn.map(|last| last.min(LARGEST))).collect()
+}
+
 // child-program
 
 const STEPS_OF_CHILD: u32 = 10_000;
+/// Words that are drawn, of all lengths, beside those that are always put into the register.
+const WORDS: usize = 16;
 
 pub fn child_program(v: &Values, image: &Image, secret: u64, verdict: &mut Verdict) -> Result<(), Refused> {
     let word = v.get("word");
@@ -84,7 +101,7 @@ pub fn child_program(v: &Values, image: &Image, secret: u64, verdict: &mut Verdi
             verdict.story(&[true, false, false, false, false]);
             continue;
         };
-        let is_of_block = follows_block(image, &world, id, at, word, random.word())?;
+        let is_of_block = follows_block(image, &world, id, at, word, &others(image, word, &mut random))?;
         let trap = world.moves().find(|(k, _, moved)| *k > at && moved.from == Some(id));
         let trap = trap.filter(|(_, event, moved)| {
             moved.to == Some(ROOT) && moved.why == Why::Trap && matches!(event.act, Act::Trap { vector: 64.. })
@@ -107,16 +124,23 @@ fn has_had_handlers(image: &Image, world: &World, id: Id, at: usize) -> Result<b
     Ok(id < past.parts.len() && has_handlers(&past, id))
 }
 
+// The words that are put into the register.
+fn others(image: &Image, word: u32, random: &mut Random) -> Vec<u32> {
+    let edges = [0, 1, word - 1, word + 1, 0xffff, 0x1_0000, u32::MAX >> 1, 1 << 31, u32::MAX];
+    let of_text = random.some_of(image.constants().into_iter().collect(), CONSTANTS);
+    let drawn = (0..WORDS).map(|_| random.word() >> random.within(0, 31));
+    edges.into_iter().chain(drawn).chain(of_text).collect()
+}
+
 // Whether the child shows what a register of a block has by which it began, where that has the word: another word there
-// is shown in its place.
-fn follows_block(image: &Image, world: &World, id: Id, at: usize, word: u32, other: u32) -> Result<bool, Refused> {
+// is shown in its place, and nothing else.
+fn follows_block(image: &Image, world: &World, id: Id, at: usize, word: u32, others: &[u32]) -> Result<bool, Refused> {
     let mut left = None;
     for (entry, _, moved) in world.moves().take_while(|(k, _, _)| *k < at) {
         let begins =
             moved.to == Some(id) && moved.from == Some(ROOT) && moved.why == Why::Yield && left != Some(moved.entered);
         for register in (0..16).filter(|register| begins && moved.entered.regs[*register as usize] == word) {
-            let course = Course { edit: Some((entry, register, other)), ..Course::plain(world.events[at].place + 1) };
-            if outs(&image.run(course)?).iter().any(|(_, who, shown)| *who == id && *shown == other) {
+            if follows(image, id, (entry, register), others)? {
                 return Ok(true);
             }
         }
@@ -125,6 +149,17 @@ fn follows_block(image: &Image, world: &World, id: Id, at: usize, word: u32, oth
         }
     }
     Ok(false)
+}
+
+fn follows(image: &Image, id: Id, (entry, register): (usize, u32), others: &[u32]) -> Result<bool, Refused> {
+    for other in others {
+        let world = image.run(Course { edit: Some((entry, register, *other)), ..Course::plain(STEPS_OF_CHILD) })?;
+        let mut shown = outs(&world).into_iter().filter(|(_, who, _)| *who == id).map(|(_, _, word)| word);
+        if shown.next() != Some(*other) || shown.next().is_some() {
+            return Ok(false);
+        }
+    }
+    Ok(true)
 }
 
 // Turns by a timer
@@ -176,26 +211,24 @@ fn go_on(world: &World) -> bool {
     true
 }
 
-fn drawn(line: u32, strikes: bool, random: &mut Random) -> Timer {
-    let least = random.within(40, 100);
-    Timer::Drawn {
-        line,
-        first: random.within(400, 700),
-        least,
-        most: least + random.within(0, 60),
-        strikes,
-        seed: random.next(),
-    }
+// The timer of a run: of the first none but the program's own, of the next two one of even distances, the shortest and
+// the longest, and then one that is drawn.
+fn timer(number: usize, line: u32, random: &mut Random) -> Option<Timer> {
+    let (first, [least, most]) = match number {
+        0 => return None,
+        1 | 2 => (FIRST[number - 1], [DISTANCES[number - 1]; 2]),
+        _ => {
+            let least = random.within(DISTANCES[0], 100);
+            (random.within(FIRST[0], FIRST[1]), [least, least + random.within(0, DISTANCES[1] - 100)])
+        }
+    };
+    Some(Timer { line, first, least, most, strikes: number % 2 == 0, seed: random.next() })
 }
 
-fn timer_told(timer: &Timer) -> String {
-    match timer {
-        Timer::Own => "your timer".into(),
-        Timer::Drawn { line, first, least, most, strikes, .. } => {
-            let more = if *strikes { ", and at times soon after a child's trap or yield" } else { "" };
-            format!("line {line} from step {first} on at distances of {least} to {most} steps{more}")
-        }
-    }
+fn timer_told(timer: &Option<Timer>) -> String {
+    let Some(Timer { line, first, least, most, strikes, .. }) = timer else { return "your timer".into() };
+    let more = if *strikes { ", and at times soon after a child's trap or yield" } else { "" };
+    format!("line {line} from step {first} on at distances of {least} to {most} steps{more}")
 }
 
 /// The runs of a program by its own timer and by those of the judge, all of which have to be good. `judge` says of a
@@ -212,9 +245,9 @@ fn with_timers(
     let mut random = Random::new(secret);
     let mut holds: Vec<bool> = Vec::new();
     for number in 0..=TIMERS {
-        let timer = if number == 0 { Timer::Own } else { drawn(line, number % 2 == 0, &mut random) };
-        let times = if number == LONG_RUN { TIMES_AS_LONG } else { 1 };
-        let count = times * if number == 0 { steps.0 } else { random.within(steps.0, steps.1) };
+        let timer = timer(number, line, &mut random);
+        let times = if LONG_RUNS.contains(&number) { TIMES_AS_LONG } else { 1 };
+        let count = times * random.within(steps.0, steps.1);
         let other = if number > TIMERS / 2 { hostile(&mut random) } else { None };
         let stalls = (number > TIMERS / 4).then(|| random.next());
         let is_hostile = other.is_some();
@@ -242,6 +275,11 @@ fn two(world: &World) -> Option<[Id; 2]> {
     alive.next().is_none().then_some(pair)
 }
 
+/// Half words that may mean something to a program: these, and those of its text.
+fn halves_of(image: &Image, known: &[u16]) -> Vec<u16> {
+    known.iter().copied().chain(image.halves()).collect()
+}
+
 // monitor
 
 pub fn monitor(v: &Values, image: &Image, secret: u64, verdict: &mut Verdict) -> Result<(), Refused> {
@@ -264,15 +302,16 @@ pub fn monitor(v: &Values, image: &Image, secret: u64, verdict: &mut Verdict) ->
         let told = format!("one child waits {} steps for a turn, the other {}", quiet[0], quiet[1]);
         (good, told)
     };
-    let hostile = |random: &mut Random| Some(Hostile::new(halves.map(|half| showing(half, random)).into()));
+    let meant = halves_of(image, &[32 + line as u16]);
+    let hostile = |random: &mut Random| Some(Hostile::new(halves.map(|half| showing(half, &meant, random)).into()));
     with_timers(image, line, (5000, 10_000), secret, hostile, judge, verdict)
 }
 
 // A child that shows words with an upper half, whatever its registers have.
-fn showing(half: u32, random: &mut Random) -> Vec<u32> {
+fn showing(half: u32, meant: &[u16], random: &mut Random) -> Vec<u32> {
     let out = |low: u16| vec![li(1, low), lih(1, half as u16), Instr::Out { a: Register::new(1) }];
-    let acts: Vec<Vec<Instr>> = (0..4).map(|_| out(random.word() as u16)).collect();
-    restless(random, &acts, (0, 40))
+    let acts: Vec<Vec<Instr>> = [0, u16::MAX].into_iter().chain((0..4).map(|_| random.word() as u16)).map(out).collect();
+    restless(random, &acts, meant, (0, 40))
 }
 
 // Whether one child shows words with the one upper half alone, and the other with the other, without a long silence.
@@ -303,8 +342,9 @@ pub fn tell_apart(v: &Values, image: &Image, secret: u64, verdict: &mut Verdict)
         (vec![come(Why::Line), come(Why::Yield), owed, on, calm], told)
     };
     let forge = vec![li(1, 0), li(2, vector as u16), li(3, 63), Instr::Sys { value: 8 }];
+    let meant = halves_of(image, &[vector as u16, 63]);
     let hostile =
-        |random: &mut Random| Some(Hostile::new(vec![restless(random, core::slice::from_ref(&forge), (0, 40))]));
+        |random: &mut Random| Some(Hostile::new(vec![restless(random, &[forge.clone()], &meant, (0, 40))]));
     with_timers(image, line, (3000, 6000), secret, hostile, judge, verdict)
 }
 

@@ -1,5 +1,7 @@
 //! Numbers that depend on a name alone, and numbers that depend on a secret.
 
+use alloc::vec::Vec;
+
 /// A generator of 64 bits: splitmix64.
 pub struct Random(u64);
 
@@ -34,5 +36,15 @@ impl Random {
     /// A number from `least` to `most`.
     pub fn within(&mut self, least: u32, most: u32) -> u32 {
         least + (self.next() % u64::from(most - least + 1)) as u32
+    }
+
+    /// So many of some that are drawn; all where there aren't more.
+    pub fn some_of(&mut self, all: Vec<u32>, most: usize) -> Vec<u32> {
+        if all.len() <= most { all } else { (0..most).map(|_| self.one_of(&all)).collect() }
+    }
+
+    /// One of some, of which there is at least one.
+    pub fn one_of<T: Copy>(&mut self, all: &[T]) -> T {
+        all[self.within(0, all.len() as u32 - 1) as usize]
     }
 }

@@ -1,6 +1,6 @@
 //! The exercises about the tree: what is below a child, and what its end leaves.
 
-use crate::memory::after;
+use crate::memory::{MOST_SHOWN, after, different};
 use crate::script::Script;
 use crate::values::Values;
 use crate::verdict::Verdict;
@@ -17,7 +17,7 @@ pub fn grandchild(v: &Values, script: &Script, verdict: &mut Verdict) {
     let (world, page, word) = (&script.world, v.get("page"), v.get("word"));
     for id in grandchildren(world).filter(|id| world.alive(*id)) {
         let place = world.at(id, page);
-        let is_stored = |at: At| world.word_at(at) == word && world.stored_by(word, &world.writers(at), |_| true);
+        let is_stored = |at: At| world.word_at(at) == word && world.stored_by(&world.writers(at), |_| true);
         let has = place.is_some_and(|place| (0..1024).any(|index| is_stored(At { index, ..place })));
         let is_seen = place
             .is_some_and(|place| world.root_address(place).is_some_and(|address| world.at(ROOT, address).is_some()));
@@ -46,7 +46,11 @@ pub fn end(v: &Values, script: &Script, verdict: &mut Verdict) {
         };
         if is_deletion && world.children().any(with_child) {
             let loaded = after(world, k).any(|(_, later)| is_cleared(later, event, k));
-            verdict.story(&[true, true, alone, free, loaded]);
+            let loads = different(after(world, k).filter_map(|(_, later)| match later.act {
+                Act::Load { va, .. } if later.who == Some(ROOT) => Some(va / 4),
+                _ => None,
+            }));
+            verdict.story(&[true, true, alone, free, loaded && loads <= MOST_SHOWN]);
         }
     }
 }

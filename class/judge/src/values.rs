@@ -27,8 +27,10 @@ impl Values {
         self.0.iter().find(|(known, ..)| *known == name).map_or(0, |(_, number, ..)| *number)
     }
 
-    /// By a seed; without one the usual ones. By a seed all differ from the usual ones, and from each other.
+    /// By a seed; without one the usual ones. By a seed all differ from the usual ones, and from each other. Two seeds are
+    /// the same one if only case differs, and what stands between their words: spaces, `_`, `-` and `.`.
     pub fn drawn(exercise: &str, seed: &str) -> Values {
+        let seed = &plain(seed);
         let mut found = Values(Vec::new());
         for line in lines_of(exercise, "? ") {
             let mut words = line.splitn(6, ' ');
@@ -104,6 +106,12 @@ impl Values {
         }
         told
     }
+}
+
+fn plain(seed: &str) -> String {
+    let is_gap = |letter: char| letter.is_whitespace() || "_-.".contains(letter);
+    let words: Vec<&str> = seed.split(is_gap).filter(|word| !word.is_empty()).collect();
+    if words.is_empty() { seed.trim().into() } else { words.join(" ").to_lowercase() }
 }
 
 fn written(number: u32, is_hexadecimal: bool) -> String {

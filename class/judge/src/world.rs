@@ -88,6 +88,8 @@ pub struct Moved {
     pub saved: Option<At>,
     /// The context that it was left with.
     pub left: Option<Ctx>,
+    /// Of a script, what the block has by which the partition is entered.
+    pub block: Option<Ctx>,
     /// The event that saved what is entered, where the block still has all of that; None where it begins by a block
     /// that was written.
     pub resumed: Option<usize>,
@@ -368,19 +370,25 @@ impl World {
         place.get_or_insert_with(|| Box::new([NOBODY; 4096]))[bytes].fill(writer);
     }
 
-    /// Whether the word was stored by a partition: each byte by it, but for zeros that nobody wrote.
-    pub fn stored_by(&self, word: u32, writers: &Writers, who: impl Fn(&Event) -> bool) -> bool {
-        let by = |writer: u32| {
-            self.events.get(writer as usize).is_some_and(|event| matches!(event.act, Act::Store { .. }) && who(event))
-        };
+    fn is_store(&self, writer: u32, who: impl Fn(&Event) -> bool) -> bool {
+        self.events.get(writer as usize).is_some_and(|event| matches!(event.act, Act::Store { .. }) && who(event))
+    }
+
+    /// Whether a partition stored the word: by one store, or byte by byte.
+    pub fn stored_by(&self, writers: &Writers, who: impl Fn(&Event) -> bool) -> bool {
+        writers.iter().all(|writer| self.is_store(*writer, &who))
+    }
+
+    // Whether what isn't 0 in a word was stored by a partition, and the zeros by it or by nobody.
+    fn is_of(&self, word: u32, writers: &Writers, who: impl Fn(&Event) -> bool) -> bool {
         let mut bytes = word.to_le_bytes().into_iter().zip(writers);
-        writers.iter().any(|writer| by(*writer))
-            && bytes.all(|(byte, writer)| by(*writer) || *writer == NOBODY && byte == 0)
+        writers.iter().any(|writer| self.is_store(*writer, &who))
+            && bytes.all(|(byte, writer)| self.is_store(*writer, &who) || *writer == NOBODY && byte == 0)
     }
 
     /// Whether a partition finds this word there now, which another stored.
     pub fn finds(&self, id: Id, va: u32, word: u32, who: impl Fn(&Event) -> bool) -> bool {
-        self.at(id, va).is_some_and(|at| self.word_at(at) == word && self.stored_by(word, &self.writers(at), who))
+        self.at(id, va).is_some_and(|at| self.word_at(at) == word && self.is_of(word, &self.writers(at), who))
     }
 
     /// Whether all of a block is still what an event saved there.
@@ -453,7 +461,9 @@ impl World {
         let resumed = to.filter(|_| why == Why::Yield).and_then(|id| self.resumed(id, vector));
         let entered = cpu.and_then(|cpu| self.ctx(cpu)).unwrap_or(Ctx { pc: 0, regs: [0; 16] });
         let left = before.save.map(|at| self.context_at(at)).or(before.ctx);
-        Box::new(Moved { from: before.who, to, vector, why, entered, saved: before.save, left, resumed })
+        let block = to.filter(|_| !self.is_program).and_then(|id| self.block(id, vector));
+        let block = block.map(|at| self.context_at(at));
+        Box::new(Moved { from: before.who, to, vector, why, entered, saved: before.save, left, block, resumed })
     }
 
     fn resumed(&self, id: Id, vector: u32) -> Option<usize> {
