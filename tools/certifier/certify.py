@@ -24,7 +24,7 @@ from common.calling import Failed
 from exporter.building import Program
 
 HERE = Path(__file__).resolve().parent
-ENGINE = Program("pip_certifier", "the certifier", HERE, ("pip_every", "pip_image", "pip_kern"))
+ENGINE = Program("pip_certifier", "the certifier", HERE, ("pip_every", "pip_image", "pip_kern", "pip_lines", "pip_script"))
 CHECK_PARTS = HERE / "check_parts"
 SORTED = {**os.environ, "LC_ALL": "C"}
 SEARCH_BYTES, PART_BYTES, LINE_BYTES = 50, 300, 90        # of memory for a state, and of disk for a line, about
