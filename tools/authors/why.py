@@ -19,11 +19,12 @@ NUMBER = re.compile(rb"0|[1-9][0-9]*|0x[0-9a-f]{1,8}")
 LONGEST = 120
 MOST_TOLD = 20           # bad lines of one text
 # What tools/asmx adds
-OF_ASMX = (".equ", ".handler", ".include", ".may", ".again", "la", "j", "nop", "call", "ret", "neg", "not")
+OF_ASMX = (".equ", ".handler", ".include", ".may", ".again", ".never", ".always", "la", "j", "nop", "call", "ret", "neg", "not")
 LIKE = {"ld": "ldw", "st": "stw", "load": "ldw", "store": "stw", "lw": "ldw", "sw": "stw", "lb": "ldb", "sb": "stb",
         "move": "mov", "jmp": "jal", "trap": "int", "ecall": "sys", "syscall": "sys",
         "subi": "addi with a negative number", "bgt": "blt", "bgtu": "bltu",
-        "beqz": "beq with a register that holds 0", "bnez": "bne with a register that holds 0"}
+        "beqz": "li rZ 0 before, and beq rN rZ NAME, since no register is always 0",
+        "bnez": "li rZ 0 before, and bne rN rZ NAME, since no register is always 0"}
 # What other assemblers write, and this one doesn't: a sign in a word, and what to do
 SIGNS = ((",", "operands are separated by spaces, not by commas"),
          ("(", "an address is a register and a number: ldw r1 r2 0, without brackets"),
@@ -193,7 +194,7 @@ def unknown(word: bytes) -> str:
 
 def no_instruction(word: str, names: list[str], like: dict[str, str]) -> str:
     """A sentence about a word that begins no line, with what may be meant by it."""
-    near = difflib.get_close_matches(word, [*names, *like], 2, 0.6)
+    near = [word] if word in like else difflib.get_close_matches(word, [*names, *like], 2, 0.6)
     meant = " or ".join(dict.fromkeys(like.get(name, name) for name in near))
     what = "no line begins with " + repr(word) if word.startswith(".") else f"{word!r} is no instruction"
     return what + (f"; did you mean {meant}?" if meant else hint(word))

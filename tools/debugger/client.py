@@ -4,6 +4,7 @@ from __future__ import annotations
 
 import json
 import subprocess
+import tempfile
 from collections.abc import Sequence
 from dataclasses import dataclass, field
 from typing import Any, NamedTuple
@@ -188,3 +189,20 @@ class States:
 
     def changed(self, since: int) -> list[Change]:
         return [Change(*change) for change in self.ask("changed", since)]
+
+
+def first_turn_at(process: str, image: bytes, word: tuple[int, int], seed: int) -> int:
+    """How many steps of a run come before the first turn at a word of a frame."""
+    states, stops = States(process), Stops()
+    try:
+        with tempfile.NamedTemporaryFile(suffix=".img") as file:
+            file.write(image)
+            file.flush()
+            states.load(file.name, f"seed {seed}")
+        stops.add("break", 1, f"place {word[0]}:{word[1]}")
+        now = states.run(states.now.end, stops)
+        if not now.stops:
+            raise Failed(f"it doesn't run in {now.step} steps by the seed {seed}")
+        return now.step
+    finally:
+        states.end()

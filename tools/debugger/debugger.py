@@ -9,13 +9,13 @@ from collections.abc import Callable
 from dataclasses import dataclass
 from typing import NamedTuple
 
-from authors import asmx, every, ways, why
+from authors import asmx, searching, ways, why
 from common import calling
 from common.calling import Failed
 from common.draw import texts
 from common.draw.texts import Partition
 from common.machine import image as images, instructions, script
-from common.machine.every import After
+from common.machine.every import AT_FIRST, After
 from . import sources
 from .client import EVERY, At, Coming, Refused, States, Stopped, Stops, Turn
 from .sources import Named, Word
@@ -368,14 +368,17 @@ class Debugger:
         if self.is_script:
             raise Failed("the lines of a script come in their order alone")
 
-    def search(self, words: list[str]) -> tuple[every.Search, str]:
+    def search(self, words: list[str]) -> tuple[searching.Search, str]:
         """What the program's `every` finds for this image, and the way to where it begins."""
         self.need_image()
-        found = every.read(every.searched(self.program, ["every", *words], self.data))
-        if words[-3:-2] != ["after"]:
-            return found, ""
-        after = After(int(words[-2], 0), int(words[-1], 0))
-        return found, ways.text_of(ways.before(images.read(self.data), after))
+        at = words.index("after") if "after" in words else len(words)
+        numbers, after = [int(word, 0) for word in words[:at]], AT_FIRST
+        if words[at:]:
+            after = After(*(int(word, 0) for word in words[at + 1:]))
+        if not 1 <= len(numbers) <= 3:
+            raise Failed("every has STATES, and where wanted FROM and DEPTH")
+        found = searching.searched(self.program, searching.Asked(self.data, b"", *numbers)._replace(after=after))
+        return found, ways.text_of(ways.before(images.read(self.data), after)) if after.steps else ""
 
     def take_way(self, text: str) -> Stopped:
         """The choices of a way in the place of the schedule, from the beginning."""

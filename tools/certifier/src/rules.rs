@@ -71,21 +71,33 @@ fn operand(word: &str) -> Option<Operand> {
 }
 
 impl Rule {
-    /// Whether the state that the machine is at breaks it.
-    pub fn is_broken(&self, explorer: &mut Explorer) -> bool {
+    /// Where the state that the machine is at breaks it: the words and registers by which it does, each with its value.
+    pub fn broken(&self, explorer: &mut Explorer) -> Option<String> {
         let runs: Vec<Occupant> = explorer.processors().iter().flatten().copied().collect();
-        if !self.is_own {
-            return self.holds(explorer, &runs, None) == Some(!self.always);
-        }
-        runs.iter().any(|own| self.holds(explorer, &runs, Some(own)) == Some(!self.always))
+        let owns: Vec<Option<&Occupant>> = if self.is_own { runs.iter().map(Some).collect() } else { vec![None] };
+        owns.into_iter().find_map(|own| {
+            let mut shown = Vec::new();
+            (self.holds(explorer, &runs, own, &mut shown)? != self.always).then(|| shown.join(" "))
+        })
     }
 
-    // Whether the condition holds; nothing where something has no value.
-    fn holds(&self, explorer: &mut Explorer, runs: &[Occupant], own: Option<&Occupant>) -> Option<bool> {
+    // Whether the condition holds; nothing where something has no value. What has one is shown.
+    fn holds(
+        &self,
+        explorer: &mut Explorer,
+        runs: &[Occupant],
+        own: Option<&Occupant>,
+        shown: &mut Vec<String>,
+    ) -> Option<bool> {
         let (mut values, mut truths) = (Vec::new(), Vec::new());
         for token in &self.tokens {
             match token {
-                Token::Value(operand) => values.push(value(*operand, explorer, runs, own)?),
+                Token::Value(Operand::Number(number)) => values.push(*number),
+                Token::Value(operand) => {
+                    let (place, value) = value(*operand, explorer, runs, own)?;
+                    values.push(value);
+                    shown.push(format!("{place} {value}"));
+                }
                 Token::Compare(compare) => {
                     let (right, left) = (values.pop()?, values.pop()?);
                     truths.push(compare(&left, &right));
@@ -100,13 +112,28 @@ impl Rule {
     }
 }
 
-fn value(operand: Operand, explorer: &mut Explorer, runs: &[Occupant], own: Option<&Occupant>) -> Option<u32> {
+// A value, and where it is: `fF:I` or `pP:R`.
+fn value(
+    operand: Operand,
+    explorer: &mut Explorer,
+    runs: &[Occupant],
+    own: Option<&Occupant>,
+) -> Option<(String, u32)> {
+    let of_word = |explorer: &mut Explorer, (frame, index): (u32, u32)| {
+        Some((format!("f{frame}:{index}"), explorer.word(frame, index)?))
+    };
+    let of_register = |runs: &Occupant, number: u32| {
+        Some((format!("p{}:{number}", runs.name.number()), register(runs, number)?))
+    };
     match operand {
-        Operand::Number(number) => Some(number),
-        Operand::Word(frame, index) => explorer.word(frame, index),
-        Operand::At(part, address) => word_at(explorer, part, address),
-        Operand::Of(part, number) => register(runs.iter().find(|runs| runs.name.number() == part)?, number),
-        Operand::Own(number) => register(own?, number),
+        Operand::Number(number) => Some((String::new(), number)),
+        Operand::Word(frame, index) => of_word(explorer, (frame, index)),
+        Operand::At(part, address) => {
+            let place = place_at(explorer, part, address)?;
+            of_word(explorer, place)
+        }
+        Operand::Of(part, number) => of_register(runs.iter().find(|runs| runs.name.number() == part)?, number),
+        Operand::Own(number) => of_register(own?, number),
     }
 }
 
@@ -118,10 +145,10 @@ fn register(runs: &Occupant, number: u32) -> Option<u32> {
     }
 }
 
-// The word at an address of a partition, if it has a page there, whatever its rights are.
-fn word_at(explorer: &mut Explorer, part: u32, address: u32) -> Option<u32> {
+// Where the word at an address of a partition is, if it has a page there, whatever its rights are.
+fn place_at(explorer: &mut Explorer, part: u32, address: u32) -> Option<(u32, u32)> {
     let directory = explorer.word(part, 3)?;
     let entry = explorer.word(directory, address >> 22)?;
     let row = explorer.word(entry / 4096, address >> 12 & 1023)?;
-    if entry == 0 || row == 0 { None } else { explorer.word(row / 4096, address % 4096 / 4) }
+    if entry == 0 || row == 0 { None } else { Some((row / 4096, address % 4096 / 4)) }
 }

@@ -53,7 +53,7 @@ enum End {
     /// There are more states than there is room for.
     Stopped,
     /// The input has ended.
-    Interrupted,
+    Ended,
     /// What was looked for was found.
     Found,
 }
@@ -64,7 +64,7 @@ impl End {
             End::Closed => "closed",
             End::Within => "within",
             End::Stopped => "stopped",
-            End::Interrupted => "interrupted",
+            End::Ended => "ended",
             End::Found => "found",
         }
     }
@@ -105,11 +105,19 @@ impl Search<'_> {
         let (runs, words) = read_processors(&key[1..], self.explorer.cpus());
         self.values.add(words, runs.as_slice());
         let asked = self.asked;
-        let broken = asked.rules.iter().position(|rule| rule.is_broken(&mut self.explorer));
-        let Some(rule) = broken else { return Ok(None) };
-        let way = self.way(self.parents.len() - 1, None);
-        say(&format!("line {} - rule {}: {way}", self.depth_of(self.parents.len() - 1), rule + 1))?;
-        Ok(Some(End::Found))
+        let mut rules = asked.rules.iter().enumerate();
+        match rules.find_map(|(at, rule)| Some((at + 1, rule.broken(&mut self.explorer)?))) {
+            Some((rule, shown)) => self.say_broken(rule, &shown).map(Some),
+            None => Ok(None),
+        }
+    }
+
+    // Says that the state that was found last breaks a rule, and by what.
+    fn say_broken(&self, rule: usize, shown: &str) -> Result<End, Stop> {
+        let state = self.parents.len() - 1;
+        say(&format!("broken {shown}"))?;
+        say(&format!("line {} - rule {rule}: {}", self.way_to(state).len(), self.way(state, None)))?;
+        Ok(End::Found)
     }
 
     // The choices that lead to a state.
@@ -121,10 +129,6 @@ impl Search<'_> {
         }
         way.reverse();
         way
-    }
-
-    fn depth_of(&self, state: usize) -> usize {
-        self.way_to(state).len()
     }
 
     // The text of the way to a state, and of a choice after it.
@@ -186,7 +190,7 @@ impl Search<'_> {
         if self.done % LOOK == 0 {
             self.report()?;
             if self.stop.load(Ordering::Relaxed) {
-                return Ok(Some(End::Interrupted));
+                return Ok(Some(End::Ended));
             }
         }
         let (state, mut to) = (self.done, Words::new(Global));

@@ -28,7 +28,7 @@ impl Values {
 }
 
 /// The values that were seen: of the words that differ from those to compare with, by their places, and of registers by
-/// partition and number, of which 16 is the pc.
+/// partition and number.
 #[derive(Default)]
 pub struct Seen {
     words: Vec<Option<Box<Values>>>,
@@ -48,7 +48,7 @@ impl Seen {
             self.words[place].get_or_insert_default().add(pair[1]);
         }
         for runs in runs.iter().flatten() {
-            for (number, value) in runs.ctx.regs.iter().chain([&runs.ctx.pc]).enumerate() {
+            for (number, value) in runs.ctx.regs.iter().enumerate() {
                 self.registers.entry((runs.name.number(), number as u32)).or_default().add(*value);
             }
         }
