@@ -36,9 +36,10 @@ function unknownWord(word) {
   if (/[A-Z]/.test(word) && isKnown(word.toLowerCase()) && !word.startsWith(".")) return quoted(word) + " has a letter in upper case";
   if (isKnown(word) || word.endsWith(":")) return quoted(word) + " doesn't stand here, or is no good name";
   if (ofAsmx.includes(word)) return "no line of an assembly text begins with " + quoted(word) + ": the file is a source of tools/asmx";
-  const near = closest(word, [...Object.keys(operands).filter(name => !name.startsWith(".")), ...Object.keys(like)]);
+  const isLine = word.startsWith("."), names = Object.keys(operands).filter(name => name.startsWith(".") === isLine);
+  const near = Object.hasOwn(like, word) ? [word] : closest(word, isLine ? names : [...names, ...Object.keys(like)]);
   const meant = [...new Set(near.map(name => like[name] || name))].join(" or ");
-  const what = word.startsWith(".") ? "no line begins with " + quoted(word) : quoted(word) + " is no instruction";
+  const what = isLine ? "no line begins with " + quoted(word) : quoted(word) + " is no instruction";
   return what + (meant ? "; did you mean " + meant + "?" : hint(word));
 }
 

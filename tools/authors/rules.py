@@ -74,7 +74,10 @@ def differing(shown: str, world: World, peek: Callable[[int, int], int | None]) 
     """Of what a process shows of a state that breaks a rule, as `f38:0 5` and `p1:3 7`, what is otherwise in this
     world, with the words that `peek` shows of its frames."""
     runs = {at.name: [*at.context.registers, at.context.pc, at.name] for at in world.processors if at}
-    words = shown.split()
-    of = [(word, int(number), *map(int, word[1:].split(":"))) for word, number in zip(words[::2], words[1::2])]
-    return [f"{word} {number}" for word, number, first, second in of
-            if number != (peek(first, second) if word[0] == "f" else runs.get(first, [-1] * 18)[second])]
+    words, wrong = shown.split(), []
+    for word, number in zip(words[::2], words[1::2]):
+        first, second = map(int, word[1:].split(":"))
+        found = peek(first, second) if word[0] == "f" else runs[first][second] if first in runs else None
+        if found != int(number):
+            wrong.append(f"{word} {number}")
+    return wrong

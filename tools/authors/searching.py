@@ -23,8 +23,8 @@ from typing import IO, NamedTuple
 from certifier.certify import ENGINE
 from common import calling, meanings
 from common.calling import Failed
-from common.machine import image as images
-from common.machine.every import AT_FIRST, After, first_line
+from common.machine import image as images, runs
+from common.machine.every import AT_FIRST, After
 from common.progress import Progress
 from .rules import Rule
 
@@ -147,7 +147,7 @@ class Speaking:
         how = self.end[0] if self.end else "ended"
         last = f"states {states} within {depth}" if how == "within" else \
             f"states {states} depth {depth} {how}"
-        return read([first_line(images.read(image)), *self.lines, last])
+        return read([runs.first_line(images.read(image)), *self.lines, last])
 
 
 @contextlib.contextmanager
@@ -225,7 +225,7 @@ class Running:
         status, speaking = self.program.poll(), self.speaking
         self.told.seek(0)
         lines = self.told.read().decode("ascii", "replace").splitlines()
-        if speaking and (self.is_found() or status is None or status == NO_MEMORY) and sum(speaking.at):
+        if speaking and (self.is_found() or status is None or status == NO_MEMORY) and any(speaking.at):
             if not self.is_found():
                 what = "the program has no memory" if status else "it was stopped"
                 print(f"every: {what}; this is what a process over the export has found by then", file=sys.stderr)

@@ -23,8 +23,7 @@ OF_ASMX = (".equ", ".handler", ".include", ".may", ".again", ".never", ".always"
 LIKE = {"ld": "ldw", "st": "stw", "load": "ldw", "store": "stw", "lw": "ldw", "sw": "stw", "lb": "ldb", "sb": "stb",
         "move": "mov", "jmp": "jal", "trap": "int", "ecall": "sys", "syscall": "sys",
         "subi": "addi with a negative number", "bgt": "blt", "bgtu": "bltu",
-        "beqz": "li rZ 0 before, and beq rN rZ NAME, since no register is always 0",
-        "bnez": "li rZ 0 before, and bne rN rZ NAME, since no register is always 0"}
+        "beqz": "beq with a register that holds 0", "bnez": "bne with a register that holds 0"}
 # What other assemblers write, and this one doesn't: a sign in a word, and what to do
 SIGNS = ((",", "operands are separated by spaces, not by commas"),
          ("(", "an address is a register and a number: ldw r1 r2 0, without brackets"),
@@ -189,12 +188,14 @@ def unknown(word: bytes) -> str:
         return f"{shown(word)} doesn't stand here, or is no good name"
     if word.decode("latin1") in OF_ASMX:
         return f"no line of an assembly text begins with {shown(word)}: the file is a source of tools/asmx"
-    return no_instruction(word.decode("utf-8", "replace"), list(instructions.OPCODES), LIKE)
+    names = [name.decode() for name in DIRECTIVES] if word.startswith(b".") else list(instructions.OPCODES)
+    return no_instruction(word.decode("utf-8", "replace"), names, LIKE)
 
 
 def no_instruction(word: str, names: list[str], like: dict[str, str]) -> str:
     """A sentence about a word that begins no line, with what may be meant by it."""
-    near = [word] if word in like else difflib.get_close_matches(word, [*names, *like], 2, 0.6)
+    names = names if word.startswith(".") else [*names, *like]
+    near = [word] if word in like else difflib.get_close_matches(word, names, 2, 0.6)
     meant = " or ".join(dict.fromkeys(like.get(name, name) for name in near))
     what = "no line begins with " + repr(word) if word.startswith(".") else f"{word!r} is no instruction"
     return what + (f"; did you mean {meant}?" if meant else hint(word))

@@ -372,12 +372,12 @@ class Debugger:
         """What the program's `every` finds for this image, and the way to where it begins."""
         self.need_image()
         at = words.index("after") if "after" in words else len(words)
-        numbers, after = [int(word, 0) for word in words[:at]], AT_FIRST
-        if words[at:]:
-            after = After(*(int(word, 0) for word in words[at + 1:]))
+        numbers = [int(word, 0) for word in words[:at]]
+        after = After(*(int(word, 0) for word in words[at + 1:])) if words[at:] else AT_FIRST
         if not 1 <= len(numbers) <= 3:
             raise Failed("every has STATES, and where wanted FROM and DEPTH")
-        found = searching.searched(self.program, searching.Asked(self.data, b"", *numbers)._replace(after=after))
+        states, first, depth = (*numbers, None, None)[:3]
+        found = searching.searched(self.program, searching.Asked(self.data, b"", states or 0, first, depth, after))
         return found, ways.text_of(ways.before(images.read(self.data), after)) if after.steps else ""
 
     def take_way(self, text: str) -> Stopped:
