@@ -11,7 +11,8 @@ import tempfile
 from collections.abc import Iterator, Sequence
 from pathlib import Path
 
-from certifier.certify import CHECK_PARTS, ENGINE
+from certifier.certify import CHECK_PARTS
+from certifier.engine import ENGINE
 from common.calling import Failed
 from reference import generate_parts, parts
 from common.machine import image as images

@@ -20,7 +20,7 @@ from collections.abc import Callable, Iterator
 from pathlib import Path
 from typing import IO, NamedTuple
 
-from certifier.certify import ENGINE
+from certifier.engine import ENGINE
 from common import calling, meanings
 from common.calling import Failed
 from common.machine import image as images, runs
