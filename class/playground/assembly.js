@@ -1,4 +1,4 @@
-// Why a line of an assembly text is refused, by the kind that the program says: the column and what is there, as tools/why says it.
+// Why a line of an assembly text is refused, by the kind that the program says: the column and what is there, as tools/asmx --check says it.
 // `facts.assembly` has what each word that begins a line takes.
 "use strict";
 const REGISTER = /^r([0-9]|1[0-5])$/, LABEL = /^[A-Za-z_][A-Za-z0-9_]{0,31}$/, NEGATIVE = /^-[1-9][0-9]*$/, SIGNED = /^-?(0x[0-9a-f]+|[0-9]+)$/;

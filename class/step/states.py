@@ -14,6 +14,7 @@ from common.meanings import outcome_of
 from common.draw import texts
 from common.machine import image as images, script
 from common.machine.model import HANDLERS, NOWHERE, SAVED, World
+from debugger import sources
 from . import walk
 from .asking import Asked, BadLine
 
@@ -198,19 +199,19 @@ def registers_of(world: World) -> tuple[Registers, ...]:
     return tuple((*at.context.registers, at.context.pc) if at else None for at in world.processors)
 
 
-def did(turn: trace.Watched, names: trace.Names, lines: list[str]) -> str:
+def did(turn: trace.Watched, names: sources.Source, lines: list[str]) -> str:
     """A turn in words."""
     if turn.did is None or turn.where is None:
         return f"processor {turn.cpu}: {trace.without_instruction(lines)}"
     name, pc = turn.where
-    label = names.place(turn.world, name, pc)
+    label = trace.name_at(names, turn.world, name, pc)
     return f"processor {turn.cpu}, partition {name}, 0x{pc:08x}{label and f' {label}'}: {turn.did}"
 
 
 def watched(data: bytes, first: int, count: int, seed: int, source: str | None, due: list[str]) -> list[Seen]:
     """What is seen at step `first`, and after each step from then on. `due` are the program's lines."""
     image = images.read(data)
-    names = trace.Names(image, source)
+    names = sources.read(data, source)
     lines: list[str] = []
     if names.warning:
         print(f"step: {names.warning}", file=sys.stderr)

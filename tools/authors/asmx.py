@@ -4,6 +4,7 @@ menus.
     tools/asmx FILE > program.s
     tools/asmx FILE --image program.img
     tools/asmx FILE --against program.menu
+    tools/asmx --check FILE
 
 What it adds to the lines of docs/FORMATS.md is told in tools/README.md.
 """
@@ -140,8 +141,8 @@ def collecting(wrongs: list[Wrong]) -> Iterator[None]:
 class Files:
     """The files that a source is made of. Any file may be included."""
 
-    def __init__(self) -> None:
-        self.count = 0
+    def __init__(self, **held: bytes) -> None:
+        self.count, self.held = 0, held          # `held` are texts that were read before
 
     def inner(self, path: Word) -> str:
         """The file that a line includes."""
@@ -154,7 +155,7 @@ class Files:
         self.count += 1
         if self.count > MOST_FILES:
             raise Failed(f"{path}: more than {MOST_FILES} files are included")
-        return calling.contents(path)
+        return self.held[path] if path in self.held else calling.contents(path)
 
 
 def lines_of(path: str, files: Files, above: tuple[str, ...] = ()) -> Iterator[tuple[Place, list[Word]]]:
@@ -634,11 +635,36 @@ def main() -> None:
     parser.add_argument("--image", metavar="OUT", help="assemble it, and write the image there")
     parser.add_argument("--against", metavar="OUT",
                         help="the same, and after the image its menu, the lines .may and .again, for against")
+    parser.add_argument("--check", action="store_true",
+                        help="only say what is wrong, also of a script or a menu, with the rule that applies")
+    parser.add_argument("--as", dest="kind", choices=("script", "asm", "menu"),
+                        help="of --check: what the file is; without it its name and its first line say so")
     calling.take_program(parser)
     calling.started(parser, work)
 
 
-def work(given: argparse.Namespace) -> None:
+def checked(given: argparse.Namespace) -> int:
+    """Says what is wrong: with a text for the program, or with a source."""
+    path, data = given.file, calling.contents(given.file)
+    kind = {"script": why.SCRIPT, "asm": why.ASSEMBLY, "menu": why.MENU}.get(
+        given.kind or ("menu" if path.endswith(".may") else "asm" if path.endswith(".s") else ""))
+    if (what := why.no_text(path, data)) and (data or kind is None):
+        print(what)
+        return 1
+    if kind or why.kind_of(data) is why.SCRIPT:
+        return why.checked(given.program, path, kind or why.SCRIPT, data)
+    try:
+        warnings = list(processed(path, Files(**{path: data}))[1].warnings())
+    except Failed as failed:
+        print(failed)
+        return 1
+    print("\n".join([*map(str, warnings), f"{path} is a good source"]))
+    return 0
+
+
+def work(given: argparse.Namespace) -> int:
+    if given.check:
+        return checked(given)
     lines, text = processed(given.file)
     warn(text)
     if given.image:
@@ -647,3 +673,4 @@ def work(given: argparse.Namespace) -> None:
         calling.write(given.against, assembled(given.program, lines) + text_of(text.menu))
     else:
         sys.stdout.write(text_of(lines).decode())
+    return 0

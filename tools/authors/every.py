@@ -96,20 +96,18 @@ def meaning_of(last: str, with_menu: bool = False) -> str:
 
 
 class Given(NamedTuple):
-    """What is searched, with its menu, the file of its names, and these."""
+    """What is searched, with its menu, and the names of its source."""
 
     asked: Asked
     menu: Menu
-    source: str | None
     names: sources.Source
 
 
 def traced(program: str, given: Given, line: Line, search: Search) -> int:
     """Prints the way choice by choice, and whether it shows what it should."""
     image, way = way_of(given, line)
-    names = trace.Names(image, given.source)
-    if names.warning:
-        print(f"every: {names.warning}", file=sys.stderr)
+    if given.names.warning:
+        print(f"every: {given.names.warning}", file=sys.stderr)
     print("# by the reference: no proof; the last line at the right is compared with the program's")
     shown, world = "", searches.begun(image, given.asked.after)
     for made in ways.made(image, way, given.menu, given.asked.after):
@@ -117,7 +115,7 @@ def traced(program: str, given: Given, line: Line, search: Search) -> int:
         if made.turn is None:
             print(f"{made.step:>6}   line {made.choice.number} is raised")
         else:
-            print(trace.line_of(made.turn, [], made.lines, names))
+            print(trace.line_of(made.turn, made.lines, given.names))
         shown = made.lines[-1] if made.lines else ""
     print("\n".join(trace.registers_of(world)))
     if line.cpu == "-":
@@ -228,7 +226,7 @@ def given_of(given: argparse.Namespace) -> Given:
     found = against.menu_of(menu)
     asked = Asked(data, menu if any(found) else b"", given.states, given.first, given.depth,
                   after_of(given.after, data, source), given.until, (*text.rules, *more_rules(given, text)))
-    return Given(asked, found.deeds, source, sources.Source() if asked.data == b"" else sources.read(data, source))
+    return Given(asked, found.deeds, sources.read(data, source))
 
 
 def more_rules(given: argparse.Namespace, text: asmx.Text) -> list[rules.Rule]:

@@ -77,7 +77,7 @@ class Told(unittest.TestCase):
         search = searching.read([*self.LINES, "states 5 depth 3 stopped", "again 0 out 0x00000005: yes",
                                  "again 1 x: no", "again 1 y: no 0x3 1:d2"])
         asked = searching.Asked(b"", b"", 5)
-        told = every.told_of(search, False, every.Given(asked, (), None, sources.Source()))
+        told = every.told_of(search, False, every.Given(asked, (), sources.Source()))
         self.assertEqual(told[1:], [
             "   1  2 0 out 0x00000007: 0x3",
             "   2  3 0 call 12 reply 1 0x00000000: 0x4    # call 12: UnknownCall: no call has this number",

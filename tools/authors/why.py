@@ -1,11 +1,7 @@
-"""Why a script, an assembly text or a menu is refused: line, column, what is there, and the rule of docs/FORMATS.md.
-
-    tools/why FILE
-"""
+"""Why a script, an assembly text or a menu is refused: line, column, what is there, and the rule of docs/FORMATS.md."""
 
 from __future__ import annotations
 
-import argparse
 import difflib
 import re
 from collections.abc import Callable, Iterator
@@ -376,27 +372,9 @@ def told(name: str, place: int, lines: list[bytes], cause: Cause) -> list[str]:
     return sentences
 
 
-def main() -> None:
-    parser = argparse.ArgumentParser(
-        description="Why a script, an assembly text or a menu is refused, by the tables of docs/FORMATS.md.",
-        epilog="The status is 0 where the text is good, and 1 where it is refused.")
-    parser.add_argument("file", metavar="FILE", help="- is standard input")
-    parser.add_argument("--as", dest="kind", choices=("script", "asm", "menu"),
-                        help="what the file is; without it its first line says so, and a file .may is a menu")
-    calling.take_program(parser)
-    calling.started(parser, work)
-
-
-def work(given: argparse.Namespace) -> int:
-    text = calling.contents(given.file)
-    if given.kind == "menu" or given.kind is None and given.file.endswith(".may"):
-        kind, judge = MENU, by_reference(against.menu_of)
-    elif (what := no_text(given.file, text)) and (text or given.kind is None):
-        print(what)
-        return 1
-    else:
-        kind = kind_of(text, None if given.kind is None else given.kind == "asm")
-        judge = by_program(given.program, kind)
-    wrong = ["\n".join(lines) for lines in sentences(kind, judge, given.file, text)]
-    print("\n\n".join(wrong) or f"{given.file} is a good {kind.name}")
+def checked(program: str, name: str, kind: Kind, text: bytes) -> int:
+    """Says what is wrong with each bad line of a text; the status is 1 where one is."""
+    judge = by_reference(against.menu_of) if kind is MENU else by_program(program, kind)
+    wrong = ["\n".join(lines) for lines in sentences(kind, judge, name, text)]
+    print("\n\n".join(wrong) or f"{name} is a good {kind.name}")
     return 1 if wrong else 0

@@ -5,13 +5,14 @@ from __future__ import annotations
 import json
 import subprocess
 import tempfile
-from collections.abc import Sequence
+from collections.abc import Iterator, Sequence
 from dataclasses import dataclass, field
 from typing import Any, NamedTuple
 
 from common.calling import Failed, running
 
 EVERY = 10_000                   # steps between two states that are kept
+LISTED = 10_000                  # steps that are listed at once
 
 
 class Refused(Failed):
@@ -44,6 +45,7 @@ class Turn:
     part: int | None
     pc: int | None
     word: int | None
+    place: list[int] | None          # where the word is: a frame and an index
     raised: list[int]
     did: str
     line: str
@@ -155,10 +157,12 @@ class States:
 
     def turn(self) -> Turn | None:
         told = self.ask("turn")
-        if told is None:
-            return None
-        told["changed"] = [Change(*change) for change in told["changed"]]
-        return Turn(**told)
+        return None if told is None else turn_of(told)
+
+    def list(self, first: int, to: int) -> Iterator[Turn]:
+        """The steps from one on and before another, without the words that they change."""
+        for begin in range(first, to, LISTED):
+            yield from map(turn_of, self.ask("list", begin, min(begin + LISTED, to)))
 
     def next(self) -> Coming:
         return Coming(**self.ask("next"))
@@ -189,6 +193,10 @@ class States:
 
     def changed(self, since: int) -> list[Change]:
         return [Change(*change) for change in self.ask("changed", since)]
+
+
+def turn_of(told: dict[str, Any]) -> Turn:
+    return Turn(**{**told, "changed": [Change(*change) for change in told["changed"]]})
 
 
 def first_turn_at(process: str, image: bytes, word: tuple[int, int], seed: int) -> int:

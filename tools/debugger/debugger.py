@@ -429,8 +429,8 @@ class Debugger:
         """Where each stop is checked, and a command has this state: what differs."""
         return self.differing() if self.checks and not self.on_way and not self.states.now.edited else ""
 
-    def told_turn(self, turn: Turn | None) -> str:
-        """The step that led here, in a line."""
+    def told_turn(self, turn: Turn | None, with_name: bool = False) -> str:
+        """A step in a line: who ran where, the instruction, and its line."""
         if turn is None:
             return "the beginning"
         if self.is_script:
@@ -439,7 +439,10 @@ class Debugger:
         if turn.cpu is None:
             return f"{turn.step}{raised}"
         did = self.instruction(turn.word) if turn.did == "ran" else turn.did
+        name = self.source.nearest((turn.place[0], turn.place[1])) if turn.place else ""
         where = f"{turn.part:>4} 0x{turn.pc:08x}" if turn.part is not None and turn.pc is not None else "   -"
+        if with_name:
+            where = f"{where:15} {name:24}"
         shown = turn.line.split(" ", 2)[2] if turn.line else ""
         return f"{turn.step:>6} {turn.cpu} {where} {did:24} {shown}{raised}".rstrip()
 
@@ -494,6 +497,8 @@ def events_of(program: str, path: str, data: bytes) -> list[Event]:
 def words_of(kind: str, numbers: list[str], step: int) -> tuple[list[str], int]:
     """By which numbers the program goes to a step, and where that ends: `slots` makes whole rounds, and no more than it
     can."""
+    if kind == "seed":
+        return [str(step), *numbers], step
     if kind == "native":
         return [*numbers, str(step)], step
     length = int(numbers[0]) * (int(numbers[1]) + 2)

@@ -2,7 +2,7 @@
 
     tools/language_server
 
-It says what is wrong, in the words of tools/why and tools/asmx, what a word means, in those of docs/FORMATS.md, where a
+It says what is wrong, in the words of tools/asmx, what a word means, in those of docs/FORMATS.md, where a
 name is defined, and what can be typed. Where no program is built, what is wrong comes from the reference."""
 
 from __future__ import annotations
