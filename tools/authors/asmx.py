@@ -261,7 +261,7 @@ class Text:
             page, at = self.pages[-1], self.pages[-1].here()
             size = len(WRITTEN[first][1]) if first in WRITTEN else 1
             if first == ".word":
-                page.entries[page.next] = words[0], words[-1]
+                page.entries[page.next] = words[-1], words[-1]
             page.add(first.place, size, lambda: self.instruction(words, at, page.is_elsewhere),
                      is_code=first != ".word")
 
@@ -320,13 +320,13 @@ class Text:
         if NAME.fullmatch(block) and block not in self.constants:
             if words[3:]:
                 raise words[3].wrong("a block with a name is filled where the name stands")
-            page.entries[vector] = words[0], block
+            page.entries[vector] = words[1], block
             page.add(place, 1, functools.partial(self.address_word, block), vector)
             return
         offset = self.number(block)
         if offset % 4 or not 0 <= offset <= 4028:
             raise block.wrong("a block is a multiple of 4, at most 4028")
-        page.entries[vector] = words[0], f"0x{page.seen + offset:08x}"
+        page.entries[vector] = words[2], f"0x{page.seen + offset:08x}"
         page.add(place, 1, lambda: [Line(f".word 0x{page.seen + offset:08x}")], vector)
         for at, value in self.block(words[3:]):
             page.add(place, 1, functools.partial(self.address_word, value), offset // 4 + at)
@@ -457,7 +457,7 @@ class Text:
     def rule(self, words: list[Word]) -> Rule:
         """The rule of a line `.never` or `.always`, whose names are those of this text."""
         def number(text: str) -> int:
-            return self.number(text if isinstance(text, Word) else words[0].put(text), True) % (1 << 32)
+            return self.number(next(word for word in words[1:] if text in word).put(text), True) % (1 << 32)
 
         def address(text: str) -> int:
             label = self.labels.get(re.split("[+-]", text)[0])

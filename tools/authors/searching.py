@@ -175,6 +175,7 @@ class Running:
 
     def __init__(self, program: str, asked: Asked, given: IO[bytes], told: IO[bytes]) -> None:
         self.asked, self.told, self.progress, self.is_stopped = asked, told, Progress(), False
+        direct = calling.direct(program)
         given.write(asked.data + asked.menu)
         given.seek(0)
         try:
@@ -182,7 +183,7 @@ class Running:
         except Failed as failed:
             self.need_no_process(failed)
         with calling.running(program):
-            self.program = subprocess.Popen([calling.direct(program), *asked.words()], stdin=given, stdout=told,
+            self.program = subprocess.Popen([direct, *asked.words()], stdin=given, stdout=told,
                                             start_new_session=True)
 
     def need_no_process(self, failed: Failed) -> None:

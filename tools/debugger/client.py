@@ -159,7 +159,7 @@ class States:
         told = self.ask("turn")
         return None if told is None else turn_of(told)
 
-    def list(self, first: int, to: int) -> Iterator[Turn]:
+    def listed(self, first: int, to: int) -> Iterator[Turn]:
         """The steps from one on and before another, without the words that they change."""
         for begin in range(first, to, LISTED):
             yield from map(turn_of, self.ask("list", begin, min(begin + LISTED, to)))
@@ -196,7 +196,8 @@ class States:
 
 
 def turn_of(told: dict[str, Any]) -> Turn:
-    return Turn(**{**told, "changed": [Change(*change) for change in told["changed"]]})
+    told["changed"] = [Change(*change) for change in told["changed"]]
+    return Turn(**told)
 
 
 def first_turn_at(process: str, image: bytes, word: tuple[int, int], seed: int) -> int:

@@ -470,7 +470,7 @@ def listed(debugger: Debugger, steps: int, first: int, part: int | None) -> int:
     if debugger.is_script:
         raise Failed("a script is its own list: its lines are the steps")
     print("# of the same text as the program, not of the same proof; the lines at the right are compared with its own")
-    for turn in debugger.states.list(min(first, steps), steps):
+    for turn in debugger.states.listed(min(first, steps), steps):
         if part in (None, turn.part):
             print(debugger.told_turn(turn, True))
     debugger.states.go(steps)
