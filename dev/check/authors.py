@@ -102,7 +102,8 @@ ENDS = ((0, "--until", "out 0x00000002", "12  71 1 out 0x00000002: 0x51 raise0 1
         (1, "--never", "[28:0xffc01000] in 7 2 and f38:1 == 0", " - rule 1: "),
         (1, "--always", "part in 1 44", " - rule 1: 0x44    # broken: always part in 1 44\n"),
         (1, "--always", "pc != child or r5 == TIMES", "p28:5 1"))
-HOLDS = (("--never", "[COUNT] > 2*TIMES"), ("--always", "28:r5 <= TIMES"), ("--never", "part == 28 and r4 != 0xffc01000"))
+HOLDS = (("--never", "[COUNT] > 2*TIMES"), ("--always", "28:r5 <= TIMES"),
+         ("--never", "part == 28 and r4 != 0xffc01000"))
 
 
 def searches_that_speak(program: str, race: str, place: str) -> None:

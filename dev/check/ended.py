@@ -57,7 +57,8 @@ def stop(name: str, words: tuple[str, ...], program: str) -> str:
 
 # Nothing is built: no tool begins a proof
 
-PARTS = ("tools", "class", "dev", "examples", "docs", "pip", "crates.txt", "README.md", "crates/pip_commands/src/top.rt")
+PARTS = ("tools", "class", "dev", "examples", "docs", "pip", "crates.txt", "README.md",
+         "crates/pip_commands/src/top.rt")
 IMAGE = b"PIPIMG2\n"
 # Each tool that needs a program, with words and an input with which it comes to need it.
 NEEDING = (("asmx", "examples/monitor.s", "--image", "/dev/null"), ("asmx", "--check", "examples/first.pip"),

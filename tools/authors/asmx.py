@@ -24,8 +24,8 @@ from typing import NamedTuple
 from common import calling
 from common.calling import Failed
 from common.machine import against, assembly, instructions
+from debugger.rules import Names, Rule, rule_of
 from . import why
-from .rules import Names, Rule, rule_of
 
 NAME = re.compile(r"[A-Za-z_][A-Za-z0-9_]{0,31}")
 REGISTER = re.compile(r"r([0-9]|1[0-5])")

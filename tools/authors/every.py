@@ -22,9 +22,9 @@ from common.calling import Failed
 from common.machine import against, every as searches, image as images, script
 from common.machine.every import AT_FIRST, After
 from common.machine.image import Image
-from debugger import building, client, sources
-from . import asmx, rules, searching, trace, ways, why
-from .searching import AGAIN, END, Asked, Line, Search
+from debugger import building, client, rules, searching, sources
+from debugger.searching import AGAIN, END, Asked, Line, Search
+from . import asmx, trace, ways, why
 from .ways import Menu, Way
 
 MOST, MOST_STATES = 10_000_000, 100_000_000
@@ -188,13 +188,12 @@ def main() -> None:
     parser.add_argument("depth", metavar="DEPTH", nargs="?", type=calling.within(1, MOST, "DEPTH"),
                         help="at most that many choices; without it any number")
     parser.add_argument("--after", metavar="STEPS SEED", nargs="+",
-                        help="begin after that many steps of run by that seed, or, after NAME, before the first turn at "
-                             "a place, by the seed 1 or another; without it at the first moment")
+                        help="begin after that many steps of run by that seed; or, by NAME and a seed, which is 1 "
+                             "without it, before the first turn at that name")
     parser.add_argument("--until", metavar="WORDS", help="end at the first line with these words")
     for kind in ("never", "always"):
         parser.add_argument(f"--{kind}", metavar="RULE", action="append", default=[],
-                            help=f"end at the first state at which this {'holds' if kind == 'never' else 'does not hold'}"
-                                 ", as a line .{kind} of a source says it")
+                            help=f"end at the first state that breaks this, as by a line .{kind} of a source")
     parser.add_argument("--may", metavar="MENU", help="a file with a menu, in the place of that of the source")
     parser.add_argument("--alone", action="store_true", help="without the source's menu: the partitions' programs run")
     parser.add_argument("--trouble", action="store_true", help="only lines with a refused call, a fault or a park")

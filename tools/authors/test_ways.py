@@ -10,8 +10,8 @@ from common.calling import Failed
 from common.machine import against, assembly, every as searches, image as images, script
 from reference import commands, generate_every
 from common.machine.image import Image
-from debugger import sources
-from . import asmx, every, searching, ways
+from debugger import searching, sources
+from . import asmx, every, ways
 
 # The root parks masked, with a number in r1; it has a block for 63, in which it is saved.
 MASKED = b".frames 16\n.cpus 2\n.line 0 0 0\n.page 0x400000\nsys 10\nli r1 7\nint 64\n" \

@@ -14,7 +14,8 @@ from common.machine import against, every as searches, image as images, runs, sc
 from common.machine.against import Deed
 from common.machine.every import AT_FIRST, After
 from common.machine.image import Image
-from common.machine.model import LOAD, NOWHERE, PAGE, ROOT, SAVED, Context, Outcome, Parked, Place, Switched, Tree, World
+from common.machine.model import (LOAD, NOWHERE, PAGE, ROOT, SAVED, Context, Outcome, Parked, Place, Switched, Tree,
+                                  World)
 from common.machine.script import outcome_text, word_text
 from . import trace
 

@@ -9,14 +9,14 @@ from collections.abc import Callable
 from dataclasses import dataclass
 from typing import NamedTuple
 
-from authors import asmx, searching, ways, why
+from authors import asmx, ways, why
 from common import calling
 from common.calling import Failed
 from common.draw import texts
 from common.draw.texts import Partition
 from common.machine import image as images, instructions, script
 from common.machine.every import AT_FIRST, After
-from . import sources
+from . import searching, sources
 from .client import EVERY, At, Coming, Refused, States, Stopped, Stops, Turn
 from .sources import Named, Word
 

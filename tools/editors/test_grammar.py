@@ -124,7 +124,8 @@ class TestPackage(unittest.TestCase):
 class TestExtension(unittest.TestCase):
     def test_an_editor_is_told_what_the_tools_say(self) -> None:
         """Beside a stand-in for the editor's own module."""
-        done = subprocess.run(["node", os.path.join(HERE, "stand_in.js")], stdout=subprocess.PIPE, check=True, timeout=300)
+        done = subprocess.run(["node", os.path.join(HERE, "stand_in.js")], stdout=subprocess.PIPE, check=True,
+                              timeout=300)
         told = json.loads(done.stdout)
         self.assertEqual(told["wrong"], [[3, "'jmp' is no instruction; did you mean jal or j?"]])
         self.assertIn("createPartition", told["hover"])

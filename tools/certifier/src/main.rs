@@ -1,5 +1,5 @@
-//! Searches of what can happen to an image: by workers, cut into parts for a certificate, and one that speaks before its
-//! end.
+//! Searches of what can happen to an image: by workers, cut into parts for a certificate, and one that speaks before
+//! its end.
 //!
 //! Nobody has to trust them: `part` of the program checks each part by itself, and `merge` finds what is missing; and
 //! what the other one says is compared with `every` and `against`, or made again.

@@ -25,8 +25,8 @@ enum Token {
     Join(fn(bool, bool) -> bool),
 }
 
-/// A condition that holds never, or always. One that speaks of what runs is asked of each processor that runs something.
-/// It isn't asked where something in it has no value.
+/// A condition that holds never, or always. One that speaks of what runs is asked of each processor that runs
+/// something. It isn't asked where something in it has no value.
 pub struct Rule {
     always: bool,
     tokens: Vec<Token>,

@@ -1,5 +1,5 @@
-"""A search of what can happen: the program's, whose text is the answer, and beside it that of a process over the export,
-which says how far it is, ends at what is looked for, asks rules, and is compared with the program at the end.
+"""A search of what can happen: the program's, whose text is the answer, and beside it that of a process over the
+export, which says how far it is, ends at what is looked for, asks rules, and is compared with the program at the end.
 
 Only here a tool calls the program's `every` and `against`.
 """
