@@ -98,7 +98,7 @@ def ways_to_lines(program: str, race: str) -> None:
 # What ends a search, with the words of the answer and its status: a line, rules of words and registers, by the way that
 # is the shortest, and that the program goes, too
 ENDS = ((0, "--until", "out 0x00000002", "12  71 1 out 0x00000002: 0x51 raise0 1x9 0x5 1x6\n"),
-        (1, "--never", "[COUNT] == 1", "10 - rule 1: raise0 0x9    # broken: never [COUNT] == 1\n"),
+        (1, "--never", "[COUNT] == 1", "5 - rule 1: raise0 0x4    # broken: never [COUNT] == 1\n"),
         (1, "--never", "[28:0xffc01000] in 7 2 and f38:1 == 0", " - rule 1: "),
         (1, "--always", "part in 1 44", " - rule 1: 0x44    # broken: always part in 1 44\n"),
         (1, "--always", "pc != child or r5 == TIMES", "p28:5 1"))
@@ -116,7 +116,7 @@ def searches_that_speak(program: str, race: str, place: str) -> None:
          "no state that was found breaks a rule")
     source = f".include {race}\n.never [COUNT] == 2   # as the race does\n"
     says(program, ("every", write(source, place, "ruled.asmx"), "1000"), 1, " - rule 1: ", "f38:0 2")
-    says(program, ("every", race, "1000"), 0, " stopped    #", " states are open, and their number falls: ",
+    says(program, ("every", race, "1650"), 0, " stopped    #", "their number falls since depth 62, where it was 131\n",
          "# most values: ")
     says(liar(program, place, "s/0x51 raise0/0x50 raise0/"), ("every", race, "10000"), 1, "differs from the program")
     counted = write_program(f'#!/bin/sh\necho "$1" >> "{place}/calls"\nexec "{program}" "$@"\n', place, "counted")

@@ -262,8 +262,9 @@ def beside(speaking: Speaking) -> list[str]:
     if not speaking.end or speaking.end[0] in ("closed", "found"):
         return speaking.broken
     depth, more, most, at = map(int, speaking.end[2:])
-    trend = "falls" if more < 0.9 * most and depth > at else "doesn't fall"
-    return [f"{more} states are open, and their number {trend}: {most} at depth {at} were most", *speaking.values]
+    falls = more < 0.9 * most and depth > at
+    trend = f"falls since depth {at}, where it was {most}" if falls else "doesn't fall"
+    return [f"{more} states are open, and their number {trend}", *speaking.values]
 
 
 def searched(program: str, asked: Asked) -> Search:

@@ -96,7 +96,10 @@ impl Rule {
                 Token::Value(operand) => {
                     let (place, value) = value(*operand, explorer, runs, own)?;
                     values.push(value);
-                    shown.push(format!("{place} {value}"));
+                    let told = format!("{place} {value}");
+                    if !shown.contains(&told) {
+                        shown.push(told);
+                    }
                 }
                 Token::Compare(compare) => {
                     let (right, left) = (values.pop()?, values.pop()?);
