@@ -189,8 +189,20 @@ impl Explorer {
             None if is_hostile => self.act(choice, None, key[0]),
             None => self.usual_choice(choice, key[0]),
         };
-        self.key(turns.map_err(no_memory)?, to)?;
+        self.next_key(words, turns.map_err(no_memory)?, to)?;
         Ok(true)
+    }
+
+    // The key of the moment that came out of one with these words, which aren't looked for again where none was
+    // written.
+    fn next_key(&mut self, words: &[u32], turns: u32, to: &mut Words<u32>) -> Result<(), Stop> {
+        if !self.machine.mem().is_at(words) {
+            return self.key(turns, to);
+        }
+        to.clear();
+        to.push(turns).map_err(no_memory)?;
+        add_processors(self.machine.processors(), to).map_err(no_memory)?;
+        to.extend_from_slice(words).map_err(no_memory)
     }
 
     // A turn of a processor, or a line that is raised, and how many turns were made then.

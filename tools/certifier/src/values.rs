@@ -1,7 +1,7 @@
 //! How many values words and registers have over all states: what has most of them keeps a search from closing.
 
 use pip_model::Occupant;
-use std::collections::{BTreeMap, HashSet};
+use std::collections::HashSet;
 
 /// So many values of one place are counted at most.
 const MOST: usize = 1 << 16;
@@ -32,7 +32,7 @@ impl Values {
 #[derive(Default)]
 pub struct Seen {
     words: Vec<Option<Box<Values>>>,
-    registers: BTreeMap<(u32, u32), Values>,
+    registers: Vec<(u32, [Values; 16])>,
     states: u64,
 }
 
@@ -48,10 +48,18 @@ impl Seen {
             self.words[place].get_or_insert_default().add(pair[1]);
         }
         for runs in runs.iter().flatten() {
-            for (number, value) in runs.ctx.regs.iter().enumerate() {
-                self.registers.entry((runs.name.number(), number as u32)).or_default().add(*value);
+            for (values, value) in self.registers_of(runs.name.number()).iter_mut().zip(&runs.ctx.regs) {
+                values.add(*value);
             }
         }
+    }
+
+    fn registers_of(&mut self, part: u32) -> &mut [Values; 16] {
+        let at = self.registers.iter().position(|(name, _)| *name == part).unwrap_or(self.registers.len());
+        if at == self.registers.len() {
+            self.registers.push((part, Default::default()));
+        }
+        &mut self.registers[at].1
     }
 
     /// What has most values, most first: how many, and `word F I` or `register P R`.
@@ -62,8 +70,8 @@ impl Seen {
             let values = values.as_ref()?;
             Some((values.seen.len() + more(values), format!("word {} {}", place / 1024, place % 1024)))
         });
-        let registers = self.registers.iter().map(|((part, number), values)| {
-            (values.seen.len(), format!("register {part} {number}"))
+        let registers = self.registers.iter().flat_map(|(part, all)| {
+            all.iter().enumerate().map(move |(number, values)| (values.seen.len(), format!("register {part} {number}")))
         });
         let mut all: Vec<(usize, String)> = words.chain(registers).filter(|(count, _)| *count > 1).collect();
         all.sort_by(|a, b| b.0.cmp(&a.0));
