@@ -12,8 +12,8 @@ from collections.abc import Iterator, Sequence
 from pathlib import Path
 
 from certifier.certify import CHECK_PARTS
-from certifier.engine import ENGINE
 from common.calling import Failed
+from debugger.building import SEARCHES
 from reference import generate_parts, parts
 from common.machine import image as images
 from . import examples
@@ -60,7 +60,7 @@ def goes_on(program: str, image: bytes) -> None:
 def built() -> str:
     needed("cargo")
     try:
-        return ENGINE.path()
+        return SEARCHES.path()
     except Failed as failed:
         raise Differs(str(failed)) from None
 

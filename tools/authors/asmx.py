@@ -24,7 +24,7 @@ from typing import NamedTuple
 from common import calling
 from common.calling import Failed
 from common.machine import against, assembly, instructions
-from debugger.rules import Names, Rule, rule_of
+from debugger.rules import Rule, rule_of
 from . import why
 
 NAME = re.compile(r"[A-Za-z_][A-Za-z0-9_]{0,31}")
@@ -454,53 +454,28 @@ class Text:
         return Line.of([who if who == against.EACH.decode() else self.word_text(who), what,
                         *map(self.word_text, numbers)])
 
-    def rule(self, words: list[Word]) -> Rule:
-        """The rule of a line `.never` or `.always`, whose names are those of this text."""
-        def number(text: str) -> int:
-            return self.number(next(word for word in words[1:] if text in word).put(text), True) % (1 << 32)
-
-        def address(text: str) -> int:
-            label = self.labels.get(re.split("[+-]", text)[0])
-            return number(text) + (label.page.address - label.page.seen if label else 0)
-
-        try:
-            return rule_of(words[0][1:], words[1:], Names(number, address))
-        except Wrong:
-            raise
-        except Failed as failed:
-            raise second(words).wrong(str(failed)) from None
-
     def warnings(self) -> Iterator[Wrong]:
         """What is most likely wrong in handler tables, though it becomes an image."""
-        for page in self.pages:
-            if page.seen == TABLE:
-                blocks = {vector: (word, self.number(word.put(text), True)) for vector, (word, text)
-                          in sorted(page.entries.items()) if vector < 256}
-                for vector, (word, address) in blocks.items():
-                    if warning := self.warning(page, vector, address, blocks):
-                        yield word.wrong(f"warning: {warning}")
+        for page in (page for page in self.pages if page.seen == TABLE):
+            blocks = {vector: self.number(word.put(text), True) for vector, (word, text) in sorted(page.entries.items())
+                      if vector < 256}
+            for vector, address in blocks.items():
+                if address and (warning := self.warning(vector, address, blocks)):
+                    yield page.entries[vector][0].wrong(f"warning: the block of vector {vector} {warning}")
 
-    def warning(self, page: Page, vector: int, address: int, blocks: dict[int, tuple[Word, int]]) -> str:
-        if not address:
-            return ""
-        block = f"the block of vector {vector}"
-        if any(item.is_code for item in self.items_at(address)):
-            return f"{block} begins at an instruction: an entry is the address of a block, whose first word is the pc"
-        for other, (_, begins) in blocks.items():
+    def warning(self, vector: int, address: int, blocks: dict[int, int]) -> str:
+        there = [item for page in self.pages for item in page.items
+                 if item.at <= (address - page.seen) // 4 < item.at + item.size]
+        if any(item.is_code for item in there):
+            return "begins at an instruction: an entry is the address of a block, whose first word is the pc"
+        for other, begins in blocks.items():
             if begins and 0 < address - begins < BLOCK:
-                return f"{block} and that of vector {other} overlap: a block has 17 words, 68 bytes"
+                return f"and that of vector {other} overlap: a block has 17 words, 68 bytes"
             if SAVED in (vector, other) and vector < other and begins == address:
-                return f"{block} is that of vector {other}, too: where a partition is saved there, it is lost"
-        if vector in (0, 6, 14, 17, *range(32, 48)) and not list(self.items_at(address)):
-            return f"{block} has no pc: .handler {vector} BLOCK NAME gives one"
+                return f"is that of vector {other}, too: where a partition is saved there, it is lost"
+        if vector in (0, 6, 14, 17, *range(32, 48)) and not there:
+            return f"has no pc: .handler {vector} BLOCK NAME gives one"
         return ""
-
-    def items_at(self, address: int) -> Iterator[Item]:
-        """What stands at an address of a handler table's partition, by the pages that it is written in."""
-        for page in self.pages:
-            index = (address - page.seen) // 4
-            if 0 <= index < WORDS:
-                yield from (item for item in page.items if item.at <= index < item.at + item.size)
 
     def word_text(self, word: Word) -> Word:
         """A number as a word, where it is one."""
@@ -517,7 +492,7 @@ class Text:
         for words in self.may:
             with collecting(wrongs):
                 if words[0] in OF_RULES:
-                    self.rules.append(self.rule(words))
+                    self.rules.append(rule_of(words, self))
                 else:
                     self.menu.append((words[0].place, self.of_menu(words)))
         lines = list(self.head)

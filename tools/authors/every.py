@@ -22,6 +22,7 @@ from common.calling import Failed
 from common.machine import against, every as searches, image as images, script
 from common.machine.every import AT_FIRST, After
 from common.machine.image import Image
+from common.machine.model import World
 from debugger import building, client, rules, searching, sources
 from debugger.searching import AGAIN, END, Asked, Line, Search
 from . import asmx, trace, ways, why
@@ -103,33 +104,37 @@ class Given(NamedTuple):
     names: sources.Source
 
 
-def traced(program: str, given: Given, line: Line, search: Search) -> int:
-    """Prints the way choice by choice, and whether it shows what it should."""
-    image, way = way_of(given, line)
-    if given.names.warning:
-        print(f"every: {given.names.warning}", file=sys.stderr)
-    print("# by the reference: no proof; the last line at the right is compared with the program's")
-    shown, world = "", searches.begun(image, given.asked.after)
-    for made in ways.made(image, way, given.menu, given.asked.after):
-        world = made.world
-        if made.turn is None:
-            print(f"{made.step:>6}   line {made.choice.number} is raised")
-        else:
-            print(trace.line_of(made.turn, made.lines, given.names))
-        shown = made.lines[-1] if made.lines else ""
-    print("\n".join(trace.registers_of(world)))
-    if line.cpu == "-":
-        return confirmed(program, given, line, search)
-    if shown != f"{line.step} {line.cpu} {line.text}":
-        print(f"every: the reference differs from the program: its way ends with {shown!r}", file=sys.stderr)
-        return 1
-    print("# the program has this line, too")
-    return 0
-
-
 def way_of(given: Given, line: Line) -> tuple[Image, Way]:
     image = images.read(given.asked.data)
     return image, ways.read(image, line.way, given.menu) if line.way else []
+
+
+def replayed(given: Given, line: Line, is_shown: bool = False) -> tuple[World, list[str]]:
+    """The world after a way, and the lines of its last choice; the choices are printed if they are to be shown."""
+    image, way = way_of(given, line)
+    world, lines = searches.begun(image, given.asked.after), list[str]()
+    for made in ways.made(image, way, given.menu, given.asked.after):
+        world, lines = made.world, made.lines
+        if is_shown:
+            print(trace.line_of(made.turn, lines, given.names) if made.turn else
+                  f"{made.step:>6}   line {made.choice.number} is raised")
+    return world, lines
+
+
+def traced(program: str, given: Given, line: Line, search: Search) -> int:
+    """Prints the way choice by choice, and whether it shows what it should."""
+    if given.names.warning:
+        print(f"every: {given.names.warning}", file=sys.stderr)
+    print("# by the reference: no proof; the last line at the right is compared with the program's")
+    world, lines = replayed(given, line, True)
+    print("\n".join(trace.registers_of(world)))
+    if line.cpu == "-":
+        return confirmed(program, given, line, search)
+    if lines[-1:] != [f"{line.step} {line.cpu} {line.text}"]:
+        print(f"every: the reference differs from the program: its way ends with {lines[-1:]}", file=sys.stderr)
+        return 1
+    print("# the program has this line, too")
+    return 0
 
 
 def scripted(program: str, given: Given, line: Line) -> int:
@@ -155,17 +160,13 @@ def answered(program: str, text: str, answers: list[str], peeks: list[str] | Non
 def confirmed(program: str, given: Given, line: Line, search: Search) -> int:
     """Whether the program, by a script of the way, comes to a state with the words that break a rule, or to the line
     that was looked for; registers are the reference's."""
-    image, way = way_of(given, line)
-    text, answers = ways.script(image, way, given.menu, given.asked.after)
+    text, answers = ways.script(*way_of(given, line), given.menu, given.asked.after)
     shown = next((told.partition(" ")[2] for told in search.beside if told.startswith("broken ")), "")
     peeks = [f"peek {word[1:].replace(':', ' ')}" for word in shown.split() if word.startswith("f")]
     found = answered(program, text, answers, peeks)
     if found is None:
         return 1
-    world = searches.begun(image, given.asked.after)
-    lines: list[str] = []
-    for made in ways.made(image, way, given.menu, given.asked.after):
-        world, lines = made.world, made.lines
+    world, lines = replayed(given, line)
     words = {peek: int(word, 0) for peek, word in zip(peeks, found)}
     wrong = rules.differing(shown, world, lambda frame, index: words[f"peek {frame} {index}"])
     if line.cpu != "-" and lines != [f"{line.step} {line.cpu} {line.text}"]:
@@ -231,8 +232,8 @@ def given_of(given: argparse.Namespace) -> Given:
 def more_rules(given: argparse.Namespace, text: asmx.Text) -> list[rules.Rule]:
     """The rules of the command line."""
     lines = [(f".{kind}", line) for kind in ("never", "always") for line in getattr(given, kind)]
-    return [text.rule([asmx.Word.at(asmx.Place(f"--{kind[1:]}", 1), 1, word) for word in (kind, *line.split())])
-            for kind, line in lines]
+    return [rules.rule_of([asmx.Word.at(asmx.Place(f"--{kind[1:]}", 1), 1, word) for word in (kind, *line.split())],
+                          text) for kind, line in lines]
 
 
 def after_of(words: list[str] | None, data: bytes, source: str | None) -> After:
@@ -244,10 +245,7 @@ def after_of(words: list[str] | None, data: bytes, source: str | None) -> After:
         raise Failed("--after has STEPS SEED, or NAME and a seed")
     if not asmx.NAME.fullmatch(words[0]):
         return After(calling.number(words[0], 0, MOST, "STEPS"), seed)
-    named = sources.read(data, source).names.get(words[0])
-    if named is None:
-        raise Failed(f"no line of the source defines the name {words[0]}")
-    steps = client.first_turn_at(building.program(), data, named.word, seed)
+    steps = client.first_turn_at(building.program(), data, sources.read(data, source).named(words[0]).word, seed)
     print(f"every: {words[0]} runs first after {steps} steps by the seed {seed}", file=sys.stderr)
     return After(steps, seed)
 

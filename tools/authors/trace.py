@@ -3,13 +3,11 @@ program's line; at the end all registers."""
 
 from __future__ import annotations
 
-from collections.abc import Iterator, Sequence
+from collections.abc import Sequence
 
-from common.machine import image as images, instructions, runs
+from common.machine import instructions, runs
 from common.machine.model import FETCH, Fault, World
 from debugger.sources import Source
-
-MOST_STEPS = 200_000
 
 
 class Watched(runs.Turn):
@@ -36,15 +34,6 @@ def name_at(source: Source, world: World, part: int, pc: int) -> str:
     """The nearest name at or before a pc of a partition, and how many instructions after it."""
     place = world.tree.reach(world.tree.nodes[part], pc, FETCH, True)
     return "" if isinstance(place, Fault) else source.nearest((place.page, place.index))
-
-
-def steps(image: images.Image, world: World, count: int, seed: int) -> Iterator[tuple[Watched, list[int], list[str]]]:
-    """The steps of a run of the image's world: the turn, the lines that were raised before it, and its own lines."""
-    for step, cpu, raised in runs.drawn(image, world, count, seed):
-        lines: list[str] = []
-        turn = Watched(world, cpu, step, lines.append)
-        turn.take()
-        yield turn, raised, lines
 
 
 def line_of(turn: Watched, lines: list[str], source: Source) -> str:

@@ -25,7 +25,7 @@ from authors import asmx
 from common import calling
 from common.calling import Failed
 from common.machine import image as images
-from .engine import ENGINE
+from debugger.building import SEARCHES
 
 HERE = Path(__file__).resolve().parent
 CHECK_PARTS = HERE / "check_parts"
@@ -118,7 +118,7 @@ def cut(given: argparse.Namespace, data: bytes, folder: Path) -> list[Path]:
         begun = time.monotonic()
         say(f"searching; about {SEARCH_BYTES} bytes of memory a state")
         words = [str(each) for each in (given.first, given.size, given.states, given.workers, folder)]
-        done = subprocess.run([ENGINE.path(), "cut", *words], input=data, stdout=subprocess.PIPE, check=False)
+        done = subprocess.run([SEARCHES.path(), "cut", *words], input=data, stdout=subprocess.PIPE, check=False)
         said = done.stdout.decode().strip()
         if said.startswith("stopped "):
             raise Failed(f"there are more than {given.states} states: give more --states")

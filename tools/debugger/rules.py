@@ -4,7 +4,7 @@ from __future__ import annotations
 
 import re
 from collections.abc import Callable, Sequence
-from typing import NamedTuple
+from typing import Any, NamedTuple
 
 from common.calling import Failed
 from common.machine.model import World
@@ -24,6 +24,10 @@ class Rule(NamedTuple):
     tokens: tuple[str, ...]
 
 
+class BadRule(Failed):
+    """Words that are no rule."""
+
+
 class Names(NamedTuple):
     """What the names of a source mean: a sum as a number, and the root's address of a word of its pages."""
 
@@ -31,9 +35,21 @@ class Names(NamedTuple):
     address: Callable[[str], int]
 
 
-def rule_of(kind: str, words: Sequence[str], names: Names) -> Rule:
-    """The rule that these words are."""
-    return Rule(f"{kind} {' '.join(words)}", kind, tuple(joined(words, JOINS, names)))
+def rule_of(words: Sequence[Any], text: Any) -> Rule:
+    """The rule of a line `.never` or `.always` of a source, by the names of its text."""
+    def number(part: str) -> int:
+        value: int = text.number(next(word for word in words[1:] if part in word).put(part), True) % (1 << 32)
+        return value
+
+    def address(part: str) -> int:
+        label = text.labels.get(re.split("[+-]", part)[0])
+        return number(part) + (int(label.page.address - label.page.seen) if label else 0)
+
+    try:
+        tokens = joined(words[1:], JOINS, Names(number, address))
+    except BadRule as bad:
+        raise words[min(len(words) - 1, 1)].wrong(str(bad)) from None
+    return Rule(" ".join(words)[1:], words[0][1:], tuple(tokens))
 
 
 def joined(words: Sequence[str], joins: Sequence[str], names: Names) -> list[str]:
@@ -48,7 +64,7 @@ def joined(words: Sequence[str], joins: Sequence[str], names: Names) -> list[str
 
 def compared(words: Sequence[str], names: Names) -> list[str]:
     if len(words) < 3 or words[1] != "in" and (words[1] not in SIGNS or len(words) > 3):
-        raise Failed(f"{FORM}, and not {' '.join(words)!r}")
+        raise BadRule(f"{FORM}, and not {' '.join(words)!r}")
     left, sign, *rights = (word if word in SIGNS else word if word == "in" else operand(word, names) for word in words)
     each = [[left, right, "==" if sign == "in" else sign] for right in rights]
     return each[0] + [token for one in each[1:] for token in (*one, "or")]
@@ -59,7 +75,7 @@ def operand(word: str, names: Names) -> str:
     if found := REGISTER.fullmatch(word):
         number = {"pc": 16, "part": 17}.get(found[2], int(found[3] or 0))
         if found[3] and number > 15:
-            raise Failed(f"there is no register {word}: they are r0 to r15")
+            raise BadRule(f"there is no register {word}: they are r0 to r15")
         return f"p{names.number(found[1])}:{number}" if found[1] else f"r{number}"
     inner = word[1:-1] if word.startswith("[") and word.endswith("]") else ""
     if found := WORD.fullmatch(inner or word):

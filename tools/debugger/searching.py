@@ -20,12 +20,12 @@ from collections.abc import Callable, Iterator
 from pathlib import Path
 from typing import IO, NamedTuple
 
-from certifier.engine import ENGINE
 from common import calling, meanings
 from common.calling import Failed
 from common.machine import image as images, runs
 from common.machine.every import AT_FIRST, After
-from common.progress import Progress
+from .building import SEARCHES
+from .progress import Progress
 from .rules import Rule
 
 LINE = re.compile(r"(\d+) (\d+|-) ([^:]+): ?(.*)")
@@ -179,7 +179,7 @@ class Running:
         given.write(asked.data + asked.menu)
         given.seek(0)
         try:
-            self.speaking: Speaking | None = Speaking(ENGINE.path(), asked)
+            self.speaking: Speaking | None = Speaking(SEARCHES.path(), asked)
         except Failed as failed:
             self.need_no_process(failed)
         with calling.running(program):

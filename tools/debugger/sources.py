@@ -40,6 +40,11 @@ class Source:
         """The last name at or before a word of its frame, and how many words after it."""
         return "" if word is None else nearest(self.by_frame.get(word[0], []), word[1])
 
+    def named(self, name: str) -> Named:
+        if name not in self.names:
+            raise Failed(f"no line of the source defines the name {name}")
+        return self.names[name]
+
     def place(self, word: Word | None, holds: int | None) -> Place | None:
         """The line that a word is from, as long as it holds what the image has there."""
         if word is None or word not in self.line_of or self.words[word[0]][word[1]] != holds:
