@@ -58,7 +58,8 @@ def told_meaning(line: Line, given: Given) -> str:
 def told_beside(search: Search, given: Given) -> list[str]:
     """What is open, which words and registers have most values, and what is said of rules."""
     found = [VALUES.fullmatch(line) for line in search.beside]
-    values = [f"{one[1]} of {place_of(given, one[2], int(one[3]), int(one[4]))}" for one in found if one]
+    values = [f"{one[1]}{' or more' * (int(one[1]) >= 1 << 16)} of {place_of(given, one[2], int(one[3]), int(one[4]))}"
+              for one in found if one]
     rest = [line for line, one in zip(search.beside, found) if not one and not line.startswith("broken ")]
     if given.asked.rules and not any(line.text.startswith("rule ") for line in search.lines):
         rest.append("no state that was found breaks a rule: a process over the export says so, of which nothing is "

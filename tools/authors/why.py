@@ -15,8 +15,8 @@ NUMBER = re.compile(rb"0|[1-9][0-9]*|0x[0-9a-f]{1,8}")
 LONGEST = 120
 MOST_TOLD = 20           # bad lines of one text
 # What tools/asmx adds
-OF_ASMX = (".equ", ".handler", ".include", ".may", ".again", ".never", ".always", "la", "j", "nop", "call", "ret", "neg",
-           "not")
+OF_ASMX = (".equ", ".handler", ".include", ".may", ".again", ".never", ".always", "la", "j", "nop", "call", "ret",
+           "neg", "not")
 LIKE = {"ld": "ldw", "st": "stw", "load": "ldw", "store": "stw", "lw": "ldw", "sw": "stw", "lb": "ldb", "sb": "stb",
         "move": "mov", "jmp": "jal", "trap": "int", "ecall": "sys", "syscall": "sys",
         "subi": "addi with a negative number", "bgt": "blt", "bgtu": "bltu",

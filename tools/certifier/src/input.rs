@@ -14,10 +14,8 @@ use std::io::Read;
 
 /// What stands in an image before its pages.
 pub struct Head {
-    pub frames: u32,
     pub cpus: u32,
     pub plans: Vec<Plan>,
-    pub pages: u32,
 }
 
 /// An image that was read: its head, and its frames.
@@ -50,10 +48,8 @@ pub fn load(data: &[u8]) -> Result<Loaded, Stop> {
     load_pages(&mut reader, &mut joint, &head, &mut mem).map_err(|_| bad_image())?;
     Ok(Loaded {
         head: Head {
-            frames: head.frames,
             cpus: head.cpus,
             plans: head.plans.as_slice().to_vec(),
-            pages: head.pages,
         },
         mem,
     })

@@ -1,6 +1,7 @@
 //! How many values words and registers have over all states: what has most of them keeps a search from closing.
 
 use pip_model::Occupant;
+use std::cmp::Reverse;
 use std::collections::HashSet;
 
 /// So many values of one place are counted at most.
@@ -74,7 +75,7 @@ impl Seen {
             all.iter().enumerate().map(move |(number, values)| (values.seen.len(), format!("register {part} {number}")))
         });
         let mut all: Vec<(usize, String)> = words.chain(registers).filter(|(count, _)| *count > 1).collect();
-        all.sort_by(|a, b| b.0.cmp(&a.0));
+        all.sort_by_key(|(count, _)| Reverse(*count));
         all.truncate(TOLD);
         all
     }
