@@ -61,9 +61,10 @@ def told_beside(search: Search, given: Given) -> list[str]:
     values = [f"{one[1]}{' or more' * (int(one[1]) >= 1 << 16)} of {place_of(given, one[2], int(one[3]), int(one[4]))}"
               for one in found if one]
     rest = [line for line, one in zip(search.beside, found) if not one and not line.startswith("broken ")]
+    if given.asked.until and not searching.is_found(search):
+        rest.append(f"no line with '{given.asked.until}' was found")
     if given.asked.rules and not any(line.text.startswith("rule ") for line in search.lines):
-        rest.append("no state that was found breaks a rule: a process over the export says so, of which nothing is "
-                    "proved")
+        rest.append("no state that was found breaks a rule, by a process over the export of which nothing is proved")
     return rest + ([f"most values: {', '.join(values)}"] if values else [])
 
 

@@ -244,6 +244,9 @@ class Running:
 
     def compared(self, speaking: Speaking, search: Search) -> int:
         """Whether both have found the same; it is said where they haven't."""
+        if speaking.end[:1] in ([], ["ended"]):
+            print("every: the process over the export was ended, so nothing is compared", file=sys.stderr)
+            return 0
         own = speaking.search(self.asked.data)
         is_all = own.last.endswith("closed")
         if own.last == search.last and [x for x in own.lines if is_all or x.step < speaking.at[1]] == search.lines:
