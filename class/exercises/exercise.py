@@ -71,7 +71,7 @@ def write_script(given: argparse.Namespace, text: bytes) -> int:
     if answer.startswith("cant "):
         raise Failed(answer[len("cant "):].rstrip())
     if answer.startswith("refused "):
-        raise Failed(f"line {answer.split()[1]} is refused: see tools/why {given.file}")
+        raise Failed(f"line {answer.split()[1]} is refused: see tools/asmx --check {given.file}")
     sys.stdout.write(answer)
     return 0
 

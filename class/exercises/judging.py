@@ -8,9 +8,10 @@ import subprocess
 import unicodedata
 from dataclasses import dataclass, field
 
-from authors import asmx, trace, why
+from authors import asmx, why
 from common import calling, meanings
 from common.calling import REPOSITORY, Failed
+from debugger import sources
 from judge import building
 from common.machine import script
 
@@ -173,6 +174,6 @@ def place_of(source: asmx.Text, address: int) -> str:
         index = (address - page.address) // 4
         for item in page.items:
             if item.at <= index < item.at + item.size:
-                name = trace.nearest(source.names_in(page), index)
+                name = sources.nearest(source.names_in(page), index)
                 return f"{os.path.basename(item.place.file)}:{item.place.line}{f' ({name})' if name else ''}, "
     return ""

@@ -1,4 +1,4 @@
-// Why a line of an assembly text is refused, by the kind that the program says: the column and what is there, as tools/why says it.
+// Why a line of an assembly text is refused, by the kind that the program says: the column and what is there, as tools/asmx --check says it.
 // `facts.assembly` has what each word that begins a line takes.
 "use strict";
 const REGISTER = /^r([0-9]|1[0-5])$/, LABEL = /^[A-Za-z_][A-Za-z0-9_]{0,31}$/, NEGATIVE = /^-[1-9][0-9]*$/, SIGNED = /^-?(0x[0-9a-f]+|[0-9]+)$/;
@@ -42,9 +42,10 @@ function unknownWord(word) {
   if (Object.hasOwn(operands, word)) return cause("asm place", 1, quoted(word) + " doesn't stand here");
   if (word.endsWith(":")) return unknown(quoted(word.slice(0, -1)) + " is no good name", "a name has 1 to 32 letters, digits or `_`, no digit first");
   if (ofAsmx.includes(word)) return unknown("no line of an assembly text begins with " + quoted(word), "`" + word + "` is of a source of `tools/asmx`, which writes an assembly text");
-  const near = closest(word, [...Object.keys(operands).filter(isOne), ...Object.keys(like)]);
+  const isLine = word.startsWith("."), names = Object.keys(operands).filter(name => isLine ? name.startsWith(".") : isOne(name));
+  const near = Object.hasOwn(like, word) ? [word] : closest(word, isLine ? names : [...names, ...Object.keys(like)]);
   const meant = [...new Set(near.map(name => like[name] || name))].join(" or ");
-  const what = word.startsWith(".") ? "no line begins with " + quoted(word) : quoted(word) + " is no instruction";
+  const what = isLine ? "no line begins with " + quoted(word) : quoted(word) + " is no instruction";
   return unknown(what + (meant ? "; did you mean " + meant + "?" : hint(word)));
 }
 

@@ -1,4 +1,4 @@
-// Why a line of a script is bad: the column and what is there, as tools/why says it, with the row of docs/FORMATS.md. `facts` has the rows.
+// Why a line of a script is bad: the column and what is there, as tools/asmx --check says it, with the row of docs/FORMATS.md. `facts` has the rows.
 "use strict";
 const NUMBER = /^(0|[1-9][0-9]*|0x[0-9a-f]{1,8})$/, MOST_WORD = 2 ** 32;
 

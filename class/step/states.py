@@ -4,7 +4,7 @@ from __future__ import annotations
 
 import os
 import sys
-from collections.abc import Callable, Iterable, Sequence
+from collections.abc import Callable, Iterable, Iterator, Sequence
 from concurrent.futures import ThreadPoolExecutor
 from typing import NamedTuple, Optional
 
@@ -12,8 +12,9 @@ from authors import trace
 from common.calling import Failed, text_of
 from common.meanings import outcome_of
 from common.draw import texts
-from common.machine import image as images, script
+from common.machine import image as images, runs, script
 from common.machine.model import HANDLERS, NOWHERE, SAVED, World
+from debugger import sources
 from . import walk
 from .asking import Asked, BadLine
 
@@ -34,6 +35,7 @@ class State(NamedTuple):
 
 
 MOST_STATES = 3000
+MOST_WATCHED = 200_000           # steps of a run that the reference makes, too
 MANY = f"a page has at most {MOST_STATES} states"
 
 
@@ -144,7 +146,7 @@ def of_image(program: str, image: bytes, first: int, steps: int, seed: int, jobs
     lines = text_of(program, ["run", str(steps), str(seed)], image)
     frames, cpus = (int(word) for word in lines[0].split()[1:3])
     told = dict(line.split(" ", 1) for line in lines[1:-1])
-    seen = watched(image, first, steps, seed, source, lines[1:-1]) if steps <= trace.MOST_STEPS else None
+    seen = watched(image, first, steps, seed, source, lines[1:-1]) if steps <= MOST_WATCHED else None
     running = [1] + [0] * (cpus - 1)
     for step in range(first):
         runs_after_step(running, told.get(str(step)))
@@ -198,25 +200,34 @@ def registers_of(world: World) -> tuple[Registers, ...]:
     return tuple((*at.context.registers, at.context.pc) if at else None for at in world.processors)
 
 
-def did(turn: trace.Watched, names: trace.Names, lines: list[str]) -> str:
+def did(turn: trace.Watched, names: sources.Source, lines: list[str]) -> str:
     """A turn in words."""
     if turn.did is None or turn.where is None:
         return f"processor {turn.cpu}: {trace.without_instruction(lines)}"
     name, pc = turn.where
-    label = names.place(turn.world, name, pc)
+    label = trace.name_at(names, turn.world, name, pc)
     return f"processor {turn.cpu}, partition {name}, 0x{pc:08x}{label and f' {label}'}: {turn.did}"
+
+
+def taken(image: images.Image, world: World, count: int, seed: int) -> Iterator[tuple[trace.Watched, list[str]]]:
+    """The steps of a run of the image's world: the turn, and its lines."""
+    for step, cpu, _ in runs.drawn(image, world, count, seed):
+        lines: list[str] = []
+        turn = trace.Watched(world, cpu, step, lines.append)
+        turn.take()
+        yield turn, lines
 
 
 def watched(data: bytes, first: int, count: int, seed: int, source: str | None, due: list[str]) -> list[Seen]:
     """What is seen at step `first`, and after each step from then on. `due` are the program's lines."""
     image = images.read(data)
-    names = trace.Names(image, source)
+    names = sources.read(data, source)
     lines: list[str] = []
     if names.warning:
         print(f"step: {names.warning}", file=sys.stderr)
     world = images.world(image)
     found = [("", registers_of(world))] if first == 0 else []
-    for turn, _, shown in trace.steps(image, world, count, seed):
+    for turn, shown in taken(image, world, count, seed):
         lines += shown
         if turn.step + 1 >= first:
             found.append((did(turn, names, [line.split(" ", 2)[2] for line in shown]), registers_of(world)))

@@ -1,11 +1,12 @@
-"""The tools for authors of monitors beside the program: asmx, why, trace and every."""
+"""The tools for authors of monitors beside the program: asmx, every, and what debug lists."""
 
 import os
 import tempfile
+from unittest import mock
 
 from authors import why
 from reference import commands as reference, generate
-from .running import (REPOSITORY, Differs, contents, number_of, paths, run, same, says, session, write,
+from .running import (REPOSITORY, Differs, contents, needed, number_of, paths, run, same, says, session, write,
                       write_program)
 
 CASES = 300
@@ -55,29 +56,36 @@ def reasons(program: str) -> None:
                 place = output.decode().rsplit("bad line ", 1)[1].split()[0]
                 sentences, _ = why.why(program, "text", text, command == "asm")
                 if not sentences[0].startswith(f"text:{place}:") or "\nrule: " not in "\n".join(sentences):
-                    raise Differs(f"tools/why, {command} of seed {seed}: {sentences}")
+                    raise Differs(f"tools/asmx --check, {command} of seed {seed}: {sentences}")
         if refused < CASES // 50:
-            raise Differs(f"tools/why: only {refused} of the generated texts of {command} are refused")
-    session("why", program)
+            raise Differs(f"tools/asmx --check: only {refused} of the generated texts of {command} are refused")
+    session("check", program)
 
 
 def traces(program: str) -> None:
-    """Each example's trace has the program's lines, and names of the source; another program's lines are refused."""
+    """Each example's list has the program's lines, and names of the source; another program's lines are refused."""
+    needed("cargo")
     with tempfile.TemporaryDirectory() as place:
         for path in programs():
             built = built_of(program, path, place, "a.img")
-            says(program, ("trace", built, "300", "1", "--source", path), 0, "no proof", "the program has the same",
-                 "processor 0 runs")
+            says(program, ("debug", built, "1", "--list", "300", "--source", path), 0, "not of the same proof",
+                 "the program has the same", "processor 0 runs")
         built = built_of(program, "examples/tutorial/11_sum.s", place, "sum.img")
-        says(liar(program, place, "s/0x00000004/0x00000005/"), ("trace", built, "20", "1"), 1,
-             "the reference differs from the program")
-        session("trace", program, IMAGE=built)
+        says(liar(program, place, "s/0x00000004/0x00000005/"), ("debug", built, "1", "--list", "20"), 1,
+             "the program has other lines")
+        session("list", program, IMAGE=built)
 
 
 def interleavings(program: str) -> None:
     """The race's lines with their ways: as a trace, and as a script."""
     race = os.path.join(REPOSITORY, "examples", "every", "race.asmx")
-    session("ways", program)
+    with tempfile.TemporaryDirectory() as place, mock.patch.dict(os.environ, XDG_CACHE_HOME=place):
+        session("ways", program)
+        ways_to_lines(program, race)
+        searches_that_speak(program, race, place)
+
+
+def ways_to_lines(program: str, race: str) -> None:
     lost = number_of(says(program, ("every", race, "10000")), " out 0x00000002: ")
     told = says(program, ("every", race, "10000", "--script", lost), 0, "raise 0", "answers of the reference")
     if run([program, "script"], told.encode())[1]:
@@ -85,6 +93,36 @@ def interleavings(program: str) -> None:
     with tempfile.TemporaryDirectory() as place:
         ways_of_an_image(program, race, lost, place)
         ways_with_a_menu(program, os.path.join(place, "served.img"))
+
+
+# What ends a search, with the words of the answer and its status: a line, rules of words and registers, by the way that
+# is the shortest, and that the program goes, too
+ENDS = ((0, "--until", "out 0x00000002", "12  71 1 out 0x00000002: 0x51 raise0 1x9 0x5 1x6\n"),
+        (1, "--never", "[COUNT] == 1", "5 - rule 1: raise0 0x4    # broken: never [COUNT] == 1\n"),
+        (1, "--never", "[28:0xffc01000] in 7 2 and f38:1 == 0", " - rule 1: "),
+        (1, "--always", "part in 1 44", " - rule 1: 0x44    # broken: always part in 1 44\n"),
+        (1, "--always", "pc != child or r5 == TIMES", "p28:5 1"))
+HOLDS = (("--never", "[COUNT] > 2*TIMES"), ("--always", "28:r5 <= TIMES"),
+         ("--never", "part == 28 and r4 != 0xffc01000"))
+
+
+def searches_that_speak(program: str, race: str, place: str) -> None:
+    """Searches that end at a line, where a rule is broken or where they are stopped; rules that hold; ways that are
+    kept; and a search that the process doesn't find like the program."""
+    needed("cargo")
+    for status, option, what, *parts in ENDS:
+        says(program, ("every", race, "10000", option, what), status, "found    #", "the program comes there", *parts)
+    says(program, ("every", race, "10000", *(word for rule in HOLDS for word in rule)), 0, " depth 74 closed",
+         "no state that was found breaks a rule")
+    source = f".include {race}\n.never [COUNT] == 2   # as the race does\n"
+    says(program, ("every", write(source, place, "ruled.asmx"), "1000"), 1, " - rule 1: ", "f38:0 2")
+    says(program, ("every", race, "1650"), 0, " stopped    #", "their number falls since depth 62, where it was 131\n",
+         "# most values: ")
+    says(liar(program, place, "s/0x51 raise0/0x50 raise0/"), ("every", race, "10000"), 1, "differs from the program")
+    counted = write_program(f'#!/bin/sh\necho "$1" >> "{place}/calls"\nexec "{program}" "$@"\n', place, "counted")
+    for words in ((), ("--trace", "5"), ("--script", "5")):
+        says(counted, ("every", race, "10000", *words))
+    same("how often a search is made for its ways", contents(place, "calls").split().count(b"every"), 1)
 
 
 def ways_with_a_menu(program: str, built: str) -> None:

@@ -11,9 +11,10 @@ import tempfile
 from collections.abc import Iterator, Sequence
 from pathlib import Path
 
-from certifier.certify import CHECK_PARTS, ENGINE
+from certifier.certify import CHECK_PARTS
 from common import calling
 from common.calling import Failed
+from debugger.building import SEARCHES
 from reference import generate_parts, parts
 from common.machine import image as images
 from . import examples
@@ -61,7 +62,7 @@ def goes_on(program: str, image: bytes) -> None:
 def built() -> str:
     needed("cargo")
     try:
-        return ENGINE.path()
+        return SEARCHES.path()
     except Failed as failed:
         raise Differs(str(failed)) from None
 

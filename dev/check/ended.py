@@ -13,7 +13,7 @@ from .running import (SECONDS, Differs, called, copied, expect, finished, folder
 
 MAP = "examples/solutions/map.pip"
 TREE = b"part 1 depth 0 up 1 born 0x00000000 tables 0 rows 0\n"      # for those that read
-TOOLS = (("exercise", "map", MAP), ("exercise", "--list"), ("grade", "examples"), ("why", MAP),
+TOOLS = (("exercise", "map", MAP), ("exercise", "--list"), ("grade", "examples"), ("asmx", "--check", MAP),
          ("asmx", "examples/monitor.s"),
          ("every", "examples/restart.s", "1000"),
          ("step/step", MAP), ("common/draw/draw.py", "tree"), ("check/run.py", "--list"))
@@ -32,12 +32,14 @@ def interrupted(program: str) -> None:
     """Ctrl-C ends a tool that waits for its input, and checks with the programs for which they wait."""
     with tempfile.TemporaryDirectory() as place:
         waits = write_program(f"#!/bin/sh\nexec sleep {SECONDS}\n", place, "pip")
-        stop("why", ("-",), program)
+        stop("asmx", ("--check", "-"), program)
+        if "choices or fewer" not in stop("every", ("examples/two_guests.s", "100000000"), program):
+            raise Differs("every at Ctrl-C doesn't say what it covers")
         stop("check/run.py", ("--only", "commands", "--program", waits), program)
 
 
-def stop(name: str, words: tuple[str, ...], program: str) -> None:
-    """Begins a tool that goes on until it is stopped, and sends it Ctrl-C."""
+def stop(name: str, words: tuple[str, ...], program: str) -> str:
+    """Begins a tool that goes on until it is stopped, sends it Ctrl-C, and answers what it wrote."""
     at = time.monotonic()
     tool(program, name, "--help")
     start = time.monotonic() - at               # what a tool needs before it can answer, on this machine now
@@ -47,9 +49,10 @@ def stop(name: str, words: tuple[str, ...], program: str) -> None:
         begun.wait(1 + 3 * start)
     except subprocess.TimeoutExpired:
         os.killpg(begun.pid, signal.SIGINT)
-    messages = begun.communicate(timeout=SECONDS)[1].decode()
+    output, messages = (told.decode() for told in begun.communicate(timeout=SECONDS))
     if begun.returncode != 130 or "stopped" not in messages or len(messages.splitlines()) != 1:
         raise Differs(f"{name} at Ctrl-C: status {begun.returncode}, {messages[-300:]}")
+    return output
 
 
 # Nothing is built: no tool begins a proof
@@ -57,8 +60,8 @@ def stop(name: str, words: tuple[str, ...], program: str) -> None:
 PARTS = ("tools", "class", "dev", "examples", "docs", "pip", "lab", "VERSION", "crates.txt", "README.md")
 IMAGE = b"PIPIMG2\n"
 # Each tool that needs a program, with words and an input with which it comes to need it.
-NEEDING = (("asmx", "examples/monitor.s", "--image", "/dev/null"), ("why", "examples/first.pip"),
-           ("trace", "-", "10", "1"), ("every", "-", "10"), ("shell", "examples/first.pip"),
+NEEDING = (("asmx", "examples/monitor.s", "--image", "/dev/null"), ("asmx", "--check", "examples/first.pip"),
+           ("every", "-", "10"), ("shell", "examples/first.pip"),
            ("debug", "examples/monitor.s"), ("step/step", "examples/first.pip"),
            ("check/run.py", "--only", "endings"))
 README = "from check import documents; documents.readme_sessions({program!r})"

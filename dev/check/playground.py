@@ -133,7 +133,7 @@ def state_of(data: dict[str, Any], k: int, chosen: int) -> dict[str, Any]:
 # What the page says of bad lines
 
 def reasons(program: str) -> None:
-    """Of each generated text that is refused, and of lines that are bad in one way each, the page says what tools/why
+    """Of each generated text that is refused, and of lines that are bad in one way each, the page says what why.py
     says."""
     needed("node")
     for kind, texts, title in (("script", corners.texts(), "lines of a script"),
@@ -171,7 +171,7 @@ def is_utf8(text: bytes) -> bool:
 
 
 def same_reason(program: str, text: bytes, told: Any, as_assembly: bool) -> bool:
-    """Whether a text is refused; what the page says of it has to be what tools/why says."""
+    """Whether a text is refused; what the page says of it has to be what why.py says."""
     sentences, good = why.why(program, "text", text, as_assembly)
     if good != (told is None):
         raise Differs(f"the page, {text!r}: {told}, where {sentences} is due")

@@ -67,7 +67,7 @@ def debugger(program: str) -> None:
 
 
 def language_server(program: str) -> None:
-    """What is wrong, as tools/why and tools/asmx say it, and what words mean, at the places that an editor asks for."""
+    """What is wrong, as tools/asmx says it, and what words mean, at the places that an editor asks for."""
     tested(program, "language_tests")
 
 

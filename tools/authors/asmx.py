@@ -4,6 +4,7 @@ menus.
     tools/asmx FILE > program.s
     tools/asmx FILE --image program.img
     tools/asmx FILE --against program.menu
+    tools/asmx --check FILE
 
 What it adds to the lines of docs/FORMATS.md is told in tools/README.md.
 """
@@ -23,6 +24,7 @@ from typing import NamedTuple
 from common import calling
 from common.calling import Failed
 from common.machine import against, assembly, instructions
+from debugger.rules import Rule, rule_of
 from . import why
 
 NAME = re.compile(r"[A-Za-z_][A-Za-z0-9_]{0,31}")
@@ -33,14 +35,19 @@ SUMMAND = re.compile(r"([+-]|^)([^+-]*)")
 REMARK = re.compile(r"(^|\s)#.*$")
 WORD = re.compile(r"\S+")
 BRANCHES = {"beq": 3, "bne": 3, "blt": 3, "bltu": 3, "jal": 2}     # operands, the last of which is branched to
-# What is written by other instructions: how many operands it has, and what it becomes
+# What is written by other instructions: its operands, and what it becomes
 WRITTEN = {
-    "la": (2, ("li {0} <{1}", "lih {0} >{1}")), "j": (1, ("beq r0 r0 {0}",)), "nop": (0, ("mov r0 r0",)),
-    "call": (2, ("jal {0} {1}",)), "ret": (1, ("jr {0}",)), "neg": (2, ("li {0} 0", "sub {0} {0} {1}")),
-    "not": (2, ("li {0} 0", "sub {0} {0} {1}", "addi {0} {0} -1")),
+    "la": ("rN X", ("li {0} <{1}", "lih {0} >{1}")), "j": ("NAME", ("beq r0 r0 {0}",)), "nop": ("", ("mov r0 r0",)),
+    "call": ("rN NAME", ("jal {0} {1}",)), "ret": ("rN", ("jr {0}",)),
+    "neg": ("rA rB", ("li {0} 0", "sub {0} {0} {1}")),
+    "not": ("rA rB", ("li {0} 0", "sub {0} {0} {1}", "addi {0} {0} -1")),
 }
+OF_RULES = (".never", ".always")
+DIRECTIVES = [*(name.decode() for name in why.DIRECTIVES), *why.OF_ASMX[:why.OF_ASMX.index("la")]]
 KNOWN = [*instructions.OPCODES, *WRITTEN]
 LIKE = {**why.LIKE, "jmp": "jal or j"}
+TABLE = 0xFFFFF000       # where a partition has its handler table
+BLOCK, SAVED = 68, 63    # bytes of a block, and the vector by whose block a partition is saved
 IMAGE = b"PIPIMG"
 MOST_IMAGE = 1 << 25
 PAGE, WORDS = 4096, 1024
@@ -134,8 +141,8 @@ def collecting(wrongs: list[Wrong]) -> Iterator[None]:
 class Files:
     """The files that a source is made of. Any file may be included."""
 
-    def __init__(self) -> None:
-        self.count = 0
+    def __init__(self, **held: bytes) -> None:
+        self.count, self.held = 0, held          # `held` are texts that were read before
 
     def inner(self, path: Word) -> str:
         """The file that a line includes."""
@@ -148,7 +155,7 @@ class Files:
         self.count += 1
         if self.count > MOST_FILES:
             raise Failed(f"{path}: more than {MOST_FILES} files are included")
-        return calling.contents(path)
+        return self.held[path] if path in self.held else calling.contents(path)
 
 
 def lines_of(path: str, files: Files, above: tuple[str, ...] = ()) -> Iterator[tuple[Place, list[Word]]]:
@@ -184,6 +191,7 @@ class Item:
     at: int
     size: int
     write: Callable[[], list[Line]]
+    is_code: bool = False
 
 
 @dataclass
@@ -195,9 +203,11 @@ class Page:
     seen: int
     items: list[Item] = field(default_factory=list)
     next: int = 0
+    entries: dict[int, tuple[Word, str]] = field(default_factory=dict)       # words that may be entries of handlers
 
-    def add(self, place: Place, size: int, write: Callable[[], list[Line]], at: int | None = None) -> None:
-        item = Item(place, self.next if at is None else at, size, write)
+    def add(self, place: Place, size: int, write: Callable[[], list[Line]], at: int | None = None,
+            is_code: bool = False) -> None:
+        item = Item(place, self.next if at is None else at, size, write, is_code)
         if item.at + size > WORDS:
             raise Wrong(place, "the page has no room for this: it has 1024 words")
         self.items.append(item)
@@ -221,8 +231,9 @@ class Text:
         self.labels: dict[str, Label] = {}
         self.pages: list[Page] = []
         self.head: Lines = []
-        self.may: list[list[Word]] = []                     # lines .may and .again
+        self.may: list[list[Word]] = []                     # lines .may, .again, .never and .always
         self.menu: Lines = []                               # what becomes of them
+        self.rules: list[Rule] = []
 
     def take(self, words: list[Word]) -> None:
         """One line."""
@@ -235,7 +246,7 @@ class Text:
             self.take_page(words)
         elif first in (".frames", ".cpus", ".line"):
             self.head.append((first.place, Line.of([first, *(self.operand(word, False) for word in words[1:])])))
-        elif first in (".may", ".again"):
+        elif first in (".may", ".again", *OF_RULES):
             self.may.append(words)
         elif not self.pages:
             self.pages.append(Page(first.place, 0, 0))      # lest all lines after it be told, too
@@ -249,7 +260,10 @@ class Text:
         else:
             page, at = self.pages[-1], self.pages[-1].here()
             size = len(WRITTEN[first][1]) if first in WRITTEN else 1
-            page.add(first.place, size, lambda: self.instruction(words, at, page.is_elsewhere))
+            if first == ".word":
+                page.entries[page.next] = words[-1], words[-1]
+            page.add(first.place, size, lambda: self.instruction(words, at, page.is_elsewhere),
+                     is_code=first != ".word")
 
     def take_constant(self, words: list[Word]) -> None:
         if len(words) != 3 or not NAME.fullmatch(words[1]) or REGISTER.fullmatch(words[1]):
@@ -306,11 +320,13 @@ class Text:
         if NAME.fullmatch(block) and block not in self.constants:
             if words[3:]:
                 raise words[3].wrong("a block with a name is filled where the name stands")
+            page.entries[vector] = words[1], block
             page.add(place, 1, functools.partial(self.address_word, block), vector)
             return
         offset = self.number(block)
         if offset % 4 or not 0 <= offset <= 4028:
             raise block.wrong("a block is a multiple of 4, at most 4028")
+        page.entries[vector] = words[2], f"0x{page.seen + offset:08x}"
         page.add(place, 1, lambda: [Line(f".word 0x{page.seen + offset:08x}")], vector)
         for at, value in self.block(words[3:]):
             page.add(place, 1, functools.partial(self.address_word, value), offset // 4 + at)
@@ -335,12 +351,13 @@ class Text:
         hinted = [word for word in operands if why.hint(word)]
         hints = "".join(dict.fromkeys(why.hint(word) for word in hinted))
         if name not in KNOWN and name != ".word":
-            raise name.wrong(why.no_instruction(name, KNOWN, LIKE) + hints)
+            raise name.wrong(why.no_instruction(name, DIRECTIVES if name[0] == "." else KNOWN, LIKE) + hints)
         if hints:
             raise hinted[0].wrong(f"{' '.join(words)!r} isn't an instruction here{hints}")
-        count, forms = WRITTEN.get(name, (len(operands), ()))
-        if len(operands) != count:
-            raise beyond(words, count).wrong(f"{name} has {count} operand{'' if count == 1 else 's'}")
+        due, forms = WRITTEN.get(name, ("", ()))
+        if forms and len(operands) != (count := len(due.split())):
+            raise beyond(words, count).wrong(f"{name} has {count} operand{'' if count == 1 else 's'}: "
+                                             f"{' '.join([name, *due.split()])}")
         if name in ("neg", "not") and operands[0] == operands[1]:
             raise operands[1].wrong(f"{name} has two different registers: it puts 0 into the first, since no register "
                                     "is always 0")
@@ -437,6 +454,29 @@ class Text:
         return Line.of([who if who == against.EACH.decode() else self.word_text(who), what,
                         *map(self.word_text, numbers)])
 
+    def warnings(self) -> Iterator[Wrong]:
+        """What is most likely wrong in handler tables, though it becomes an image."""
+        for page in (page for page in self.pages if page.seen == TABLE):
+            blocks = {vector: self.number(word.put(text), True) for vector, (word, text) in sorted(page.entries.items())
+                      if vector < 256}
+            for vector, address in blocks.items():
+                if address and (warning := self.warning(vector, address, blocks)):
+                    yield page.entries[vector][0].wrong(f"warning: the block of vector {vector} {warning}")
+
+    def warning(self, vector: int, address: int, blocks: dict[int, int]) -> str:
+        there = [item for page in self.pages for item in page.items
+                 if item.at <= (address - page.seen) // 4 < item.at + item.size]
+        if any(item.is_code for item in there):
+            return "begins at an instruction: an entry is the address of a block, whose first word is the pc"
+        for other, begins in blocks.items():
+            if begins and 0 < address - begins < BLOCK:
+                return f"and that of vector {other} overlap: a block has 17 words, 68 bytes"
+            if SAVED in (vector, other) and vector < other and begins == address:
+                return f"is that of vector {other}, too: where a partition is saved there, it is lost"
+        if vector in (0, 6, 14, 17, *range(32, 48)) and not there:
+            return f"has no pc: .handler {vector} BLOCK NAME gives one"
+        return ""
+
     def word_text(self, word: Word) -> Word:
         """A number as a word, where it is one."""
         number = self.number(word, True)
@@ -451,7 +491,10 @@ class Text:
         """The lines of the assembly text, each with its place in the source."""
         for words in self.may:
             with collecting(wrongs):
-                self.menu.append((words[0].place, self.of_menu(words)))
+                if words[0] in OF_RULES:
+                    self.rules.append(rule_of(words, self))
+                else:
+                    self.menu.append((words[0].place, self.of_menu(words)))
         lines = list(self.head)
         for page in self.pages:
             lines.append((page.place, Line(f".page 0x{page.address:08x}")))
@@ -549,7 +592,15 @@ def image_of(program: str, path: str) -> tuple[bytes, str | None]:
         return data, None
     if path == "-":
         raise Failed("a source is given by its name, since it may include others")
-    return assembled(program, processed(path)[0]), path
+    lines, text = processed(path)
+    warn(text)
+    return assembled(program, lines), path
+
+
+def warn(text: Text) -> None:
+    """Says on standard error what is most likely wrong."""
+    for warning in text.warnings():
+        print(warning, file=sys.stderr)
 
 
 def main() -> None:
@@ -559,15 +610,42 @@ def main() -> None:
     parser.add_argument("--image", metavar="OUT", help="assemble it, and write the image there")
     parser.add_argument("--against", metavar="OUT",
                         help="the same, and after the image its menu, the lines .may and .again, for against")
+    parser.add_argument("--check", action="store_true",
+                        help="only say what is wrong, also of a script or a menu, with the rule that applies")
+    parser.add_argument("--as", dest="kind", choices=("script", "asm", "menu"),
+                        help="of --check: what the file is; without it its name and its first line say so")
     calling.take_program(parser)
     calling.started(parser, work)
 
 
-def work(given: argparse.Namespace) -> None:
+def checked(given: argparse.Namespace) -> int:
+    """Says what is wrong: with a text for the program, or with a source."""
+    path, data = given.file, calling.contents(given.file)
+    kind = {"script": why.SCRIPT, "asm": why.ASSEMBLY, "menu": why.MENU}.get(
+        given.kind or ("menu" if path.endswith(".may") else "asm" if path.endswith(".s") else ""))
+    if (what := why.no_text(path, data)) and (data or kind is None):
+        print(what)
+        return 1
+    if kind or why.kind_of(data) is why.SCRIPT:
+        return why.checked(given.program, path, kind or why.SCRIPT, data)
+    try:
+        warnings = list(processed(path, Files(**{path: data}))[1].warnings())
+    except Failed as failed:
+        print(failed)
+        return 1
+    print("\n".join([*map(str, warnings), f"{path} is a good source"]))
+    return 0
+
+
+def work(given: argparse.Namespace) -> int:
+    if given.check:
+        return checked(given)
     lines, text = processed(given.file)
+    warn(text)
     if given.image:
         calling.write(given.image, assembled(given.program, lines))
     elif given.against:
         calling.write(given.against, assembled(given.program, lines) + text_of(text.menu))
     else:
         sys.stdout.write(text_of(lines).decode())
+    return 0

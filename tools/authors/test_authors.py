@@ -60,6 +60,14 @@ class Preprocessor(unittest.TestCase):
         self.assertEqual(self.refused(source), due.splitlines())
         self.assertEqual(self.refused("j gone\n" * 23)[20:], ["and 3 lines more"])
 
+    def test_what_is_most_likely_wrong(self) -> None:
+        source, _, due = CASES["has the warnings"].partition("=>\n")
+        with tempfile.TemporaryDirectory() as place:
+            path = os.path.join(place, "main")
+            calling.write(path, (HEAD + source).encode())
+            told = [str(warning).rpartition("/main:")[2] for warning in asmx.processed(path)[1].warnings()]
+        self.assertEqual(told, due.splitlines())
+
     def test_limits(self) -> None:
         self.assertIn("there are 1024 deeds before", self.refused(".may each ld 0\n" * 1025)[0])
         self.assertIn("there are 16 labels before", self.refused(".again x\n" * 17)[0])

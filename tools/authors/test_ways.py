@@ -10,6 +10,7 @@ from common.calling import Failed
 from common.machine import against, assembly, every as searches, image as images, script
 from reference import commands, generate_every
 from common.machine.image import Image
+from debugger import searching, sources
 from . import asmx, every, ways
 
 # The root parks masked, with a number in r1; it has a block for 63, in which it is saved.
@@ -73,8 +74,10 @@ class Told(unittest.TestCase):
     LINES = ["image 16 1 0 1", "2 0 out 0x00000007: 0x3", "3 0 call 12 reply 1 0x00000000: 0x4", "4 0 park 1 64: 0x5"]
 
     def test_what_a_search_says(self) -> None:
-        told = every.told_of(every.read([*self.LINES, "states 5 depth 3 stopped", "again 0 out 0x00000005: yes",
-                                         "again 1 x: no", "again 1 y: no 0x3 1:d2"]), False)
+        search = searching.read([*self.LINES, "states 5 depth 3 stopped", "again 0 out 0x00000005: yes",
+                                 "again 1 x: no", "again 1 y: no 0x3 1:d2"])
+        asked = searching.Asked(b"", b"", 5)
+        told = every.told_of(search, False, every.Given(asked, (), sources.Source()))
         self.assertEqual(told[1:], [
             "   1  2 0 out 0x00000007: 0x3",
             "   2  3 0 call 12 reply 1 0x00000000: 0x4    # call 12: UnknownCall: no call has this number",
@@ -88,4 +91,4 @@ class Told(unittest.TestCase):
         end = "states 5 within 4"
         for lines in ([], [end], [first, "end 0"], [first, *rest], [first, "2 0 out 0x00000007", end],
                       [first, end, "again 1 x"]):
-            self.assertRaises(Failed, every.read, lines)
+            self.assertRaises(Failed, searching.read, lines)

@@ -1,11 +1,7 @@
-"""Why a script, an assembly text or a menu is refused: line, column, what is there, and the rule of docs/FORMATS.md.
-
-    tools/why FILE
-"""
+"""Why a script, an assembly text or a menu is refused: line, column, what is there, and the rule of docs/FORMATS.md."""
 
 from __future__ import annotations
 
-import argparse
 import difflib
 import re
 from collections.abc import Callable, Iterator
@@ -19,7 +15,8 @@ NUMBER = re.compile(rb"0|[1-9][0-9]*|0x[0-9a-f]{1,8}")
 LONGEST = 120
 MOST_TOLD = 20           # bad lines of one text
 # What tools/asmx adds
-OF_ASMX = (".equ", ".handler", ".include", ".may", ".again", "la", "j", "nop", "call", "ret", "neg", "not")
+OF_ASMX = (".equ", ".handler", ".include", ".may", ".again", ".never", ".always", "la", "j", "nop", "call", "ret",
+           "neg", "not")
 LIKE = {"ld": "ldw", "st": "stw", "load": "ldw", "store": "stw", "lw": "ldw", "sw": "stw", "lb": "ldb", "sb": "stb",
         "move": "mov", "jmp": "jal", "trap": "int", "ecall": "sys", "syscall": "sys",
         "subi": "addi with a negative number", "bgt": "blt", "bgtu": "bltu",
@@ -202,7 +199,8 @@ def unknown(word: bytes) -> Cause:
     if name in OF_ASMX:
         return Cause("asm unknown", 1, f"no line of an assembly text begins with {shown(word)}",
                      f"`{name}` is of a source of `tools/asmx`, which writes an assembly text")
-    return Cause("asm unknown", 1, no_instruction(name, list(instructions.OPCODES), LIKE))
+    names = [known.decode() for known in DIRECTIVES] if word.startswith(b".") else list(instructions.OPCODES)
+    return Cause("asm unknown", 1, no_instruction(name, names, LIKE))
 
 
 def is_label(word: bytes) -> bool:
@@ -211,7 +209,8 @@ def is_label(word: bytes) -> bool:
 
 def no_instruction(word: str, names: list[str], like: dict[str, str]) -> str:
     """A sentence about a word that begins no line, with what may be meant by it."""
-    near = difflib.get_close_matches(word, [*names, *like], 2, 0.6)
+    names = names if word.startswith(".") else [*names, *like]
+    near = [word] if word in like else difflib.get_close_matches(word, names, 2, 0.6)
     meant = " or ".join(dict.fromkeys(like.get(name, name) for name in near))
     what = "no line begins with " + repr(word) if word.startswith(".") else f"{word!r} is no instruction"
     return what + (f"; did you mean {meant}?" if meant else hint(word))
@@ -394,27 +393,9 @@ def told(name: str, place: int, lines: list[bytes], cause: Cause) -> list[str]:
     return sentences + [f"what to do: {act}"] * bool(act)
 
 
-def main() -> None:
-    parser = argparse.ArgumentParser(
-        description="Why a script, an assembly text or a menu is refused, by the tables of docs/FORMATS.md.",
-        epilog="The status is 0 where the text is good, and 1 where it is refused.")
-    parser.add_argument("file", metavar="FILE", help="- is standard input")
-    parser.add_argument("--as", dest="kind", choices=("script", "asm", "menu"),
-                        help="what the file is; without it its first line says so, and a file .may is a menu")
-    calling.take_program(parser)
-    calling.started(parser, work)
-
-
-def work(given: argparse.Namespace) -> int:
-    text = calling.contents(given.file)
-    if given.kind == "menu" or given.kind is None and given.file.endswith(".may"):
-        kind, judge = MENU, by_reference(against.menu_of)
-    elif (what := no_text(given.file, text)) and (text or given.kind is None):
-        print(what)
-        return 1
-    else:
-        kind = kind_of(text, None if given.kind is None else given.kind == "asm")
-        judge = by_program(given.program, kind)
-    wrong = ["\n".join(lines) for lines in sentences(kind, judge, given.file, text)]
-    print("\n\n".join(wrong) or f"{given.file} is a good {kind.name}")
+def checked(program: str, name: str, kind: Kind, text: bytes) -> int:
+    """Says what is wrong with each bad line of a text; the status is 1 where one is."""
+    judge = by_reference(against.menu_of) if kind is MENU else by_program(program, kind)
+    wrong = ["\n".join(lines) for lines in sentences(kind, judge, name, text)]
+    print("\n\n".join(wrong) or f"{name} is a good {kind.name}")
     return 1 if wrong else 0

@@ -29,9 +29,7 @@ COMMANDS = {
     "run.py": "check.checks",
     "shell": "authors.shell",
     "step": "step.command",
-    "trace": "authors.trace",
     "tried": "edits.tried",
-    "why": "authors.why",
     "worst": "bench.worst",
 }
 

@@ -4,13 +4,15 @@ from __future__ import annotations
 
 import json
 import subprocess
-from collections.abc import Sequence
+import tempfile
+from collections.abc import Iterator, Sequence
 from dataclasses import dataclass, field
 from typing import Any, NamedTuple
 
 from common.calling import Failed, running
 
 EVERY = 10_000                   # steps between two states that are kept
+LISTED = 10_000                  # steps that are listed at once
 
 
 class Refused(Failed):
@@ -43,6 +45,7 @@ class Turn:
     part: int | None
     pc: int | None
     word: int | None
+    place: list[int] | None          # where the word is: a frame and an index
     raised: list[int]
     did: str
     line: str
@@ -154,10 +157,12 @@ class States:
 
     def turn(self) -> Turn | None:
         told = self.ask("turn")
-        if told is None:
-            return None
-        told["changed"] = [Change(*change) for change in told["changed"]]
-        return Turn(**told)
+        return None if told is None else turn_of(told)
+
+    def listed(self, first: int, to: int) -> Iterator[Turn]:
+        """The steps from one on and before another, without the words that they change."""
+        for begin in range(first, to, LISTED):
+            yield from map(turn_of, self.ask("list", begin, min(begin + LISTED, to)))
 
     def next(self) -> Coming:
         return Coming(**self.ask("next"))
@@ -188,3 +193,25 @@ class States:
 
     def changed(self, since: int) -> list[Change]:
         return [Change(*change) for change in self.ask("changed", since)]
+
+
+def turn_of(told: dict[str, Any]) -> Turn:
+    told["changed"] = [Change(*change) for change in told["changed"]]
+    return Turn(**told)
+
+
+def first_turn_at(process: str, image: bytes, word: tuple[int, int], seed: int) -> int:
+    """How many steps of a run come before the first turn at a word of a frame."""
+    states, stops = States(process), Stops()
+    try:
+        with tempfile.NamedTemporaryFile(suffix=".img") as file:
+            file.write(image)
+            file.flush()
+            states.load(file.name, f"seed {seed}")
+        stops.add("break", 1, f"place {word[0]}:{word[1]}")
+        now = states.run(states.now.end, stops)
+        if not now.stops:
+            raise Failed(f"it doesn't run in {now.step} steps by the seed {seed}")
+        return now.step
+    finally:
+        states.end()

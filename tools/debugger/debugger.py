@@ -9,14 +9,14 @@ from collections.abc import Callable
 from dataclasses import dataclass
 from typing import NamedTuple
 
-from authors import asmx, every, ways, why
+from authors import asmx, ways, why
 from common import calling
 from common.calling import Failed
 from common.draw import texts
 from common.draw.texts import Partition
 from common.machine import image as images, instructions, script
-from common.machine.every import After
-from . import sources
+from common.machine.every import AT_FIRST, After
+from . import searching, sources
 from .client import EVERY, At, Coming, Refused, States, Stopped, Stops, Turn
 from .sources import Named, Word
 
@@ -368,14 +368,17 @@ class Debugger:
         if self.is_script:
             raise Failed("the lines of a script come in their order alone")
 
-    def search(self, words: list[str]) -> tuple[every.Search, str]:
+    def search(self, words: list[str]) -> tuple[searching.Search, str]:
         """What the program's `every` finds for this image, and the way to where it begins."""
         self.need_image()
-        found = every.read(every.searched(self.program, ["every", *words], self.data))
-        if words[-3:-2] != ["after"]:
-            return found, ""
-        after = After(int(words[-2], 0), int(words[-1], 0))
-        return found, ways.text_of(ways.before(images.read(self.data), after))
+        at = words.index("after") if "after" in words else len(words)
+        numbers = [int(word, 0) for word in words[:at]]
+        after = After(*(int(word, 0) for word in words[at + 1:])) if words[at:] else AT_FIRST
+        if not 1 <= len(numbers) <= 3:
+            raise Failed("every has STATES, and where wanted FROM and DEPTH")
+        states, first, depth = (*numbers, None, None)[:3]
+        found = searching.searched(self.program, searching.Asked(self.data, b"", states or 0, first, depth, after))
+        return found, ways.text_of(ways.before(images.read(self.data), after)) if after.steps else ""
 
     def take_way(self, text: str) -> Stopped:
         """The choices of a way in the place of the schedule, from the beginning."""
@@ -426,8 +429,8 @@ class Debugger:
         """Where each stop is checked, and a command has this state: what differs."""
         return self.differing() if self.checks and not self.on_way and not self.states.now.edited else ""
 
-    def told_turn(self, turn: Turn | None) -> str:
-        """The step that led here, in a line."""
+    def told_turn(self, turn: Turn | None, with_name: bool = False) -> str:
+        """A step in a line: who ran where, the instruction, and its line."""
         if turn is None:
             return "the beginning"
         if self.is_script:
@@ -436,7 +439,10 @@ class Debugger:
         if turn.cpu is None:
             return f"{turn.step}{raised}"
         did = self.instruction(turn.word) if turn.did == "ran" else turn.did
+        name = self.source.nearest((turn.place[0], turn.place[1])) if turn.place else ""
         where = f"{turn.part:>4} 0x{turn.pc:08x}" if turn.part is not None and turn.pc is not None else "   -"
+        if with_name:
+            where = f"{where:15} {name:24}"
         shown = turn.line.split(" ", 2)[2] if turn.line else ""
         return f"{turn.step:>6} {turn.cpu} {where} {did:24} {shown}{raised}".rstrip()
 
@@ -491,6 +497,8 @@ def events_of(program: str, path: str, data: bytes) -> list[Event]:
 def words_of(kind: str, numbers: list[str], step: int) -> tuple[list[str], int]:
     """By which numbers the program goes to a step, and where that ends: `slots` makes whole rounds, and no more than it
     can."""
+    if kind == "seed":
+        return [str(step), *numbers], step
     if kind == "native":
         return [*numbers, str(step)], step
     length = int(numbers[0]) * (int(numbers[1]) + 2)

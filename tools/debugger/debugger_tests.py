@@ -10,11 +10,11 @@ import sys
 import tempfile
 import unittest
 
-from authors import trace
 from common import calling
 from common.calling import Failed
 from common.machine import image as images, script
 from common.machine.model import World
+from step import states as pages
 from . import building
 from .client import States, Stops
 from .debugger import Debugger
@@ -95,7 +95,7 @@ class Compared(WithStates):
     def of_reference(self, debugger: Debugger, seed: int, step: int) -> None:
         image = images.read(debugger.data)
         world = images.world(image)
-        made = [turn for turn, _, _ in trace.steps(image, world, step, seed)]
+        made = [turn for turn, _ in pages.taken(image, world, step, seed)]
         self.has_registers_of(world)
         turn = self.states.turn()
         if turn and made[-1].did:

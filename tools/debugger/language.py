@@ -2,7 +2,7 @@
 
     tools/language_server
 
-It says what is wrong, in the words of tools/why and tools/asmx, what a word means, in those of docs/FORMATS.md, where a
+It says what is wrong, in the words of tools/asmx, what a word means, in those of docs/FORMATS.md, where a
 name is defined, and what can be typed. Where no program is built, what is wrong comes from the reference."""
 
 from __future__ import annotations
@@ -12,7 +12,7 @@ import os
 import re
 import sys
 from collections.abc import Iterator
-from dataclasses import dataclass
+from dataclasses import dataclass, replace
 from typing import IO, Any
 from urllib.parse import unquote, urlparse
 
@@ -35,6 +35,7 @@ class Wrong:
     line: int
     column: int
     why: str
+    severity: int = 1                # by the protocol's numbers: 2 is a warning
 
 
 @dataclass(frozen=True)
@@ -65,12 +66,12 @@ def wrong_of(program: str, path: str, texts: Texts) -> list[Wrong]:
     if not path.endswith(".asmx"):
         return list(wrong_lines(program, texts.contents(path), path.endswith(".s")))
     try:
-        asmx.processed(path, texts)
+        _, text = asmx.processed(path, texts)
     except asmx.AllWrong as wrong:
         return [of_asmx(path, one) for one in wrong.wrongs[:why.MOST_TOLD]]
     except Failed as wrong:
         return [of_asmx(path, wrong) if isinstance(wrong, asmx.Wrong) else Wrong(0, 0, str(wrong))]
-    return []
+    return [replace(of_asmx(path, warning), severity=2) for warning in text.warnings()]
 
 
 def of_asmx(path: str, wrong: asmx.Wrong) -> Wrong:
@@ -325,7 +326,7 @@ def diagnostic(lines: list[str], wrong: Wrong) -> dict[str, Any]:
     text = lines[wrong.line] if wrong.line < len(lines) else ""
     found = re.compile(r"\S+").match(text, wrong.column)
     end = found.end() if found and wrong.column else len(text)
-    return {"range": range_of(wrong.line, units(text[:wrong.column]), units(text[:end])), "severity": 1,
+    return {"range": range_of(wrong.line, units(text[:wrong.column]), units(text[:end])), "severity": wrong.severity,
             "source": "pip", "message": wrong.why}
 
 

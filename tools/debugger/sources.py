@@ -2,14 +2,15 @@
 
 from __future__ import annotations
 
+from bisect import bisect_right
 from collections.abc import Sequence
 from dataclasses import dataclass, field
 from typing import NamedTuple
 
-from authors import asmx, trace
+from authors import asmx
 from authors.asmx import Place
 from common.calling import Failed
-from common.machine import image as images
+from common.machine import assembly, image as images, script
 from common.machine.model import PAGE
 
 Word = tuple[int, int]              # a frame and an index in it
@@ -33,10 +34,16 @@ class Source:
     starts_of: dict[Place, list[Word]] = field(default_factory=dict)     # of a line its first word, in each page
     by_frame: dict[int, list[tuple[int, str]]] = field(default_factory=dict)
     words: dict[int, Sequence[int]] = field(default_factory=dict)            # of each frame, as the image has them
+    warning: str = ""                                                        # where the image isn't that of the source
 
     def nearest(self, word: Word | None) -> str:
         """The last name at or before a word of its frame, and how many words after it."""
-        return "" if word is None else trace.nearest(self.by_frame.get(word[0], []), word[1])
+        return "" if word is None else nearest(self.by_frame.get(word[0], []), word[1])
+
+    def named(self, name: str) -> Named:
+        if name not in self.names:
+            raise Failed(f"no line of the source defines the name {name}")
+        return self.names[name]
 
     def place(self, word: Word | None, holds: int | None) -> Place | None:
         """The line that a word is from, as long as it holds what the image has there."""
@@ -55,13 +62,15 @@ def read(image: bytes, path: str | None) -> Source:
     """What a source says of an image."""
     if path is None:
         return Source()
-    _, text = asmx.processed(path)
+    lines, text = asmx.processed(path)
     try:
         read_image = images.read(image)
     except images.BadImage as bad:
         raise Failed(str(bad)) from None
     found, words = Source(path, constants=dict(text.constants)), dict(read_image.pages)
-    for frame, page in trace.pages_of(read_image, text).items():
+    if not is_made_of(read_image, lines):
+        found.warning = f"{path} isn't the source of this image, or was changed since: the names may be wrong"
+    for frame, page in pages_of(read_image, text).items():
         found.words[frame] = words.get(page.address // PAGE, [0] * asmx.WORDS)
         add_page(found, text, page, frame)
     return found
@@ -76,3 +85,26 @@ def add_page(found: Source, text: asmx.Text, page: asmx.Page, frame: int) -> Non
     found.by_frame[frame] = text.names_in(page)
     found.names.update((name, Named(text.labels[name].address, (frame, index)))
                        for index, name in found.by_frame[frame])
+
+
+def pages_of(image: images.Image, text: asmx.Text) -> dict[int, asmx.Page]:
+    """The pages of a source, by the frames that the root has there."""
+    rows = images.world(image._replace(pages=[])).tree.nodes[1].rows
+    return {rows[page.address // PAGE].page: page for page in text.pages if page.address // PAGE in rows}
+
+
+def nearest(names: list[tuple[int, str]], index: int) -> str:
+    """The last name at or before a word of its frame, and how many words after it; nothing where there is none."""
+    at = bisect_right(names, (index, "\U0010ffff")) - 1
+    if at < 0:
+        return ""
+    start, name = names[at]
+    return name + (f"+{index - start}" if index > start else "")
+
+
+def is_made_of(image: images.Image, lines: asmx.Lines) -> bool:
+    """Whether these lines of assembly become this image."""
+    try:
+        return images.read(assembly.assemble(asmx.text_of(lines))) == image
+    except (script.BadLine, images.BadImage):
+        return False

@@ -1,6 +1,7 @@
 """A debugger in a terminal, for an image, for a source that is assembled for it, or for a script.
 
     tools/debug FILE [SEED] [--native N | --slots N TURNS]
+    tools/debug FILE [SEED] --list STEPS [--from STEP] [--partition P]
 
 The states are those of a process over the exported library, of the same text as the program and not of the same proof;
 where the program is proved, each stop compares the state with the program's own."""
@@ -22,7 +23,7 @@ from common.calling import Failed
 from common.machine.model import PAGE
 from . import building, sources
 from .client import EVERY, States, Stopped
-from .debugger import Debugger, ancestors
+from .debugger import MOST_STEPS, Debugger, ancestors, before, words_of
 
 AROUND = 5                       # lines of a source before and after the one that is looked at
 MOST_TOLD = 32
@@ -415,6 +416,11 @@ def main() -> None:
     monitor.add_argument("--native", metavar="N", help="as by `native`: a monitor outside the machine runs N children")
     monitor.add_argument("--slots", nargs=2, metavar=("N", "TURNS"), help="as by `slots`")
     calling.take_source(parser)
+    parser.add_argument("--list", type=calling.within(0, MOST_STEPS, "STEPS"), metavar="STEPS",
+                        help="print that many steps, and all registers after them, and end")
+    parser.add_argument("--from", type=calling.within(0, MOST_STEPS, "--from"), default=0, dest="first", metavar="STEP",
+                        help="of --list: the steps from this one on")
+    parser.add_argument("--partition", type=int, metavar="P", help="of --list: the steps of this partition alone")
     parser.add_argument("--every", type=calling.within(1, 10_000_000, "--every"), default=EVERY, metavar="K",
                         help="keep a state each K steps, for the way back")
     parser.add_argument("--check", action=argparse.BooleanOptionalAction,
@@ -432,7 +438,7 @@ def schedule_of(seed: str, native: str | None, slots: list[str] | None) -> str:
     return f"seed {calling.number(seed, 1, 0xFFFFFFFF, 'SEED')}"
 
 
-def work(given: argparse.Namespace) -> None:
+def work(given: argparse.Namespace) -> int:
     schedule = schedule_of(given.seed, given.native, given.slots)
     calling.direct(given.program)
     process = States(building.program())
@@ -440,8 +446,12 @@ def work(given: argparse.Namespace) -> None:
         debugger = Debugger(given.program, process, given.file, schedule, given.every)
         if given.source:
             debugger.source = sources.read(debugger.data, given.source)
+            if debugger.source.warning:
+                print(f"debug: {debugger.source.warning}", file=sys.stderr)
         debugger.checks = debugger.checks if given.check is None else given.check
         terminal = Terminal(debugger)
+        if given.list is not None:
+            return listed(debugger, given.list, given.first, given.partition)
         if sys.stdin.isatty():
             print("The same text as the program, not the same proof. help says all words.")
             terminal.where()
@@ -451,6 +461,29 @@ def work(given: argparse.Namespace) -> None:
             typed_along(terminal)
     finally:
         process.end()
+    return 0
+
+
+def listed(debugger: Debugger, steps: int, first: int, part: int | None) -> int:
+    """Prints steps, and all registers at the end. The status is 1 where the program has other lines."""
+    steps = min(steps, debugger.states.now.end)
+    if debugger.is_script:
+        raise Failed("a script is its own list: its lines are the steps")
+    print("# of the same text as the program, not of the same proof; the lines at the right are compared with its own")
+    for turn in debugger.states.listed(min(first, steps), steps):
+        if part in (None, turn.part):
+            print(debugger.told_turn(turn, True))
+    debugger.states.go(steps)
+    for cpu, at in enumerate(debugger.states.registers()):
+        print("\n".join(trace.told_registers(cpu, at)))
+    kind, *numbers = debugger.schedule.split()
+    words, last = words_of(kind, numbers, steps)
+    due = before(calling.text_of(debugger.program, [kind if kind != "seed" else "run", *words], debugger.data), last)
+    if due != before(debugger.states.trace(0, steps), last):
+        print("debug: the program has other lines", file=sys.stderr)
+        return 1
+    print(f"# the program has the same {len(due)} lines")
+    return 0
 
 
 def typed_along(terminal: Terminal) -> None:

@@ -86,7 +86,7 @@ class TestOfAsmx(unittest.TestCase):
         scopes = [[(name or "").rsplit(".", 1)[0] for name, _ in tokens(line, OF_ASMX)] for line in
                   (".equ A B+8*4096", "  la r1 A+4   # where", "j next", ".page A at 0xffc00000",
                    ".handler 63 0x400 child r6=0x10", "a: out r1", ".include ../x.s", ".may each ld A",
-                   ".again 0 out 0x00000005")]
+                   ".again 0 out 0x00000005", ".never [turn] == 5 and r1 in 1 2", ".always 44:pc < 0x400")]
         number, name, operator = "constant.numeric", "variable.other.label", "keyword.operator"
         directive, mnemonic = "keyword.control.directive", "support.function.mnemonic"
         register = "variable.language.register"

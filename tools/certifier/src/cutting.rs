@@ -2,19 +2,9 @@
 //! part has.
 
 use crate::Stop;
+use crate::explorer::{Scope, Start, base_of};
 use crate::input::{Part, load, text_of, whole_input};
 use crate::searching::{Found, Task, search};
-use pip_base::{Frame, Steps, WORDS};
-use pip_cpu::turn;
-use pip_every::note_words;
-use pip_frames::{Frames, RawFrames};
-use pip_io::Discard;
-use pip_switch::Machine;
-use rattle_std::{alloc::Global, marker::Brand, sync::ledger::Blank};
-
-/// How often words are noted, and how many turns of each processor come before each time.
-const TIMES: u32 = 4;
-const TURNS: u32 = 1000;
 
 impl Found {
     // The states with which parts begin: the first, and each whose own part would have that many states.
@@ -78,53 +68,24 @@ impl Found {
     }
 }
 
-// The words that a machine over an image's frames comes to hold, where those that compare with them make keys short.
-fn base_of(data: &[u8]) -> Result<Vec<(u32, u32, u32)>, Stop> {
-    let mut steps = Steps::<Brand>::new(Blank::new(1));
-    let first = load(data)?;
-    let mut later = load(data)?.mem;
-    let cpus = first.head.cpus;
-    let mut machine: Machine<RawFrames> = Machine::new(first.mem, cpus);
-    for _ in 0..TIMES {
-        for _ in 0..TURNS {
-            for cpu in 0..cpus {
-                let sink = &mut Discard::new();
-                _ = turn::<(), Machine<RawFrames>, Discard, Brand>(&mut machine, cpu, 0, sink, &mut steps);
-            }
-        }
-        note_words(machine.mem(), &mut later, &mut steps);
-    }
-    let first = load(data)?.mem;
-    let mut base = Vec::new();
-    for frame in 0..first.count() {
-        for index in 0..WORDS {
-            let word = later.word(Frame::new(frame), index, &mut steps);
-            if word != first.word(Frame::new(frame), index, &mut steps) {
-                base.push((frame, index, word));
-            }
-        }
-    }
-    Ok(base)
-}
-
-fn cant_write() -> Stop {
-    Stop::new(4, "a part can't be written")
-}
-
 /// Searches the image of the input with that many workers and room for that many states, and writes parts of about
 /// `size` states into a folder.
 pub fn cut(from: u32, size: u32, states: u32, workers: u32, folder: &str) -> Result<(), Stop> {
     let data = whole_input()?;
-    let base = base_of(&data)?;
+    let base = base_of(&data, Start { steps: 0, seed: 1 })?;
     let head = load(&data)?.head;
-    let task = Task {
+    let scope = Scope {
         data: &data,
         from,
         base: &base,
+        may: &[],
+    };
+    let task = Task {
+        scope,
         states: u64::from(states),
     };
     let found = search(&task, workers as usize)?;
-    let choices = head.cpus + head.lines.len() as u32;
+    let choices = head.cpus + head.plans.len() as u32;
     let (firsts, cuts) = (found.firsts(), found.cuts(size));
     let mut count = 0;
     for i in (0..cuts.len()).filter(|i| cuts[*i]) {

@@ -1,10 +1,17 @@
-//! The search behind a certificate: what can happen to an image is searched by workers and cut into parts.
+//! Searches of what can happen to an image: by workers, cut into parts for a certificate, and one that speaks before
+//! its end.
 //!
-//! Nobody has to trust it: `part` of the program checks each part by itself, and `merge` finds what is missing.
+//! Nobody has to trust them: `part` of the program checks each part by itself, and `merge` finds what is missing; and
+//! what the other one says is compared with `every` and `against`, or made again.
 
 mod cutting;
+mod explorer;
+mod hashes;
 mod input;
+mod rules;
 mod searching;
+mod speaking;
+mod values;
 
 use std::process::ExitCode;
 
@@ -23,9 +30,10 @@ impl Stop {
     }
 }
 
-const USAGE: &str = "usage: pip_certifier cut FROM SIZE STATES WORKERS FOLDER < IMAGE";
+const USAGE: &str = "usage: pip_certifier cut FROM SIZE STATES WORKERS FOLDER < IMAGE
+       pip_certifier search IMAGE MENU FROM STATES DEPTH STEPS SEED [WHAT ..] < IMAGE_AND_MENU";
 
-fn number(word: &str) -> Result<u32, Stop> {
+pub fn number(word: &str) -> Result<u32, Stop> {
     word.parse().map_err(|_| Stop::new(1, USAGE))
 }
 
@@ -35,6 +43,7 @@ fn run(words: &[String]) -> Result<(), Stop> {
         ["cut", from, size, states, workers, folder] => {
             cutting::cut(number(from)?, number(size)?, number(states)?, number(workers)?, folder)
         }
+        ["search", image, menu, words @ ..] => speaking::speak(image, menu, words),
         _ => Err(Stop::new(1, USAGE)),
     }
 }

@@ -1,17 +1,9 @@
 //! A search by workers: each has a machine of its own, and the states whose hashes are its. Nobody has to trust it.
-//!
-//! What was reached is kept as hashes of 64 bits, not as keys. Two keys with one hash would be taken for one state;
-//! then a part asks for a key that no part has, and the merge says so.
 
 use crate::Stop;
-use crate::input::{load, put_words};
-use pip_base::{Outcome, Steps};
-use pip_cpu::{TurnEnd, turn};
-use pip_every::{Label, add_processors, read_processors};
-use pip_journal::Journal;
-use pip_model::Port;
-use pip_switch::Machine;
-use rattle_std::{alloc::Global, marker::Brand, sync::ledger::Blank, vec::Vec as Words};
+use crate::explorer::{Explorer, Scope, no_memory};
+use crate::hashes::{Hashes, hash};
+use rattle_std::{alloc::Global, vec::Vec as Words};
 use std::sync::atomic::{AtomicBool, AtomicU64, Ordering};
 use std::sync::{Barrier, Mutex};
 use std::time::{Duration, Instant};
@@ -22,12 +14,10 @@ const ROUND: usize = 1 << 13;
 /// How often it is said how far the search is.
 const EVERY: Duration = Duration::from_secs(10);
 
-/// What is searched: an image, from when on lines may come, the words to compare with, and room for that many states.
+/// What is searched, and room for that many states.
 #[derive(Clone, Copy)]
 pub struct Task<'a> {
-    pub data: &'a [u8],
-    pub from: u32,
-    pub base: &'a [(u32, u32, u32)],
+    pub scope: Scope<'a>,
     pub states: u64,
 }
 
@@ -37,126 +27,6 @@ pub struct Found {
     pub parents: Vec<u32>,
     pub choices: Vec<u8>,
     pub depth: u32,
-}
-
-// ---- one machine
-
-struct Explorer {
-    machine: Machine<Journal<Brand>>,
-    lines: Vec<u32>,
-    from: u32,
-    label: Label,
-    steps: Steps<Brand>,
-}
-
-fn no_memory<E>(_: E) -> Stop {
-    Stop::new(5, "no memory")
-}
-
-impl Explorer {
-    fn new(task: &Task) -> Result<Explorer, Stop> {
-        let first = load(task.data)?;
-        let mut later = load(task.data)?.mem;
-        put_words(&mut later, task.base);
-        let journal = Journal::new(Global, first.mem, later).map_err(no_memory)?;
-        Ok(Explorer {
-            machine: Machine::new(journal, first.head.cpus),
-            lines: first.head.lines,
-            from: task.from,
-            label: Label::new(Global),
-            steps: Steps::new(Blank::new(1)),
-        })
-    }
-
-    fn choices(&self) -> u32 {
-        self.machine.cpus() + self.lines.len() as u32
-    }
-
-    // The key of the moment that the machine is at, after `turns` turns.
-    fn key(&mut self, turns: u32, to: &mut Words<u32>) -> Result<(), Stop> {
-        to.clear();
-        to.push(turns).map_err(no_memory)?;
-        add_processors(self.machine.processors(), to).map_err(no_memory)?;
-        self.machine.mem().add_changes(to, &mut self.steps).map_err(no_memory)
-    }
-
-    // The key after a choice; false where the choice changes nothing.
-    fn next(&mut self, key: &[u32], choice: u32, to: &mut Words<u32>) -> Result<bool, Stop> {
-        let cpus = self.machine.cpus();
-        if choice >= cpus && key[0] < self.from {
-            return Ok(false);
-        }
-        let (runs, words) = read_processors(&key[1..], cpus);
-        self.machine.rewind(words, runs, &mut self.steps);
-        let mut turns = key[0];
-        if choice >= cpus {
-            self.machine.raise(self.lines[(choice - cpus) as usize], &mut self.steps);
-        } else {
-            self.label.clear();
-            let machine = &mut self.machine;
-            let end = turn::<(), _, Label, Brand>(machine, choice, 0, &mut self.label, &mut self.steps);
-            turns = match end.map_err(no_memory)? {
-                TurnEnd::Polled(Outcome::Idle) => self.from,
-                _ => self.from.min(turns + 1),
-            };
-        }
-        self.key(turns, to)?;
-        Ok(true)
-    }
-}
-
-// ---- what was reached
-
-// A hash of a key, which is never 0.
-fn hash(key: &[u32]) -> u64 {
-    let stirred = key.iter().fold(key.len() as u64, |sum, word| {
-        let product = (sum ^ u64::from(*word)).wrapping_mul(0x9e37_79b9_7f4a_7c15);
-        product ^ (product >> 32)
-    });
-    stirred.max(1)
-}
-
-/// A set of hashes: a table with open places, which are 0.
-struct Hashes {
-    places: Vec<u64>,
-    count: usize,
-}
-
-impl Hashes {
-    fn new() -> Hashes {
-        Hashes {
-            places: vec![0; 1024],
-            count: 0,
-        }
-    }
-
-    // Whether it is new.
-    fn insert(&mut self, hash: u64) -> bool {
-        if 4 * self.count >= 3 * self.places.len() {
-            let doubled = vec![0; 2 * self.places.len()];
-            for old in std::mem::replace(&mut self.places, doubled) {
-                if old != 0 {
-                    self.put(old);
-                }
-            }
-        }
-        let is_new = self.put(hash);
-        self.count += usize::from(is_new);
-        is_new
-    }
-
-    fn put(&mut self, hash: u64) -> bool {
-        let mask = self.places.len() - 1;
-        let mut at = (hash >> 8) as usize & mask;
-        while self.places[at] != 0 {
-            if self.places[at] == hash {
-                return false;
-            }
-            at = (at + 1) & mask;
-        }
-        self.places[at] = hash;
-        true
-    }
 }
 
 /// Keys that were found, one after another: the state from which, the choice, how many words, and the words.
@@ -281,7 +151,7 @@ impl Worker {
 
     // The explorer; the first state is taken by the worker whose it is.
     fn begin(&mut self, task: &Task, shared: &Shared) -> Result<Explorer, Stop> {
-        let mut explorer = Explorer::new(task)?;
+        let mut explorer = Explorer::new(&task.scope)?;
         let mut to = Words::new(Global);
         explorer.key(0, &mut to)?;
         if hash(&to) as usize % self.count == self.number {

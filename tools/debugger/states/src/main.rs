@@ -92,6 +92,10 @@ fn looked(session: &mut Session, request: Request) -> Result<String, String> {
         Request::Tree => views::tree_view(session.machine.mem()),
         Request::Core => views::core(session.machine.mem()),
         Request::Trace(from, to) => trace(session, from, to)?,
+        Request::List(from, to) => {
+            within(session, to)?;
+            views::listed(session, from.min(to), to)
+        }
         Request::Translate(part, address) => translate(session, part, address)?,
         Request::Changed(from) => changed(session, from)?,
         Request::Kept => text(&session.kept_count()),

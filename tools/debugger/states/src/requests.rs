@@ -111,6 +111,8 @@ pub enum Request {
     Tree,
     Core,
     Trace(u64, u64),
+    /// The steps from one on and before another, each with who made which instruction where.
+    List(u64, u64),
     Translate(u32, u32),
     Changed(u64),
     Edit(Edit),
@@ -157,6 +159,7 @@ pub fn request(line: &str) -> Result<Request, String> {
         "tree" => Request::Tree,
         "core" => Request::Core,
         "trace" => Request::Trace(words.number()?, words.number()?),
+        "list" => Request::List(words.number()?, words.number()?),
         "translate" => Request::Translate(words.number()?, words.number()?),
         "changed" => Request::Changed(words.number()?),
         "way" => Request::Way(words.0.map(choice).collect::<Result<_, _>>()?),

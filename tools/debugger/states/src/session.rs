@@ -1,11 +1,11 @@
 //! A run that goes forward and back, step by step, with states that are kept on the way.
 
 use crate::frames::{Kept, Shared, differing, places};
-use crate::requests::{Begin, Choice, Edit};
+use crate::requests::{Begin, Choice, Edit, Place};
 use crate::schedule::{Children, End, Schedule, cpu_of};
 use crate::stops::{Hit, Stops, fetched};
 use arrayvec::ArrayVec;
-use pip_base::{Plan, Size, Steps};
+use pip_base::{Frame, Plan, Size, Steps};
 use pip_image::{ImageReader, load_image};
 use pip_io::{Failed, Sink, SureSource};
 use pip_kern::boot_zeros;
@@ -58,6 +58,8 @@ pub struct Turn {
     pub cpu: Option<u32>,
     /// The partition and the pc before it, and the word there.
     pub from: Option<(u32, u32, Option<u32>)>,
+    /// Where that word is.
+    pub place: Option<Place>,
     pub raised: Vec<u32>,
     pub did: &'static str,
     pub line: String,
@@ -233,14 +235,30 @@ impl Session {
     }
 
     fn made_again(&mut self) -> Turn {
+        let before = self.machine.mem().kept();
+        let mut turn = self.made();
+        turn.changed = differing(&before, &self.machine.mem().kept());
+        self.arrive();
+        turn
+    }
+
+    // Makes a step, which isn't asked for the words that it changes.
+    fn made(&mut self) -> Turn {
         let (step, (cpu, raised)) = (self.at, self.coming());
         let from = cpu.and_then(|cpu| self.place(cpu));
-        let before = self.machine.mem().kept();
+        let place = from.and_then(|(part, pc, _)| fetched(self.machine.mem(), Frame::new(part), pc));
         let did = self.make().name();
         let line = String::from_utf8_lossy(&self.line.0).trim_end().to_string();
-        let changed = differing(&before, &self.machine.mem().kept());
-        self.arrive();
-        Turn { step, cpu, from, raised, did, line, changed }
+        Turn { step, cpu, from, place, raised, did, line, changed: Vec::new() }
+    }
+
+    /// Goes on to a step, and hands out each step on the way.
+    pub fn each_turn(&mut self, to: u64, mut told: impl FnMut(&Turn)) {
+        while self.at < to {
+            let turn = self.made();
+            self.arrive();
+            told(&turn);
+        }
     }
 
     /// What runs on a processor: partition, pc, and the word there.

@@ -55,6 +55,14 @@ pub fn registers(session: &Session) -> String {
     text(&all)
 }
 
+/// The steps from one on and before another.
+pub fn listed(session: &mut Session, from: u64, to: u64) -> String {
+    let mut turns = Vec::new();
+    session.go(from);
+    session.each_turn(to, |made| turns.push(Written(turn(made))));
+    text(&turns)
+}
+
 pub fn turn(made: &Turn) -> String {
     text(&Object(&[
         ("step", &made.step),
@@ -62,6 +70,7 @@ pub fn turn(made: &Turn) -> String {
         ("part", &made.from.map(|from| from.0)),
         ("pc", &made.from.map(|from| from.1)),
         ("word", &made.from.and_then(|from| from.2)),
+        ("place", &made.place.map(|(frame, index)| [frame, index])),
         ("raised", &made.raised),
         ("did", &made.did),
         ("line", &made.line),
