@@ -5,7 +5,7 @@ from __future__ import annotations
 from pathlib import Path
 from collections.abc import Iterable
 
-from . import dependencies
+from . import dependencies, pages
 from .crates import Crate
 from .rewriting import exported
 from .tokens import Trouble
@@ -46,9 +46,12 @@ def files_of(crates: list[Crate], repository: Path, config: str | None) -> dict[
         files[".cargo/config.toml"] = config
     for name in shims:
         files.update(shim_files(name))
+    known = pages.definitions_of(crates)
     for crate in crates:
         files[f"crates/{crate.name}/Cargo.toml"] = manifest(crate, {other.name for other in crates}, set(shims))
-        files.update(source_files(crate))
+        files.update(source_files(crate, known))
+    shown = pages.std_pages(repository, [text for name, text in files.items() if name.endswith(".rs")], known)
+    files.update({f"shims/{dependencies.STD}/{name}": text for name, text in shown.items()})
     files.update({f"{member}/LICENSE": license_text for member in members})
     return files
 
@@ -64,11 +67,12 @@ def shim_files(name: str) -> dict[str, str]:
     return files
 
 
-def source_files(crate: Crate) -> dict[str, str]:
-    files = {}
+def source_files(crate: Crate, known: pages.Definitions) -> dict[str, str]:
+    files = {f"crates/{crate.name}/{name}": text for name, text in pages.crate_pages(crate, known).items()}
     for path in crate.sources():
+        source = path.read_text(encoding="utf-8")
         try:
-            text = exported(path.read_text(encoding="utf-8"), crate.role(path))
+            text = exported(source, crate.role(path), pages.Names(source, crate.name, known))
         except (Trouble, ValueError) as trouble:
             raise Trouble(f"{path}: {trouble}") from None
         files[f"crates/{crate.name}/{path.relative_to(crate.folder).with_suffix('.rs')}"] = text
