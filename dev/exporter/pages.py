@@ -24,6 +24,8 @@ NAME = re.compile(r"(?<![\w.'])[^\W\d][\w']*(?:-[\w']+)*(?:\.[^\W\d][\w']*)*|(?<
 BOUND = re.compile(r"λ ([\w' ]+)\.|\(([\w' ]+) :|let (\w+) =")
 CLAUSE = re.compile(r"(?:requires|ensures)\*? \w*")
 TRAIT = re.compile(r"^pub trait (\w+)\b.*?^}", re.M | re.S)
+PUBLIC = re.compile(r"^pub (?:use [\w:]+::|mod |trait |struct |enum )(?:\{([^}]*)\}|(\w+))", re.M)
+BOUNDS = re.compile(r"[<,] ?([A-Z]\w*): (?:\w+ \+ )*?([A-Z]\w+)")         # of a parameter the trait
 GHOST = re.compile(r"^    ghost (\w+):", re.M)
 LONG = 76                      # the letters of a clause that fit into a line of a page
 TAKEN = re.compile(r"[\\`*\[\]'\"]|(?<!\w)_|_(?!\w)|<(?=[\w/!?])|&(?=[\w#])|~~")
@@ -42,16 +44,17 @@ class Names:
             for name in names.split(","):
                 old, _, new = " ".join(name.split()).partition(" as ")
                 self.found[new or old] = self.known.target(module, old)
+        self.bounds = dict(BOUNDS.findall(text))
         for trait in TRAIT.finditer(text):
-            self.found.update((name, self.known.members.get(name, "")) for name in GHOST.findall(trait[0]))
+            self.found.update((name, self.known.members.get((trait[1], name), "")) for name in GHOST.findall(trait[0]))
 
     def target(self, name: str) -> str:
         """Where a name is defined, as this crate calls that place; "" where nothing is to be shown."""
         first, _, rest = name.partition(".")
         if first in self.alias:
             found = self.known.target(self.alias[first], rest.split(".")[0])
-        elif rest in self.known.members and first not in self.found:
-            found = self.known.members[rest] if first in ("M", "P", "Self") else ""
+        elif rest and first in self.bounds and first not in self.found:
+            found = self.known.members.get((self.bounds[first], rest), "")
         else:
             found = self.found.get(first) or self.found.get(name, "")
         return self.seen(found)
@@ -70,7 +73,7 @@ class Names:
 
     def seen(self, target: str) -> str:
         crate, colon, rest = target.partition("::")
-        if crate == self.crate:
+        if target and crate == self.crate:
             return "crate::" + rest
         return target if crate in (*self.known.uses.get(self.crate, ()), OF_STD) else ""
 
@@ -80,7 +83,7 @@ class Definitions:
     """What the crates of an export define."""
 
     modules: dict[str, dict[str, str]] = field(default_factory=dict)      # by `pip_model.specs.Port`
-    members: dict[str, str] = field(default_factory=dict)                 # ghost items of traits
+    members: dict[tuple[str, str], str] = field(default_factory=dict)     # of each trait its ghost items
     public: dict[str, set[str]] = field(default_factory=dict)             # of each crate the names of its root
     uses: dict[str, list[str]] = field(default_factory=dict)
     kit: dict[str, str] = field(default_factory=dict)
@@ -106,12 +109,12 @@ class Definitions:
                     names.setdefault(name, f"{module}#def.{block.name}")
         root = crate.folder / "src" / "lib.rt"
         if root.exists():
-            told = re.findall(r"^pub (?:use [\w:]+::|mod )(?:\{([^}]*)\}|(\w+));", root.read_text(encoding="utf-8"), re.M)
+            told = PUBLIC.findall(root.read_text(encoding="utf-8"))
             self.public[crate.name] = {name.strip() for many, one in told for name in (many or one).split(",")}
         for path in crate.sources():
             for trait in TRAIT.finditer(path.read_text(encoding="utf-8")):
                 if trait[1] in self.public.get(crate.name, ()):
-                    self.members.update((name, f"{crate.name}::{trait[1]}#ghost.{name}")
+                    self.members.update(((trait[1], name), f"{crate.name}::{trait[1]}#ghost.{name}")
                                         for name in GHOST.findall(trait[0]))
 
 
