@@ -15,3 +15,8 @@ STATES = Program("pip_states", "the debugger's process", Path(__file__).resolve(
 def program() -> str:
     """The path of the process."""
     return os.environ.get("PIP_STATES") or STATES.path()
+
+
+def is_built() -> bool:
+    """Whether the process is there, and no source is newer."""
+    return bool(os.environ.get("PIP_STATES")) or STATES.is_new()
