@@ -18,6 +18,7 @@ OPENING, CLOSING = ("(", "[", "{"), (")", "]", "}")
 KIT_NAMES = {"Vec", "String", "Box", "HostRuntime", "AllocGlobal", "Print"}
 KIT_LINE = "use std : : prelude : : kit : : * ;"
 ROOT = "# ! [ no_std ] # [ macro_use ] extern crate rattle_std as std ;"
+ASKED = "# [ must_use ]"
 TRACED = "# [ track_caller ]"
 # The types whose calls outsiders make
 OUTSIDE = r"impl (?:< .* > )?(?:Port for )?(?:Machine|RawFrames|VecFrames)(?: < .* >)?"
@@ -57,7 +58,10 @@ def due(source: list[Word], role: Role) -> Due:
     slots = dict(filter(None, (slot_of(found, place) for place in range(len(found.words)))))
     traced = {slot.begin for slot in slots.values() if slot.entrance}
     found.came["track_caller"] += len(traced)
-    told = "".join((at_line(TRACED, str(word.line)) if place in traced else "") + as_text(word)
+    asked = {place for place in range(len(found.words)) if is_asked(found.words, place)}
+    found.came["must_use"] += len(asked)
+    told = "".join((at_line(ASKED, str(word.line)) if place in asked else "")
+                   + (at_line(TRACED, str(word.line)) if place in traced else "") + as_text(word)
                    + (as_text(Word("", place, "slot")) if place in slots else "")
                    for place, word in enumerate(found.words))
     for kind, pattern, new in RULES:
@@ -93,6 +97,23 @@ def slot_of(found: Due, place: int) -> tuple[int, Slot] | None:
         return None
     unsafe = any(word.text == "unsafe" for word in words[here:closing_of(words, here)])
     return here, Slot(place - public, requires, unsafe, entrance)
+
+
+def is_asked(words: list[Word], place: int) -> bool:
+    """Whether a public function begins there that only answers: it changes nothing, and its answer is no Result."""
+    texts = [word.text if word.kind == "code" else "" for word in words[place:place + 3]]
+    start = place + {"fn": 1, "const": 2}.get("".join(texts[1:2]), 0)
+    if texts[0] != "pub" or start == place or words[start].text != "fn":
+        return False
+    head, depth = list[str](), 0
+    for word in words[start:]:
+        if word.kind != "code" or depth == 0 and word.text in ("{", ";"):
+            break
+        depth += (word.text in OPENING) - (word.text in CLOSING)
+        head.append(word.text)
+    told = " ".join(head)
+    last = told.split(" - > ")[-1]
+    return last != told and " mut " not in told and not re.search(r"> \(|^(?:\S+ ){0,3}(?:Result|impl)\b", last)
 
 
 def head_around(words: list[Word], place: int) -> str:

@@ -223,8 +223,12 @@ def clauses(source: Source, place: int, edits: Edits) -> int:
     return last + 1
 
 
-def event(source: Source, place: int, edits: Edits) -> int:
-    """A machine's event without clauses of its own is tested for what the trait requires of it."""
+def function(source: Source, place: int, edits: Edits) -> int:
+    """A public function that changes nothing is called for its answer. A machine's event without clauses of its own is
+    tested for what the trait requires of it."""
+    if is_question(source, place):
+        start = source.at(place - 1 - source.at(place - 1).is_word("const")).start
+        edits.put(start, start, f"#[must_use]\n{source.inset(start)}")
     found = clauses_of_trait(source, place)
     if not found:
         return place + 1
@@ -232,6 +236,18 @@ def event(source: Source, place: int, edits: Edits) -> int:
     if not any(token.kind == "clause" for token in source.tokens[place:brace]):
         put_tests(source, place, found, brace, edits)
     return place + 1
+
+
+def is_question(source: Source, place: int) -> bool:
+    """Whether a function is public, has an answer that isn't a `Result` or a reference to be changed, and is lent
+    nothing to change."""
+    if not source.at(place - 1 - source.at(place - 1).is_word("const")).is_word("pub"):
+        return False
+    words = [token.text if token.kind != "clause" else "{" for token in source.tokens[place:source.next_punct(place, "{") + 1]]
+    words = words[:words.index("{")]
+    _, arrow, answer = " ".join(words).rpartition("- > ")
+    return bool(arrow and "mut" not in words and "> (" not in answer
+                and not re.match(r"(?:\S+ ){0,3}(?:Result|impl)\b", answer))
 
 
 def put_tests(source: Source, function: int, found: list[str], brace: int, edits: Edits) -> None:
@@ -257,5 +273,5 @@ def model(source: Source, place: int, edits: Edits) -> int:
 
 # By the kind or, of other tokens, the text of the token at which they may have something to say.
 RULES: dict[str, Callable[[Source, int, Edits], int]] = {"ghost": ghost_item, "clause": clauses, "impl": model,
-                                                        "fn": event, "trait": in_clauses, "struct": in_clauses,
+                                                        "fn": function, "trait": in_clauses, "struct": in_clauses,
                                                         "enum": in_clauses}
