@@ -152,8 +152,9 @@ def check_example(built: Callable[[str], str]) -> None:
 
 def check_own_crate(export: str) -> None:
     """The crates that docs/EXPORT.md shows are built over the export, and do what the page says."""
-    for title, first, told in (("In a crate of your own", "use ", r"It prints `(.*?)`"),
-                               ("Memory of your own, without an allocator", "#![no_std]", r"It ends with status `(.*?)`")):
+    for title, first, told in (
+            ("In a crate of your own", "use ", r"It prints `(.*?)`"),
+            ("Memory of your own, without an allocator", "#![no_std]", r"It ends with status `(.*?)`")):
         shown = text_of("docs/EXPORT.md").split(f"## {title}\n")[1].split("\n## ")[0]
         code = "\n".join(line[4:] for line in shown.split("\n") if not line or line.startswith("    "))
         needs, main = code.split(first, 1)
@@ -163,4 +164,5 @@ def check_own_crate(export: str) -> None:
             write(first + main, place, "src", "main.rs")
             cargo(place, "build", "--quiet")
             wanted = (b"", int(due)) if due.isdecimal() else (due.encode() + b"\n", 0)
-            expect(f"the crate of docs/EXPORT.md, {title}", run([os.path.join(place, "target", "debug", "own")]), wanted)
+            done = run([os.path.join(place, "target", "debug", "own")])
+            expect(f"the crate of docs/EXPORT.md, {title}", done, wanted)

@@ -27,6 +27,7 @@ TRAIT = re.compile(r"^pub trait (\w+)\b.*?^}", re.M | re.S)
 PUBLIC = re.compile(r"^pub (?:use [\w:]+::|mod |trait |struct |enum )(?:\{([^}]*)\}|(\w+))", re.M)
 BOUNDS = re.compile(r"[<,] ?([A-Z]\w*): (?:\w+ \+ )*?([A-Z]\w+)")         # of a parameter the trait
 GHOST = re.compile(r"^    ghost (\w+):", re.M)
+LINE = "\n"
 LONG = 76                      # the letters of a clause that fit into a line of a page
 TAKEN = re.compile(r"[\\`*\[\]'\"]|(?<!\w)_|_(?!\w)|<(?=[\w/!?])|&(?=[\w#])|~~")
 
@@ -41,8 +42,8 @@ class Names:
         for module, names, alias in IMPORT.findall(text):
             if alias:
                 self.alias[alias] = module
-            for name in names.split(","):
-                old, _, new = " ".join(name.split()).partition(" as ")
+            for one in names.split(","):
+                old, _, new = " ".join(one.split()).partition(" as ")
                 self.found[new or old] = self.known.target(module, old)
         self.bounds = dict(BOUNDS.findall(text))
         for trait in TRAIT.finditer(text):
@@ -128,7 +129,8 @@ def definitions_of(crates: Iterable[Crate]) -> Definitions:
 
 def specs_of(crate: Crate) -> list[Path]:
     """The files of definitions that are to be shown; a program shows none."""
-    return [] if crate.is_program else sorted(path for path in (crate.folder / "specs").glob("*.antt") if path.stem != "Lib")
+    paths = [] if crate.is_program else sorted((crate.folder / "specs").glob("*.antt"))
+    return [path for path in paths if path.stem != "Lib"]
 
 
 @dataclass(frozen=True)
@@ -192,7 +194,7 @@ def boxed(lines: Iterable[str], names: Names, references: dict[str, str] | None 
     for line in lines:
         inset = len(line) - len(line.lstrip(" "))
         found.append("&nbsp;" * inset + linked(line[inset:], names, references))
-    return [f"<code>{found[0]}", *found[1:-1], f"{found[-1]}</code>"] if len(found) > 1 else [f"<code>{found[0]}</code>"]
+    return f"<code>{LINE.join(found)}</code>".split(LINE)
 
 
 # The pages
@@ -268,7 +270,8 @@ def document(path: Path, shown: Iterable[str]) -> str:
 def with_documents(text: str, names: Names) -> str:
     """A source whose documentation leads to the documents and definitions that it names."""
     def page_of(found: re.Match[str]) -> str:
-        anchor = re.sub(r"[^\w -]", "", re.sub(r"\s+(?://[/!])?\s*", " ", found[3] or "")).strip().lower().replace(" ", "-")
+        title = re.sub(r"\s+(?://[/!])?\s*", " ", found[3] or "")
+        anchor = re.sub(r"[^\w -]", "", title).strip().lower().replace(" ", "-")
         return f"[docs/{found[1]}.md]({OF_STD}::docs::{found[1]}{'#' * bool(anchor)}{anchor}){found[2] or ''}"
 
     def comment(found: re.Match[str]) -> str:

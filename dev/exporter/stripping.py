@@ -243,7 +243,8 @@ def is_question(source: Source, place: int) -> bool:
     nothing to change."""
     if not source.at(place - 1 - source.at(place - 1).is_word("const")).is_word("pub"):
         return False
-    words = [token.text if token.kind != "clause" else "{" for token in source.tokens[place:source.next_punct(place, "{") + 1]]
+    tokens = source.tokens[place:source.next_punct(place, "{") + 1]
+    words = ["{" if token.kind == "clause" else token.text for token in tokens]
     words = words[:words.index("{")]
     _, arrow, answer = " ".join(words).rpartition("- > ")
     return bool(arrow and "mut" not in words and "> (" not in answer

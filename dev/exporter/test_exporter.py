@@ -150,9 +150,10 @@ class Folders(unittest.TestCase):
         self.write("crates.txt", "low:\nother: low\n")
         files = self.files()
         shown = files["crates/other/src/lib.rs"]
-        for due in ("[Is] [Has] x.Is ([A.has] (λ q. [Is])) ([P.held] y) ([length] has)", "`Is`](crate::specs::A#def.Is) says",
-                    "[Is]: crate::specs::A#def.Is\n", "[Has]: crate::specs::A#def.has\n",
-                    "[P.held]: low::Held#ghost.held\n", "[length]: rattle_std::specs#def.length\n", "[docs/M.md](rattle_std::docs::M#the-rest), \"The rest\""):
+        for due in ("[Is] [Has] x.Is ([A.has] (λ q. [Is])) ([P.held] y) ([length] has)",
+                    "`Is`](crate::specs::A#def.Is) says", "[Is]: crate::specs::A#def.Is\n", "[Has]: crate::specs::A#def.has\n",
+                    "[P.held]: low::Held#ghost.held\n", "[length]: rattle_std::specs#def.length\n",
+                    "[docs/M.md](rattle_std::docs::M#the-rest), \"The rest\""):
             self.assertIn(due, shown)
         page = files["crates/other/specs/A.md"]
         self.assertIn("All.\n\n## has\n\n<a id=\"def.has\"></a>\n\nA number.\n\n<code>abbrev pub has : [ℕ](", page)

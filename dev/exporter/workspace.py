@@ -67,7 +67,8 @@ def files_of(crates: list[Crate], repository: Path, config: str | None) -> dict[
         files.update(shim_files(name, repository))
     known = pages.definitions_of(crates)
     for crate in crates:
-        files[f"crates/{crate.name}/Cargo.toml"] = manifest(crate, {other.name for other in crates}, set(shims), repository)
+        files[f"crates/{crate.name}/Cargo.toml"] = manifest(
+            crate, {other.name for other in crates}, set(shims), repository)
         files.update(source_files(crate, known))
     shown = pages.std_pages(repository, [text for name, text in files.items() if name.endswith(".rs")], known)
     files.update({f"shims/{dependencies.STD}/{name}": text for name, text in shown.items()})

@@ -489,9 +489,10 @@ class Adapter:
         return self.frame_of(given)[0] if given.get("frameId") else None
 
     def frame_of(self, given: Arguments) -> tuple[int, int, bool]:
-        if not 1 <= given["frameId"] <= len(self.frames):
+        number = int(given["frameId"])
+        if not 1 <= number <= len(self.frames):
             raise Failed("this frame is of an earlier state")
-        return self.frames[given["frameId"] - 1]
+        return self.frames[number - 1]
 
     def said(self, text: str) -> str:
         """What the terminal's words say, in the console."""

@@ -294,8 +294,8 @@ class Session(unittest.TestCase):
         self.assertEqual((told["success"], told["message"][:26]), (False, "a message that isn't JSON:"))
         self.launch(MONITOR)
         client.stopped("configurationDone")
-        for command, more in (("scopes", {}), ("evaluate", {"expression": "r1"})):
-            found = client.response(command, frameId=99, **more)
+        for command in ("scopes", "evaluate"):
+            found = client.response(command, frameId=99, expression="r1")
             self.assertEqual((found["success"], found["message"]), (False, "this frame is of an earlier state"))
         self.assertFalse(client.response("setBreakpoints", source=5)["success"])
 

@@ -160,11 +160,12 @@ class Session(unittest.TestCase):
         client, path, script = self.client, "/nowhere/v.asmx", "/nowhere/v.pip"
         client.opened(path, ".frames 16\n.cpus 1\n.page 0x400000\na: sys 5\nint 70\n.handler 33 0x400 a\nsys 9\n")
         client.opened(script, "boot 16 1\ntrap 0 6 0 0\ntrap 0 0 0 0\ncall 0 8 0 34 0\n")
-        for where, line, column, due in ((path, 3, 4, "call 5, **addVAddr**: v, d, cv, rights"), (path, 3, 7, "addVAddr"),
-                                         (path, 4, 5, "vector 70: a trap or a yield"), (path, 5, 9, "interrupt line 1"),
-                                         (path, 6, 4, "no call has the number 9"), (script, 1, 7, "vector 6: a word in"),
-                                         (script, 2, 7, "vector 0: a division"), (script, 2, 5, "trap P V A B"),
-                                         (script, 3, 11, "interrupt line 2"), (script, 3, 7, "**yield**")):
+        for where, line, column, due in (
+                (path, 3, 4, "call 5, **addVAddr**: v, d, cv, rights"), (path, 3, 7, "addVAddr"),
+                (path, 4, 5, "vector 70: a trap or a yield"), (path, 5, 9, "interrupt line 1"),
+                (path, 6, 4, "no call has the number 9"), (script, 1, 7, "vector 6: a word in"),
+                (script, 2, 7, "vector 0: a division"), (script, 2, 5, "trap P V A B"),
+                (script, 3, 11, "interrupt line 2"), (script, 3, 7, "**yield**")):
             self.assertIn(due, client.at("hover", where, line, column)["contents"]["value"], (where, line, column))
 
     def test_references_and_rename(self) -> None:
@@ -195,8 +196,9 @@ class Session(unittest.TestCase):
                              {"main.asmx": 3, "part.asmx": 2})
             lines = text.split("\n")
             for edit in told["file://" + main]:
-                at, line = edit["range"], lines[edit["range"]["start"]["line"]]
-                lines[at["start"]["line"]] = line[:at["start"]["character"]] + edit["newText"] + line[at["end"]["character"]:]
+                at, first, end = (edit["range"][name] for name in ("start", "start", "end"))
+                line = lines[at["line"]]
+                lines[at["line"]] = line[:first["character"]] + edit["newText"] + line[end["character"]:]
             self.assertEqual(lines[5:8], ["there: la r2 first # here", " la r3 first+at*2", " beq r0 r1 first"])
             for name, line, column in (("r3", 6, 8), ("4x", 6, 8), ("at", 6, 8), ("first", 6, 2)):
                 self.assertIsNone(renamed(name, line, column), name)

@@ -37,7 +37,8 @@
 (add-to-list 'auto-mode-alist '("\\.pip\\'" . pip-mode))
 (add-to-list 'auto-mode-alist '("\\.asmx\\'" . pip-asmx-mode))
 ;; The suffix .s is another language's outside of the checkout.
-(add-to-list 'auto-mode-alist (cons (concat "\\`" (regexp-quote (file-name-as-directory pip-checkout)) ".*\\.s\\'") 'pip-mode))
+(add-to-list 'auto-mode-alist
+             (cons (concat "\\`" (regexp-quote (file-name-as-directory pip-checkout)) ".*\\.s\\'") 'pip-mode))
 
 ;; M-x eglot starts the language server; Emacs 29 has eglot, and Debian 12 the package elpa-eglot.
 (with-eval-after-load 'eglot

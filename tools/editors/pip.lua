@@ -13,10 +13,11 @@ end
 -- Filetypes: the suffix .s is another language's outside of the checkout
 local group = vim.api.nvim_create_augroup("pip", {})
 local function detect(pattern, kind, only)
-  vim.api.nvim_create_autocmd({ "BufRead", "BufNewFile" }, { group = group, pattern = pattern, callback = function(given)
+  local function found(given)
     local path = vim.fn.resolve(vim.fn.fnamemodify(given.match, ":p"))
     if not only or path:sub(1, #checkout + 1) == checkout .. "/" then vim.bo[given.buf].filetype = kind end
-  end })
+  end
+  vim.api.nvim_create_autocmd({ "BufRead", "BufNewFile" }, { group = group, pattern = pattern, callback = found })
 end
 detect("*.pip", "pip", false)
 detect("*.s", "pip", true)

@@ -1,4 +1,5 @@
-"""What editors install: the file of Visual Studio Code, and the configurations of Neovim and Emacs, from an empty home."""
+"""What editors install: the file of Visual Studio Code, and the configurations of Neovim and Emacs, from an empty
+home."""
 
 from __future__ import annotations
 

@@ -61,7 +61,8 @@ def files() -> Iterator[tuple[str, bytes]]:
     yield "extension.vsixmanifest", manifest(told).encode()
     yield "[Content_Types].xml", content_types().encode()
     parts = told["contributes"]
-    named = {told["main"], *(one["configuration"] for one in parts["languages"]), *(one["path"] for one in parts["grammars"])}
+    named = {told["main"], *(one["configuration"] for one in parts["languages"]),
+             *(one["path"] for one in parts["grammars"])}
     for name in ["README.md", "package.json", *sorted(os.path.normpath(name) for name in named)]:
         yield f"extension/{name}", calling.contents(os.path.join(HERE, name))
     yield "extension/LICENSE.txt", calling.contents(os.path.join(calling.REPOSITORY, "LICENSE"))
