@@ -82,7 +82,7 @@ def shim_files(name: str, repository: Path) -> dict[str, str]:
     more = folder / "manifest.toml"
     added = "\n" + more.read_text(encoding="utf-8") if more.exists() else ""
     root = (folder / "src" / "lib.rs").read_text(encoding="utf-8")
-    files = {f"shims/{name}/Cargo.toml": package(name, root, repository) + added}
+    files = {f"shims/{name}/Cargo.toml": package(dependencies.PACKAGES.get(name, name), root, repository) + added}
     for path in folder.rglob("*.rs"):
         files[f"shims/{path.relative_to(dependencies.SHIMS)}"] = path.read_text(encoding="utf-8")
     return files
@@ -124,7 +124,8 @@ def dependency_line(crate: Crate, name: str, exported_names: Iterable[str], shim
         plain = "" if crate.is_program else ", default-features = false"
         return f'{name} = {{ version = "{version}", path = "../{name}"{plain} }}'
     if name in shims:
-        return f'{name} = {{ version = "{version}", path = "../../shims/{name}" }}'
+        renamed = f'package = "{dependencies.PACKAGES[name]}", ' if name in dependencies.PACKAGES else ""
+        return f'{name} = {{ {renamed}version = "{version}", path = "../../shims/{name}" }}'
     if name in dependencies.PUBLIC:
         return f"{name} = {dependencies.PUBLIC[name]}"
     raise Trouble(f"{crate.name} uses {name}, for which dev/exporter/shims has nothing")
