@@ -21,7 +21,7 @@ CASES_OF_REGISTRY = 20
 FIRST_SEED = 500_000     # those of the comparison with the reference begin with 1
 EDITION_KNOWN = (1, 85)  # the first cargo that knows the edition of the export
 WARNINGS = {"RUSTFLAGS": "-Dwarnings"}
-OWN = '[package]\nname = "own"\nedition = "2021"\n\n[workspace]\n\n'
+OWN = '[package]\nname = "own"\nedition = "2024"\n\n[workspace]\n\n'
 
 
 def text(program: str) -> None:
@@ -151,13 +151,18 @@ def check_example(built: Callable[[str], str]) -> None:
 
 
 def check_own_crate(export: str) -> None:
-    """The crate that docs/EXPORT.md shows is built over the export, and prints what the page says."""
-    shown = text_of("docs/EXPORT.md").split("## In a crate of your own\n")[1].split("\n## ")[0]
-    code = "\n".join(line[4:] for line in shown.split("\n") if not line or line.startswith("    "))
-    needs, main = code.split("use ", 1)
-    due = part(r"It prints `(.*?)`", shown) + "\n"
-    with tempfile.TemporaryDirectory() as place:
-        write(OWN + needs.replace("../pip-rust", export), place, "Cargo.toml")
-        write("use " + main, place, "src", "main.rs")
-        cargo(place, "build", "--quiet")
-        expect("the crate of docs/EXPORT.md", run([os.path.join(place, "target", "debug", "own")]), (due.encode(), 0))
+    """The crates that docs/EXPORT.md shows are built over the export, and do what the page says."""
+    for title, first, told in (
+            ("In a crate of your own", "use ", r"It prints `(.*?)`"),
+            ("Memory of your own, without an allocator", "#![no_std]", r"It ends with status `(.*?)`")):
+        shown = text_of("docs/EXPORT.md").split(f"## {title}\n")[1].split("\n## ")[0]
+        code = "\n".join(line[4:] for line in shown.split("\n") if not line or line.startswith("    "))
+        needs, main = code.split(first, 1)
+        due = part(told, shown)
+        with tempfile.TemporaryDirectory() as place:
+            write(OWN + needs.replace("../pip-rust", export), place, "Cargo.toml")
+            write(first + main, place, "src", "main.rs")
+            cargo(place, "build", "--quiet")
+            wanted = (b"", int(due)) if due.isdecimal() else (due.encode() + b"\n", 0)
+            done = run([os.path.join(place, "target", "debug", "own")])
+            expect(f"the crate of docs/EXPORT.md, {title}", done, wanted)

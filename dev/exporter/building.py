@@ -58,7 +58,7 @@ class Program:
         """The files of the crate in an export."""
         from . import workspace              # here, since what is built doesn't need it
         place = self.source.name
-        manifest = workspace.PACKAGE.format(name=self.name) + "\n"
+        manifest = workspace.package(self.name, "", REPOSITORY) + "\n"
         manifest += (self.source / "manifest.toml").read_text(encoding="utf-8")
         files = {f"{place}/Cargo.toml": manifest,
                  f"{place}/LICENSE": (REPOSITORY / "LICENSE").read_text(encoding="utf-8")}

@@ -15,6 +15,10 @@ from .scanner import Word, words_of
 from .tokens import Trouble
 
 
+# A source that has documentation alone
+EMPTY = re.compile(r"(?://!.*\n|\n|#\[cfg_attr\(doc, doc = include_str!\(\"[^\"]*\"\)\)\]\n|pub mod \w+ \{\}\n)*")
+
+
 @dataclass
 class Report:
     """What was compared, what went and came by kinds, and where something else differs."""
@@ -49,6 +53,9 @@ def compared(repository: Path, export: Path) -> Report:
 def compare_crate(crate: Crate, export: Path, report: Report) -> None:
     due_files = {path.relative_to(crate.folder).with_suffix(".rs"): path for path in crate.sources()}
     there = {path.relative_to(export) for path in export.rglob("*.rs")}
+    pages = export / "src" / "specs.rs"
+    if pages.exists() and EMPTY.fullmatch(pages.read_text(encoding="utf-8")):
+        there.discard(pages.relative_to(export))
     report.differences += [f"{export / name} is missing" for name in sorted(set(due_files) - there)]
     report.differences += [f"{export / name} is of no source" for name in sorted(there - set(due_files))]
     for name in sorted(there & set(due_files)):
@@ -94,12 +101,14 @@ def difference_at(found: list[Word], at: int, wanted: str) -> str:
 def pass_tests(found: list[Word], at: int, slot: Slot, report: Report) -> tuple[int, str | None]:
     """Goes over the tests of what a function requires. Each is a condition of one of its clauses; an unsafe body has
     one for each clause at least, which is made in each build."""
-    macro = "assert" if slot.unsafe else "debug_assert"
+    macro = "assert" if slot.unsafe or slot.entrance else "debug_assert"
     begin, tested = at, []
     while [word.text for word in found[at:at + 3]] == [macro, "!", "("]:
         end = next((place for place in range(at + 3, len(found)) if found[place].text == ";"), len(found))
-        inside = slice(at + 3, end - 1) if found[end - 1].text == ")" else slice(at + 2, end)
-        tested.append(condition([word.text for word in found[inside]]))
+        inside = [word.text for word in found[at + 3:end - 1]] if found[end - 1].text == ")" else []
+        if slot.entrance and inside[-2:-1] == [","] and inside[-1].startswith('"'):
+            inside = inside[:-2]                                                        # without its sentence
+        tested.append(condition(inside))
         at = end + 1
     conditions = [conditions_of(clause) for clause in slot.clauses]
     wrong = [test for test in tested if not any(test in those for those in conditions)]
@@ -107,6 +116,8 @@ def pass_tests(found: list[Word], at: int, slot: Slot, report: Report) -> tuple[
         return at, difference_at(found, begin, f"a test of what is required is due, and not of {wrong[0]!r}")
     if slot.unsafe and any(not set(those) & set(tested) for those in conditions):
         return at, difference_at(found, begin, "a test of each requirement of an unsafe body is due")
+    if slot.entrance and not tested:
+        return at, difference_at(found, begin, "a test of what an entrance requires is due")
     report.came[macro + "! of a requirement"] += len(tested)
     return at, None
 
@@ -116,6 +127,7 @@ def condition(test: list[str]) -> str:
     text = " ".join(test)
     text = re.sub(r"\( (\w+(?: \. \w+)*(?: \( \))?) as u128 \)", r"\1", text)
     text = re.sub(r"((?:\w+ \. )*\w+) \. len \( \)", r"length \1", text)
+    text = re.sub(r"std : : has_booted ! \( (\w+) \)", r"HasBooted ( M . memory \1 )", text)
     text = re.sub(r"(\w+) \. number \( \)", r"\1", text)
     text = re.sub(r"(\w+) \. cpus \( \)", r"P . count \1", text)
     text = re.sub(r"(\w+) \. count \( \)", r"length ( M . memory \1 )", text)
@@ -150,7 +162,15 @@ def parts_of(text: str) -> list[str]:
 
 def missing_clause(clauses: list[str], found: list[Word]) -> str | None:
     """The first clause of a function that no comment of the export shows."""
-    comments = " ".join(word.text.lstrip("/") for word in found if word.kind == "comment")
-    shown = " ".join(comments.split())
+    comments = (unlinked(word.text) if word.text.startswith("///") else word.text for word in found
+                if word.kind == "comment")
+    shown = " ".join(" ".join(comment.lstrip("/") for comment in comments).split())
     missing = next((clause for clause in clauses if " ".join(clause.split()) not in shown), None)
     return f": no comment shows {missing!r}" if missing else None
+
+
+def unlinked(comment: str) -> str:
+    """A line of documentation as it was written, without the marks of Markdown and HTML."""
+    text = re.sub(r"</?code>|&nbsp;", "", comment)
+    text = re.sub(r"(?<!\\)\]\((?:crate|\w+)::[^)]*\)", "]", text)
+    return re.sub(r"\\(.)|[\[\]]", r"\1", text)

@@ -25,7 +25,8 @@ class Crate:
     def role(self, source: Path) -> Role:
         """What a source is in the crate."""
         root = source.parent == self.folder / "src" and source.name in ("lib.rt", "main.rt")
-        return Role(root, root and source.name == "main.rt")
+        shows = root and not self.is_program and any((self.folder / "specs").glob("*.antt"))
+        return Role(root, root and source.name == "main.rt", shows)
 
 
 def crates_of(repository: Path) -> dict[str, Crate]:

@@ -22,6 +22,8 @@ PUBLIC = {
     "sha2": '{ version = "0.10", default-features = false }',
     "thiserror": '{ version = ">=1, <3", default-features = false }',
 }
+# Of those that are always taken and are no public crate, the names of their packages.
+PACKAGES = {"bitflags": "rattle_bitflags"}
 
 # Where Debian's packages librust-*-dev put crates, for cargo to take in the place of the registry.
 DEBIAN = Path("/usr/share/cargo/registry")

@@ -18,6 +18,11 @@ OPENING, CLOSING = ("(", "[", "{"), (")", "]", "}")
 KIT_NAMES = {"Vec", "String", "Box", "HostRuntime", "AllocGlobal", "Print"}
 KIT_LINE = "use std : : prelude : : kit : : * ;"
 ROOT = "# ! [ no_std ] # [ macro_use ] extern crate rattle_std as std ;"
+ASKED = "# [ must_use ]"
+TRACED = "# [ track_caller ]"
+# The types whose calls outsiders make
+OUTSIDE = r"impl (?:< .* > )?(?:Port for )?(?:Machine|RawFrames|VecFrames)(?: < .* >)?"
+PAGES = "# [ allow ( non_snake_case ) ] pub mod specs ;"
 NO_MAIN = "# ! [ cfg_attr ( unix , no_main ) ]"
 START = ("# [ cfg ( unix ) ] mod start { # [ unsafe ( no_mangle ) ] extern \"C\" fn main ( count : i32 , first : * mut "
          "* const "
@@ -26,10 +31,12 @@ START = ("# [ cfg ( unix ) ] mod start { # [ unsafe ( no_mangle ) ] extern \"C\"
 
 @dataclass
 class Slot:
-    """The place after a function's brace, where tests of what it requires may be."""
+    """The place after a function's brace, where tests of what it requires may be; and where the function begins."""
 
+    begin: int
     clauses: list[str]
     unsafe: bool
+    entrance: bool
 
 
 @dataclass
@@ -49,7 +56,13 @@ def due(source: list[Word], role: Role) -> Due:
     found = Due([word for word in source if word.kind != "comment"])
     used = {word.text for word in found.words if word.kind == "code"}
     slots = dict(filter(None, (slot_of(found, place) for place in range(len(found.words)))))
-    told = "".join(as_text(word) + (as_text(Word("", place, "slot")) if place in slots else "")
+    traced = {slot.begin for slot in slots.values() if slot.entrance}
+    found.came["track_caller"] += len(traced)
+    asked = {place for place in range(len(found.words)) if is_asked(found.words, place)}
+    found.came["must_use"] += len(asked)
+    told = "".join((at_line(ASKED, str(word.line)) if place in asked else "")
+                   + (at_line(TRACED, str(word.line)) if place in traced else "") + as_text(word)
+                   + (as_text(Word("", place, "slot")) if place in slots else "")
                    for place, word in enumerate(found.words))
     for kind, pattern, new in RULES:
         told, count = pattern.subn(new, told)
@@ -75,9 +88,45 @@ def slot_of(found: Due, place: int) -> tuple[int, Slot] | None:
         here += 1
     found.clauses += clauses
     requires = [clause for clause in clauses if clause.startswith("requires")]
+    head = head_around(words, place)
+    public = words[place - 1].text == "pub"
+    entrance = re.fullmatch(OUTSIDE, head) is not None and (public or "Port for" in head)
+    if entrance and not clauses and "Port for" in head and "cpu" in (word.text for word in words[place:here]):
+        requires = ["requires { cpu < length self.now.cpus }"]       # as the trait says
     if words[here].text == ";" or not requires:
         return None
-    return here, Slot(requires, any(word.text == "unsafe" for word in words[here:closing_of(words, here)]))
+    unsafe = any(word.text == "unsafe" for word in words[here:closing_of(words, here)])
+    return here, Slot(place - public, requires, unsafe, entrance)
+
+
+def is_asked(words: list[Word], place: int) -> bool:
+    """Whether a public function begins there that only answers: it changes nothing, and its answer is no Result."""
+    texts = [word.text if word.kind == "code" else "" for word in words[place:place + 3]]
+    start = place + {"fn": 1, "const": 2}.get("".join(texts[1:2]), 0)
+    if texts[0] != "pub" or start == place or words[start].text != "fn":
+        return False
+    head, depth = list[str](), 0
+    for word in words[start:]:
+        if word.kind != "code" or depth == 0 and word.text in ("{", ";"):
+            break
+        depth += (word.text in OPENING) - (word.text in CLOSING)
+        head.append(word.text)
+    told = " ".join(head)
+    last = told.split(" - > ")[-1]
+    return last != told and " mut " not in told and not re.search(r"> \(|^(?:\S+ ){0,3}(?:Result|impl)\b", last)
+
+
+def head_around(words: list[Word], place: int) -> str:
+    """What is written before the brace that is open at a place: its code since the last brace or semicolon."""
+    depth, head = 0, list[str]()
+    while place and depth >= 0:
+        place -= 1
+        if words[place].kind == "code":
+            depth += (words[place].text == "}") - (words[place].text == "{")
+    while place and words[place - 1].text not in ("{", "}", ";", "]") and words[place - 1].kind == "code":
+        place -= 1
+        head.insert(0, words[place].text)
+    return " ".join(head)
 
 
 def closing_of(words: list[Word], place: int) -> int:
@@ -177,7 +226,9 @@ def add_head(found: Due, role: Role, used: set[str]) -> None:
     needs_kit = bool(used & KIT_NAMES)
     found.came["head of a crate"] += role.root
     found.came["the kit's prelude"] += needs_kit
-    head = " ".join([NO_MAIN] * role.program + [ROOT] * role.root + [KIT_LINE] * needs_kit).split()
+    found.came["pages of documentation"] += role.shows
+    head = " ".join([NO_MAIN] * role.program + [ROOT] * role.root + [PAGES] * role.shows
+                    + [KIT_LINE] * needs_kit).split()
     place = 0
     while [word.text for word in found.words[place:place + 2]] == ["#", "!"]:
         place = closing_of(found.words, place + 2) + 1

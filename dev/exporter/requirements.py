@@ -24,6 +24,19 @@ NAMED: list[tuple[re.Pattern[str], re.Pattern[str], str, str]] = [
         (r"length self\.(?:old|now)\.cpus()", "", "self.cpus.len()", "usize"),
         (r"P\.count (\w+)\.(?:now|old)", r"& (mut )?[PM]", "{}.cpus()", "u32"),
         (r"length \(M\.memory (\w+)\.(?:now|old)\)", r"& (mut )?[PM]", "{}.count()", "u32"))]
+# What others call: there each build tests what is required, and says what is wrong at the caller's line.
+ENTRANCE = re.compile(r"impl(?:<.*>)? (?:(?P<port>Port) for )?(?:Machine|RawFrames|VecFrames)\b(?:<.*>)?")
+OF_PORT = "requires { cpu < length self.now.cpus }"    # of each of the trait's calls that names a processor
+SENTENCES = [(re.compile(pattern), told) for pattern, told in (
+    (r"cpu < length self\.(?:now|old)\.cpus", "the machine has no such processor"),
+    (r"1 ≤ cpus|cpus ≤ 4", "a machine has 1 to 4 processors"),
+    (r"16 ≤ n|n ≤ 4096", "a memory has 16 to 4096 frames"),
+    (r"line < 16", "a line is below 16"),
+    (r"vector < 256", "a vector is below 256"),
+    (r"word < below_of size", "a byte is below 256"),
+    (r"length cpus.items ≡ length self.old.cpus", "a machine keeps its number of processors"),
+    (r"HasBooted \(M\.memory mem\)", "the memory was never booted: boot_zeros or boot of pip_kern does that"))]
+BOOTED = re.compile(r"HasBooted \(M\.memory (\w+)\)")
 EACH = re.compile(r"All \(λ (\w+)\. \1 < (\d+)\) (\w+)\.(?:now|old)(?:\.items)?")
 FITS = re.compile(r"(\w+) < below_of (\w+)")
 
@@ -39,23 +52,45 @@ class Term(NamedTuple):
     type: str | None
 
 
-def tests_of(source: Source, function: int, clauses: list[Token], brace: int) -> str:
-    """The tests, as lines to be put after the brace with which the body begins. Before unsafe code each is always made,
-    else in debug builds alone."""
+def tests_of(source: Source, function: int, clauses: list[str], brace: int) -> str:
+    """The tests, as lines to be put after the brace with which the body begins. Before unsafe code and at an entrance
+    each is always made, else in debug builds alone."""
     body = source.tokens[brace:source.closing(brace)]
-    unsafe = any(token.is_word("unsafe") for token in body)
+    unsafe, entrance = any(token.is_word("unsafe") for token in body), is_entrance(source, function)
     types = source.parameters(function)
-    macro = "assert" if unsafe else "debug_assert"
+    macro = "assert" if unsafe or entrance else "debug_assert"
     inset = source.inset(source.at(function).start)
     lines: list[str] = []
     for clause in clauses:
-        if not clause.text.startswith("requires"):
+        if not clause.startswith("requires"):
             continue
-        conditions = conditions_of(clause.text, types, unsafe)
+        conditions = conditions_of(clause, types, unsafe)
         if unsafe and not conditions:
-            raise Trouble(f"a requirement of an unsafe body of which Rust can test nothing: {clause.text}")
-        lines += [f"\n{inset}    {macro}!({condition});" for condition in conditions]
+            raise Trouble(f"a requirement of an unsafe body of which Rust can test nothing: {clause}")
+        said = f', "{sentence(clause)}"' if entrance and conditions else ""
+        lines += [f"\n{inset}    {macro}!({condition}{said});" for condition in conditions]
     return "".join(lines)
+
+
+def is_entrance(source: Source, function: int) -> bool:
+    """Whether others call a function: a public one of a machine or of frames, or an event of a machine."""
+    found = ENTRANCE.fullmatch(source.impl_of(function))
+    return bool(found and (found["port"] or source.at(function - 1).is_word("pub")))
+
+
+def clauses_of_trait(source: Source, function: int) -> list[str]:
+    """What the trait says of an event that repeats no clause."""
+    found = ENTRANCE.fullmatch(source.impl_of(function))
+    return [OF_PORT] if found and found["port"] and "cpu" in source.parameters(function) else []
+
+
+def sentence(clause: str) -> str:
+    """What is said where an entrance's requirement isn't met."""
+    part = " ".join(factors(clause)[0].split())
+    told = next((told for pattern, told in SENTENCES if pattern.fullmatch(part)), None)
+    if told is None:
+        raise Trouble(f"a requirement of an entrance for which requirements.py has no sentence: {clause}")
+    return told
 
 
 def conditions_of(clause: str, types: dict[str, str], fields: bool) -> list[str]:
@@ -81,7 +116,9 @@ def factors(clause: str) -> list[str]:
 
 def comparison(part: str, types: dict[str, str], fields: bool) -> str | None:
     """A comparison of two sums, or one of the other forms, or None where this is none that Rust can make."""
-    each, fits = EACH.fullmatch(part), FITS.fullmatch(part)
+    each, fits, booted = EACH.fullmatch(part), FITS.fullmatch(part), BOOTED.fullmatch(part)
+    if booted:
+        return f"std::has_booted!({booted[1]})"
     if each and SLICE.match(types.get(each.group(3), "")):
         name, limit, items = each.groups()
         return f"{items}.iter().all(|{name}| *{name} < {limit})"

@@ -6,6 +6,7 @@ from __future__ import annotations
 import re
 from dataclasses import dataclass
 
+from .pages import Names, with_documents
 from .source import Source
 from .stripping import Edits, strip
 from .tokens import Trouble
@@ -14,6 +15,7 @@ from .tokens import Trouble
 PRELUDE = {"Vec", "String", "Box", "HostRuntime", "AllocGlobal", "Print"}
 PRELUDE_LINE = "use std::prelude::kit::*;"
 HEAD = ["#![no_std]", "", "#[macro_use]", "extern crate rattle_std as std;"]
+OF_SPECS = ["", "#[allow(non_snake_case)]", "pub mod specs;"]      # pages of documentation alone
 OWN_HEAD = re.compile(r"(?:\s*(?://!|#!\[)[^\n]*\n)*")
 RUNTIME = "std::rt::host()"
 RUNTIME_TAKEN = re.compile(r"(?:#\[test\]\s*fn \w+|\bfn main)\(((\w+): HostRuntime,?)\)[^{]*\{")
@@ -38,15 +40,16 @@ class Role:
 
     root: bool = False
     program: bool = False
+    shows: bool = False          # the root of a crate with definitions
 
 
-def exported(text: str, role: Role = Role()) -> str:
-    """The file as Rust."""
-    source = Source(text)
+def exported(text: str, role: Role = Role(), names: Names | None = None) -> str:
+    """The file as Rust, with names that lead to their definitions."""
+    source = Source(text, names)
     edits = Edits(text)
     strip(source, edits)
     give_runtime(source, edits)
-    new = edits.done()
+    new = with_documents(edits.done(), source.names)
     refuse_rest(Source(new))
     start = START if role.program else ""
     return with_head(new, head_of(source, role)) + start
@@ -72,6 +75,7 @@ def head_of(source: Source, role: Role) -> list[str]:
     """The lines that a file gets before its first item."""
     lines = [NO_MAIN] if role.program else []
     lines += HEAD if role.root else []
+    lines += OF_SPECS if role.shows else []
     if any(token.kind == "word" and token.text in PRELUDE for token in source.tokens):
         lines += [PRELUDE_LINE]
     return lines

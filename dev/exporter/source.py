@@ -3,17 +3,23 @@ characters."""
 
 from __future__ import annotations
 
+import re
+
+from .pages import Names
 from .tokens import Token, Trouble, tokens
 
+IMPL = re.compile(r"^(impl\b[^{;]*)\{.*?^}", re.M | re.S)
 PAIRS = {"{": "}", "(": ")", "[": "]"}
 
 
 class Source:
     """The text of a file and its tokens."""
 
-    def __init__(self, text: str) -> None:
+    def __init__(self, text: str, names: Names | None = None) -> None:
         self.text = text
+        self.names = names or Names(text)
         self.tokens: list[Token] = tokens(text)
+        self.impls = [(*found.span(), " ".join(found[1].split())) for found in IMPL.finditer(text)]
 
     def at(self, place: int) -> Token:
         """The token at a place; an empty one beyond the ends."""
@@ -110,6 +116,11 @@ class Source:
                 return None
             depth += (token.text in ")]}") - (token.text in "([{")
         return None
+
+    def impl_of(self, place: int) -> str:
+        """The head of the `impl` around a place, as "impl RawFrames", or "" where none is."""
+        at = self.at(place).start
+        return next((head for first, last, head in self.impls if first < at < last), "")
 
     def parameters(self, function: int) -> dict[str, str]:
         """The parameters of a function by their names, with the texts of their types, without lifetimes."""

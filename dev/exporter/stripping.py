@@ -7,7 +7,8 @@ import re
 from collections.abc import Callable
 from typing import Union
 
-from .requirements import tests_of
+from .pages import Names, boxed, clause_lines, escaped
+from .requirements import clauses_of_trait, is_entrance, tests_of
 from .source import Source
 from .tokens import Token, Trouble
 
@@ -74,14 +75,51 @@ def keep_clauses(source: Source, function: int, clauses: list[Token], edits: Edi
     public = any(token.is_word("pub") for token in source.tokens[head:first])
     documented = public or any(token.text.startswith("///") for token in comments)
     inset = source.inset(source.at(head).start)
-    lines = lines_of(clauses)
     if documented:
-        lines = ([""] if comments else []) + ["```text", *lines, "```"]
+        lines = ([""] if comments else []) + shown(source, function, clauses)
+    else:
+        lines = lines_of(clauses)
     mark = "///" if documented else "//"
     place = source.line_start(source.at(head).start)
     if comments:
         place = source.text.index("\n", comments[-1].end) + 1
     edits.put(place, place, "".join(f"{inset}{mark} {line}".rstrip() + "\n" for line in lines))
+
+
+def shown(source: Source, function: int, clauses: list[Token]) -> list[str]:
+    """Clauses, and the comments among them, as documentation in which each name leads to its definition."""
+    references: dict[str, str] = {}
+    names = source.names.without(source.parameters(function))
+    lines = [line for clause in clauses for line in (
+        clause_lines(clause.text) if clause.kind == "clause" else [" ".join(clause.text.split())])]
+    lines = boxed(lines, names, references)
+    return lines + [""] * bool(references) + [f"[{name}]: {target}" for name, target in references.items()]
+
+
+def in_clauses(source: Source, place: int, edits: Edits) -> int:
+    """The documentation of a trait or a type also says what it is in clauses, by its ghost items or its model."""
+    name = source.at(place + 1).text
+    model = re.search(rf"^impl\b[^;{{]*\bModel for {name}\b.*?^}}", source.text, re.M | re.S)
+    brace = source.next_punct(place, "{;(")
+    inside = Source(model[0]) if model else Source(source.text[source.at(brace).start:source.at(
+        source.closing(brace)).end] if source.at(place).is_word("trait") else "")
+    lines = [line for at in range(len(inside.tokens)) for line in ghost_lines(inside, at, source.names)]
+    head = source.head(place)
+    comments = comments_at(source, head, place)
+    if lines and comments and source.at(place - 1).is_word("pub"):
+        end = source.text.index("\n", comments[-1].end) + 1
+        edits.put(end, end, "".join(f"/// {line}".rstrip() + "\n" for line in ["", "# In clauses", "", *lines]))
+    return place + 1
+
+
+def ghost_lines(source: Source, place: int, names: Names) -> list[str]:
+    """A ghost item as an item of a list, with its remark."""
+    found = GHOST.fullmatch(source.at(place).text) if source.at(place).kind == "ghost" else None
+    if found is None:
+        return []
+    code = boxed([f"{found[1]}{found[2]} {' '.join(found[3].split())}"], names.without([found[1]]))
+    remark = " ".join(token.text.lstrip("/ ") for token in comments_at(source, source.head(place), place))
+    return [f'- <a id="ghost.{found[1]}"></a>{code[0]}', *([f"  <br>{escaped(remark)}"] if remark else [])]
 
 
 def comments_at(source: Source, first: int, last: int) -> list[Token]:
@@ -106,6 +144,9 @@ def keep_item(source: Source, first: int, last: int, edits: Edits) -> None:
     inset = len(source.inset(source.at(first).start))
     lines = (re.sub(r"^( *)///? ?", r"\1", line[inset:]) for line in source.text[start:end - 1].split("\n"))
     edits.put(start, end, "".join((" " * inset + "// " + line).rstrip() + "\n" for line in lines))
+
+
+GHOST = re.compile(r"ghost (?!use\b)(\w+)(:| =) \{(.*)\};?", re.S)
 
 
 # What goes
@@ -178,8 +219,44 @@ def clauses(source: Source, place: int, edits: Edits) -> int:
         found = source.tokens[first:last + 1]
         keep_clauses(source, function, found, edits)
         if after.text == "{":
-            edits.put(after.end, after.end, tests_of(source, function, found, last + 1))
+            put_tests(source, function, [token.text for token in found], last + 1, edits)
     return last + 1
+
+
+def function(source: Source, place: int, edits: Edits) -> int:
+    """A public function that changes nothing is called for its answer. A machine's event without clauses of its own is
+    tested for what the trait requires of it."""
+    if is_question(source, place):
+        start = source.at(place - 1 - source.at(place - 1).is_word("const")).start
+        edits.put(start, start, f"#[must_use]\n{source.inset(start)}")
+    found = clauses_of_trait(source, place)
+    if not found:
+        return place + 1
+    brace = source.next_punct(place, "{")
+    if not any(token.kind == "clause" for token in source.tokens[place:brace]):
+        put_tests(source, place, found, brace, edits)
+    return place + 1
+
+
+def is_question(source: Source, place: int) -> bool:
+    """Whether a function is public, has an answer that isn't a `Result` or a reference to be changed, and is lent
+    nothing to change."""
+    if not source.at(place - 1 - source.at(place - 1).is_word("const")).is_word("pub"):
+        return False
+    tokens = source.tokens[place:source.next_punct(place, "{") + 1]
+    words = ["{" if token.kind == "clause" else token.text for token in tokens]
+    words = words[:words.index("{")]
+    _, arrow, answer = " ".join(words).rpartition("- > ")
+    return bool(arrow and "mut" not in words and "> (" not in answer
+                and not re.match(r"(?:\S+ ){0,3}(?:Result|impl)\b", answer))
+
+
+def put_tests(source: Source, function: int, found: list[str], brace: int, edits: Edits) -> None:
+    """The tests after a function's brace; an entrance then names its caller's line."""
+    edits.put(source.at(brace).end, source.at(brace).end, tests_of(source, function, found, brace))
+    if is_entrance(source, function) and any(clause.startswith("requires") for clause in found):
+        start = source.at(function - source.at(function - 1).is_word("pub")).start
+        edits.put(start, start, f"#[track_caller]\n{source.inset(start)}")
 
 
 def model(source: Source, place: int, edits: Edits) -> int:
@@ -196,4 +273,6 @@ def model(source: Source, place: int, edits: Edits) -> int:
 
 
 # By the kind or, of other tokens, the text of the token at which they may have something to say.
-RULES: dict[str, Callable[[Source, int, Edits], int]] = {"ghost": ghost_item, "clause": clauses, "impl": model}
+RULES: dict[str, Callable[[Source, int, Edits], int]] = {"ghost": ghost_item, "clause": clauses, "impl": model,
+                                                        "fn": function, "trait": in_clauses, "struct": in_clauses,
+                                                        "enum": in_clauses}

@@ -132,9 +132,40 @@ class Folders(unittest.TestCase):
 
     def test_a_crate_comes_with_those_that_it_stands_on_and_with_the_license(self) -> None:
         files = self.files(["high"])
-        self.assertIn('low = { path = "../low" }', files["crates/high/Cargo.toml"])
-        self.assertIn('itoa = { path = "../../shims/itoa" }', files["crates/low/Cargo.toml"])
+        self.assertIn('low = { version = "0.1.0", path = "../low" }', files["crates/high/Cargo.toml"])
+        self.assertIn('itoa = { version = "0.1.0", path = "../../shims/itoa" }', files["crates/low/Cargo.toml"])
         self.assertEqual((files["crates/low/LICENSE"], "crates/other/Cargo.toml" in files), ("The license.\n", False))
+
+    def test_each_name_leads_to_its_definition(self) -> None:
+        """In a clause, from one definition to the next, to a trait's ghost item, to the kit and to a document."""
+        self.write("crates/low/src/lib.rt", "/// A trait.\npub trait Held {\n    /// What it holds.\n"
+                   "    ghost held: { Self → ℕ };\n}\n")
+        self.write("crates/other/src/lib.rt", "ghost use Rattle.other.specs.A.{Is, has as Has};\n"
+                   "ghost use Rattle.other.specs.A as A;\nghost use Rattle.std.specs.Prelude.{length};\n\n"
+                   "/// F, docs/M.md, \"The rest\". `Is` says it.\npub fn f<P: Held>(has: P)\n"
+                   "    requires Is { Is Has x.Is (A.has (λ q. Is)) (P.held y) (length has) }\n{\n}\n")
+        self.write("crates/other/specs/A.antt", "-- All.\nuse Rattle.std.specs.Prelude.{ℕ}\n\n-- a number\n"
+                   "abbrev pub has : ℕ\n\n-- what it is\npub record Is : Type 0 where\n  pub more : has\n")
+        self.write("docs/M.md", "# M\n\n[M](M.md#the-rest) and [x](../x.py)\n\n    code\n\n## The rest\n")
+        self.write("crates.txt", "low:\nother: low\n")
+        files = self.files()
+        shown = files["crates/other/src/lib.rs"]
+        for due in ("[Is] [Has] x.Is ([A.has] (λ q. [Is])) ([P.held] y) ([length] has)",
+                    "`Is`](crate::specs::A#def.Is) says", "[Is]: crate::specs::A#def.Is\n", "[Has]: crate::specs::A#def.has\n",
+                    "[P.held]: low::Held#ghost.held\n", "[length]: rattle_std::specs#def.length\n",
+                    "[docs/M.md](rattle_std::docs::M#the-rest), \"The rest\""):
+            self.assertIn(due, shown)
+        page = files["crates/other/specs/A.md"]
+        self.assertIn("All.\n\n## has\n\n<a id=\"def.has\"></a>\n\nA number.\n\n<code>abbrev pub has : [ℕ](", page)
+        self.assertIn("&nbsp;&nbsp;pub more : [has](crate::specs::A#def.has)</code>", page)
+        self.assertIn('- <a id="ghost.held"></a><code>held: Self → ℕ</code>\n///   <br>What it holds.',
+                      files["crates/low/src/lib.rs"])
+        self.assertEqual(files["shims/rattle_std/docs/M.md"],
+                         "# M\n\n[M](crate::docs::M#the-rest) and x\n\n```text\ncode\n```\n\n## The rest\n")
+        workspace.write(self.to, files)
+        self.assertEqual(self.differences(), [])
+        (self.to / "crates/other/src/specs.rs").write_text("pub fn more() {}\n")
+        self.assertEqual(self.differences(), ["specs.rs is of no source"])
 
     def test_a_crate_that_is_unknown_or_has_no_shim_is_refused(self) -> None:
         self.assertRaises(Trouble, self.files, ["lower"])

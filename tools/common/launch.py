@@ -23,6 +23,7 @@ COMMANDS = {
     "make_judge": "judge.building",
     "make_module": "playground.module",
     "make_page": "playground.playground_page",
+    "make_vsix": "editors.vsix",
     "program.py": "reference.commands",
     "release": "releasing.release",
     "run": "bench.run",

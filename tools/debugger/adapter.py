@@ -21,6 +21,7 @@ import threading
 from collections.abc import Callable
 from typing import IO, Any
 
+from authors import asmx
 from common import calling
 from common.calling import Failed
 from common.machine.model import PAGE
@@ -34,7 +35,7 @@ CAPABILITIES = {name: True for name in (
     "supportsConfigurationDoneRequest", "supportsStepBack", "supportsDataBreakpoints", "supportsInstructionBreakpoints",
     "supportsFunctionBreakpoints", "supportsConditionalBreakpoints", "supportsHitConditionalBreakpoints",
     "supportsReadMemoryRequest", "supportsDisassembleRequest", "supportsEvaluateForHovers", "supportsSetVariable",
-    "supportsRestartRequest", "supportsTerminateRequest", "supportsCompletionsRequest",
+    "supportsLogPoints", "supportsRestartRequest", "supportsTerminateRequest", "supportsCompletionsRequest",
 )}
 FILTERS = [("fault", "a fault"), ("park", "a processor is parked"), ("refused", "a call is refused"),
            ("interrupt", "a line is taken")]
@@ -43,11 +44,33 @@ SHOWING = ("registers", "processors", "words", "print", "translate", "tree", "an
            "check", "stops", "every", "kept", "where", "help")
 CHANGING = ("seed", "plan", "raise", "set", "store")
 DESCRIPTOR = ("descriptor", "MMU directory", "first shadow directory", "second shadow directory", "first list page")
+EXPRESSION = re.compile(r"\{([^{}]*)\}")                  # in a message, to be replaced by its value
 MOST_LINES = 50                  # trace lines that are told after a run
 MOST_LOOKED = 20_000             # steps before the end of a run of which they are told
 
 Variable = dict[str, Any]
 Arguments = dict[str, Any]
+
+
+class Logging(Debugger):
+    """A debugger some of whose stops write a message and stop nothing."""
+
+    logs: dict[int, str] = {}                            # by their numbers
+    say: Callable[[str], None] = print
+
+    def is_due(self, now: Stopped, times: dict[int, int]) -> bool:
+        """Writes what is to be written; whether another stop holds."""
+        for _, number in now.stops:
+            if number in self.logs and number in self.stops:
+                self.say(EXPRESSION.sub(self.told_value, self.logs[number]) + "\n")
+        others = [(kind, number) for kind, number in now.stops if number not in self.logs or number not in self.stops]
+        return super().is_due(Stopped(now.step, others, now.end, now.edited), times)
+
+    def told_value(self, found: re.Match[str]) -> str:
+        try:
+            return f"0x{self.value(found[1].strip()):08x}"
+        except (Failed, ValueError, LookupError) as failed:
+            return f"{{{found[1]}: {failed}}}"
 
 
 class Adapter:
@@ -56,7 +79,7 @@ class Adapter:
     def __init__(self, source: IO[bytes], sink: IO[bytes], program: str) -> None:
         self.source, self.sink, self.program = source, sink, program
         self.sent = 0
-        self.debugger: Debugger | None = None
+        self.debugger: Logging | None = None
         self.launched: Arguments = {}
         self.messages: queue.Queue[Message | None] = queue.Queue()
         self.reasons: dict[int, str] = {}                    # of each stop, what a client calls it
@@ -88,7 +111,10 @@ class Adapter:
     def listen(self) -> None:
         """Reads on while a run goes on, so that it can be paused."""
         while True:
-            message = wire.read(self.source)
+            try:
+                message = wire.read(self.source)
+            except wire.Malformed as malformed:
+                message = {"command": "", "seq": 0, "arguments": {"said": str(malformed)}}
             if message and message.get("command") in PAUSING:
                 self.pausing += 1
             self.messages.put(message)
@@ -96,15 +122,15 @@ class Adapter:
                 return
 
     def take(self, message: Message) -> None:
-        command = message["command"]
+        command = str(message.get("command", ""))
         self.pausing -= command in PAUSING
-        told = {"request_seq": message["seq"], "command": command}
+        told = {"request_seq": message.get("seq", 0), "command": command}
         work = getattr(self, "on_" + snake(command), None)
         try:
             if work is None:
-                raise Failed(f"{command} isn't known here")
+                raise Failed((message.get("arguments") or {}).get("said", f"{command} isn't known here"))
             body = work(message.get("arguments") or {})
-        except (Failed, ValueError, LookupError) as failed:
+        except (Failed, ValueError, LookupError, TypeError, AttributeError) as failed:
             self.send("response", success=False, message=str(failed), **told)
             return
         self.send("response", success=True, **told,
@@ -121,7 +147,7 @@ class Adapter:
             self.event("terminated")
 
     @property
-    def on(self) -> Debugger:
+    def on(self) -> Logging:
         if self.debugger is None:
             raise Failed("nothing is launched")
         return self.debugger
@@ -140,7 +166,12 @@ class Adapter:
         native, slots = given.get("native"), given.get("slots")
         schedule = schedule_of(str(given.get("seed", 1)), None if native is None else str(native),
                                None if slots is None else [*map(str, slots)])
-        self.debugger = Debugger(self.program, States(building.program()), os.path.abspath(given["program"]), schedule)
+        path = os.path.abspath(given["program"])
+        if not building.is_built() and not path.endswith(".pip"):
+            asmx.image_of(self.program, path)                # what is wrong with it is said before cargo builds
+        self.debugger = Logging(self.program, States(building.program()), path, schedule)
+        self.debugger.logs = {}
+        self.debugger.say = lambda text: self.event("output", category="console", output=text)
         self.debugger.checks = bool(given.get("check", self.debugger.checks))
         self.debugger.shall_pause = lambda: self.pausing > 0
         if given.get("source"):
@@ -178,6 +209,8 @@ class Adapter:
             try:
                 stop, line = make(one)
                 numbers.append(stop.number)
+                if one.get("logMessage"):
+                    self.on.logs[stop.number] = one["logMessage"]
                 self.reasons[stop.number] = reason
                 told.append({"verified": True, "id": stop.number, "message": stop.text,
                              **({"line": line} if line else {})})
@@ -350,7 +383,7 @@ class Adapter:
         return len(self.handles)
 
     def on_scopes(self, given: Arguments) -> Any:
-        cpu, part, runs = self.frames[given["frameId"] - 1]
+        cpu, part, runs = self.frame_of(given)
         scopes: list[tuple[str, Callable[[], list[Variable]]]] = [
             (f"Pages of partition {part}", lambda: self.pages(part)),
             ("Descriptor", lambda: self.descriptor(part)), ("Tree", self.tree)]
@@ -453,7 +486,13 @@ class Adapter:
             self.on.cpu = chosen
 
     def cpu_of(self, given: Arguments) -> int | None:
-        return self.frames[given["frameId"] - 1][0] if given.get("frameId") else None
+        return self.frame_of(given)[0] if given.get("frameId") else None
+
+    def frame_of(self, given: Arguments) -> tuple[int, int, bool]:
+        number = int(given["frameId"])
+        if not 1 <= number <= len(self.frames):
+            raise Failed("this frame is of an earlier state")
+        return self.frames[number - 1]
 
     def said(self, text: str) -> str:
         """What the terminal's words say, in the console."""

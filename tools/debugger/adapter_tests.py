@@ -270,6 +270,35 @@ class Session(unittest.TestCase):
         self.assertTrue(client.ask("evaluate", expression="check",
                                    context="repl")["result"].startswith("the program has the same trace"))
 
+    def test_log_points(self) -> None:
+        """One writes its message at each time and stops nothing; what it can't say it says why."""
+        client = self.client
+        self.assertTrue(self.launch(MONITOR)["supportsLogPoints"])
+        client.ask("setBreakpoints", source={"path": MONITOR}, breakpoints=[
+            {"line": 44, "logMessage": "r1 is {r1}, and {[nowhere]}"}, {"line": 44, "hitCondition": "3"}])
+        client.stopped("configurationDone")
+        client.events.clear()
+        stop = client.stopped("continue", threadId=1)
+        said = [one["body"]["output"] for one in client.events
+                if one["event"] == "output" and one["body"]["category"] == "console"]
+        self.assertEqual((len(said), stop["reason"]), (3, "breakpoint"))
+        for line in said:
+            self.assertRegex(line, r"^r1 is 0x[0-9a-f]{8}, and \{\[nowhere\]: .*nowhere.*\}\n$")
+
+    def test_what_is_no_request_and_an_earlier_frame(self) -> None:
+        client = self.client
+        assert client.process.stdin
+        client.process.stdin.write(b"Content-Length: 1\r\n\r\n{")
+        client.process.stdin.flush()
+        told = client.receive()
+        self.assertEqual((told["success"], told["message"][:26]), (False, "a message that isn't JSON:"))
+        self.launch(MONITOR)
+        client.stopped("configurationDone")
+        for command in ("scopes", "evaluate"):
+            found = client.response(command, frameId=99, expression="r1")
+            self.assertEqual((found["success"], found["message"]), (False, "this frame is of an earlier state"))
+        self.assertFalse(client.response("setBreakpoints", source=5)["success"])
+
     def test_a_hit_count(self) -> None:
         client = self.client
         self.launch(MONITOR)

@@ -17,3 +17,8 @@ SEARCHES = Program("pip_certifier", "the searching process", Path(__file__).reso
 def program() -> str:
     """The path of the process."""
     return os.environ.get("PIP_STATES") or STATES.path()
+
+
+def is_built() -> bool:
+    """Whether the process is there, and no source is newer."""
+    return bool(os.environ.get("PIP_STATES")) or STATES.is_new()

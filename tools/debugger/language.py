@@ -8,6 +8,7 @@ name is defined, and what can be typed. Where no program is built, what is wrong
 from __future__ import annotations
 
 import argparse
+import contextlib
 import os
 import re
 import sys
@@ -24,7 +25,9 @@ from . import wire
 from .wire import Message
 
 WORD = re.compile(r"[<>]?[.A-Za-z0-9_]+:?")
-NAME_IN = re.compile(r"[A-Za-z_][A-Za-z0-9_]*")
+NAME_IN = re.compile(r"(?<![A-Za-z0-9_.])[A-Za-z_][A-Za-z0-9_]*")
+LETTER = re.compile(r"[A-Za-z]")
+GIVEN = re.compile(r"(?!r(?:[0-9]|1[0-5])$)[A-Za-z_][A-Za-z0-9_]{0,31}")     # a name that can be given
 KEYWORD, NAME, CONSTANT, REGISTER = 14, 6, 21, 10        # kinds of completions, by the protocol's numbers
 
 
@@ -36,6 +39,15 @@ class Wrong:
     column: int
     why: str
     severity: int = 1                # by the protocol's numbers: 2 is a warning
+
+
+@dataclass(frozen=True)
+class Found:
+    """Where a name is written, from line and column 0 on."""
+
+    file: str
+    line: int
+    column: int
 
 
 @dataclass(frozen=True)
@@ -114,7 +126,42 @@ def of_call(number: str, values: list[str]) -> str:
     return f"call {number}, **{name}**: {arguments}{given}"
 
 
+def of_vector(number: str) -> str:
+    """A vector by its number, and what it comes from."""
+    try:
+        vector = int(number, 0)
+    except ValueError:
+        return ""
+    if not 0 <= vector < 256:
+        return "a vector is below 256"
+    told = meanings.vectors().get(vector)
+    plain = "" if vector in meanings.LINES else ": a trap or a yield with this vector"
+    return f"vector {vector}: {told}" if told else meanings.of_vector(vector) + plain
+
+
+def meaning_in_script(words: list[str], word: str, at: int) -> str:
+    """What a word of a script's line means, by its place: a vector, a call, or the line's form."""
+    is_yield = words[0] == "call" and words[2:3] in (["8"], ["0x8"])
+    if (words[0], at) == ("trap", 2) or is_yield and at == 4:
+        return of_vector(word)
+    if words[0] == "call" and len(words) > 2 and at:
+        return of_call(words[2], words[3:])
+    return forms().get(words[0], "")
+
+
 # Names
+
+def uses(name: str, path: str, texts: Texts) -> Iterator[Found]:
+    """Where a name is written in a text and in what it includes."""
+    for place, words in asmx.lines_of(path, texts):
+        first = 1 if words and words[0].endswith(":") else 0
+        for number, word in enumerate(words):
+            if number == first and word in assembly_words():
+                continue
+            for found in NAME_IN.finditer(word):
+                if found[0] == name:
+                    yield Found(place.file, place.line - 1, word.column - 1 + found.start())
+
 
 def definitions(path: str, texts: Texts) -> dict[str, Defined]:
     """Each name of a text and of what it includes."""
@@ -151,20 +198,24 @@ class Server:
 
     def serve(self) -> None:
         while True:
-            message = wire.read(self.source)
+            try:
+                message = wire.read(self.source)
+            except wire.Malformed as malformed:
+                self.send(id=None, error={"code": -32700, "message": str(malformed)})
+                continue
             if message is None or message.get("method") == "exit":
                 return
             self.take(message)
 
     def take(self, message: Message) -> None:
-        name = message.get("method", "").replace("/", "_").replace("$", "").lower()
+        name = str(message.get("method", "")).replace("/", "_").replace("$", "").lower()
         work = getattr(self, "on_" + name, None)
         try:
             result = work(message.get("params") or {}) if work else None
             if "id" in message:
                 self.send(id=message["id"],
                           **({"result": result} if work else {"error": {"code": -32601, "message": name}}))
-        except (Failed, LookupError, ValueError) as failed:
+        except (Failed, LookupError, ValueError, TypeError, AttributeError) as failed:
             if "id" in message:
                 self.send(id=message["id"], error={"code": -32603, "message": str(failed)})
 
@@ -177,6 +228,7 @@ class Server:
     def on_initialize(self, given: Any) -> Any:
         return {"serverInfo": {"name": "pip"}, "capabilities": {
             "textDocumentSync": 1, "hoverProvider": True, "definitionProvider": True, "documentSymbolProvider": True,
+            "referencesProvider": True, "renameProvider": {"prepareProvider": True},
             "completionProvider": {"triggerCharacters": [".", "<", ">"]}}}
 
     def on_shutdown(self, given: Any) -> Any:
@@ -213,17 +265,19 @@ class Server:
         found = next((found for found in WORD.finditer(line) if found.start() <= column <= found.end()), None)
         if not found or line.lstrip().startswith("#"):
             return None
-        told = self.meaning(path, line.split("#")[0].split(), found[0])
+        at = len(line[:found.start()].split())
+        told = self.meaning(path, line.split("#")[0].split(), found[0], at)
         return {"contents": {"kind": "markdown", "value": told}} if told else None
 
-    def meaning(self, path: str, words: list[str], word: str) -> str:
+    def meaning(self, path: str, words: list[str], word: str, at: int) -> str:
         if path.endswith(".pip"):
-            if words[0] == "call" and len(words) > 2:
-                return forms().get("call", "") if word == "call" else of_call(words[2], words[3:])
-            return forms().get(words[0], "")
-        if words[0] in ("sys",) or words[-2:-1] == ["sys"]:
-            if word == words[-1]:
-                return of_call(word, [])
+            return meaning_in_script(words, word, at)
+        if words[0].endswith(":") and word != words[0]:
+            words = words[1:]
+        if words[:1] == ["sys"] and len(words) > 1 and word in words:
+            return of_call(words[1], []) + ("\n\n" + assembly_words()["sys"] if word == "sys" else "")
+        if words[0] in ("int", ".handler") and words[1:2] == [word]:
+            return of_vector(word)
         if word in assembly_words() and word == words[0] or word in instructions.OPCODES:
             return assembly_words().get(word, "")
         return self.meaning_of_name(path, word.strip("<>:"))
@@ -237,15 +291,61 @@ class Server:
         told = "" if value is None else f": 0x{value % (1 << 32):08x}"
         return f"`{defined.text}`, line {defined.line + 1}{where}{told}"
 
-    def on_textdocument_definition(self, given: Any) -> Any:
+    def name_at(self, given: Any) -> tuple[str, str, int]:
+        """The path, the name at a place, "" where none of the text's is, and its column."""
         path, line, column = self.place(given)
-        name = next((found[0] for found in NAME_IN.finditer(line) if found.start() <= column <= found.end()), "")
-        defined = definitions(path, self.files()).get(name) if not path.endswith(".pip") else None
-        if defined is None:
+        found = next((found for found in NAME_IN.finditer(line) if found.start() <= column <= found.end()), None)
+        known = found and not path.endswith(".pip") and found[0] in definitions(path, self.files())
+        return (path, found[0], found.start()) if found and known else (path, "", 0)
+
+    def uri(self, path: str) -> str:
+        real = os.path.realpath(path)
+        return self.uris.get(real, "file://" + real)
+
+    def on_textdocument_definition(self, given: Any) -> Any:
+        path, name, _ = self.name_at(given)
+        if not name:
             return None
-        real = os.path.realpath(defined.file)
-        uri = self.uris.get(real, "file://" + real)
-        return {"uri": uri, "range": range_of(defined.line, 0, len(defined.text))}
+        defined = definitions(path, self.files())[name]
+        return {"uri": self.uri(defined.file), "range": range_of(defined.line, 0, len(defined.text))}
+
+    def found(self, path: str, name: str) -> list[Found]:
+        """Where a name is written, in the text, in what it includes, and in open texts that include the same."""
+        files = self.files()
+        here = list(uses(name, path, files))
+        others = [other for other in self.texts if other != path and not other.endswith(".pip")]
+        for other in others:
+            with contextlib.suppress(Failed):
+                more = list(uses(name, other, files))
+                if {os.path.realpath(one.file) for one in more} & {os.path.realpath(one.file) for one in here}:
+                    here += more
+        return sorted({(os.path.realpath(one.file), one.line, one.column): one for one in here}.values(),
+                      key=lambda one: (one.file, one.line, one.column))
+
+    def on_textdocument_references(self, given: Any) -> Any:
+        path, name, _ = self.name_at(given)
+        return [{"uri": self.uri(one.file), "range": range_of(one.line, one.column, one.column + len(name))}
+                for one in (self.found(path, name) if name else [])]
+
+    def on_textdocument_preparerename(self, given: Any) -> Any:
+        _, name, column = self.name_at(given)
+        line = given["position"]["line"]
+        return {"range": range_of(line, column, column + len(name)), "placeholder": name} if name else None
+
+    def on_textdocument_rename(self, given: Any) -> Any:
+        path, name, _ = self.name_at(given)
+        new = given["newName"]
+        if not name:
+            raise Failed("no name of this text is here")
+        if not GIVEN.fullmatch(new):
+            raise Failed(f"{new!r} can't be a name: it has letters, digits and _, at most 32, and is no register")
+        if new in definitions(path, self.files()):
+            raise Failed(f"{new} is defined already")
+        changes: dict[str, list[Any]] = {}
+        for one in self.found(path, name):
+            changes.setdefault(self.uri(one.file), []).append(
+                {"range": range_of(one.line, one.column, one.column + len(name)), "newText": new})
+        return {"changes": changes}
 
     def on_textdocument_documentsymbol(self, given: Any) -> Any:
         path = path_of(given["textDocument"]["uri"])
@@ -269,7 +369,7 @@ class Server:
         elif ahead[:1] == [".may"] and ahead[2:] == ["call"]:
             yield from call_items()
         elif len([word for word in before if word]) < 2 or before[-2:-1] and before[-2].endswith(":"):
-            known = ((name, text) for name, text in assembly_words().items() if NAME_IN.search(name))
+            known = ((name, text) for name, text in assembly_words().items() if LETTER.search(name))
             yield from ((name, KEYWORD, text) for name, text in known if name != "NAME:")
         elif before[-2:-1] == ["sys"]:
             yield from call_items()

@@ -155,6 +155,68 @@ class Session(unittest.TestCase):
         symbols = client.send("textDocument/documentSymbol", True, textDocument={"uri": "file://" + RACE})
         self.assertIn("line", [one["name"] for one in symbols])
 
+    def test_calls_and_vectors(self) -> None:
+        """By their numbers: a call with its arguments, and what a vector comes from."""
+        client, path, script = self.client, "/nowhere/v.asmx", "/nowhere/v.pip"
+        client.opened(path, ".frames 16\n.cpus 1\n.page 0x400000\na: sys 5\nint 70\n.handler 33 0x400 a\nsys 9\n")
+        client.opened(script, "boot 16 1\ntrap 0 6 0 0\ntrap 0 0 0 0\ncall 0 8 0 34 0\n")
+        for where, line, column, due in (
+                (path, 3, 4, "call 5, **addVAddr**: v, d, cv, rights"), (path, 3, 7, "addVAddr"),
+                (path, 4, 5, "vector 70: a trap or a yield"), (path, 5, 9, "interrupt line 1"),
+                (path, 6, 4, "no call has the number 9"), (script, 1, 7, "vector 6: a word in"),
+                (script, 2, 7, "vector 0: a division"), (script, 2, 5, "trap P V A B"),
+                (script, 3, 11, "interrupt line 2"), (script, 3, 7, "**yield**")):
+            self.assertIn(due, client.at("hover", where, line, column)["contents"]["value"], (where, line, column))
+
+    def test_references_and_rename(self) -> None:
+        """Also in a text that is included; in remarks and where it is a part of a name nothing is one."""
+        client = self.client
+        with tempfile.TemporaryDirectory() as folder:
+            main, part = (os.path.join(os.path.realpath(folder), name) for name in ("main.asmx", "part.asmx"))
+            with open(part, "w", encoding="utf-8") as file:
+                file.write("here: li r1 1\n j here\n")
+            text = ".equ at 4\n.frames 16\n.cpus 1\n.page 0x400000\n.include part.asmx\nthere: la r2 here # here\n" \
+                " la r3 here+at*2\n beq r0 r1 here\n"
+            client.opened(main, text)
+            found = client.send("textDocument/references", True, textDocument={"uri": "file://" + part},
+                                position={"line": 0, "character": 1}, context={"includeDeclaration": True})
+            self.assertEqual([(one["uri"].rsplit("/", 1)[1], one["range"]["start"]["line"],
+                               one["range"]["start"]["character"]) for one in found],
+                             [("main.asmx", 5, 13), ("main.asmx", 6, 7), ("main.asmx", 7, 11), ("part.asmx", 0, 0),
+                              ("part.asmx", 1, 3)])
+            self.assertEqual(client.at("prepareRename", main, 6, 8)["placeholder"], "here")
+            self.assertIsNone(client.at("prepareRename", main, 6, 2))
+
+            def renamed(name: str, line: int = 6, column: int = 8) -> Any:
+                return client.send("textDocument/rename", True, textDocument={"uri": "file://" + main}, newName=name,
+                                   position={"line": line, "character": column})
+
+            told = renamed("first")["changes"]
+            self.assertEqual({uri.rsplit("/", 1)[1]: len(edits) for uri, edits in told.items()},
+                             {"main.asmx": 3, "part.asmx": 2})
+            lines = text.split("\n")
+            for edit in told["file://" + main]:
+                at, first, end = (edit["range"][name] for name in ("start", "start", "end"))
+                line = lines[at["line"]]
+                lines[at["line"]] = line[:first["character"]] + edit["newText"] + line[end["character"]:]
+            self.assertEqual(lines[5:8], ["there: la r2 first # here", " la r3 first+at*2", " beq r0 r1 first"])
+            for name, line, column in (("r3", 6, 8), ("4x", 6, 8), ("at", 6, 8), ("first", 6, 2)):
+                self.assertIsNone(renamed(name, line, column), name)
+
+    def test_what_is_no_message_is_answered(self) -> None:
+        """The server goes on after it, and after a request whose parts are of other kinds."""
+        streams = self.client.process
+        assert streams.stdin and streams.stdout
+        for body in (b"{", b"[1]", b"[" * 100000):
+            streams.stdin.write(b"Content-Length: %d\r\n\r\n" % len(body) + body)
+            streams.stdin.flush()
+            told = wire.read(streams.stdout) or {}
+            self.assertEqual((told["id"], told["error"]["code"]), (None, -32700))
+        streams.stdin.write(b"Content-Length: x\r\n\r\nnothing\r\n")
+        self.assertIsNone(self.client.send("textDocument/hover", True, textDocument=None))
+        self.assertIsNone(self.client.send("textDocument/hover", True, textDocument={"uri": 5}, position=[]))
+        self.assertEqual(self.client.opened("/nowhere/still.pip", "boot 32 1\n"), [])
+
     def test_deeds(self) -> None:
         client, path = self.client, "/nowhere/a.asmx"
         wrong = client.opened(path, ".frames 16\n.cpus 1\n.may each trap 256 0 0\n.may each call 8 0\n")

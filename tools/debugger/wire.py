@@ -7,22 +7,33 @@ import json
 import os
 from typing import IO, Any
 
+from common.calling import Failed
+
 Message = dict[str, Any]
 
 
+class Malformed(Failed):
+    """What came is no message. The next one can be read."""
+
+
 def read(source: IO[bytes]) -> Message | None:
-    """The next message, or None at the end."""
+    """The next message, or None at the end. Lines before a header with a length count for nothing."""
     length = 0
     while True:
         line = source.readline()
         if not line:
             return None
-        if not line.strip():
-            break
         name, _, value = line.partition(b":")
-        if name.strip().lower() == b"content-length":
+        if name.strip().lower() == b"content-length" and value.strip().isdigit():
             length = int(value)
-    found: Message = json.loads(source.read(length))
+        if length and not line.strip():
+            break
+    try:
+        found = json.loads(source.read(length))
+    except (ValueError, RecursionError) as wrong:
+        raise Malformed(f"a message that isn't JSON: {wrong}") from None
+    if not isinstance(found, dict):
+        raise Malformed("a message that is no object")
     return found
 
 

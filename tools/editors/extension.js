@@ -7,10 +7,11 @@ const vscode = require("vscode");
 
 const LANGUAGES = ["pip", "pip-asmx"];
 
-// The checkout: the setting's, else the one of which this folder is a link, else an open folder's
+// The checkout: the setting's, else the one of which this folder is a link, else that of an open folder, or above it
 function checkout() {
   const folders = (vscode.workspace.workspaceFolders || []).map(folder => folder.uri.fsPath);
-  const found = [vscode.workspace.getConfiguration("pip").get("checkout"), path.resolve(fs.realpathSync(__dirname), "..", ".."), ...folders];
+  const above = folders.flatMap(place => place.split(path.sep).map((_, k, parts) => parts.slice(0, parts.length - k).join(path.sep)));
+  const found = [vscode.workspace.getConfiguration("pip").get("checkout"), path.resolve(fs.realpathSync(__dirname), "..", ".."), ...above];
   return found.find(place => place && fs.existsSync(path.join(place, "tools", "language_server")));
 }
 
@@ -43,7 +44,11 @@ class Client {
       const message = JSON.parse(this.bytes.subarray(end + 4, end + 4 + length).toString());
       this.bytes = this.bytes.subarray(end + 4 + length);
       if (message.method) this.notified(message.method, message.params);
-      else if (this.waiting.has(message.id)) this.waiting.get(message.id)(message.result);
+      else if (this.waiting.has(message.id)) {
+        const {done, failed} = this.waiting.get(message.id);
+        if (message.error) failed(new Error(message.error.message));
+        else done(message.result);
+      }
       this.waiting.delete(message.id);
     }
   }
@@ -55,7 +60,7 @@ class Client {
 
   ask(method, params) {
     const id = ++this.number;
-    return new Promise(done => { this.waiting.set(id, done); this.tell(method, params, id); });
+    return new Promise((done, failed) => { this.waiting.set(id, {done, failed}); this.tell(method, params, id); });
   }
 }
 
@@ -97,7 +102,24 @@ function answers(client) {
     return told.map(({label, kind, documentation}) =>
       Object.assign(new vscode.CompletionItem(label, kind - 1), {documentation: new vscode.MarkdownString(documentation.value)}));
   };
+  const located = ({uri, range}) => new vscode.Location(vscode.Uri.parse(uri), rangeOf(range));
+  const references = async (document, position) => (await client.ask("textDocument/references", at(document, position)) || []).map(located);
+  const placed = async (document, position) => {
+    const told = await client.ask("textDocument/prepareRename", at(document, position));
+    if (!told) throw new Error("no name of this text is here");
+    return {range: rangeOf(told.range), placeholder: told.placeholder};
+  };
+  const rename = async (document, position, newName) => {
+    const told = await client.ask("textDocument/rename", {...at(document, position), newName});
+    const edit = new vscode.WorkspaceEdit();
+    for (const [uri, edits] of Object.entries(told.changes)) {
+      for (const {range, newText} of edits) edit.replace(vscode.Uri.parse(uri), rangeOf(range), newText);
+    }
+    return edit;
+  };
   return [
+    vscode.languages.registerReferenceProvider(LANGUAGES, {provideReferences: references}),
+    vscode.languages.registerRenameProvider(LANGUAGES, {prepareRename: placed, provideRenameEdits: rename}),
     vscode.languages.registerHoverProvider(LANGUAGES, {provideHover: hover}),
     vscode.languages.registerDefinitionProvider(LANGUAGES, {provideDefinition: definition}),
     vscode.languages.registerCompletionItemProvider(LANGUAGES, {provideCompletionItems: completion}, ".", "<", ">"),

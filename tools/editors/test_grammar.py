@@ -115,7 +115,10 @@ class TestPackage(unittest.TestCase):
             self.assertEqual(grammar(language["path"])["scopeName"], language["scopeName"])
             endings = [ending.lstrip(".") for ending in languages.pop(language["language"])["extensions"]]
             self.assertEqual(endings, grammar(language["path"])["fileTypes"])
+            self.assertNotIn("s", endings)             # another language's
         self.assertEqual(languages, {})
+        version = read(os.path.join(REPOSITORY, "VERSION")).strip()
+        self.assertEqual(grammar("package.json")["version"], version)
         for language in told["languages"]:
             self.assertEqual(grammar(language["configuration"]), {"comments": {"lineComment": "#"}})
 
@@ -130,6 +133,10 @@ class TestExtension(unittest.TestCase):
         self.assertEqual(told["wrong"], [[3, "'jmp' is no instruction; did you mean jal or j?"]])
         self.assertIn("createPartition", told["hover"])
         self.assertEqual(told["definition"], 3)
+        self.assertEqual(told["references"], [[3, 0, 3, 5], [3, 11, 3, 16]])
+        self.assertEqual(told["edits"], [[[3, 0, 3, 5], "begin"], [[3, 11, 3, 16], "begin"]])
+        self.assertIn("can't be a name", told["refused"])
+        self.assertEqual(told["nowhere"], "no name of this text is here")
         self.assertLess({"li", "la", "call", "not", ".handler"}, set(told["completion"]))
         self.assertEqual((told["debug"][0], told["debug"][1][1].split("/")[-1]), ("python3", "debug_adapter"))
 

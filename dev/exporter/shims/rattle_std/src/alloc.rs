@@ -36,13 +36,32 @@ impl Allocator for Global {
         if size == 0 {
             return Err(AllocError);
         }
-        // SAFETY: the size isn't 0.
-        let at = unsafe { rust_alloc::alloc::alloc(layout) };
-        if at.is_null() { Err(AllocError) } else { Ok(at) }
+        given(layout)
     }
 
     unsafe fn deallocate(&self, at: *mut u8, size: usize, align: usize) {
         // SAFETY: by what the caller sees to this is the layout with which `allocate` gave it.
-        unsafe { rust_alloc::alloc::dealloc(at, Layout::from_size_align_unchecked(size, align)) }
+        unsafe { taken_back(at, Layout::from_size_align_unchecked(size, align)) }
     }
 }
+
+#[cfg(feature = "alloc")]
+fn given(layout: Layout) -> Result<*mut u8, AllocError> {
+    // SAFETY: the size isn't 0.
+    let at = unsafe { rust_alloc::alloc::alloc(layout) };
+    if at.is_null() { Err(AllocError) } else { Ok(at) }
+}
+
+#[cfg(feature = "alloc")]
+unsafe fn taken_back(at: *mut u8, layout: Layout) {
+    // SAFETY: by what the caller sees to it was given so.
+    unsafe { rust_alloc::alloc::dealloc(at, layout) }
+}
+
+#[cfg(not(feature = "alloc"))]
+fn given(_layout: Layout) -> Result<*mut u8, AllocError> {
+    Err(AllocError)
+}
+
+#[cfg(not(feature = "alloc"))]
+unsafe fn taken_back(_at: *mut u8, _layout: Layout) {}

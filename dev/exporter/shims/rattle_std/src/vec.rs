@@ -3,6 +3,9 @@
 use crate::alloc::{AllocError, Allocator, Global};
 use core::marker::PhantomData;
 use core::ops::{Deref, DerefMut};
+#[cfg(not(feature = "alloc"))]
+use crate::none::Vec as RustVec;
+#[cfg(feature = "alloc")]
 use rust_alloc::vec::Vec as RustVec;
 
 /// A vector of the allocator's memory.
@@ -117,7 +120,7 @@ impl<T, A: Allocator> DerefMut for Vec<T, A> {
 
 impl<T, A: Allocator> IntoIterator for Vec<T, A> {
     type Item = T;
-    type IntoIter = rust_alloc::vec::IntoIter<T>;
+    type IntoIter = <RustVec<T> as IntoIterator>::IntoIter;
 
     fn into_iter(self) -> Self::IntoIter {
         self.items.into_iter()
