@@ -6,14 +6,14 @@ ghost use Rattle.pip_drive.specs.declared.text.TheConstants.{TEXT_ROOM};
 const TEXT_ROOM: usize = 32768;
 
 /// How many bytes are written at once, if they end with a piece.
-const TOGETHER: usize = 16384;
+const AT_ONCE: usize = 16384;
 
 /// A text of up to 32768 bytes, put together of pieces.
 #[derive(Drop)]
 pub struct Text {
     bytes: [u8; TEXT_ROOM],
     len: usize,
-    // Where the last piece ends that is whole in the first `TOGETHER` bytes.
+    // Where the last piece ends that is whole in the first `AT_ONCE` bytes.
     cut: usize,
     ghost fits: { len ≤ TEXT_ROOM },
     ghost inside: { cut ≤ len },
@@ -41,7 +41,7 @@ impl Text {
         let end = self.len + piece.len();
         self.bytes[self.len..end].copy_from_slice(piece);
         self.len = end;
-        if end <= TOGETHER {
+        if end <= AT_ONCE {
             self.cut = end;
         }
     }

@@ -1,11 +1,11 @@
 -- A label that comes is avoided by no loop.
-use Rattle.std.proofs.Common.{◌≡◌, ◌≢◌, ℕ, zero, suc, ◌+◌, ◌-◌, ◌*◌, ◌/◌, ◌%◌, ◌<◌, ◌≤◌, inl, inr, List, [], ◌∷◌, ◌++◌}
-use Rattle.std.proofs.Common.{length, length-append, Some, slice_get, slice_index, refl, ap, sym, subst, ◌∙◌, arith}
+use Rattle.std.proofs.Common.{◌≡◌, ℕ, zero, suc, ◌+◌, ◌-◌, ◌*◌, ◌/◌, ◌%◌, ◌<◌, ◌≤◌, inl, inr, List, [], ◌∷◌, ◌++◌}
+use Rattle.std.proofs.Common.{length, length-append, Some, slice_get, ap, sym, subst, ◌∙◌, arith}
 use Rattle.std.proofs.Math.Nat.{mul-le-mul_left, mul-le-mul_right}
 use Rattle.std.proofs.lemmas.Bool.{cases_lt}
 use Rattle.std.specs.List.{AllByRecursion}
-use Rattle.pip_search.specs.Comes.{AreFair, ComingIsNotAvoided, HasEach, HasOneOf, IsAvoided, IsHidden, IsShownSoon}
-use Rattle.pip_search.specs.Comes.{MustCome, in_windows, times_over}
+use Rattle.pip_search.specs.Comes.{AreFair, ComingIsNotAvoided, HasEach, IsHidden}
+use Rattle.pip_search.specs.Comes.{in_windows, times_over}
 use Rattle.pip_search.specs.Reached.{AreChoices}
 use Rattle.pip_search.specs.Summary.{IsShownOn}
 use Rattle.pip_search.specs.Systems.{Model, after_choices}

@@ -1,17 +1,15 @@
 -- From an order of visits that falls to labels that come.
-use Rattle.std.proofs.Common.{◌≡◌, ◌≢◌, ℕ, zero, suc, ◌+◌, ◌-◌, ◌*◌, ◌<◌, ◌≤◌, ◌⊎◌, inl, inr, List, [], ◌∷◌, ◌++◌}
-use Rattle.std.proofs.Common.{length, length-append, Some, slice_get, slice_index, refl, ap, sym, subst, ◌∙◌, arith}
-use Rattle.std.proofs.Common.{take, drop, append_assoc}
+use Rattle.std.proofs.Common.{◌≡◌, ◌≢◌, ℕ, zero, suc, ◌+◌, ◌*◌, ◌<◌, ◌≤◌, ◌⊎◌, inl, inr, List, [], ◌∷◌, ◌++◌}
+use Rattle.std.proofs.Common.{length, Some, slice_get, slice_index, refl, ap, sym, subst, ◌∙◌, arith}
+use Rattle.std.proofs.Common.{append_assoc}
 use Rattle.std.proofs.lemmas.Bool.{cases_eq, cases_lt}
-use Rattle.std.proofs.lemmas.List.{take-append-drop}
 use Rattle.std.specs.List.{AllByRecursion}
-use Rattle.pip_search.specs.Again.{HasClosed, IsEdge, ShowsAt}
+use Rattle.pip_search.specs.Again.{HasClosed}
 use Rattle.pip_search.specs.Comes.{AreFair, AreFalling, GoesDown, HasOneOf, NoneRises, IsHidden, IsShownSoon, MustCome}
 use Rattle.pip_search.specs.Comes.{helpful, in_windows, rank_at}
 use Rattle.std.proofs.Math.Nat.{mul-le-mul_left}
 use Rattle.pip_search.specs.Keys.{Keyed, key_of, visits_of}
 use Rattle.pip_search.specs.Reached.{AreChoices, Tells}
-use Rattle.pip_search.specs.Summary.{IsShownOn}
 use Rattle.pip_search.specs.Systems.{Model, after_choices}
 use Rattle.pip_search.specs.declared.searching.Search.{Search}
 use Rattle.pip_search.specs.declared.searching.Extent.TheVariants.{Closed}

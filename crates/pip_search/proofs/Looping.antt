@@ -1,5 +1,5 @@
 -- From what was checked of orders and of loops to what is said.
-use Rattle.std.proofs.Common.{◌≡◌, ◌≢◌, ℕ, zero, suc, ◌+◌, ◌*◌, ◌/◌, ◌%◌, ◌^◌, ◌<◌, ◌≤◌, ◌⊎◌, inl, inr, List, [], ◌∷◌}
+use Rattle.std.proofs.Common.{◌≡◌, ◌≢◌, ℕ, zero, suc, ◌+◌, ◌*◌, ◌/◌, ◌%◌, ◌^◌, ◌<◌, inl, inr, List, [], ◌∷◌}
 use Rattle.std.proofs.Common.{◌++◌, length, Some, reverse, slice_get, slice_index, refl, ap, sym, subst, ◌∙◌, arith}
 use Rattle.std.proofs.Common.{take}
 use Rattle.std.proofs.lemmas.List.{length-reverse, reverse-append, take_more}
@@ -9,11 +9,10 @@ use Rattle.std.proofs.Math.ListN.{get_or-append}
 use Rattle.std.proofs.Math.Seq.{get_or-append_seam}
 use Rattle.std.proofs.Common.{length-append, Bool, true, false}
 use Rattle.pip_search.specs.Again.{HasClosed, IsEdge, ShowsAt, ShowsOther}
-use Rattle.pip_search.specs.Comes.{AreCutEdges, AreFalling, GoesDown, HasEach, HasOneOf, IsAvoided, IsCutEdge, IsHidden}
+use Rattle.pip_search.specs.Comes.{AreCutEdges, AreFalling, GoesDown, HasEach, IsAvoided, IsCutEdge, IsHidden}
 use Rattle.pip_search.specs.Comes.{PassesRanks, HasRank}
 use Rattle.pip_search.specs.Comes.{IsWalk, times_over}
 use Rattle.pip_search.specs.Keys.{Keyed, key_of, step_of, steps_of, visits_of}
-use Rattle.pip_search.specs.Orders.{IsTrail}
 use Rattle.pip_search.specs.Reached.{AreChoices, Tells}
 use Rattle.pip_search.specs.Systems.{Model, after_choices}
 use Rattle.pip_search.specs.Ways.{way_to}
