@@ -284,11 +284,12 @@ def says_what_is_built(checkout: Checkout) -> None:
 
 def says_its_version(checkout: Checkout) -> None:
     """The version, the commit, the kit's line, and what is built."""
-    for name in "pip", "lab":
+    states = ("not built", None), ("not proved: built by cargo", ["--unproved", "script"]), ("proved", ["script"])
+    for name, dues in ("pip", states), ("lab", states[1:]):      # cargo builds both at once
         path, version = checkout.path(name), text_of("VERSION").strip()
-        for due, words in (("not built", ()), ("not proved: built by cargo", ("--unproved",)), ("proved", ())):
-            if due != "not built":
-                checkout.run(*words, "script", command=path)
+        for due, words in dues:
+            if words:
+                checkout.run(*words, command=path)
             lines = checkout.run("--version", command=path)
             expect("--version", (lines[0].splitlines(), *lines[1:]),
                    ([f"{name} {version}", "commit of no repository", "the kit's line", due], "", 0, 0))

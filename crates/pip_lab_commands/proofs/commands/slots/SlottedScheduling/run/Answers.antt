@@ -1,7 +1,7 @@
 use Rattle.std.proofs.Common.{rules, ◌≤◌, ◌*◌, ◌^◌, subst, sym}
 use Rattle.pip_slots.specs.Slots.{plan_steps}
 use Rattle.pip_lab_commands.proofs.Rounds.{rounds_few}
-use Rattle.pip_lab_commands.proofs.commands.slots.Slotted.run.Goals as goal
+use Rattle.pip_lab_commands.proofs.commands.slots.SlottedScheduling.run.Goals as goal
 
 pub run_rounds-requires-clause-few : goal.run_rounds-requires-clause-few
 run_rounds-requires-clause-few g c =
