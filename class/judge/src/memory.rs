@@ -35,7 +35,7 @@ pub fn after(world: &World, event: usize) -> impl Iterator<Item = (usize, &Event
 pub fn store(v: &Values, script: &Script, verdict: &mut Verdict) {
     let (world, at, word) = (&script.world, v.get("at"), v.get("word"));
     let size = script.boot.0 == 64;
-    let few = shown(world) <= MOST_SHOWN;
+    let few = (1..=MOST_SHOWN).contains(&shown(world));
     verdict.story(&[size, false, false, false, false, few]);
     let (_, row) = world.leaf(ROOT, at);
     let is_there = world.finds(ROOT, at, word, by_root);
@@ -93,7 +93,7 @@ pub fn make_child(v: &Values, script: &Script, verdict: &mut Verdict) {
         let is_its = |page: u32| matches!(created, Some(Call::Create { pages }) if pages.contains(&page));
         let is_asked = |event: &Event| matches!(event.of_root(Status::Ok), Some(Call::Ask { page }) if is_its(page));
         let asked = different(world.events.iter().filter_map(|event| match event.call() {
-            Some(Call::Ask { page }) => Some(page),
+            Some(Call::Ask { page }) if by_root(event) => Some(page),
             _ => None,
         }));
         verdict.story(&[
