@@ -37,8 +37,9 @@ def gate(program: str) -> None:
         ("rt ci fails", 5, "proves", {"proves": 5}),
         ("a check fails", 1, "checks --all", {"checks": 1, "words": ["--all"]}),
         ("all pass", 0, "checks", {}),
-        ("nothing can be installed", 0, "dev/install could not install all", {"installs": 1}),
-        ("all is installed", 0, "installs", {"installs": 0}),
+        ("a tool can't be installed", 3, "needs gcc:", {"installs": 1, "tools": [it for it in tools if it != "gcc"]}),
+        ("it is tried", 3, "installs", {"installs": 1, "tools": [it for it in tools if it != "gcc"]}),
+        ("nothing is to be installed", 0, "checks", {"installs": 0}),
     )
     for what, due, said, given in cases:
         settings: dict[str, Any] = {"kit": kit, "tools": tools, **given}
@@ -56,7 +57,8 @@ def ended(kit: str, tools: Sequence[str], proves: int = 0, checks: int = 0, inst
         copied(top, "docs/PROVED.md")
         write_program(contents(".ci", "run").decode(), top, ".ci", "run")
         write_program(PART.format(said="echo installs", status=installs or 0), top, "dev", "install")
-        write("", top, "crates", "pip", "out", "pip")
+        for crate in ("pip", "pip_lab"):
+            write("", top, "crates", crate, "out", crate)
         os.mkdir(tools_at)
         for tool in PLAIN:
             os.symlink(needed(tool), os.path.join(tools_at, tool))
