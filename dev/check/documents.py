@@ -7,8 +7,9 @@ import sys
 import tempfile
 from pathlib import Path
 
-from exporter import crates
+from common import calling
 from common.machine import script
+from exporter import crates
 from .examples import script_gives
 from .running import REPOSITORY, Differs, commands_of, expect, part, paths, run, text_of, told_path, write_program
 
@@ -87,19 +88,25 @@ def tutorial_sessions(program: str) -> None:
     for name in files(".pip"):
         script_gives(program, os.path.join(REPOSITORY, name))
     with tempfile.TemporaryDirectory() as place:
-        told = os.path.join(REPOSITORY, "dev", "reference", "program.py")
-        reference = write_program(f'#!/bin/sh\nexec "{sys.executable}" -B "{told}" "$@"\n', place, "reference")
+        reference = {name: by_reference(script, place) for name, script in (("pip", "program.py"), ("lab", "lab.py"))}
         for name in files(".session"):
-            for pip, by in (reference, ", by the reference"), (program, ""):
-                commands_give(name, pip, by)
+            commands_give(name, reference, ", by the reference")
+            commands_give(name, {"pip": program, "lab": calling.lab(program)}, "")
 
 
-def commands_give(name: str, pip: str, by: str) -> None:
-    """Runs the commands of a session in a folder of its own, with examples/, the folders of tools and ./pip."""
+def by_reference(script: str, place: str) -> str:
+    """The path of a program that is a script of the reference."""
+    path = os.path.join(REPOSITORY, "dev", "reference", script)
+    return write_program(f'#!/bin/sh\nexec "{sys.executable}" -B "{path}" "$@"\n', place, script)
+
+
+def commands_give(name: str, programs: dict[str, str], by: str) -> None:
+    """Runs the commands of a session in a folder of its own, with examples/, the folders of tools, ./pip and ./lab."""
     with tempfile.TemporaryDirectory() as place:
         for folder in ("examples", "tools", "class", "dev"):
             os.symlink(os.path.join(REPOSITORY, folder), os.path.join(place, folder))
-        os.symlink(pip, os.path.join(place, "pip"))
+        for wrapper, program in programs.items():
+            os.symlink(program, os.path.join(place, wrapper))
         text = text_of(name)
         if not text.startswith("$ "):
             raise Differs(f"{name} doesn't begin with a command")
