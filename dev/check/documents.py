@@ -7,8 +7,9 @@ import sys
 import tempfile
 from pathlib import Path
 
-from exporter import crates
+from common import calling
 from common.machine import script
+from exporter import crates
 from .examples import script_gives
 from .running import REPOSITORY, Differs, commands_of, expect, part, paths, run, text_of, told_path, write_program
 
@@ -33,7 +34,7 @@ def sessions_give(program: str, name: str) -> None:
     """Runs the sessions of a document, each in a folder of its own."""
     for session in sessions(name):
         with tempfile.TemporaryDirectory() as place:
-            beside(place, program)
+            beside(place, both(program))
             commands = [command for command, _ in session]
             shown = b"".join(output + MARK for _, output in session)
             told = "; ".join(f"{{ {command}\n}}; s=$?; printf '%s' '{MARK.decode()}'; (exit $s)"
@@ -42,11 +43,17 @@ def sessions_give(program: str, name: str) -> None:
             expect(f"{name}, the session from '$ {commands[0]}' on", (output, status), (shown, 0))
 
 
-def beside(place: str, program: str) -> None:
-    """Puts beside a session what its commands name: examples/, the folders of tools and ./pip."""
+def beside(place: str, programs: dict[str, str]) -> None:
+    """Puts beside a session what its commands name: examples/, the folders of tools, ./pip and ./lab."""
     for folder in ("examples", "tools", "class", "dev"):
         os.symlink(os.path.join(REPOSITORY, folder), os.path.join(place, folder))
-    os.symlink(os.path.abspath(program), os.path.join(place, "pip"))
+    for wrapper, program in programs.items():
+        os.symlink(os.path.abspath(program), os.path.join(place, wrapper))
+
+
+def both(program: str) -> dict[str, str]:
+    """The programs by what a session calls them."""
+    return {"pip": program, "lab": calling.lab(program)}
 
 
 def sessions(name: str) -> list[list[tuple[str, bytes]]]:
@@ -103,17 +110,22 @@ def tutorial_sessions(program: str) -> None:
     for name in files(".pip"):
         script_gives(program, os.path.join(REPOSITORY, name))
     with tempfile.TemporaryDirectory() as place:
-        told = os.path.join(REPOSITORY, "dev", "reference", "program.py")
-        reference = write_program(f'#!/bin/sh\nexec "{sys.executable}" -B "{told}" "$@"\n', place, "reference")
+        reference = {name: by_reference(script, place) for name, script in (("pip", "program.py"), ("lab", "lab.py"))}
         for name in files(".session"):
-            for pip, by in (reference, ", by the reference"), (program, ""):
-                commands_give(name, pip, by)
+            commands_give(name, reference, ", by the reference")
+            commands_give(name, both(program), "")
 
 
-def commands_give(name: str, pip: str, by: str) -> None:
-    """Runs the commands of a session in a folder of its own, with examples/, the folders of tools and ./pip."""
+def by_reference(script: str, place: str) -> str:
+    """The path of a program that is a script of the reference."""
+    path = os.path.join(REPOSITORY, "dev", "reference", script)
+    return write_program(f'#!/bin/sh\nexec "{sys.executable}" -B "{path}" "$@"\n', place, script)
+
+
+def commands_give(name: str, programs: dict[str, str], by: str) -> None:
+    """Runs the commands of a session in a folder of its own, with examples/, the folders of tools, ./pip and ./lab."""
     with tempfile.TemporaryDirectory() as place:
-        beside(place, pip)
+        beside(place, programs)
         text = text_of(name)
         if not text.startswith("$ "):
             raise Differs(f"{name} doesn't begin with a command")

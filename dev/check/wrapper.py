@@ -306,12 +306,11 @@ def says_its_forms(checkout: Checkout) -> None:
 
 
 def forms_are_the_programs(program: str) -> None:
-    """Each form that -h names is one of the program's usage line, in its order, and no form of that is missing."""
+    """The commands that -h names are those of the program's usage line."""
     for path, name in (program, "pip"), (calling.lab(program), "lab"):
         usage = run([path])[0].decode().split(":", 1)[1].split(" ", 2)[2].strip().split(" | ")
         told = re.findall(rf"^\./{name} ([a-z]+)", text_of(f"tools/common/{name}.txt"), re.M)
-        expect(f"the forms of {name}", list(dict.fromkeys(told)),
-               list(dict.fromkeys(form.split(" ")[0] for form in usage)))
+        expect(f"the forms of {name}", sorted(set(told)), sorted({form.split(" ")[0] for form in usage}))
 
 
 def of_an_unproved_release(checkout: Checkout) -> None:
