@@ -52,7 +52,8 @@ def goes_on(program: str, image: bytes) -> None:
         words = ("certify", str(path), "--to", str(folder), "--size")
         says(program, (*words, "50", "--cut"))
         for task in "01":
-            shared = {**os.environ, "LAB": calling.lab(program), "OMPI_COMM_WORLD_RANK": task, "OMPI_COMM_WORLD_SIZE": "2"}
+            shared = {**os.environ, "LAB": calling.lab(program), "OMPI_COMM_WORLD_RANK": task,
+                      "OMPI_COMM_WORLD_SIZE": "2"}
             subprocess.run([CHECK_PARTS, folder], env=shared, check=True)
         next(folder.glob("*.lines")).unlink()
         says(program, (*words, "50"), 0, " parts were checked before", " closed\n")

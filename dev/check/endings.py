@@ -18,7 +18,7 @@ MOST = 1 << 24           # bytes of an input
 
 
 def endings(program: str) -> None:
-    """Wrong words of both programs, an empty input, bad lines, a closed input, a full device, and inputs at the limit."""
+    """Wrong words of both programs, an empty input, bad lines, a closed input, a full device, inputs at the limit."""
     lab = calling.lab(program)
     for path, wrong, usage in (program, forms.WRONG, reference.USAGE), (lab, forms.LAB_WRONG, reference.LAB_USAGE):
         for words in map(forms.words, wrong):

@@ -82,7 +82,8 @@ class Checkout:
 
 BUILDS = "proving and building pip; this takes a quarter of an hour or more, and what the prover says goes into "
 OF_LAB = BUILDS.replace("building pip", "building lab")
-BY_CARGO = "building pip and the lab of their export by cargo; this takes about a minute, and what cargo says goes into "
+BY_CARGO = ("building pip and the lab of their export by cargo; this takes about a minute, and what cargo says goes "
+            "into ")
 OF_CARGO = "unproved: cargo built this program of the same text, and nothing is proved of it\n"
 OF_REFERENCE = "unproved: the reference answers, a second telling of the model in Python, and nothing is proved of it\n"
 

@@ -151,7 +151,8 @@ class Folders(unittest.TestCase):
         files = self.files()
         shown = files["crates/other/src/lib.rs"]
         for due in ("[Is] [Has] x.Is ([A.has] (λ q. [Is])) ([P.held] y) ([length] has)",
-                    "`Is`](crate::specs::A#def.Is) says", "[Is]: crate::specs::A#def.Is\n", "[Has]: crate::specs::A#def.has\n",
+                    "`Is`](crate::specs::A#def.Is) says", "[Is]: crate::specs::A#def.Is\n",
+                    "[Has]: crate::specs::A#def.has\n",
                     "[P.held]: low::Held#ghost.held\n", "[length]: rattle_std::specs#def.length\n",
                     "[docs/M.md](rattle_std::docs::M#the-rest), \"The rest\""):
             self.assertIn(due, shown)

@@ -17,7 +17,8 @@ WRAPPER, LAB_WRAPPER = (os.path.join(REPOSITORY, name) for name in ("pip", "lab"
 PROVED, UNPROVED = "proved", "unproved"      # programs by what ./pip and ./lab call them
 LAB = ("slots", "every", "against", "apart", "part", "merge")        # the commands of the lab
 # Where the lab's program is, seen from the folder of pip's: beside it, and at the same place of its own crate.
-BESIDE = {"pip": ("pip_lab", os.path.join(os.pardir, os.pardir, "pip_lab", "out", "pip_lab")), "program.py": ("lab.py",)}
+BESIDE = {"pip": ("pip_lab", os.path.join(os.pardir, os.pardir, "pip_lab", "out", "pip_lab")),
+          "program.py": ("lab.py",)}
 MOST = 1 << 24           # bytes of a script or of an assembly text
 
 

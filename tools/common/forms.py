@@ -1,5 +1,5 @@
-"""Words of a command line for tests of all that reads them: the programs, the reference, ./pip and ./lab. Each form of a
-program is wrong at the other."""
+"""Words of a command line for tests of all that reads them: the programs, the reference, ./pip and ./lab. Each
+form of a program is wrong at the other."""
 
 RIGHT = ("script", "run 0 1", "run 0x989680 4294967295", "soak 1000000 0xffffffff", "native 0x8 10000000", "audit 16",
          "audit 0x1000")

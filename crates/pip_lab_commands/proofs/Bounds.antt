@@ -10,15 +10,15 @@ use Rattle.pip_slots.specs.Images.{in_turn, round_steps}
 use Rattle.pip_slots.specs.declared.time_slot.RoundSlot.{RoundSlot}
 use Rattle.pip_slots.proofs.Rounds.{turn_children}
 use Rattle.pip_words.proofs.Within.{AreWithin, both, first_or, tested}
-use Rattle.pip_lab_commands.specs.Words.{after_command, apart_words, as_round, command_of, cons_slot, first_command}
+use Rattle.pip_lab_commands.specs.Words.{after_command, apart_words, as_round, lab_command_of, cons_slot, first_command}
 use Rattle.pip_lab_commands.specs.Words.{fixed_command, four_words, from_first, given_command, given_slots, is_depth}
-use Rattle.pip_lab_commands.specs.Words.{later_command, numbered_slot, part_words, search_words, single_word, slots_in}
-use Rattle.pip_lab_commands.specs.Words.{slots_words, start_words, starts_at, three_words, turn_words, two_words}
+use Rattle.pip_lab_commands.specs.Words.{later_command, numbered_slot, part_words, search_words, lab_single_word, slots_in}
+use Rattle.pip_lab_commands.specs.Words.{slots_words, start_words, starts_at, lab_three_words, turn_words, lab_two_words}
 use Rattle.pip_searches.specs.declared.start.Start.{Start}
-use Rattle.pip_lab_commands.specs.declared.words.Command.{Command}
-use Rattle.pip_lab_commands.specs.declared.words.Command.TheVariants as C
+use Rattle.pip_lab_commands.specs.declared.words.LabCommand.{LabCommand}
+use Rattle.pip_lab_commands.specs.declared.words.LabCommand.TheVariants as C
 
-abbrev pub IsWithin : Command → Type 0
+abbrev pub IsWithin : LabCommand → Type 0
 IsWithin (C.Slots n rounds round) =
     (1 ≤ n) × (n ≤ 8) × (rounds * round_steps round.items < 2 ^ 32) × AllByRecursion (λ x. x.child < n) round.items
 IsWithin (C.Every states from depth start) = (1 ≤ states) × (1 ≤ start.seed)
@@ -26,7 +26,7 @@ IsWithin (C.Against states from depth start) = (1 ≤ states) × (1 ≤ start.se
 IsWithin (C.Apart states count seed) = (1 ≤ states) × (1 ≤ seed)
 IsWithin _ = Unit {0}
 
-module _ (command : ℕ → ℕ → Option ℕ → Start → Command) (some : (n from : ℕ) (depth : Option ℕ) → 1 ≤ n
+module _ (command : ℕ → ℕ → Option ℕ → Start → LabCommand) (some : (n from : ℕ) (depth : Option ℕ) → 1 ≤ n
     → IsWithin (command n from depth from_first)) where
   search_within : (a b depth : Option ℕ) → AreWithin IsWithin (search_words command a b depth)
   search_within None b depth = tt
@@ -43,7 +43,7 @@ every_within = search_within C.Every (λ n from depth h. (h, omega arith))
 against_within : (a b depth : Option ℕ) → AreWithin IsWithin (search_words C.Against a b depth)
 against_within = search_within C.Against (λ n from depth h. (h, omega arith))
 
-three_within : (word : List ℕ) (a b : Option ℕ) → AreWithin IsWithin (three_words word a b)
+three_within : (word : List ℕ) (a b : Option ℕ) → AreWithin IsWithin (lab_three_words word a b)
 three_within word a b =
     first_or IsWithin (bytes_eq word (codes "every")) (search_words C.Every a b None) _ (every_within a b None)
     (first_or IsWithin (bytes_eq word (codes "against")) (search_words C.Against a b None) None
@@ -53,7 +53,7 @@ part_within : (a : Option ℕ) → AreWithin IsWithin (part_words a)
 part_within None = tt
 part_within (Some n) = first_or IsWithin (nat_le n 10000000) (Some (C.Part n)) None tt tt
 
-two_within : (word : List ℕ) (a : Option ℕ) → AreWithin IsWithin (two_words word a)
+two_within : (word : List ℕ) (a : Option ℕ) → AreWithin IsWithin (lab_two_words word a)
 two_within word a =
     first_or IsWithin (bytes_eq word (codes "part")) (part_words a) _ (part_within a)
     (first_or IsWithin (bytes_eq word (codes "every")) (search_words C.Every a (Some 0) None) _
@@ -108,7 +108,7 @@ four_within word a b (Some third) =
     None
     (against_within a b (Some third)) tt)))
 
-single_within : (word : List ℕ) → AreWithin IsWithin (single_word word)
+single_within : (word : List ℕ) → AreWithin IsWithin (lab_single_word word)
 single_within word =
     first_or IsWithin (bytes_eq word (codes "part")) (Some (C.Part 0)) _ tt
     (first_or IsWithin (bytes_eq word (codes "merge")) (Some C.Merge) None tt tt)
@@ -124,12 +124,12 @@ fixed_within (word ∷ first ∷ second ∷ third ∷ more ∷ words) = tt
 
 -- ---- a search after steps
 
-started_within : (c : Command) (start : Start) → IsWithin c → 1 ≤ start.seed → AreWithin IsWithin (starts_at c start)
+started_within : (c : LabCommand) (start : Start) → IsWithin c → 1 ≤ start.seed → AreWithin IsWithin (starts_at c start)
 started_within (C.Every states from depth other) start h some = (h.0, some)
 started_within (C.Against states from depth other) start h some = (h.0, some)
 started_within _ start h some = tt
 
-start_within : (search : Option Command) (a b : Option ℕ) → AreWithin IsWithin search
+start_within : (search : Option LabCommand) (a b : Option ℕ) → AreWithin IsWithin search
     → AreWithin IsWithin (start_words search a b)
 start_within search None b h = tt
 start_within search (Some count) None h = tt
@@ -139,7 +139,7 @@ start_within (Some c) (Some count) (Some seed) h = tested IsWithin (nat_le count
     started_within c (record { count = count; seed = seed }) h
     (leb-true 1 seed (both (nat_le count 10000000) (nat_le 1 seed) e).1))
 
-after_within : (search : Option Command) (word : List ℕ) (a b : Option ℕ) → AreWithin IsWithin search
+after_within : (search : Option LabCommand) (word : List ℕ) (a b : Option ℕ) → AreWithin IsWithin search
     → AreWithin IsWithin (after_command search word a b)
 after_within search word a b h =
     first_or IsWithin (bytes_eq word (codes "after")) (start_words search a b) None (start_within search a b h) tt
@@ -151,10 +151,10 @@ later_within (a ∷ b ∷ []) = tt
 later_within (a ∷ b ∷ c ∷ []) = tt
 later_within (a ∷ b ∷ c ∷ d ∷ []) = tt
 later_within (word ∷ states ∷ after ∷ count ∷ seed ∷ []) =
-    after_within (two_words word (number_of states)) after (number_of count) (number_of seed)
+    after_within (lab_two_words word (number_of states)) after (number_of count) (number_of seed)
     (two_within word (number_of states))
 later_within (word ∷ states ∷ from ∷ after ∷ count ∷ seed ∷ []) =
-    after_within (three_words word (number_of states) (number_of from)) after (number_of count) (number_of seed)
+    after_within (lab_three_words word (number_of states) (number_of from)) after (number_of count) (number_of seed)
     (three_within word (number_of states) (number_of from))
 later_within (word ∷ states ∷ from ∷ depth ∷ after ∷ count ∷ seed ∷ []) =
     after_within (four_words word (number_of states) (number_of from) (number_of depth)) after (number_of count)
@@ -203,12 +203,12 @@ given_within (word ∷ n ∷ c ∷ slots) =
     first_or IsWithin (bytes_eq word (codes "slots") && (nat_le 1 (length slots) && nat_le (length slots) 64)) _ None
     (slots_given (number_of n) (number_of c) slots) tt
 
-some_within : (a b : Option Command) → AreWithin IsWithin a → AreWithin IsWithin b
+some_within : (a b : Option LabCommand) → AreWithin IsWithin a → AreWithin IsWithin b
     → AreWithin IsWithin (first_command a b)
 some_within None b h i = i
 some_within (Some a) b h i = h
 
-pub command_within : (words : List (List ℕ)) → AreWithin IsWithin (command_of words)
+pub command_within : (words : List (List ℕ)) → AreWithin IsWithin (lab_command_of words)
 command_within words =
     some_within (fixed_command words) _ (fixed_within words)
     (some_within (later_command words) (given_command words) (later_within words) (given_within words))

@@ -1,12 +1,12 @@
 //! Laws of the commands. They compute nothing: what each says is its contract.
 ghost use Rattle.pip_words.specs.Answered.{AreInputsAnswered};
 ghost use Rattle.pip_lab_commands.specs.CertifiedRuns.{CertificatesNameRuns};
-ghost use Rattle.pip_lab_commands.specs.Dues.{due_of};
+ghost use Rattle.pip_lab_commands.specs.Dues.{lab_due_of};
 ghost use Rattle.pip_lab_commands.specs.SlotsLaw.{ChildrenAreSeparate};
 
 /// Where no read and no write fails, an input within the limit is answered, or there is no memory.
 pub fn law_inputs_answered()
-    ensures { AreInputsAnswered due_of }
+    ensures { AreInputsAnswered lab_due_of }
 {}
 
 /// What `slots` writes in the time slots of a child is a matter of that child alone.

@@ -1,11 +1,11 @@
 //! The program of the lab as one call.
 ghost use Rattle.std.specs.Prelude.{map, string_bytes};
-ghost use Rattle.pip_lab_commands.specs.Dues.{due_of};
-ghost use Rattle.pip_lab_commands.specs.Words.{command_of};
+ghost use Rattle.pip_lab_commands.specs.Dues.{lab_due_of};
+ghost use Rattle.pip_lab_commands.specs.Words.{lab_command_of};
 ghost use Rattle.pip_due.specs.Commands.{Fulfils, MayStart};
 
 use crate::commands::slots::slots;
-use crate::words::{Command, read_words};
+use crate::words::{LabCommand, read_words};
 use pip_certificates::{merge, part};
 use pip_due::Ended;
 use pip_io::{Sink, Source};
@@ -13,7 +13,7 @@ use pip_searches::{against, apart, every};
 use pip_words::show_usage;
 use std::alloc::Global;
 
-const USAGE: &[u8] =
+const LAB_USAGE: &[u8] =
     b"usage: pip-lab slots N TURNS ROUNDS | slots N ROUNDS K:TURNS .. | every STATES [FROM [DEPTH]] [after STEPS SEED] | against STATES [FROM [DEPTH]] [after STEPS SEED] | apart STATES STEPS SEED | part [FROM] | merge\n";
 
 /// Does what the words of the command line ask for. The words leave out the program's name (docs/FORMATS.md,
@@ -26,21 +26,21 @@ pub fn lab<S: Source, K: Sink>(
     source: &mut S,
     sink: &mut K,
 ) -> Ended
-    requires paced { MayStart (due_of (command_of (map string_bytes words.now))) S.is_open S.allows S.told K.told
+    requires paced { MayStart (lab_due_of (lab_command_of (map string_bytes words.now))) S.is_open S.allows S.told K.told
         source.old sink.old }
-    ensures ends { Fulfils (due_of (command_of (map string_bytes words.now))) result S.told K.told source.old sink.old
+    ensures ends { Fulfils (lab_due_of (lab_command_of (map string_bytes words.now))) result S.told K.told source.old sink.old
         source.new sink.new }
 {
     match read_words(words) {
         Some(
-            Command::Slots {
+            LabCommand::Slots {
                 children,
                 rounds,
                 round,
             },
         ) => slots(alloc, children, rounds, round, source, sink),
         Some(
-            Command::Every {
+            LabCommand::Every {
                 states,
                 from,
                 depth,
@@ -48,7 +48,7 @@ pub fn lab<S: Source, K: Sink>(
             },
         ) => every(alloc, states, from, depth, start, source, sink),
         Some(
-            Command::Against {
+            LabCommand::Against {
                 states,
                 from,
                 depth,
@@ -56,14 +56,14 @@ pub fn lab<S: Source, K: Sink>(
             },
         ) => against(alloc, states, from, depth, start, source, sink),
         Some(
-            Command::Apart {
+            LabCommand::Apart {
                 states,
                 count,
                 seed,
             },
         ) => apart(alloc, states, count, seed, source, sink),
-        Some(Command::Part { from }) => part(alloc, from, source, sink),
-        Some(Command::Merge) => merge(alloc, source, sink),
-        None => show_usage(USAGE, source, sink),
+        Some(LabCommand::Part { from }) => part(alloc, from, source, sink),
+        Some(LabCommand::Merge) => merge(alloc, source, sink),
+        None => show_usage(LAB_USAGE, source, sink),
     }
 }

@@ -1,10 +1,10 @@
 //! The words of the command line.
 ghost use Rattle.std.specs.Prelude.{◌≡◌, ◌≤◌, ◌+◌, ◌*◌, ◌^◌, ◌&&◌, length, map, nat_le, option_map, string_bytes};
 ghost use Rattle.std.specs.Prelude.{Some};
-ghost use Rattle.pip_lab_commands.specs.Words.{after_command, apart_words, as_round, command_of, first_command};
+ghost use Rattle.pip_lab_commands.specs.Words.{after_command, apart_words, as_round, lab_command_of, first_command};
 ghost use Rattle.pip_lab_commands.specs.Words.{fixed_command, four_words, from_first, given_command, later_command};
-ghost use Rattle.pip_lab_commands.specs.Words.{part_words, rounds_command, search_words, single_word, slot_in, slots_in};
-ghost use Rattle.pip_lab_commands.specs.Words.{slots_words, starts_at, three_words, turn_words, two_words};
+ghost use Rattle.pip_lab_commands.specs.Words.{part_words, rounds_command, search_words, lab_single_word, slot_in, slots_in};
+ghost use Rattle.pip_lab_commands.specs.Words.{slots_words, starts_at, lab_three_words, turn_words, lab_two_words};
 ghost use Rattle.pip_slots.specs.Images.{round_steps};
 
 use arrayvec::ArrayVec;
@@ -16,7 +16,7 @@ use pip_slots::{RoundSlot, in_turn};
 
 /// What the words ask for (README, "Commands").
 #[derive(Drop)]
-pub enum Command {
+pub enum LabCommand {
     Slots {
         children: u32,
         rounds: u32,
@@ -55,8 +55,8 @@ const MAX_STATES: u32 = 100_000_000;
 const MAX_CHOICES: u32 = 10_000_000;
 
 /// The command, or `None` where the words are none of the forms.
-pub fn read_words(words: &[String]) -> Option<Command>
-    ensures { result ≡ command_of (map string_bytes words.now) }
+pub fn read_words(words: &[String]) -> Option<LabCommand>
+    ensures { result ≡ lab_command_of (map string_bytes words.now) }
 {
     match read_fixed(words) {
         Some(command) => Some(command),
@@ -65,7 +65,7 @@ pub fn read_words(words: &[String]) -> Option<Command>
 }
 
 // The command of a form of more words: a search after steps, or slots.
-fn read_longer(words: &[String]) -> Option<Command>
+fn read_longer(words: &[String]) -> Option<LabCommand>
     ensures { result ≡ first_command (later_command (map string_bytes words.now))
         (given_command (map string_bytes words.now)) }
 {
@@ -76,7 +76,7 @@ fn read_longer(words: &[String]) -> Option<Command>
 }
 
 // The command of a form of one word to four.
-fn read_fixed(words: &[String]) -> Option<Command>
+fn read_fixed(words: &[String]) -> Option<LabCommand>
     ensures { result ≡ fixed_command (map string_bytes words.now) }
 {
     if let [word] = words {
@@ -106,20 +106,20 @@ fn read_fixed(words: &[String]) -> Option<Command>
     None
 }
 
-fn read_single(word: &[u8]) -> Option<Command>
-    ensures { result ≡ single_word word.now }
+fn read_single(word: &[u8]) -> Option<LabCommand>
+    ensures { result ≡ lab_single_word word.now }
 {
     if word == b"part".as_slice() {
-        return Some(Command::Part { from: 0 });
+        return Some(LabCommand::Part { from: 0 });
     }
     if word == b"merge".as_slice() {
-        return Some(Command::Merge);
+        return Some(LabCommand::Merge);
     }
     None
 }
 
-fn read_two(word: &[u8], number: Option<u32>) -> Option<Command>
-    ensures { result ≡ two_words word.now number }
+fn read_two(word: &[u8], number: Option<u32>) -> Option<LabCommand>
+    ensures { result ≡ lab_two_words word.now number }
 {
     let count = number?;
     if word == b"part".as_slice() {
@@ -135,14 +135,14 @@ fn read_two(word: &[u8], number: Option<u32>) -> Option<Command>
 }
 
 // The turns before the first line.
-fn read_part(from: u32) -> Option<Command>
+fn read_part(from: u32) -> Option<LabCommand>
     ensures { result ≡ part_words (Some from) }
 {
-    (from <= MAX_CHOICES).then_some(Command::Part { from })
+    (from <= MAX_CHOICES).then_some(LabCommand::Part { from })
 }
 
-fn read_three(word: &[u8], first: Option<u32>, second: Option<u32>) -> Option<Command>
-    ensures { result ≡ three_words word.now first second }
+fn read_three(word: &[u8], first: Option<u32>, second: Option<u32>) -> Option<LabCommand>
+    ensures { result ≡ lab_three_words word.now first second }
 {
     let (Some(states), Some(from)) = (first, second) else {
         return None;
@@ -161,7 +161,7 @@ fn read_four(
     first: Option<u32>,
     second: Option<u32>,
     third: Option<u32>,
-) -> Option<Command>
+) -> Option<LabCommand>
     ensures { result ≡ four_words word.now first second third }
 {
     let (Some(first), Some(second), Some(third)) = (first, second, third) else {
@@ -186,7 +186,7 @@ fn read_four(
 }
 
 // Children that have a slot in turn, the turns of a slot, and the rounds.
-fn read_in_turn(children: u32, turns: u32, rounds: u32) -> Option<Command>
+fn read_in_turn(children: u32, turns: u32, rounds: u32) -> Option<LabCommand>
     ensures { result ≡ turn_words (Some children) (Some turns) (Some rounds) }
 {
     if children > MAX_CHILDREN || turns > MAX_STEPS {
@@ -203,7 +203,7 @@ fn first_start() -> Start
 }
 
 // A search that begins after steps.
-fn read_later(words: &[String]) -> Option<Command>
+fn read_later(words: &[String]) -> Option<LabCommand>
     ensures { result ≡ later_command (map string_bytes words.now) }
 {
     if let [word, states, after, count, seed] = words {
@@ -247,11 +247,11 @@ fn read_later(words: &[String]) -> Option<Command>
 
 // A search, and after it the word `after`, a number of steps and a seed.
 fn read_after(
-    search: Option<Command>,
+    search: Option<LabCommand>,
     word: &[u8],
     count: Option<u32>,
     seed: Option<u32>,
-) -> Option<Command>
+) -> Option<LabCommand>
     ensures { result ≡ after_command search word.now count seed }
 {
     if word != b"after".as_slice() {
@@ -270,27 +270,27 @@ fn read_after(
 }
 
 // The same search from there on, if it is one.
-fn start_at(command: Command, start: Start) -> Option<Command>
+fn start_at(command: LabCommand, start: Start) -> Option<LabCommand>
     ensures { result ≡ starts_at command start }
 {
     match command {
-        Command::Every {
+        LabCommand::Every {
             states,
             from,
             depth,
             ..
-        } => Some(Command::Every {
+        } => Some(LabCommand::Every {
             states,
             from,
             depth,
             start,
         }),
-        Command::Against {
+        LabCommand::Against {
             states,
             from,
             depth,
             ..
-        } => Some(Command::Against {
+        } => Some(LabCommand::Against {
             states,
             from,
             depth,
@@ -301,7 +301,7 @@ fn start_at(command: Command, start: Start) -> Option<Command>
 }
 
 // Children with the slots of a round.
-fn read_given(words: &[String]) -> Option<Command>
+fn read_given(words: &[String]) -> Option<LabCommand>
     ensures { result ≡ given_command (map string_bytes words.now) }
 {
     match words {
@@ -321,7 +321,7 @@ fn read_rounds(
     children: Option<u32>,
     rounds: Option<u32>,
     slots: &[String],
-) -> Option<Command>
+) -> Option<LabCommand>
     ensures { result ≡ rounds_command word.now children rounds (map string_bytes slots.now) }
 {
     if word != b"slots".as_slice() || slots.is_empty() || slots.len() > MAX_SLOTS {
@@ -337,7 +337,7 @@ fn read_rounds(
 }
 
 // 1 to 8 children, the rounds, and the slots of a round.
-fn read_slots(children: u32, rounds: u32, round: ArrayVec<RoundSlot, 64>) -> Option<Command>
+fn read_slots(children: u32, rounds: u32, round: ArrayVec<RoundSlot, 64>) -> Option<LabCommand>
     ensures { result ≡ slots_words children rounds round }
 {
     if children < 1 || children > MAX_CHILDREN || rounds > MAX_STEPS {
@@ -346,7 +346,7 @@ fn read_slots(children: u32, rounds: u32, round: ArrayVec<RoundSlot, 64>) -> Opt
     if rounds as u64 * steps_of(round.as_slice()) > MAX_STEPS as u64 {
         return None;
     }
-    Some(Command::Slots {
+    Some(LabCommand::Slots {
         children,
         rounds,
         round,
@@ -388,10 +388,10 @@ fn read_slot(children: u32, word: &str) -> Option<RoundSlot>
     (child < children && turns <= MAX_STEPS).then_some(RoundSlot { child, turns })
 }
 
-fn read_every(states: u32, from: u32, depth: Option<u32>) -> Option<Command>
-    ensures { result ≡ search_words Command.Every (Some states) (Some from) depth }
+fn read_every(states: u32, from: u32, depth: Option<u32>) -> Option<LabCommand>
+    ensures { result ≡ search_words LabCommand.Every (Some states) (Some from) depth }
 {
-    are_bounds(states, from).then_some(Command::Every {
+    are_bounds(states, from).then_some(LabCommand::Every {
         states,
         from,
         depth,
@@ -399,10 +399,10 @@ fn read_every(states: u32, from: u32, depth: Option<u32>) -> Option<Command>
     })
 }
 
-fn read_against(states: u32, from: u32, depth: Option<u32>) -> Option<Command>
-    ensures { result ≡ search_words Command.Against (Some states) (Some from) depth }
+fn read_against(states: u32, from: u32, depth: Option<u32>) -> Option<LabCommand>
+    ensures { result ≡ search_words LabCommand.Against (Some states) (Some from) depth }
 {
-    are_bounds(states, from).then_some(Command::Against {
+    are_bounds(states, from).then_some(LabCommand::Against {
         states,
         from,
         depth,
@@ -418,11 +418,11 @@ fn are_bounds(states: u32, from: u32) -> bool
 }
 
 // Room for 1 to 100,000,000 states, the steps, and a seed.
-fn read_apart(states: u32, count: u32, seed: u32) -> Option<Command>
+fn read_apart(states: u32, count: u32, seed: u32) -> Option<LabCommand>
     ensures { result ≡ apart_words (Some states) (Some count) (Some seed) }
 {
     (states >= 1 && states <= MAX_STATES && (count <= MAX_STEPS && seed >= 1)).then_some(
-        Command::Apart {
+        LabCommand::Apart {
             states,
             count,
             seed,

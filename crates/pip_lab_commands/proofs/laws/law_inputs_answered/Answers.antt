@@ -1,6 +1,6 @@
-use Rattle.pip_lab_commands.specs.Dues.{due_of}
+use Rattle.pip_lab_commands.specs.Dues.{lab_due_of}
 use Rattle.pip_words.proofs.Answered.{inputs_are_answered}
 use Rattle.pip_lab_commands.proofs.laws.law_inputs_answered.Goals as goal
 
 pub returns : goal.returns
-returns c = inputs_are_answered due_of
+returns c = inputs_are_answered lab_due_of

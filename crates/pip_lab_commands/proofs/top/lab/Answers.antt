@@ -1,6 +1,6 @@
 use Rattle.std.proofs.Common.{map, string_bytes}
 use Rattle.pip_words.proofs.Asked.{paced_as_asked, within_as_asked}
-use Rattle.pip_lab_commands.specs.Dues.{due_of}
+use Rattle.pip_lab_commands.specs.Dues.{lab_due_of}
 use Rattle.pip_lab_commands.proofs.Bounds.{IsWithin, command_within}
 use Rattle.pip_lab_commands.proofs.top.lab.Goals as goal
 
@@ -27,7 +27,7 @@ slots-requires-clause-children g c =
 pub slots-requires-clause-paced : goal.slots-requires-clause-paced
 slots-requires-clause-paced g c =
     paced_as_asked _ _ _ _ c.read_words.ensures
-    c.in-Some-Slots.is c.in-Some-Slots.field-0-is due_of _ _ _ c.requires.paced
+    c.in-Some-Slots.is c.in-Some-Slots.field-0-is lab_due_of _ _ _ c.requires.paced
 
 pub every-requires-clause-some : goal.every-requires-clause-some
 every-requires-clause-some g c =
@@ -42,7 +42,7 @@ every-requires-clause-seed g c =
 pub every-requires-clause-paced : goal.every-requires-clause-paced
 every-requires-clause-paced g c =
     paced_as_asked _ _ _ _ c.read_words.ensures
-    c.in-Some-Every.is c.in-Some-Every.field-0-is due_of _ _ _ c.requires.paced
+    c.in-Some-Every.is c.in-Some-Every.field-0-is lab_due_of _ _ _ c.requires.paced
 
 pub against-requires-clause-some : goal.against-requires-clause-some
 against-requires-clause-some g c =
@@ -57,7 +57,7 @@ against-requires-clause-seed g c =
 pub against-requires-clause-paced : goal.against-requires-clause-paced
 against-requires-clause-paced g c =
     paced_as_asked _ _ _ _ c.read_words.ensures
-    c.in-Some-Against.is c.in-Some-Against.field-0-is due_of _ _ _ c.requires.paced
+    c.in-Some-Against.is c.in-Some-Against.field-0-is lab_due_of _ _ _ c.requires.paced
 
 pub apart-requires-clause-some : goal.apart-requires-clause-some
 apart-requires-clause-some g c =
@@ -72,16 +72,16 @@ apart-requires-clause-seed g c =
 pub apart-requires-clause-paced : goal.apart-requires-clause-paced
 apart-requires-clause-paced g c =
     paced_as_asked _ _ _ _ c.read_words.ensures
-    c.in-Some-Apart.is c.in-Some-Apart.field-0-is due_of _ _ _ c.requires.paced
+    c.in-Some-Apart.is c.in-Some-Apart.field-0-is lab_due_of _ _ _ c.requires.paced
 
 pub part-requires : goal.part-requires
 part-requires g c = record {
   paced = paced_as_asked _ _ _ _ c.read_words.ensures
-      c.in-Some-Part.is c.in-Some-Part.field-0-is due_of _ _ _ c.requires.paced;
+      c.in-Some-Part.is c.in-Some-Part.field-0-is lab_due_of _ _ _ c.requires.paced;
 }
 
 pub merge-requires : goal.merge-requires
 merge-requires g c = record {
   paced = paced_as_asked _ _ _ _ c.read_words.ensures
-      c.in-Some-Merge.is c.in-Some-Merge.field-0-is due_of _ _ _ c.requires.paced;
+      c.in-Some-Merge.is c.in-Some-Merge.field-0-is lab_due_of _ _ _ c.requires.paced;
 }
