@@ -12,8 +12,10 @@ use Rattle.pip_slots.proofs.Rounds.{turn_children}
 use Rattle.pip_words.proofs.Within.{AreWithin, both, first_or, tested}
 use Rattle.pip_lab_commands.specs.Words.{after_command, apart_words, as_round, lab_command_of, cons_slot, first_command}
 use Rattle.pip_lab_commands.specs.Words.{fixed_command, four_words, from_first, given_command, given_slots, is_depth}
-use Rattle.pip_lab_commands.specs.Words.{later_command, numbered_slot, part_words, search_words, lab_single_word, slots_in}
-use Rattle.pip_lab_commands.specs.Words.{slots_words, start_words, starts_at, lab_three_words, turn_words, lab_two_words}
+use Rattle.pip_lab_commands.specs.Words.{later_command, numbered_slot, part_words, search_words, lab_single_word}
+use Rattle.pip_lab_commands.specs.Words.{slots_in}
+use Rattle.pip_lab_commands.specs.Words.{slots_words, start_words, starts_at, lab_three_words, turn_words}
+use Rattle.pip_lab_commands.specs.Words.{lab_two_words}
 use Rattle.pip_searches.specs.declared.start.Start.{Start}
 use Rattle.pip_lab_commands.specs.declared.words.LabCommand.{LabCommand}
 use Rattle.pip_lab_commands.specs.declared.words.LabCommand.TheVariants as C

@@ -26,9 +26,11 @@ pub fn lab<S: Source, K: Sink>(
     source: &mut S,
     sink: &mut K,
 ) -> Ended
-    requires paced { MayStart (lab_due_of (lab_command_of (map string_bytes words.now))) S.is_open S.allows S.told K.told
+    requires paced { MayStart (lab_due_of (lab_command_of (map string_bytes words.now))) S.is_open
+        S.allows S.told K.told
         source.old sink.old }
-    ensures ends { Fulfils (lab_due_of (lab_command_of (map string_bytes words.now))) result S.told K.told source.old sink.old
+    ensures ends { Fulfils (lab_due_of (lab_command_of (map string_bytes words.now))) result S.told K.told
+        source.old sink.old
         source.new sink.new }
 {
     match read_words(words) {

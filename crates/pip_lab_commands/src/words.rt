@@ -3,7 +3,8 @@ ghost use Rattle.std.specs.Prelude.{◌≡◌, ◌≤◌, ◌+◌, ◌*◌, ◌^
 ghost use Rattle.std.specs.Prelude.{Some};
 ghost use Rattle.pip_lab_commands.specs.Words.{after_command, apart_words, as_round, lab_command_of, first_command};
 ghost use Rattle.pip_lab_commands.specs.Words.{fixed_command, four_words, from_first, given_command, later_command};
-ghost use Rattle.pip_lab_commands.specs.Words.{part_words, rounds_command, search_words, lab_single_word, slot_in, slots_in};
+ghost use Rattle.pip_lab_commands.specs.Words.{part_words, rounds_command, search_words, lab_single_word, slot_in};
+ghost use Rattle.pip_lab_commands.specs.Words.{slots_in};
 ghost use Rattle.pip_lab_commands.specs.Words.{slots_words, starts_at, lab_three_words, turn_words, lab_two_words};
 ghost use Rattle.pip_slots.specs.Images.{round_steps};
 

@@ -1,7 +1,8 @@
 use Rattle.std.proofs.Common.{◌≡◌, ◌≢◌, ℕ, None, List, [], ◌∷◌, length, map, refl, arith}
 use Rattle.pip_lab_commands.specs.Words.{fixed_command}
 use Rattle.pip_lab_commands.proofs.words.read_fixed.Goals as goal
-use Rattle.pip_lab_commands.proofs.words.read_fixed.Goals.{else-words-lt1+else-words-lt2, then-words-lt1, then-words-lt2-2}
+use Rattle.pip_lab_commands.proofs.words.read_fixed.Goals.{else-words-lt1+else-words-lt2, then-words-lt1}
+use Rattle.pip_lab_commands.proofs.words.read_fixed.Goals.{then-words-lt2-2}
 use Rattle.pip_lab_commands.proofs.words.read_fixed.Goals.{else-words-lt2-2+else-words-lt3, then-words-lt3-2}
 use Rattle.pip_lab_commands.proofs.words.read_fixed.Goals.{else-words-lt3-2+else-words-lt4, then-words-lt4-2}
 use Rattle.pip_lab_commands.proofs.words.read_fixed.Goals.{else-words-lt4-2+else-words-lt5}

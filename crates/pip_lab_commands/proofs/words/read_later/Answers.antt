@@ -1,7 +1,8 @@
 use Rattle.std.proofs.Common.{◌≡◌, ◌≢◌, ℕ, None, List, [], ◌∷◌, length, map, refl, arith}
 use Rattle.pip_lab_commands.specs.Words.{later_command}
 use Rattle.pip_lab_commands.proofs.words.read_later.Goals as goal
-use Rattle.pip_lab_commands.proofs.words.read_later.Goals.{else-words-lt5+else-words-lt6, then-words-lt5, then-words-lt6-2}
+use Rattle.pip_lab_commands.proofs.words.read_later.Goals.{else-words-lt5+else-words-lt6, then-words-lt5}
+use Rattle.pip_lab_commands.proofs.words.read_later.Goals.{then-words-lt6-2}
 use Rattle.pip_lab_commands.proofs.words.read_later.Goals.{else-words-lt6-2+else-words-lt7, then-words-lt7-2}
 use Rattle.pip_lab_commands.proofs.words.read_later.Goals.{else-words-lt7-2+else-words-lt8}
 
