@@ -66,14 +66,14 @@ module _ (w0 : World) (ps : List ℕ) (B : ℕ → World → Type 0) (C : World 
   -- the guest q is in w as it is in u, where it is alone
   pub record Alone (q : ℕ) (u w : World) : Type 0 where
     pub sound : IsSoundWorld u
-    pub calm : B q u
+    pub no_faults : B q u
     pub guest : IsSameGuest q u w
     pub stays : (xs : List Slot) → AllByRecursion (Owns q) xs → AreInsideTurns q u xs
 
   -- each is in w as it is in some world where it is alone
   pub record Company (w : World) : Type 0 where
     pub sound : IsSoundWorld w
-    pub calm : C w
+    pub no_faults : C w
     pub names : (q : ℕ) → In q ps → IsName w.tree q
     pub not_root : (q : ℕ) → In q ps → q ≢ w.tree.root.name
     pub aside : (p q : ℕ) → In p ps → In q ps → p ≢ q → IsAside w.tree p q
@@ -85,7 +85,7 @@ module _ (w0 : World) (ps : List ℕ) (B : ℕ → World → Type 0) (C : World 
       → IsSameGuest q w v → Alone q u v
   alone_on q u w v s r n a g = record {
     sound = a.sound;
-    calm = a.calm;
+    no_faults = a.no_faults;
     guest = same_trans q u w v a.sound s r (name_there q u w a.sound s n a.guest) a.guest g;
     stays = a.stays;
   }
@@ -104,7 +104,7 @@ module _ (w0 : World) (ps : List ℕ) (B : ℕ → World → Type 0) (C : World 
       → ((cpu : ℕ) → runs_on w cpu ≡ None → runs_on v cpu ≡ None) → Company v
   company_on w v c r k g idle = record {
     sound = r;
-    calm = k;
+    no_faults = k;
     names = λ q j. name_kept w v q c.sound r (c.names q j) (g q j);
     not_root = λ q j. not_top w.tree v.tree c.sound.tree r.tree q (c.not_root q j);
     aside = λ p q i j d. aside_on w v p q c.sound r (c.names p i) (c.aside p q i j d) (g p i) (g q j);
@@ -131,10 +131,10 @@ module _ (w0 : World) (ps : List ℕ) (B : ℕ → World → Type 0) (C : World 
     runs = let (r, k, h) = turn_runs u q s.cpu s.step a.sound first in (r, a.guest.runs s.cpu r h k, k)
 
     quiet : PollsInVain w s.cpu
-    quiet = vain w s.cpu runs.0 c.sound c.calm runs.1
+    quiet = vain w s.cpu runs.0 c.sound c.no_faults runs.1
 
     quiet_alone : PollsInVain u s.cpu
-    quiet_alone = vain_alone u q s.cpu runs.0 a.sound a.calm runs.2
+    quiet_alone = vain_alone u q s.cpu runs.0 a.sound a.no_faults runs.2
 
     not_root_alone : q ≢ u.tree.root.name
     not_root_alone = not_top w.tree u.tree c.sound.tree a.sound.tree q (c.not_root q j)
@@ -185,8 +185,8 @@ module _ (w0 : World) (ps : List ℕ) (B : ℕ → World → Type 0) (C : World 
     alone_there : Alone q (after_acts u (turn_of u s)) there
     alone_there = record {
       sound = turn_sound u q s.cpu s.step a.sound quiet_alone first;
-      calm = later_alone u q s.cpu s.step a.sound (name_there q u w a.sound c.sound (c.names q j) a.guest)
-          not_root_alone a.calm quiet_alone first;
+      no_faults = later_alone u q s.cpu s.step a.sound (name_there q u w a.sound c.sound (c.names q j) a.guest)
+          not_root_alone a.no_faults quiet_alone first;
       guest = same.guest;
       stays = λ xs all. (a.stays (s ∷ xs) (o, all)).1;
     }
@@ -199,7 +199,7 @@ module _ (w0 : World) (ps : List ℕ) (B : ℕ → World → Type 0) (C : World 
       others = λ p i d. (kept p i d).guest;
       company = record {
         sound = sound;
-        calm = later w q s.cpu s.step j c.sound (c.names q j) (c.not_root q j) c.calm quiet same.inside sound
+        no_faults = later w q s.cpu s.step j c.sound (c.names q j) (c.not_root q j) c.no_faults quiet same.inside sound
             (λ p i d. (c.names p i, (kept p i d).guest));
         names = λ p i. elim (eqb_tells p q) [
           | inl e ↦ subst (IsName there.tree) (sym e.1) name

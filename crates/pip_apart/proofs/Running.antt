@@ -65,7 +65,7 @@ module _ (w0 : World) (ps : List ℕ) (g : AreGuests w0 ps) (B : ℕ → World �
       let ev = line j r in
       company_on w0 ps B C vain_alone later_alone vain later w (event w (E.Raise j)).world c (event-sound w (E.Raise
       j) c.sound ev)
-      (raised w j c.sound c.calm r)
+      (raised w j c.sound c.no_faults r)
       (λ q i. (others_leave_guests_alone w q (E.Raise j) c.sound ev (c.names q i) (c.not_root q i) tt).same)
       (λ cpu e. e)
 
@@ -165,7 +165,7 @@ module _ (w0 : World) (ps : List ℕ) (g : AreGuests w0 ps) (B : ℕ → World �
           (next_world plans w s) r.group.sound t.company.sound (r.group.names p i) one (t.others p i e.1))))
     ]
     | inr k ↦
-        let still = idle_turn v s.cpu s.step (idle v s.cpu r.group.sound r.group.calm (r.group.idle s.cpu k)) in
+        let still = idle_turn v s.cpu s.step (idle v s.cpu r.group.sound r.group.no_faults (r.group.idle s.cpu k)) in
         on_slot p s ss w u false (none_below w0 p s.cpu g.sound k) (other_ran p s ss (slots_of w0 p ss) w u
         (none_below v p s.cpu r.group.sound (r.group.idle s.cpu k))
         (run_on ss (next_world plans w s) (subst Group (sym still) r.group) rs.1 os.1 p i u
@@ -184,12 +184,12 @@ module _ (w0 : World) (ps : List ℕ) (g : AreGuests w0 ps) (B : ℕ → World �
   -- each guest is in w0 as it is alone
   one_at : (p : ℕ) → In p ps → B p w0 → One p w0 w0
   one_at p i k =
-      record { sound = g.sound; calm = k; guest = same_world p w0; stays = (g.each p i).stays }
+      record { sound = g.sound; no_faults = k; guest = same_world p w0; stays = (g.each p i).stays }
 
   group_at : C w0 → ((p : ℕ) → In p ps → B p w0) → Group w0
   group_at k b = record {
     sound = g.sound;
-    calm = k;
+    no_faults = k;
     names = λ q i. (g.each q i).name;
     not_root = λ q i. (g.each q i).not_root;
     aside = g.aside;
@@ -223,7 +223,7 @@ module _ (w0 : World) (ps : List ℕ) (g : AreGuests w0 ps) (B : ℕ → World �
       go (inl x) = let (y, b) = r.group.alone x.0 x.1 in
           (turn_on w0 ps B C vain_alone later_alone vain later x.0 s y v x.1 r.group b x.2).company
       go (inr k) = subst Group
-          (sym (idle_turn v s.cpu s.step (idle v s.cpu r.group.sound r.group.calm (r.group.idle s.cpu k)))) r.group
+          (sym (idle_turn v s.cpu s.step (idle v s.cpu r.group.sound r.group.no_faults (r.group.idle s.cpu k)))) r.group
 
   -- a test leaves no more than there are
   fewer : (f : Slot → Bool) (ss : List Slot) → length (filter f ss) ≤ length ss
@@ -259,7 +259,7 @@ module _ (w0 : World) (ps : List ℕ) (g : AreGuests w0 ps) (B : ℕ → World �
     | inr n ↦
         let c = group_on ss w0 (group_at k b) rs.1 os.1 in
         let r = raises_on plans s.step v c rs.0 in
-        absurd (some (shows_none (ready plans v s) s.cpu 0 (idle (ready plans v s) s.cpu r.group.sound r.group.calm
+        absurd (some (shows_none (ready plans v s) s.cpu 0 (idle (ready plans v s) s.cpu r.group.sound r.group.no_faults
         (r.group.idle s.cpu n))))
   ]
     where

@@ -21,7 +21,7 @@ use pip_ways::{write_shown, write_times, write_verdict};
 /// in company (docs/FORMATS.md, "apart").
 pub fn write_known<K: Sink>(sink: &mut K, known: &Knowledge) -> Result<(), Failed>
     requires { AllByRecursion CanBeShown known.now.guests.items }
-    ensures { Writes K.told sink.old sink.new result (known_text (known_of known.now)) }
+    ensures { Writes K.history sink.old sink.new result (known_text (known_of known.now)) }
 {
     write_guests(sink, known.guests.as_slice())?;
     write_end(sink, known.root, known.line, hold_apart(known))
@@ -30,7 +30,7 @@ pub fn write_known<K: Sink>(sink: &mut K, known: &Knowledge) -> Result<(), Faile
 // Writes guest by guest.
 fn write_guests<K: Sink>(sink: &mut K, guests: &[GuestSearch]) -> Result<(), Failed>
     requires { AllByRecursion CanBeShown guests.now }
-    ensures { Writes K.told sink.old sink.new result (flat_map (λ g. guest_text (alone_of g)) guests.now) }
+    ensures { Writes K.history sink.old sink.new result (flat_map (λ g. guest_text (alone_of g)) guests.now) }
 {
     for k in 0..guests.len() {
         write_guest(sink, &guests[k])?;
@@ -41,7 +41,7 @@ fn write_guests<K: Sink>(sink: &mut K, guests: &[GuestSearch]) -> Result<(), Fai
 // Writes all that was found of a guest.
 fn write_guest<K: Sink>(sink: &mut K, guest: &GuestSearch) -> Result<(), Failed>
     requires { CanBeShown guest.now }
-    ensures { Writes K.told sink.old sink.new result (guest_text (alone_of guest.now)) }
+    ensures { Writes K.history sink.old sink.new result (guest_text (alone_of guest.now)) }
 {
     write_head(sink, guest.top, guest.cpus.as_slice())?;
     write_lines(sink, guest)?;
@@ -51,7 +51,7 @@ fn write_guest<K: Sink>(sink: &mut K, guest: &GuestSearch) -> Result<(), Failed>
 // ---- the first line
 
 fn write_head<K: Sink>(sink: &mut K, top: Frame, cpus: &[u32]) -> Result<(), Failed>
-    ensures { Writes K.told sink.old sink.new result (guest_line top cpus.now) }
+    ensures { Writes K.history sink.old sink.new result (guest_line top cpus.now) }
 {
     write_top(sink, top)?;
     write_processors(sink, cpus)?;
@@ -59,7 +59,7 @@ fn write_head<K: Sink>(sink: &mut K, top: Frame, cpus: &[u32]) -> Result<(), Fai
 }
 
 fn write_top<K: Sink>(sink: &mut K, top: Frame) -> Result<(), Failed>
-    ensures { Writes K.told sink.old sink.new result (codes "guest " ++ decimal top ++ codes " on") }
+    ensures { Writes K.history sink.old sink.new result (codes "guest " ++ decimal top ++ codes " on") }
 {
     let mut text: ArrayString<32> = ArrayString::new();
     text.push_str("guest ");
@@ -69,7 +69,7 @@ fn write_top<K: Sink>(sink: &mut K, top: Frame) -> Result<(), Failed>
 }
 
 fn write_processors<K: Sink>(sink: &mut K, cpus: &[u32]) -> Result<(), Failed>
-    ensures { Writes K.told sink.old sink.new result (flat_map spaced cpus.now) }
+    ensures { Writes K.history sink.old sink.new result (flat_map spaced cpus.now) }
 {
     for k in 0..cpus.len() {
         write_processor(sink, cpus[k])?;
@@ -78,7 +78,7 @@ fn write_processors<K: Sink>(sink: &mut K, cpus: &[u32]) -> Result<(), Failed>
 }
 
 fn write_processor<K: Sink>(sink: &mut K, cpu: u32) -> Result<(), Failed>
-    ensures { Writes K.told sink.old sink.new result (spaced cpu) }
+    ensures { Writes K.history sink.old sink.new result (spaced cpu) }
 {
     let mut text: ArrayString<16> = ArrayString::new();
     text.push_str(" ");
@@ -91,7 +91,7 @@ fn write_processor<K: Sink>(sink: &mut K, cpu: u32) -> Result<(), Failed>
 // Writes the lines of the labels that were covered.
 fn write_lines<K: Sink>(sink: &mut K, guest: &GuestSearch) -> Result<(), Failed>
     requires { CanBeShown guest.now }
-    ensures { Writes K.told sink.old sink.new result
+    ensures { Writes K.history sink.old sink.new result
         (flat_map (turn_line guest.now.cpus.items) (alone_of guest.now).lines) }
 {
     for k in 0..guest.search.found.len() {
@@ -114,7 +114,7 @@ fn write_turn<K: Sink>(
 ) -> Result<(), Failed>
     requires some { 0 < depth }
     requires known { AllByRecursion (λ r. r.choice < length cpus.now) way.now }
-    ensures { Writes K.told sink.old sink.new result
+    ensures { Writes K.history sink.old sink.new result
         (leaving_text label.now ++ shown_text (depth - 1) (texts.unmarked label.now)
         (flat_map (turns_text cpus.now) way.now)) }
 {
@@ -124,7 +124,7 @@ fn write_turn<K: Sink>(
 
 // Writes that the guest leaves, where the label says so.
 fn write_leaving<K: Sink>(sink: &mut K, label: &[u8]) -> Result<(), Failed>
-    ensures { Writes K.told sink.old sink.new result (leaving_text label.now) }
+    ensures { Writes K.history sink.old sink.new result (leaving_text label.now) }
 {
     let text: &[u8] = if is_marked(label) { b"leaves " } else { b"" };
     write_all(sink, text)
@@ -146,7 +146,7 @@ fn write_plain<K: Sink>(
     way: &[Run],
 ) -> Result<(), Failed>
     requires { AllByRecursion (λ r. r.choice < length cpus.now) way.now }
-    ensures { Writes K.told sink.old sink.new result
+    ensures { Writes K.history sink.old sink.new result
         (shown_text step label.now (flat_map (turns_text cpus.now) way.now)) }
 {
     write_shown(sink, label, step)?;
@@ -157,7 +157,7 @@ fn write_plain<K: Sink>(
 // Writes the runs of a way, each after a space.
 fn write_way<K: Sink>(sink: &mut K, cpus: &[u32], way: &[Run]) -> Result<(), Failed>
     requires { AllByRecursion (λ r. r.choice < length cpus.now) way.now }
-    ensures { Writes K.told sink.old sink.new result (flat_map (turns_text cpus.now) way.now) }
+    ensures { Writes K.history sink.old sink.new result (flat_map (turns_text cpus.now) way.now) }
 {
     for k in 0..way.len() {
         write_turns(sink, cpus, way[k])?;
@@ -168,7 +168,7 @@ fn write_way<K: Sink>(sink: &mut K, cpus: &[u32], way: &[Run]) -> Result<(), Fai
 // Writes a run of turns of one processor.
 fn write_turns<K: Sink>(sink: &mut K, cpus: &[u32], run: Run) -> Result<(), Failed>
     requires { run.choice < length cpus.now }
-    ensures { Writes K.told sink.old sink.new result (turns_text cpus.now run) }
+    ensures { Writes K.history sink.old sink.new result (turns_text cpus.now run) }
 {
     write_processor(sink, cpus[run.choice as usize])?;
     write_times(sink, run.count)
@@ -182,7 +182,7 @@ fn write_end<K: Sink>(
     line: Option<u32>,
     holds: bool,
 ) -> Result<(), Failed>
-    ensures { Writes K.told sink.old sink.new result (root_line root ++ taken_line line ++ apart_line holds) }
+    ensures { Writes K.history sink.old sink.new result (root_line root ++ taken_line line ++ apart_line holds) }
 {
     let mut text: ArrayString<64> = ArrayString::new();
     push_root(&mut text, root);

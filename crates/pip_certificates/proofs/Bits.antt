@@ -83,13 +83,13 @@ module _ (p : PartSaid) (left at n : ℕ) (room : 8 * n < left + 8) where
   -- what stops a chunk
   pub chunk_stops : (a b : Option (List ℕ)) (j k : ℕ) (stop : PartStop) → StopsFront n at a b j k stop
       → StopsText (marks_from p left at) a b j k stop
-  chunk_stops a b j k (T.Bad fault) (t, is, over, calm) = (
+  chunk_stops a b j k (T.Bad fault) (t, is, over, no_faults) = (
     record {
       bytes = t.bytes;
       taken = t.taken;
       is = inr (short_chunk t.bytes t.few ∙ ap Err (sym is), over);
     },
-    calm,
+    no_faults,
   )
   chunk_stops a b j k T.Unread (t, rose) =
       (record { bytes = t.bytes; taken = t.taken; is = chunk_open t.bytes t.few }, rose)

@@ -142,7 +142,14 @@ module _ (held line : List ℕ) (a b c : Option (List ℕ)) (r : IsReading held 
 
     -- there is no memory for what was read
     pub reading_lacks : (before now : ℕ) → now ≡ before → StopsLine held a c before now Memory
-    reading_lacks before now calm = ((r.more ++ more, Consumes-trans a b c r.more more r.read reads.read), calm)
+    reading_lacks before now no_faults = (
+      (
+        r.more ++ more,
+        Consumes-trans a b c r.more more r.read
+            reads.read,
+      ),
+      no_faults,
+    )
 
     module _ (held' line' : List ℕ) where
       pub whole_line : TakesHeld more held' line line' true → TakesNextLine held held' line' a c Whole

@@ -5,7 +5,7 @@ use Rattle.std.proofs.lemmas.Grind.{flat_map-append}
 use Rattle.std.proofs.lemmas.List.{length-map, take_all}
 use Rattle.std.specs.Prelude.{codes, flat_map}
 use Rattle.pip_core_text.specs.CoreTexts.{core_words}
-use Rattle.pip_io.specs.Told.{Writing}
+use Rattle.pip_io.specs.Histories.{Writing}
 use Rattle.pip_io.specs.Writes.{Writes}
 use Rattle.pip_model.specs.Text.{line_text}
 use Rattle.pip_parts.specs.Entries.{Asks, Own, Shows, Tells, byte_digits, entry_line, key_digits, number_list}

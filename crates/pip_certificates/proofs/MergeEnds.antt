@@ -8,7 +8,7 @@ use Rattle.pip_due.specs.Streams.{EndsLine, IsCalm, Streams}
 use Rattle.pip_due.proofs.Endings.{apart, by_memory, by_plain, by_read_fault}
 use Rattle.pip_due.proofs.Waiting.{waits_first}
 use Rattle.pip_io.specs.Taken.{Keeps}
-use Rattle.pip_io.specs.Told.{writing}
+use Rattle.pip_io.specs.Histories.{writing}
 use Rattle.pip_model.specs.Grammar.{lines_of}
 use Rattle.pip_model.specs.Text.{line_text}
 use Rattle.pip_parts.specs.Merges.{Merging, is_whole, no_merging, uneven_of}
@@ -23,7 +23,7 @@ use Rattle.pip_certificates.specs.declared.commands.merge.MergeStop.TheVariants.
 
 -- ---- where it waits at first
 
-pub merge_waits : (a : Streams) → a.written.held ≡ [] → Waits merge_due a a
+pub merge_waits : (a : Streams) → a.written.buffered ≡ [] → Waits merge_due a a
 merge_waits a none = waits_first a none merge_due (
   record {
     lines = [];
@@ -55,8 +55,8 @@ of_three P false false x y z p q r = r
 
 -- ---- the ends
 
-module _ (code : ℕ) (p : Option State) (a b : Streams) (settled : code ≢ 4 → b.written.held ≡ []) (none : p ≡ None)
-    (start : a.written.held ≡ []) where
+module _ (code : ℕ) (p : Option State) (a b : Streams) (flushed : code ≢ 4 → b.written.buffered ≡ []) (none : p ≡ None)
+    (start : a.written.buffered ≡ []) where
   -- a read failed
   pub merge_unread : code ≡ 3 → (line : List ℕ) {stop : MergeStop} → stop ≡ Unread
       → StopsMerge a.left b.left a.reads b.reads line stop → Keeps a.written b.written → b.writes ≡ a.writes
@@ -64,7 +64,7 @@ module _ (code : ℕ) (p : Option State) (a b : Streams) (settled : code ≢ 4 �
   merge_unread is line {stop} why stopped kept quiet =
       let t : StopsMerge a.left b.left a.reads b.reads line Unread =
       subst (StopsMerge a.left b.left a.reads b.reads line) why stopped in
-      by_read_fault merge_due code p a b (record { reads = λ not. absurd (not is); writes = λ not. quiet }) settled
+      by_read_fault merge_due code p a b (record { reads = λ not. absurd (not is); writes = λ not. quiet }) flushed
       apart
       t.0.bytes t.0.taken none is (record { text = []; due = (t.0.begins, refl); limit = tt; wrote = kept }) t.1
 
@@ -75,7 +75,7 @@ module _ (code : ℕ) (p : Option State) (a b : Streams) (settled : code ≢ 4 �
   merge_lacks is line {stop} why stopped kept quiet =
       let t : StopsMerge a.left b.left a.reads b.reads line Memory =
       subst (StopsMerge a.left b.left a.reads b.reads line) why stopped in
-      by_memory merge_due code p a b (record { reads = λ not. t.1; writes = λ not. quiet }) settled apart
+      by_memory merge_due code p a b (record { reads = λ not. t.1; writes = λ not. quiet }) flushed apart
       t.0.0 t.0.1 none is tt kept
 
   broken_answered : (n : ℕ) (line : List ℕ) (fault : MergeFault) (t : TakesBreak a.left b.left n line fault)
@@ -100,7 +100,7 @@ module _ (code : ℕ) (p : Option State) (a b : Streams) (settled : code ≢ 4 �
   merge_broken n fault {line} {said} {stop} why stopped quiet same ends =
       let t : StopsMerge a.left b.left a.reads b.reads line (Bad n fault) =
       subst (StopsMerge a.left b.left a.reads b.reads line) why stopped in
-      by_plain merge_due code p a b (record { reads = λ not. t.1; writes = quiet }) settled apart t.0.bytes t.0.taken
+      by_plain merge_due code p a b (record { reads = λ not. t.1; writes = quiet }) flushed apart t.0.bytes t.0.taken
       none start (fault_status fault) (fault_text n line fault) (is_answer fault) (broken_answered n line fault t.0)
       (subst (λ l. EndsLine (fault_status fault) (fault_text n l fault) code (writing a.written a.writes)
       (writing b.written b.writes)) same
@@ -110,7 +110,7 @@ module _ (code : ℕ) (p : Option State) (a b : Streams) (settled : code ≢ 4 �
   pub merge_merged : (g : Merging) → TakesMerge a.left b.left g → IsCalm code a b
       → EndsWithResponse (merge_response g) code (writing a.written a.writes) (writing b.written b.writes) → EndsBy
       merge_due code p a b
-  merge_merged g t calm ends =
+  merge_merged g t no_faults ends =
       of_three (λ v. IsAnswered merge_due t.bytes v b.left
       → EndsWithResponse v code (writing a.written a.writes) (writing b.written b.writes) → EndsBy merge_due code p a b)
       (not g.parts.begins)
@@ -125,4 +125,4 @@ module _ (code : ℕ) (p : Option State) (a b : Streams) (settled : code ≢ 4 �
           → EndsLine status text code (writing a.written a.writes) (writing b.written b.writes) → EndsBy merge_due code
           p a b
       plain status text o due said =
-          by_plain merge_due code p a b calm settled apart t.bytes t.taken none start status text o due said
+          by_plain merge_due code p a b no_faults flushed apart t.bytes t.taken none start status text o due said

@@ -142,8 +142,8 @@ module _ (before : ℕ) (m : Merging) (held : List ℕ) (left a : Option (List �
       },
       subst (λ n. RoseByOne n now) same rose,
     )
-    line_unread b line first mid now same L.Memory ((bytes, taken), calm) =
-        (((at.lines ++ held) ++ bytes, read_on b bytes taken), calm ∙ same)
+    line_unread b line first mid now same L.Memory ((bytes, taken), no_faults) =
+        (((at.lines ++ held) ++ bytes, read_on b bytes taken), no_faults ∙ same)
 
     -- the input ended
     pub ends : (b : Option (List ℕ)) (held' line : List ℕ) → TakesNextLine held held' line a b End → TakesMerge left b m
@@ -202,10 +202,10 @@ module _ (before : ℕ) (m : Merging) (held : List ℕ) (left a : Option (List �
       pub whole_stops : (first now : ℕ) → now ≡ first → (more : Merging) (stop : MergeStop)
           → GivesNumbered (before + 1) (Err stop) more (merge_numbered (before + 1) m line)
           → StopsMerge left b first now line stop
-      whole_stops first now calm more (Bad number fault) (same, bad) =
-          (subst (λ k. TakesBreak left b k line fault) (sym same) (whole_breaks fault bad), calm)
-      whole_stops first now calm more Unread gives = absurd gives
-      whole_stops first now calm more Memory gives = ((front ++ held', all_taken), calm)
+      whole_stops first now no_faults more (Bad number fault) (same, bad) =
+          (subst (λ k. TakesBreak left b k line fault) (sym same) (whole_breaks fault bad), no_faults)
+      whole_stops first now no_faults more Unread gives = absurd gives
+      whole_stops first now no_faults more Memory gives = ((front ++ held', all_taken), no_faults)
 
       -- it was
       pub next_line : (more : Merging) → merge_numbered (before + 1) m line ≡ Ok more
@@ -250,8 +250,8 @@ module _ (before : ℕ) (m : Merging) (held : List ℕ) (left a : Option (List �
       pub last_ends : (first now : ℕ) → now ≡ first → (more : Merging) (r : Result (Unit {0}) MergeStop)
           → GivesNumbered (before + 1) r more (merge_numbered (before + 1) m line)
           → MatchResult r (λ _. TakesMerge left b more × (now ≡ first)) (StopsMerge left b first now line)
-      last_ends first now calm more (Ok u) gives = (last_merges more gives, calm)
-      last_ends first now calm more (Err (Bad number fault)) (same, bad) =
-          (subst (λ k. TakesBreak left b k line fault) (sym same) (last_breaks fault bad), calm)
-      last_ends first now calm more (Err Unread) gives = absurd gives
-      last_ends first now calm more (Err Memory) gives = ((at.lines ++ line, last_taken), calm)
+      last_ends first now no_faults more (Ok u) gives = (last_merges more gives, no_faults)
+      last_ends first now no_faults more (Err (Bad number fault)) (same, bad) =
+          (subst (λ k. TakesBreak left b k line fault) (sym same) (last_breaks fault bad), no_faults)
+      last_ends first now no_faults more (Err Unread) gives = absurd gives
+      last_ends first now no_faults more (Err Memory) gives = ((at.lines ++ line, last_taken), no_faults)

@@ -12,7 +12,7 @@ use Rattle.pip_image.proofs.Steps.{after_fault}
 use Rattle.pip_io.specs.Pacing.{MayRead}
 use Rattle.pip_io.specs.Moments.{beside}
 use Rattle.pip_io.specs.Taken.{Keeps}
-use Rattle.pip_io.specs.Told.{Writing, writing}
+use Rattle.pip_io.specs.Histories.{Writing, writing}
 use Rattle.pip_model.specs.Images.{Image, Part, image_parts}
 use Rattle.pip_model.specs.declared.image.ImageError.{ImageError}
 use Rattle.pip_switch.specs.Standing.{State}
@@ -65,13 +65,13 @@ after_front allows told {sink} {mid} {h} {m} {a} {b} {j} {k} kept same l paced =
 
 -- ---- where it waits at first
 
-pub part_waits : (a : Streams) → a.written.held ≡ [] → (from : ℕ) → Waits (part_due from) a a
+pub part_waits : (a : Streams) → a.written.buffered ≡ [] → (from : ℕ) → Waits (part_due from) a a
 part_waits a none from = waits_first a none (part_due from) (inl no_fault, refl) tt
 
 -- ---- the ends
 
 module _ (from code : ℕ) (p : Option State) (a c : Streams)
-    (settled : code ≢ 4 → c.written.held ≡ []) (none : p ≡ None) (start : a.written.held ≡ []) where
+    (flushed : code ≢ 4 → c.written.buffered ≡ []) (none : p ≡ None) (start : a.written.buffered ≡ []) where
   abbrev due : Due
   due = part_due from
 
@@ -107,7 +107,7 @@ module _ (from code : ℕ) (p : Option State) (a c : Streams)
   part_lacks is {stop} why stopped kept quiet =
       let h : StoppedLoading T.Memory a.left c.left a.reads c.reads =
       subst (λ s. StoppedLoading s a.left c.left a.reads c.reads) why stopped in
-      by_memory due code p a c (record { reads = λ not. h.1; writes = λ not. quiet }) settled apart h.0.bytes h.0.read
+      by_memory due code p a c (record { reads = λ not. h.1; writes = λ not. quiet }) flushed apart h.0.bytes h.0.read
       none is (inl h.0.header) kept
 
   -- the image has a fault, or its reading failed
@@ -119,7 +119,7 @@ module _ (from code : ℕ) (p : Option State) (a c : Streams)
       let h : RefusesAfter image_parts a.left c.left a.reads c.reads e =
       subst (λ s. StoppedLoading s a.left c.left a.reads c.reads) why stopped in
       let inside : IsFaultWithin e = subst IsStopInside why within in
-      by_refusal due code p a c start settled apart none quiet e h.0 h.1 tt (λ good. (inl good, refl))
+      by_refusal due code p a c start flushed apart none quiet e h.0 h.1 tt (λ good. (inl good, refl))
       (is_refused h.0 h.1.bytes e inside) same ends
 
   -- ---- after it
@@ -140,7 +140,7 @@ module _ (from code : ℕ) (p : Option State) (a c : Streams)
         → Stops stop before → Keeps a.written c.written → c.writes ≡ a.writes → EndsBy due code p a c
     part_unread is why same stopped kept quiet =
         let t : StopsText (after_said l.parsed) b c.left a.reads c.reads P.Unread = stops why same stopped in
-        by_read_fault due code p a c (record { reads = λ not. absurd (not is); writes = λ not. quiet }) settled apart
+        by_read_fault due code p a c (record { reads = λ not. absurd (not is); writes = λ not. quiet }) flushed apart
         (l.front ++ t.0.bytes) (both_read h m a.left b c.left l t.0.bytes t.0.taken) none is (record {
           text = [];
           due = (inr (begins l t.0.bytes, t.0.is), refl);
@@ -153,7 +153,7 @@ module _ (from code : ℕ) (p : Option State) (a c : Streams)
         → Stops stop before → Keeps a.written c.written → c.writes ≡ a.writes → EndsBy due code p a c
     part_unheld is why same stopped kept quiet =
         let t : StopsText (after_said l.parsed) b c.left a.reads c.reads P.Memory = stops why same stopped in
-        by_memory due code p a c (record { reads = λ not. t.1; writes = λ not. quiet }) settled apart
+        by_memory due code p a c (record { reads = λ not. t.1; writes = λ not. quiet }) flushed apart
         (l.front ++ t.0.0) (both_read h m a.left b c.left l t.0.0 t.0.1) none is (inr (begins l t.0.0)) kept
 
     bad_answered : (fault : PartFault) (t : TakesFault (after_said l.parsed) b c.left fault)
@@ -183,7 +183,7 @@ module _ (from code : ℕ) (p : Option State) (a c : Streams)
         → EndsBy due code p a c
     part_bad {stop} fault why {before} same stopped quiet {line} is ends =
         let t : StopsText (after_said l.parsed) b c.left a.reads c.reads (P.Bad fault) = stops why same stopped in
-        by_plain due code p a c (record { reads = λ not. t.1; writes = quiet }) settled apart
+        by_plain due code p a c (record { reads = λ not. t.1; writes = quiet }) flushed apart
         (l.front ++ t.0.bytes) (both_read h m a.left b c.left l t.0.bytes t.0.taken) none start 2
         (bad_part_line fault) (inl (omega arith)) (bad_answered fault t.0)
         (subst (λ x. EndsLine 2 x code (writing a.written a.writes) (writing c.written c.writes)) is ends)
@@ -193,8 +193,8 @@ module _ (from code : ℕ) (p : Option State) (a c : Streams)
         → EndsWithPart (IsPartAnswer from l.parsed (Ok said)) code (writing a.written a.writes)
         (writing c.written c.writes)
         → EndsBy due code p a c
-    part_checked said t calm (inl (text, (found, ends))) =
-        by_plain due code p a c calm settled apart (l.front ++ t.bytes)
+    part_checked said t no_faults (inl (text, (found, ends))) =
+        by_plain due code p a c no_faults flushed apart (l.front ++ t.bytes)
         (both_read h m a.left b c.left l t.bytes t.taken) none start 0 text (inl (omega arith)) (record {
           is = inr (
             begins l t.bytes,
@@ -203,6 +203,6 @@ module _ (from code : ℕ) (p : Option State) (a c : Streams)
           );
           decided = inr (t.ended, tt);
         }) ends
-    part_checked said t calm (inr (is, kept)) =
-        by_memory due code p a c calm settled apart (l.front ++ t.bytes)
+    part_checked said t no_faults (inr (is, kept)) =
+        by_memory due code p a c no_faults flushed apart (l.front ++ t.bytes)
         (both_read h m a.left b c.left l t.bytes t.taken) none is (inr (begins l t.bytes)) kept

@@ -56,13 +56,13 @@ module _ (n at : ℕ) (next : List ℕ → Telling) where
 
   pub front_stops : (a b : Option (List ℕ)) (j k : ℕ) (stop : PartStop) → StopsFront n at a b j k stop
       → StopsText tell a b j k stop
-  front_stops a b j k (T.Bad fault) (t, is, over, calm) = (
+  front_stops a b j k (T.Bad fault) (t, is, over, no_faults) = (
     record {
       bytes = t.bytes;
       taken = t.taken;
       is = inr (front_short t.bytes t.few ∙ ap Err (sym is), over);
     },
-    calm,
+    no_faults,
   )
   front_stops a b j k T.Unread (t, rose) =
       (record { bytes = t.bytes; taken = t.taken; is = front_open t.bytes t.few }, rose)
@@ -72,15 +72,15 @@ module _ (n at : ℕ) (next : List ℕ → Telling) where
   pub front_fault : (front : List ℕ) (a b : Option (List ℕ)) (j k : ℕ) (fault : PartFault) → length front ≡ n
       → Consumes a b front → k ≡ j → ((rest : List ℕ) → next front rest ≡ Err fault)
       → StopsText tell a b j k (T.Bad fault)
-  front_fault front a b j k fault size taken calm all = (
+  front_fault front a b j k fault size taken no_faults all = (
     record { bytes = front; taken = taken; is = inl (λ rest. front_is front rest size ∙ all rest) },
-    calm,
+    no_faults,
   )
 
 -- memory is asked for after bytes that were taken
 pub stops_memory : (t : Telling) (front : List ℕ) (a b : Option (List ℕ)) (j k : ℕ) → Consumes a b front → k ≡ j
     → StopsText t a b j k T.Memory
-stops_memory t front a b j k taken calm = ((front, taken), calm)
+stops_memory t front a b j k taken no_faults = ((front, taken), no_faults)
 
 -- ---- one after another
 
@@ -116,13 +116,13 @@ fault_after t u xs ys c fault is (inr here) = inr (is ys ∙ here.0, here.1)
 
 pub stops_after : (t u : Telling) (a b c : Option (List ℕ)) (i j k : ℕ) (stop : PartStop) → j ≡ i → TakesText t u a b
     → StopsText u b c j k stop → StopsText t a c i k stop
-stops_after t u a b c i j k (T.Bad fault) same x (y, calm) = (
+stops_after t u a b c i j k (T.Bad fault) same x (y, no_faults) = (
   record {
     bytes = x.bytes ++ y.bytes;
     taken = Consumes-trans a b c x.bytes y.bytes x.taken y.taken;
     is = fault_after t u x.bytes y.bytes c fault x.is y.is;
   },
-  calm ∙ same,
+  no_faults ∙ same,
 )
 stops_after t u a b c i j k T.Unread same x (y, rose) = (
   record {
@@ -132,8 +132,8 @@ stops_after t u a b c i j k T.Unread same x (y, rose) = (
   },
   subst (λ n. RoseByOne n k) same rose,
 )
-stops_after t u a b c i j k T.Memory same x ((ys, taken), calm) =
-    ((x.bytes ++ ys, Consumes-trans a b c x.bytes ys x.taken taken), calm ∙ same)
+stops_after t u a b c i j k T.Memory same x ((ys, taken), no_faults) =
+    ((x.bytes ++ ys, Consumes-trans a b c x.bytes ys x.taken taken), no_faults ∙ same)
 
 -- ---- what begins with a front
 
@@ -148,9 +148,9 @@ module _ (t : Telling) (n at : ℕ) (next : List ℕ → Telling) (same : t ≡ 
   pub of_fault : (front : List ℕ) (a b : Option (List ℕ)) (j k : ℕ) (fault : PartFault) → length front ≡ n
       → Consumes a b front → k ≡ j → ((rest : List ℕ) → next front rest ≡ Err fault)
       → StopsText t a b j k (T.Bad fault)
-  of_fault front a b j k fault size taken calm all =
+  of_fault front a b j k fault size taken no_faults all =
       subst (λ f. StopsText f a b j k (T.Bad fault)) (sym same)
-      (front_fault n at next front a b j k fault size taken calm all)
+      (front_fault n at next front a b j k fault size taken no_faults all)
 
   pub of_taken : (front : List ℕ) (u : Telling) (a b : Option (List ℕ)) → length front ≡ n → Consumes a b front
       → next front ≡ u → TakesText t u a b
@@ -172,5 +172,5 @@ ends_stop t u a b x is = subst (λ bs. HasNoFault t bs) (append-nil x.bytes) (op
 pub both_after : (t u : Telling) (a b c : Option (List ℕ)) (i j k : ℕ) (p : PartSaid) (r : Result (Unit {0}) PartStop)
     → j ≡ i → TakesText t u a b → MatchResult r (λ _. EndsText u b c p × (k ≡ j)) (StopsText u b c j k)
     → MatchResult r (λ _. EndsText t a c p × (k ≡ i)) (StopsText t a c i k)
-both_after t u a b c i j k p (Ok v) same x (y, calm) = (ends_after t u a b c p x y, calm ∙ same)
+both_after t u a b c i j k p (Ok v) same x (y, no_faults) = (ends_after t u a b c p x y, no_faults ∙ same)
 both_after t u a b c i j k p (Err stop) same x y = stops_after t u a b c i j k stop same x y

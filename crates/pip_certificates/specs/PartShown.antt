@@ -7,7 +7,7 @@ use Rattle.pip_due.specs.Streams.{EndsLine}
 use Rattle.pip_image.specs.declared.header.Header.{Header}
 use Rattle.pip_base.specs.Memory.{Memory}
 use Rattle.pip_io.specs.Taken.{Keeps}
-use Rattle.pip_io.specs.Told.{Writing}
+use Rattle.pip_io.specs.Histories.{Writing}
 use Rattle.pip_model.specs.Images.{Image}
 use Rattle.pip_model.specs.Text.{line_text}
 use Rattle.pip_parts.specs.Entries.{key_digits}

@@ -69,15 +69,16 @@ pub fn read_part<S: Source, K: Sink>(
     requires frames { limits.frames ≤ 4096 }
     requires place { at ≤ 2 ^ 32 }
     requires is_open { S.is_open joint.old.source.now }
-    requires settled { (K.told joint.old.sink.now).written.held ≡ [] }
-    requires paced { MayRead S.allows (HasNoFault (part_said limits at)) (joined S.told K.told joint.old) }
+    requires flushed { (K.history joint.old.sink.now).written.buffered ≡ [] }
+    requires paced { MayRead S.allows (HasNoFault (part_said limits at)) (joined S.history K.history joint.old) }
     ensures same_source { joint.new.source.ghost_name ≡ joint.old.source.ghost_name }
     ensures sink { joint.new.sink ≡ joint.old.sink }
     ensures reads { MatchResult result
-        (λ part. EndsText (part_said limits at) (S.told joint.old.source.now).left (S.told joint.new.source.now).left
-        (part_seen part) × ((S.told joint.new.source.now).faults ≡ (S.told joint.old.source.now).faults))
-        (StopsText (part_said limits at) (S.told joint.old.source.now).left (S.told joint.new.source.now).left
-        (S.told joint.old.source.now).faults (S.told joint.new.source.now).faults) }
+        (λ part. EndsText (part_said limits at) (S.history joint.old.source.now).left
+        (S.history joint.new.source.now).left
+        (part_seen part) × ((S.history joint.new.source.now).faults ≡ (S.history joint.old.source.now).faults))
+        (StopsText (part_said limits at) (S.history joint.old.source.now).left (S.history joint.new.source.now).left
+        (S.history joint.old.source.now).faults (S.history joint.new.source.now).faults) }
     ensures base { IfOk result (λ part. AreBaseWords limits.frames part.base.items) }
     ensures way { IfOk result (λ part. length part.way.items ≤ 10000000) }
     ensures can { IfOk result (λ part. All (λ k. k < limits.choices) part.way.items) }
@@ -101,15 +102,15 @@ fn number(bytes: &[u8], k: usize) -> u32
 // Fills a buffer as far as the source goes, and answers how far.
 fn fill<S: Source, K: Sink>(joint: &mut Joint<'_, S, K>, buf: &mut [u8]) -> Result<usize, Failed>
     requires is_open { S.is_open joint.old.source.now }
-    requires settled { (K.told joint.old.sink.now).written.held ≡ [] }
-    requires paced { MayRead S.allows (λ bytes. length bytes < length buf.old) (joined S.told K.told joint.old) }
+    requires flushed { (K.history joint.old.sink.now).written.buffered ≡ [] }
+    requires paced { MayRead S.allows (λ bytes. length bytes < length buf.old) (joined S.history K.history joint.old) }
     ensures same_source { joint.new.source.ghost_name ≡ joint.old.source.ghost_name }
     ensures sink { joint.new.sink ≡ joint.old.sink }
     ensures size { length buf.new ≡ length buf.old }
     ensures filled { MatchResult result
-        (λ n. FillsFront n buf.new (S.told joint.old.source.now).left (S.told joint.new.source.now).left)
-        (λ _. TakesFewer (length buf.old) (S.told joint.old.source.now).left (S.told joint.new.source.now).left) }
-    ensures cause { HasCause (S.told joint.old.source.now).faults (S.told joint.new.source.now).faults result }
+        (λ n. FillsFront n buf.new (S.history joint.old.source.now).left (S.history joint.new.source.now).left)
+        (λ _. TakesFewer (length buf.old) (S.history joint.old.source.now).left (S.history joint.new.source.now).left) }
+    ensures cause { HasCause (S.history joint.old.source.now).faults (S.history joint.new.source.now).faults result }
     ensures is_open { IfOk result (λ n. n ≡ length buf.new → S.is_open joint.new.source.now) }
 {
     let mut taken = 0;
@@ -131,16 +132,16 @@ fn take_front<S: Source, K: Sink>(
 ) -> Result<(), PartStop>
     requires place { at + length buf.old < 2 ^ 64 }
     requires is_open { S.is_open joint.old.source.now }
-    requires settled { (K.told joint.old.sink.now).written.held ≡ [] }
-    requires paced { MayRead S.allows (λ bytes. length bytes < length buf.old) (joined S.told K.told joint.old) }
+    requires flushed { (K.history joint.old.sink.now).written.buffered ≡ [] }
+    requires paced { MayRead S.allows (λ bytes. length bytes < length buf.old) (joined S.history K.history joint.old) }
     ensures same_source { joint.new.source.ghost_name ≡ joint.old.source.ghost_name }
     ensures sink { joint.new.sink ≡ joint.old.sink }
     ensures size { length buf.new ≡ length buf.old }
     ensures front { MatchResult result
-        (λ _. Consumes (S.told joint.old.source.now).left (S.told joint.new.source.now).left buf.new
-        × ((S.told joint.new.source.now).faults ≡ (S.told joint.old.source.now).faults))
-        (StopsFront (length buf.old) at (S.told joint.old.source.now).left (S.told joint.new.source.now).left
-        (S.told joint.old.source.now).faults (S.told joint.new.source.now).faults) }
+        (λ _. Consumes (S.history joint.old.source.now).left (S.history joint.new.source.now).left buf.new
+        × ((S.history joint.new.source.now).faults ≡ (S.history joint.old.source.now).faults))
+        (StopsFront (length buf.old) at (S.history joint.old.source.now).left (S.history joint.new.source.now).left
+        (S.history joint.old.source.now).faults (S.history joint.new.source.now).faults) }
     ensures is_open { OnOk result (S.is_open joint.new.source.now) }
 {
     match fill(joint, buf) {
@@ -164,17 +165,18 @@ fn read_base<S: Source, K: Sink>(
     requires base { AreBaseWords limits.frames part.old.base.items }
     requires place { at ≤ 2 ^ 32 }
     requires is_open { S.is_open joint.old.source.now }
-    requires settled { (K.told joint.old.sink.now).written.held ≡ [] }
+    requires flushed { (K.history joint.old.sink.now).written.buffered ≡ [] }
     requires paced { MayRead S.allows (HasNoFault (base_said limits (part_seen part.old) at))
-        (joined S.told K.told joint.old) }
+        (joined S.history K.history joint.old) }
     ensures same_source { joint.new.source.ghost_name ≡ joint.old.source.ghost_name }
     ensures sink { joint.new.sink ≡ joint.old.sink }
     ensures reads { MatchResult result
         (λ next. TakesText (base_said limits (part_seen part.old) at) (runs_said limits (part_seen part.new) next)
-        (S.told joint.old.source.now).left (S.told joint.new.source.now).left
-        × ((S.told joint.new.source.now).faults ≡ (S.told joint.old.source.now).faults))
-        (StopsText (base_said limits (part_seen part.old) at) (S.told joint.old.source.now).left
-        (S.told joint.new.source.now).left (S.told joint.old.source.now).faults (S.told joint.new.source.now).faults) }
+        (S.history joint.old.source.now).left (S.history joint.new.source.now).left
+        × ((S.history joint.new.source.now).faults ≡ (S.history joint.old.source.now).faults))
+        (StopsText (base_said limits (part_seen part.old) at) (S.history joint.old.source.now).left
+        (S.history joint.new.source.now).left (S.history joint.old.source.now).faults
+        (S.history joint.new.source.now).faults) }
     ensures place { IfOk result (λ next. next ≤ 2 ^ 36) }
     ensures base { IfOk result (λ _. AreBaseWords limits.frames part.new.base.items) }
     ensures way { IfOk result (λ _. part.new.way ≡ part.old.way) }
@@ -208,18 +210,19 @@ fn next_base<S: Source, K: Sink>(
     requires left { 0 < left }
     requires place { at ≤ 2 ^ 36 }
     requires is_open { S.is_open joint.old.source.now }
-    requires settled { (K.told joint.old.sink.now).written.held ≡ [] }
+    requires flushed { (K.history joint.old.sink.now).written.buffered ≡ [] }
     requires paced { MayRead S.allows (HasNoFault (base_from limits (part_seen part.old) least left at))
-        (joined S.told K.told joint.old) }
+        (joined S.history K.history joint.old) }
     ensures same_source { joint.new.source.ghost_name ≡ joint.old.source.ghost_name }
     ensures sink { joint.new.sink ≡ joint.old.sink }
     ensures reads { MatchResult result
         (λ next. TakesText (base_from limits (part_seen part.old) least left at)
-        (base_from limits (part_seen part.new) next (left - 1) (at + 12)) (S.told joint.old.source.now).left
-        (S.told joint.new.source.now).left
-        × ((S.told joint.new.source.now).faults ≡ (S.told joint.old.source.now).faults))
-        (StopsText (base_from limits (part_seen part.old) least left at) (S.told joint.old.source.now).left
-        (S.told joint.new.source.now).left (S.told joint.old.source.now).faults (S.told joint.new.source.now).faults) }
+        (base_from limits (part_seen part.new) next (left - 1) (at + 12)) (S.history joint.old.source.now).left
+        (S.history joint.new.source.now).left
+        × ((S.history joint.new.source.now).faults ≡ (S.history joint.old.source.now).faults))
+        (StopsText (base_from limits (part_seen part.old) least left at) (S.history joint.old.source.now).left
+        (S.history joint.new.source.now).left (S.history joint.old.source.now).faults
+        (S.history joint.new.source.now).faults) }
     ensures base { IfOk result (λ _. AreBaseWords limits.frames part.new.base.items) }
     ensures way { IfOk result (λ _. part.new.way ≡ part.old.way) }
     ensures marks { IfOk result (λ _. part.new.marks ≡ part.old.marks) }
@@ -263,17 +266,18 @@ fn read_way<S: Source, K: Sink>(
     requires short { length part.old.way.items ≤ 10000000 }
     requires can { All (λ k. k < limits.choices) part.old.way.items }
     requires is_open { S.is_open joint.old.source.now }
-    requires settled { (K.told joint.old.sink.now).written.held ≡ [] }
+    requires flushed { (K.history joint.old.sink.now).written.buffered ≡ [] }
     requires paced { MayRead S.allows (HasNoFault (runs_said limits (part_seen part.old) at))
-        (joined S.told K.told joint.old) }
+        (joined S.history K.history joint.old) }
     ensures same_source { joint.new.source.ghost_name ≡ joint.old.source.ghost_name }
     ensures sink { joint.new.sink ≡ joint.old.sink }
     ensures reads { MatchResult result
         (λ next. TakesText (runs_said limits (part_seen part.old) at) (marks_said (part_seen part.new) next)
-        (S.told joint.old.source.now).left (S.told joint.new.source.now).left
-        × ((S.told joint.new.source.now).faults ≡ (S.told joint.old.source.now).faults))
-        (StopsText (runs_said limits (part_seen part.old) at) (S.told joint.old.source.now).left
-        (S.told joint.new.source.now).left (S.told joint.old.source.now).faults (S.told joint.new.source.now).faults) }
+        (S.history joint.old.source.now).left (S.history joint.new.source.now).left
+        × ((S.history joint.new.source.now).faults ≡ (S.history joint.old.source.now).faults))
+        (StopsText (runs_said limits (part_seen part.old) at) (S.history joint.old.source.now).left
+        (S.history joint.new.source.now).left (S.history joint.old.source.now).faults
+        (S.history joint.new.source.now).faults) }
     ensures place { IfOk result (λ next. next ≤ 2 ^ 41) }
     ensures short { IfOk result (λ _. length part.new.way.items ≤ 10000000) }
     ensures can { IfOk result (λ _. All (λ k. k < limits.choices) part.new.way.items) }
@@ -309,18 +313,19 @@ fn next_run<S: Source, K: Sink>(
     requires short { length part.old.way.items ≤ 10000000 }
     requires can { All (λ k. k < limits.choices) part.old.way.items }
     requires is_open { S.is_open joint.old.source.now }
-    requires settled { (K.told joint.old.sink.now).written.held ≡ [] }
+    requires flushed { (K.history joint.old.sink.now).written.buffered ≡ [] }
     requires paced { MayRead S.allows (HasNoFault (runs_from limits (part_seen part.old) last left at))
-        (joined S.told K.told joint.old) }
+        (joined S.history K.history joint.old) }
     ensures same_source { joint.new.source.ghost_name ≡ joint.old.source.ghost_name }
     ensures sink { joint.new.sink ≡ joint.old.sink }
     ensures reads { MatchResult result
         (λ choice. TakesText (runs_from limits (part_seen part.old) last left at)
         (runs_from limits (part_seen part.new) (Option.Some choice) (left - 1) (at + 8))
-        (S.told joint.old.source.now).left (S.told joint.new.source.now).left
-        × ((S.told joint.new.source.now).faults ≡ (S.told joint.old.source.now).faults))
-        (StopsText (runs_from limits (part_seen part.old) last left at) (S.told joint.old.source.now).left
-        (S.told joint.new.source.now).left (S.told joint.old.source.now).faults (S.told joint.new.source.now).faults) }
+        (S.history joint.old.source.now).left (S.history joint.new.source.now).left
+        × ((S.history joint.new.source.now).faults ≡ (S.history joint.old.source.now).faults))
+        (StopsText (runs_from limits (part_seen part.old) last left at) (S.history joint.old.source.now).left
+        (S.history joint.new.source.now).left (S.history joint.old.source.now).faults
+        (S.history joint.new.source.now).faults) }
     ensures short { IfOk result (λ _. length part.new.way.items ≤ 10000000) }
     ensures can { IfOk result (λ _. All (λ k. k < limits.choices) part.new.way.items) }
     ensures base { IfOk result (λ _. part.new.base ≡ part.old.base) }
@@ -362,17 +367,18 @@ fn read_marks<S: Source, K: Sink>(
     requires place { at ≤ 2 ^ 41 }
     requires none { part.old.marks.items ≡ [] }
     requires is_open { S.is_open joint.old.source.now }
-    requires settled { (K.told joint.old.sink.now).written.held ≡ [] }
+    requires flushed { (K.history joint.old.sink.now).written.buffered ≡ [] }
     requires paced { MayRead S.allows (HasNoFault (marks_said (part_seen part.old) at))
-        (joined S.told K.told joint.old) }
+        (joined S.history K.history joint.old) }
     ensures same_source { joint.new.source.ghost_name ≡ joint.old.source.ghost_name }
     ensures sink { joint.new.sink ≡ joint.old.sink }
     ensures reads { MatchResult result
-        (λ _. EndsText (marks_said (part_seen part.old) at) (S.told joint.old.source.now).left
-        (S.told joint.new.source.now).left (part_seen part.new)
-        × ((S.told joint.new.source.now).faults ≡ (S.told joint.old.source.now).faults))
-        (StopsText (marks_said (part_seen part.old) at) (S.told joint.old.source.now).left
-        (S.told joint.new.source.now).left (S.told joint.old.source.now).faults (S.told joint.new.source.now).faults) }
+        (λ _. EndsText (marks_said (part_seen part.old) at) (S.history joint.old.source.now).left
+        (S.history joint.new.source.now).left (part_seen part.new)
+        × ((S.history joint.new.source.now).faults ≡ (S.history joint.old.source.now).faults))
+        (StopsText (marks_said (part_seen part.old) at) (S.history joint.old.source.now).left
+        (S.history joint.new.source.now).left (S.history joint.old.source.now).faults
+        (S.history joint.new.source.now).faults) }
     ensures base { IfOk result (λ _. part.new.base ≡ part.old.base) }
     ensures way { IfOk result (λ _. part.new.way ≡ part.old.way) }
     ensures few { IfOk result (λ _. length part.new.marks.items < 2 ^ 32 - 1) }
@@ -401,17 +407,18 @@ fn read_bits<S: Source, K: Sink>(
     requires none { part.old.marks.items ≡ [] }
     requires few { count < 2 ^ 32 - 1 }
     requires is_open { S.is_open joint.old.source.now }
-    requires settled { (K.told joint.old.sink.now).written.held ≡ [] }
+    requires flushed { (K.history joint.old.sink.now).written.buffered ≡ [] }
     requires paced { MayRead S.allows (HasNoFault (marks_from (part_seen part.old) count at))
-        (joined S.told K.told joint.old) }
+        (joined S.history K.history joint.old) }
     ensures same_source { joint.new.source.ghost_name ≡ joint.old.source.ghost_name }
     ensures sink { joint.new.sink ≡ joint.old.sink }
     ensures reads { MatchResult result
         (λ next. TakesText (marks_from (part_seen part.old) count at) (marks_from (part_seen part.new) 0 next)
-        (S.told joint.old.source.now).left (S.told joint.new.source.now).left
-        × ((S.told joint.new.source.now).faults ≡ (S.told joint.old.source.now).faults))
-        (StopsText (marks_from (part_seen part.old) count at) (S.told joint.old.source.now).left
-        (S.told joint.new.source.now).left (S.told joint.old.source.now).faults (S.told joint.new.source.now).faults) }
+        (S.history joint.old.source.now).left (S.history joint.new.source.now).left
+        × ((S.history joint.new.source.now).faults ≡ (S.history joint.old.source.now).faults))
+        (StopsText (marks_from (part_seen part.old) count at) (S.history joint.old.source.now).left
+        (S.history joint.new.source.now).left (S.history joint.old.source.now).faults
+        (S.history joint.new.source.now).faults) }
     ensures base { IfOk result (λ _. part.new.base ≡ part.old.base) }
     ensures way { IfOk result (λ _. part.new.way ≡ part.old.way) }
     ensures few { IfOk result (λ _. length part.new.marks.items ≤ count) }
@@ -442,18 +449,19 @@ fn read_chunk<S: Source, K: Sink>(
     requires size { length chunk.old ≤ 4096 }
     requires least { 8 * length chunk.old < left + 8 }
     requires is_open { S.is_open joint.old.source.now }
-    requires settled { (K.told joint.old.sink.now).written.held ≡ [] }
+    requires flushed { (K.history joint.old.sink.now).written.buffered ≡ [] }
     requires paced { MayRead S.allows (HasNoFault (marks_from (part_seen part.old) left at))
-        (joined S.told K.told joint.old) }
+        (joined S.history K.history joint.old) }
     ensures same_source { joint.new.source.ghost_name ≡ joint.old.source.ghost_name }
     ensures sink { joint.new.sink ≡ joint.old.sink }
     ensures reads { MatchResult result
         (λ _. TakesText (marks_from (part_seen part.old) left at)
         (marks_from (part_seen part.new) (left - 8 * length chunk.old) (at + length chunk.old))
-        (S.told joint.old.source.now).left (S.told joint.new.source.now).left
-        × ((S.told joint.new.source.now).faults ≡ (S.told joint.old.source.now).faults))
-        (StopsText (marks_from (part_seen part.old) left at) (S.told joint.old.source.now).left
-        (S.told joint.new.source.now).left (S.told joint.old.source.now).faults (S.told joint.new.source.now).faults) }
+        (S.history joint.old.source.now).left (S.history joint.new.source.now).left
+        × ((S.history joint.new.source.now).faults ≡ (S.history joint.old.source.now).faults))
+        (StopsText (marks_from (part_seen part.old) left at) (S.history joint.old.source.now).left
+        (S.history joint.new.source.now).left (S.history joint.old.source.now).faults
+        (S.history joint.new.source.now).faults) }
     ensures base { IfOk result (λ _. part.new.base ≡ part.old.base) }
     ensures way { IfOk result (λ _. part.new.way ≡ part.old.way) }
     ensures few { IfOk result (λ _. length part.new.marks.items + (left - 8 * length chunk.old)
@@ -519,15 +527,15 @@ fn add_marks(part: &mut ReadPart, left: u32, at: u64, byte: u8) -> Result<(), Pa
 // The end of the source.
 fn end_text<S: Source, K: Sink>(joint: &mut Joint<'_, S, K>, at: u64) -> Result<(), PartStop>
     requires is_open { S.is_open joint.old.source.now }
-    requires settled { (K.told joint.old.sink.now).written.held ≡ [] }
-    requires allowed { S.allows (joined S.told K.told joint.old) }
+    requires flushed { (K.history joint.old.sink.now).written.buffered ≡ [] }
+    requires allowed { S.allows (joined S.history K.history joint.old) }
     ensures same_source { joint.new.source.ghost_name ≡ joint.old.source.ghost_name }
     ensures sink { joint.new.sink ≡ joint.old.sink }
     ensures reads { (p : PartSaid) → MatchResult result
-        (λ _. EndsText (marks_from p 0 at) (S.told joint.old.source.now).left (S.told joint.new.source.now).left p
-        × ((S.told joint.new.source.now).faults ≡ (S.told joint.old.source.now).faults))
-        (StopsText (marks_from p 0 at) (S.told joint.old.source.now).left (S.told joint.new.source.now).left
-        (S.told joint.old.source.now).faults (S.told joint.new.source.now).faults) }
+        (λ _. EndsText (marks_from p 0 at) (S.history joint.old.source.now).left (S.history joint.new.source.now).left p
+        × ((S.history joint.new.source.now).faults ≡ (S.history joint.old.source.now).faults))
+        (StopsText (marks_from p 0 at) (S.history joint.old.source.now).left (S.history joint.new.source.now).left
+        (S.history joint.old.source.now).faults (S.history joint.new.source.now).faults) }
 {
     let mut byte = [0];
     match joint.read(&mut byte) {

@@ -29,19 +29,20 @@ const PIECE: usize = 32;
 pub fn show<K: Sink>(checked: &Checked, sink: &mut K) -> Result<(), Failed>
     requires { CountsStops checked.now }
     ensures wrote { MatchResult result
-        (λ _. Appends (K.told sink.old).written (K.told sink.new).written (lines_text (told_part checked.now)))
-        (λ _. SendsPart (K.told sink.old).written (K.told sink.new).written (lines_text (told_part checked.now))) }
-    ensures none { OnOk result ((K.told sink.new).written.held ≡ []) }
-    ensures cause { HasCause (K.told sink.old).faults (K.told sink.new).faults result }
+        (λ _. Appends (K.history sink.old).written (K.history sink.new).written (lines_text (told_part checked.now)))
+        (λ _. SendsPart (K.history sink.old).written (K.history sink.new).written
+        (lines_text (told_part checked.now))) }
+    ensures none { OnOk result ((K.history sink.new).written.buffered ≡ []) }
+    ensures cause { HasCause (K.history sink.old).faults (K.history sink.new).faults result }
 {
     give(checked, sink)?;
-    sink.settle()
+    sink.flush()
 }
 
 // Writes the text.
 fn give<K: Sink>(checked: &Checked, sink: &mut K) -> Result<(), Failed>
     requires { CountsStops checked.now }
-    ensures { Writes K.told sink.old sink.new result (lines_text (told_part checked.now)) }
+    ensures { Writes K.history sink.old sink.new result (lines_text (told_part checked.now)) }
 {
     write_stops(sink, checked.part.keys.as_slice(), b" +")?;
     write_stops(sink, checked.part.asked.as_slice(), b" ?")?;
@@ -51,7 +52,7 @@ fn give<K: Sink>(checked: &Checked, sink: &mut K) -> Result<(), Failed>
 
 // Writes the lines of keys.
 fn write_stops<K: Sink>(sink: &mut K, keys: &[Reached], kind: &[u8]) -> Result<(), Failed>
-    ensures { Writes K.told sink.old sink.new result (flat_map (stop_line kind.now) (stops keys.now)) }
+    ensures { Writes K.history sink.old sink.new result (flat_map (stop_line kind.now) (stops keys.now)) }
 {
     for k in 0..keys.len() {
         write_stop(sink, &keys[k], kind)?;
@@ -61,7 +62,7 @@ fn write_stops<K: Sink>(sink: &mut K, keys: &[Reached], kind: &[u8]) -> Result<(
 
 // Writes the line of a key.
 fn write_stop<K: Sink>(sink: &mut K, key: &Reached, kind: &[u8]) -> Result<(), Failed>
-    ensures { Writes K.told sink.old sink.new result (stop_line kind.now (stop_of key.now)) }
+    ensures { Writes K.history sink.old sink.new result (stop_line kind.now (stop_of key.now)) }
 {
     write_digits(sink, &key.key)?;
     write_all(sink, kind)?;
@@ -70,7 +71,7 @@ fn write_stop<K: Sink>(sink: &mut K, key: &Reached, kind: &[u8]) -> Result<(), F
 
 // Writes the digits of the bytes of a key.
 fn write_digits<K: Sink>(sink: &mut K, bytes: &[u8]) -> Result<(), Failed>
-    ensures { Writes K.told sink.old sink.new result (flat_map byte_digits bytes.now) }
+    ensures { Writes K.history sink.old sink.new result (flat_map byte_digits bytes.now) }
 {
     let mut rest = bytes;
     while !rest.is_empty() {
@@ -84,7 +85,7 @@ fn write_digits<K: Sink>(sink: &mut K, bytes: &[u8]) -> Result<(), Failed>
 // Writes the digits of 32 bytes at most.
 fn write_piece<K: Sink>(sink: &mut K, bytes: &[u8]) -> Result<(), Failed>
     requires { length bytes.now ≤ 32 }
-    ensures { Writes K.told sink.old sink.new result (flat_map byte_digits bytes.now) }
+    ensures { Writes K.history sink.old sink.new result (flat_map byte_digits bytes.now) }
 {
     let digits = digits_of(bytes);
     write_all(sink, digits.as_slice())
@@ -117,7 +118,7 @@ fn digit(value: u8) -> u8
 
 // Writes a depth, which ends a line.
 fn write_depth<K: Sink>(sink: &mut K, depth: u32) -> Result<(), Failed>
-    ensures { Writes K.told sink.old sink.new result (core_words (depth ∷ []) ++ 10 ∷ []) }
+    ensures { Writes K.history sink.old sink.new result (core_words (depth ∷ []) ++ 10 ∷ []) }
 {
     let mut text: ArrayString<16> = ArrayString::new();
     text.push_str(" ");
@@ -128,7 +129,7 @@ fn write_depth<K: Sink>(sink: &mut K, depth: u32) -> Result<(), Failed>
 
 // Writes the lines of labels.
 fn write_labels<K: Sink>(sink: &mut K, found: &[Found]) -> Result<(), Failed>
-    ensures { Writes K.told sink.old sink.new result
+    ensures { Writes K.history sink.old sink.new result
         (flat_map (λ label. line_text (entry_line (Shows (inner label)))) (labels found.now)) }
 {
     for k in 0..found.len() {
@@ -139,7 +140,7 @@ fn write_labels<K: Sink>(sink: &mut K, found: &[Found]) -> Result<(), Failed>
 
 // Writes the line of a label.
 fn write_label<K: Sink>(sink: &mut K, label: &[u8]) -> Result<(), Failed>
-    ensures { Writes K.told sink.old sink.new result (line_text (entry_line (Shows (inner label.now)))) }
+    ensures { Writes K.history sink.old sink.new result (line_text (entry_line (Shows (inner label.now)))) }
 {
     write_all(sink, b"line")?;
     write_all(sink, inner(label))?;
@@ -148,7 +149,7 @@ fn write_label<K: Sink>(sink: &mut K, label: &[u8]) -> Result<(), Failed>
 
 // Writes the last line: what the part is of, and its numbers.
 fn write_last<K: Sink>(sink: &mut K, about: &[u8], numbers: &PartNumbers) -> Result<(), Failed>
-    ensures { Writes K.told sink.old sink.new result (line_text (entry_line (Tells about.now numbers.now))) }
+    ensures { Writes K.history sink.old sink.new result (line_text (entry_line (Tells about.now numbers.now))) }
 {
     write_all(sink, b"part ")?;
     write_all(sink, about)?;
@@ -157,7 +158,7 @@ fn write_last<K: Sink>(sink: &mut K, about: &[u8], numbers: &PartNumbers) -> Res
 
 // Writes the numbers of a part, which end a line.
 fn write_numbers<K: Sink>(sink: &mut K, numbers: &PartNumbers) -> Result<(), Failed>
-    ensures { Writes K.told sink.old sink.new result (core_words (number_list numbers.now) ++ 10 ∷ []) }
+    ensures { Writes K.history sink.old sink.new result (core_words (number_list numbers.now) ++ 10 ∷ []) }
 {
     let mut text: ArrayString<64> = ArrayString::new();
     push_word(&mut text, numbers.way);

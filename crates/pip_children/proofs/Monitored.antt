@@ -6,7 +6,7 @@ use Rattle.pip_base.specs.declared.types.Plan.{Plan}
 use Rattle.pip_image.specs.Reading.{IsFault}
 use Rattle.pip_io.specs.Causes.{RoseByOne}
 use Rattle.pip_io.specs.Taken.{Appends, Keeps, SendsPart}
-use Rattle.pip_io.specs.Told.{writing}
+use Rattle.pip_io.specs.Histories.{writing}
 use Rattle.pip_model.specs.Images.{Image, Part, image_parts}
 use Rattle.pip_model.specs.declared.image.ImageError.{ImageError}
 use Rattle.pip_switch.specs.Standing.{StandsAs, State}
@@ -25,7 +25,7 @@ use Rattle.pip_due.proofs.ImageFaults.{is_faulty, no_image}
 use Rattle.pip_due.proofs.Refused.{by_refusal}
 
 module _ (s : Schedule) (n code : ℕ) (p : Option State) (a c : Streams)
-    (settled : code ≢ 4 → c.written.held ≡ []) where
+    (flushed : code ≢ 4 → c.written.buffered ≡ []) where
   abbrev due : Due
   due = schedule_due s n
 
@@ -52,8 +52,9 @@ module _ (s : Schedule) (n code : ℕ) (p : Option State) (a c : Streams)
       pub children_shown : (q : State) → code ≡ 0 → p ≡ Some q
           → Appends a.written c.written text × StandsAs q (children_world s l.loads.parsed n) → IsCalm code a c
           → EndsBy due code p a c
-      children_shown q is some did calm =
-          by_answer due code p a c calm settled apart l.loads.input l.loads.read (inl (omega (arith, is))) (record {
+      children_shown q is some did no_faults =
+          by_answer due code p a c no_faults flushed apart l.loads.input l.loads.read
+          (inl (omega (arith, is))) (record {
             answer = good;
             due = is_good;
             status = is;
@@ -62,10 +63,10 @@ module _ (s : Schedule) (n code : ℕ) (p : Option State) (a c : Streams)
           })
 
       -- a write of it failed
-      pub children_cut : p ≡ None → a.written.held ≡ [] → code ≡ 4 → SendsPart a.written c.written text
+      pub children_cut : p ≡ None → a.written.buffered ≡ [] → code ≡ 4 → SendsPart a.written c.written text
           → RoseByOne a.writes c.writes → c.reads ≡ a.reads → EndsBy due code p a c
       children_cut none start is part rose reads =
-          by_write_fault due code p a c (record { reads = λ not. reads; writes = λ not. absurd (not is) }) settled apart
+          by_write_fault due code p a c (record { reads = λ not. reads; writes = λ not. absurd (not is) }) flushed apart
           l.loads.input l.loads.read none is (part_plain due a c l.loads.input text good is_good refl refl start part)
           rose
 
@@ -78,11 +79,11 @@ module _ (s : Schedule) (n code : ℕ) (p : Option State) (a c : Streams)
         let h : StoppedNative n T.Memory a.left c.left a.reads c.reads =
         subst (λ x. StoppedNative n x a.left c.left a.reads c.reads) why stopped in
         let head = h.0.read in
-        by_memory due code p a c (record { reads = λ not. h.1; writes = λ not. quiet }) settled apart head.bytes
+        by_memory due code p a c (record { reads = λ not. h.1; writes = λ not. quiet }) flushed apart head.bytes
         head.read none is (head.header, subst (IsRoomy n) (sym head.same) h.0.roomy) kept
 
     -- the header has too few frames
-    pub children_short : a.written.held ≡ [] → {stop : ChildrenLoadError} {frames : ℕ} → stop ≡ T.Short frames
+    pub children_short : a.written.buffered ≡ [] → {stop : ChildrenLoadError} {frames : ℕ} → stop ≡ T.Short frames
         → StoppedNative n stop a.left c.left a.reads c.reads → (code ≢ 4 → c.writes ≡ a.writes) → {line : List ℕ}
         → line ≡ short_line frames n → EndsLine 8 line code (writing a.written a.writes) (writing c.written c.writes)
         → EndsBy due code p a c
@@ -92,7 +93,7 @@ module _ (s : Schedule) (n code : ℕ) (p : Option State) (a c : Streams)
         let head = h.0.read in
         let short : IsShort n head.bytes =
         record { header = head.header; few = let e = head.same in let l = h.0.few in omega (arith, e, l) } in
-        by_plain due code p a c (record { reads = λ not. h.1; writes = quiet }) settled apart head.bytes head.read none
+        by_plain due code p a c (record { reads = λ not. h.1; writes = quiet }) flushed apart head.bytes head.read none
         start 8 line (inr (omega arith)) (record {
           is = inl (short, ap (λ t. plainly 8 t None) (named ∙ ap (λ f. short_line f n) (sym head.same)));
           decided = inl (inl short);
@@ -112,13 +113,13 @@ module _ (s : Schedule) (n code : ℕ) (p : Option State) (a c : Streams)
     }
 
     -- the image has a fault, or its reading failed
-    pub children_faulted : a.written.held ≡ [] → {stop : ChildrenLoadError} {e f : ImageError} → stop ≡ T.Image e
+    pub children_faulted : a.written.buffered ≡ [] → {stop : ChildrenLoadError} {e f : ImageError} → stop ≡ T.Image e
         → StoppedNative n stop a.left c.left a.reads c.reads → (code ≢ 4 → c.writes ≡ a.writes) → f ≡ e
         → MatchOption (image_line f) ((code ≡ 3) × Keeps a.written c.written)
         (λ line. EndsLine 2 line code (writing a.written a.writes) (writing c.written c.writes)) → EndsBy due code p a c
     children_faulted start {stop} {e} {f} why stopped quiet same ends =
         let h : RefusesUnshort n a.left c.left a.reads c.reads e =
         subst (λ x. StoppedNative n x a.left c.left a.reads c.reads) why stopped in
-        by_refusal due code p a c start settled apart none quiet e h.parts h.refused tt
+        by_refusal due code p a c start flushed apart none quiet e h.parts h.refused tt
         (λ good. (good, h.unshort, refl))
         (is_refused h.parts h.refused.bytes e h.unshort) same ends

@@ -9,7 +9,7 @@ use Rattle.pip_children.specs.Children.{Schedule}
 use Rattle.pip_children.specs.Dues.{schedule_due}
 use Rattle.pip_children.proofs.Shortness.{unshort_lacking}
 
-pub children_waits : (a : Streams) → a.written.held ≡ [] → (s : Schedule) (n : ℕ) → Waits (schedule_due s n) a a
+pub children_waits : (a : Streams) → a.written.buffered ≡ [] → (s : Schedule) (n : ℕ) → Waits (schedule_due s n) a a
 children_waits a none s n = waits_first a none (schedule_due s n) (
   no_fault,
   unshort_lacking n [] (subst LacksHeader (sym (ap (λ t. t.parts) nothing_told)) tt),

@@ -34,9 +34,9 @@ pub fn children<S: Source, K: Sink, R: Scheduling + Drop, L: Ledger>(
     requires least { 1 ≤ n }
     requires most { n ≤ 8 }
     requires fits { R.fits scheduling n }
-    requires paced { MayStart (schedule_due (R.schedule scheduling) n) S.is_open S.allows S.told K.told source.old
+    requires paced { MayStart (schedule_due (R.schedule scheduling) n) S.is_open S.allows S.history K.history source.old
         sink.old }
-    ensures ends { Fulfils (schedule_due (R.schedule scheduling) n) result S.told K.told source.old sink.old
+    ensures ends { Fulfils (schedule_due (R.schedule scheduling) n) result S.history K.history source.old sink.old
         source.new sink.new }
 {
     let mut steps: Steps<L> = Steps::new(blank);
@@ -72,11 +72,12 @@ fn children_with<
     requires least { 1 ≤ n }
     requires most { n ≤ 8 }
     requires fits { R.fits scheduling n }
-    requires paced { MayStartJoined (schedule_due (R.schedule scheduling) n) S.is_open S.allows S.told K.told
+    requires paced { MayStartJoined (schedule_due (R.schedule scheduling) n) S.is_open S.allows S.history K.history
         joint.old }
     ensures same_source { joint.new.source.ghost_name ≡ joint.old.source.ghost_name }
     ensures same_sink { joint.new.sink.ghost_name ≡ joint.old.sink.ghost_name }
-    ensures ends { FulfilsJoined (schedule_due (R.schedule scheduling) n) result S.told K.told joint.old joint.new }
+    ensures ends { FulfilsJoined (schedule_due (R.schedule scheduling) n) result S.history K.history
+        joint.old joint.new }
 {
     match load(alloc, n, joint, make, steps) {
         Ok(mut loaded) => match show(&mut loaded, n, scheduling, &mut *joint.sink, steps) {

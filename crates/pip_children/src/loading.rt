@@ -40,16 +40,17 @@ pub fn load<S: Source, K: Sink, G: Fn(Plan) -> F, F: Callback + Drop, L: Ledger>
     requires answer { (p : Plan) (f : F) → G.post make p f → AnswersDue (F.may_ask f) (F.answers f) p }
     requires most { n ≤ 8 }
     requires is_open { S.is_open joint.old.source.now }
-    requires settled { (K.told joint.old.sink.now).written.held ≡ [] }
-    requires paced { MayRead S.allows (IsFaultlessUnshort n) (joined S.told K.told joint.old) }
+    requires flushed { (K.history joint.old.sink.now).written.buffered ≡ [] }
+    requires paced { MayRead S.allows (IsFaultlessUnshort n) (joined S.history K.history joint.old) }
     ensures same_source { joint.new.source.ghost_name ≡ joint.old.source.ghost_name }
     ensures sink { joint.new.sink ≡ joint.old.sink }
     ensures loads { MatchResult result
-        (λ l. LoadsNative n (S.told joint.old.source.now).left (S.told joint.new.source.now).left l.frames l.pages
+        (λ l. LoadsNative n (S.history joint.old.source.now).left (S.history joint.new.source.now).left l.frames l.pages
         l.lines.items l.machine)
-        (λ stop. StoppedNative n stop (S.told joint.old.source.now).left (S.told joint.new.source.now).left
-        (S.told joint.old.source.now).faults (S.told joint.new.source.now).faults) }
-    ensures calm { OnOk result ((S.told joint.new.source.now).faults ≡ (S.told joint.old.source.now).faults) }
+        (λ stop. StoppedNative n stop (S.history joint.old.source.now).left (S.history joint.new.source.now).left
+        (S.history joint.old.source.now).faults (S.history joint.new.source.now).faults) }
+    ensures no_faults { OnOk result ((S.history joint.new.source.now).faults ≡
+        (S.history joint.old.source.now).faults) }
     ensures below { IfOk result (λ l. AllByRecursion (λ p. p.line < 16) l.lines.items) }
 {
     let mut reader = JointReader::new();

@@ -42,7 +42,8 @@ pub trait Scheduling {
         requires least { 1 ≤ length children.items }
         requires most { length children.items ≤ 8 }
         requires fits { fits self (length children.items) }
-        ensures acts { Acts result (StandsAs machine.old) (StandsAs machine.new) (K.told sink.old) (K.told sink.new)
+        ensures acts { Acts result (StandsAs machine.old) (StandsAs machine.new) (K.history sink.old)
+            (K.history sink.new)
             (λ w. (schedule self).acts lines.now children.items w) }
-        ensures cause { HasCause (K.told sink.old).faults (K.told sink.new).faults result };
+        ensures cause { HasCause (K.history sink.old).faults (K.history sink.new).faults result };
 }

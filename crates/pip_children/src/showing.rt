@@ -31,13 +31,13 @@ pub fn show<F: Callback, R: Scheduling + Drop, K: Sink, L: Ledger>(
     requires most { n ≤ 8 }
     requires fits { R.fits scheduling n }
     ensures shows { (i : Image) → Begins i loaded.old.frames loaded.old.pages loaded.old.lines.items loaded.old.machine
-        → ShowsChildrenOut result (R.schedule scheduling) i n (K.told sink.old).written (K.told sink.new).written
+        → ShowsChildrenOut result (R.schedule scheduling) i n (K.history sink.old).written (K.history sink.new).written
         loaded.new.machine }
-    ensures none { OnOk result ((K.told sink.new).written.held ≡ []) }
-    ensures cause { HasCause (K.told sink.old).faults (K.told sink.new).faults result }
+    ensures none { OnOk result ((K.history sink.new).written.buffered ≡ []) }
+    ensures cause { HasCause (K.history sink.old).faults (K.history sink.new).faults result }
 {
     give(loaded, n, scheduling, sink, steps)?;
-    sink.settle()
+    sink.flush()
 }
 
 // Builds the children, makes the steps, and writes the text.
@@ -55,9 +55,9 @@ fn give<F: Callback, R: Scheduling + Drop, K: Sink, L: Ledger>(
     requires most { n ≤ 8 }
     requires fits { R.fits scheduling n }
     ensures shows { (i : Image) → Begins i loaded.old.frames loaded.old.pages loaded.old.lines.items loaded.old.machine
-        → ShowsChildren result (R.schedule scheduling) i n (K.told sink.old).written (K.told sink.new).written
+        → ShowsChildren result (R.schedule scheduling) i n (K.history sink.old).written (K.history sink.new).written
         loaded.new.machine }
-    ensures cause { HasCause (K.told sink.old).faults (K.told sink.new).faults result }
+    ensures cause { HasCause (K.history sink.old).faults (K.history sink.new).faults result }
 {
     let machine = &mut loaded.machine;
     let lines = loaded.lines.as_slice();

@@ -4,7 +4,7 @@ use Rattle.std.proofs.Common.{refl, sym, ap, subst, arith}
 use Rattle.pip_input.specs.Whole.{TakesMore, TakesPart, TakesWhole}
 use Rattle.pip_io.specs.Causes.{RoseByOne}
 use Rattle.pip_io.specs.Taken.{Keeps}
-use Rattle.pip_io.specs.Told.{writing}
+use Rattle.pip_io.specs.Histories.{writing}
 use Rattle.pip_model.specs.Assembly.{LineFault, assembly}
 use Rattle.pip_switch.specs.Standing.{State}
 use Rattle.pip_commands.specs.Dues.{asm_answer, asm_due}
@@ -13,21 +13,22 @@ use Rattle.pip_commands.specs.Faults.{asm_line}
 use Rattle.pip_due.specs.Streams.{IsCalm, Streams}
 use Rattle.pip_due.proofs.Endings.{apart, by_limit, by_memory, by_plain, by_read_fault}
 
-module _ (code : ℕ) (p : Option State) (a b : Streams) (none : p ≡ None) (calm : IsCalm code a b)
-    (settled : code ≢ 4 → b.written.held ≡ []) where
+module _ (code : ℕ) (p : Option State) (a b : Streams) (none : p ≡ None) (no_faults : IsCalm code a b)
+    (flushed : code ≢ 4 → b.written.buffered ≡ []) where
   -- a read failed, or there was no memory to read on, or the limit was passed
   pub asm_unread : code ≡ 3 → (bytes : List ℕ) → TakesPart bytes a.left b.left → RoseByOne a.reads b.reads
       → Keeps a.written b.written → EndsBy asm_due code p a b
-  asm_unread is bytes read rose kept = by_read_fault asm_due code p a b calm settled apart bytes read.read none is
+  asm_unread is bytes read rose kept = by_read_fault asm_due code p a b no_faults flushed apart bytes read.read none is
       (record { text = []; due = refl; limit = read.limit; wrote = kept }) rose
 
   pub asm_lacks : code ≡ 5 → (bytes : List ℕ) → TakesPart bytes a.left b.left → Keeps a.written b.written
       → EndsBy asm_due code p a b
-  asm_lacks is bytes read kept = by_memory asm_due code p a b calm settled apart bytes read.read none is read.limit kept
+  asm_lacks is bytes read kept = by_memory asm_due code p a b no_faults flushed apart bytes read.read none is
+      read.limit kept
 
   pub asm_past : code ≡ 6 → TakesMore a.left b.left → Keeps a.written b.written → EndsBy asm_due code p a b
   asm_past is read kept =
-      by_limit asm_due code p a b calm settled apart (read.bytes ++ read.last ∷ []) read.read none is (record {
+      by_limit asm_due code p a b no_faults flushed apart (read.bytes ++ read.last ∷ []) read.read none is (record {
         first = read.bytes;
         beyond = read.last;
         all = refl;
@@ -36,16 +37,16 @@ module _ (code : ℕ) (p : Option State) (a b : Streams) (none : p ≡ None) (ca
       })
 
   -- the whole input was read
-  module _ (start : a.written.held ≡ []) (input : List ℕ) (read : TakesWhole input a.left b.left) where
+  module _ (start : a.written.buffered ≡ []) (input : List ℕ) (read : TakesWhole input a.left b.left) where
     assembled : (t : Result (List ℕ) LineFault) → assembly input ≡ t → IsAnswered asm_due input (asm_answer t) b.left
     assembled t is = record { is = ap asm_answer (sym is); decided = inr (read.whole, read.limit) }
 
     tells : (t : Result (List ℕ) LineFault) → assembly input ≡ t
         → EndsWithResponse (asm_answer t) code (writing a.written a.writes) (writing b.written b.writes) → EndsBy
         asm_due code p a b
-    tells (Ok image) is told = by_plain asm_due code p a b calm settled apart input read.read none start 0 image
+    tells (Ok image) is told = by_plain asm_due code p a b no_faults flushed apart input read.read none start 0 image
         (inl (omega arith)) (assembled (Ok image) is) told
-    tells (Err fault) is told = by_plain asm_due code p a b calm settled apart input read.read none start 2
+    tells (Err fault) is told = by_plain asm_due code p a b no_faults flushed apart input read.read none start 2
         (asm_line fault)
         (inl (omega arith)) (assembled (Err fault) is) told
 

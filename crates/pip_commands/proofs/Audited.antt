@@ -12,7 +12,7 @@ use Rattle.pip_core_text.proofs.CanonicalRun.{only_texts}
 use Rattle.pip_dis.proofs.Written.{part_of_more}
 use Rattle.pip_io.specs.Causes.{RoseByOne}
 use Rattle.pip_io.specs.Taken.{Taken, Appends, Keeps, SendsPart, Wrote}
-use Rattle.pip_io.specs.Told.{writing}
+use Rattle.pip_io.specs.Histories.{writing}
 use Rattle.pip_io.proofs.Taken.{Appends-trans, SendsPart-after, part_sent}
 use Rattle.pip_model.specs.Audit.{Differs, Finding, HasWordsOnly, Lays, Unread, Unsound, finding}
 use Rattle.pip_model.specs.Dump.{tree_text}
@@ -134,22 +134,23 @@ pub refused_as : (left left' : Option (List ℕ)) (before now : ℕ) {k n : ℕ}
 refused_as left left' before now {k} {n} {x} {e} count is refused =
     subst (λ n. RefusesText n left left' before now e) count (subst (RefusesText k left left' before now) is refused)
 
-module _ (n code : ℕ) (p : Option State) (a c : Streams) (none : p ≡ None) (calm : IsCalm code a c)
-    (settled : code ≢ 4 → c.written.held ≡ []) where
+module _ (n code : ℕ) (p : Option State) (a c : Streams) (none : p ≡ None) (no_faults : IsCalm code a c)
+    (flushed : code ≢ 4 → c.written.buffered ≡ []) where
   abbrev due : Due
   due = audit_due n
 
   -- there was no memory, and nothing was read
   pub ends_memory : code ≡ 5 → c.left ≡ a.left → Keeps a.written c.written → EndsBy due code p a c
   ends_memory is left kept =
-      by_memory due code p a c calm settled (λ five. (left, calm.reads (λ three. omega (arith, is, three)))) []
+      by_memory due code p a c no_faults flushed
+      (λ five. (left, no_faults.reads (λ three. omega (arith, is, three)))) []
       (subst (λ l. Consumes a.left l []) (sym left) (Consumes-nil a.left)) none is tt kept
 
   -- a read failed
   pub ends_unread : code ≡ 3 → BeginsText n a.left c.left → Keeps a.written c.written → RoseByOne a.reads c.reads
       → EndsBy due code p a c
   ends_unread is s kept rose =
-      by_read_fault due code p a c calm settled
+      by_read_fault due code p a c no_faults flushed
       (λ five. let e = eqb-true code 5 five in absurd (omega (arith, is, e))) s.bytes s.taken none is
       (record {
         text = [];
@@ -158,12 +159,13 @@ module _ (n code : ℕ) (p : Option State) (a c : Streams) (none : p ≡ None) (
         wrote = kept;
       }) rose
 
-  module _ (start : a.written.held ≡ []) where
+  module _ (start : a.written.buffered ≡ []) where
     by_answer_line : (bytes : List ℕ) → Consumes a.left c.left bytes → (status : ℕ) (line : List ℕ) → IsOfAnswer status
         → status ≢ 5 → IsAnswered due bytes (plainly status line None) c.left
         → EndsLine status line code (writing a.written a.writes) (writing c.written c.writes) → EndsBy due code p a c
     by_answer_line bytes read status line of not is told =
-        by_plain due code p a c calm settled (not_five status line code a.written c.written a.writes c.writes not told)
+        by_plain due code p a c no_faults flushed
+        (not_five status line code a.written c.written a.writes c.writes not told)
         bytes read
         none start status line of is told
 

@@ -3,7 +3,7 @@ use Rattle.std.proofs.Common.{◌≡◌, ◌≢◌, ◌⊎◌, ℕ, inl, inr, Bo
 use Rattle.std.proofs.Common.{subst, append-nil}
 use Rattle.pip_io.specs.Causes.{RoseByOne}
 use Rattle.pip_io.specs.Taken.{Taken, Appends}
-use Rattle.pip_io.specs.Told.{writing}
+use Rattle.pip_io.specs.Histories.{writing}
 use Rattle.pip_io.proofs.Taken.{Appends-trans, SendsPart-after, past_sent}
 use Rattle.pip_drive.specs.Due.{DueOf}
 use Rattle.pip_drive.specs.Ends.{EndsWith, IsAnswer, IsCutShort, IsOut, Waits as TransducerWaits}
@@ -75,7 +75,7 @@ module _ {V : Type 0} (D : CommandDue) (d : DueOf V) (loose : Bool) (s : Serves 
     pub driven_end : (status : ℕ) → IsOfAnswer status → IsAnswered D e.bytes (silent status e.front) b.left
         → EndsBy D status None a b
     driven_end status o due = by_answer D status None a b
-        (record { reads = λ not. e.calm.reads; writes = λ not. e.calm.writes }) (λ not. e.out)
+        (record { reads = λ not. e.no_faults.reads; writes = λ not. e.no_faults.writes }) (λ not. e.out)
         (λ u. absurd (s.reads status u)) e.bytes e.read o (record {
           answer = silent status e.front;
           due = due;
@@ -90,9 +90,9 @@ module _ {V : Type 0} (D : CommandDue) (d : DueOf V) (loose : Bool) (s : Serves 
         → (w : Taken) (k : ℕ) → (code ≢ 4 → w.held ≡ []) → (code ≢ 4 → k ≡ b.writes)
         → EndsLine status line code (writing b.written b.writes) (writing w k)
         → EndsBy D code p a (record b { written = w; writes = k })
-    driven_line status line o due code p none w k settled quiet (inl (is, whole)) =
+    driven_line status line o due code p none w k flushed quiet (inl (is, whole)) =
         by_answer D code p a _
-        (record { reads = λ not. e.calm.reads; writes = λ not. quiet not ∙ e.calm.writes }) settled
+        (record { reads = λ not. e.no_faults.reads; writes = λ not. quiet not ∙ e.no_faults.writes }) flushed
         (λ u. absurd (s.reads code u)) e.bytes e.read (subst IsOfAnswer (sym is) o) (record {
           answer = naming status e.front line;
           due = due;
@@ -100,13 +100,13 @@ module _ {V : Type 0} (D : CommandDue) (d : DueOf V) (loose : Bool) (s : Serves 
           wrote = Appends-trans _ _ _ _ _ front_out whole;
           machine = no_world p none;
         })
-    driven_line status line o due code p none w k settled quiet (inr (is, part, rose)) =
+    driven_line status line o due code p none w k flushed quiet (inr (is, part, rose)) =
         by_write_fault D code p a _
-        (record { reads = λ not. e.calm.reads; writes = λ not. absurd (not is) }) settled
+        (record { reads = λ not. e.no_faults.reads; writes = λ not. absurd (not is) }) flushed
         (λ u. absurd (s.reads code u)) e.bytes e.read none is (record {
           front = e.front;
           last = line;
           due = inl (naming status e.front line, due, refl, refl);
           out = past_sent _ _ _ _ _ front_out e.out part;
           part = SendsPart-after _ _ _ _ _ front_out part;
-        }) (subst (λ n. RoseByOne n k) e.calm.writes rose)
+        }) (subst (λ n. RoseByOne n k) e.no_faults.writes rose)

@@ -6,7 +6,7 @@ use Rattle.pip_base.specs.declared.types.Plan.{Plan}
 use Rattle.pip_image.specs.Reading.{IsFault, RefusesAfter}
 use Rattle.pip_io.specs.Causes.{RoseByOne}
 use Rattle.pip_io.specs.Taken.{Appends, Keeps, SendsPart}
-use Rattle.pip_io.specs.Told.{writing}
+use Rattle.pip_io.specs.Histories.{writing}
 use Rattle.pip_model.specs.Images.{Part, image_parts}
 use Rattle.pip_model.specs.declared.image.ImageError.{ImageError}
 use Rattle.pip_switch.specs.Standing.{StandsAs, State}
@@ -24,7 +24,7 @@ use Rattle.pip_due.proofs.ImageFaults.{is_faulty, no_image}
 use Rattle.pip_due.proofs.Refused.{by_refusal}
 
 module _ (r : Report) (count seed code : ℕ) (p : Option State) (a c : Streams)
-    (settled : code ≢ 4 → c.written.held ≡ []) where
+    (flushed : code ≢ 4 → c.written.buffered ≡ []) where
   abbrev due : Due
   due = run_due r count seed
 
@@ -53,8 +53,8 @@ module _ (r : Report) (count seed code : ℕ) (p : Option State) (a c : Streams)
       → (l : LoadsImage a.left c.left frames pages plans s)
       → Appends a.written c.written (shown r l.parsed count seed) × StandsAs q (last_world r l.parsed count seed)
       → IsCalm code a c → EndsBy due code p a c
-  run_shown {frames} {pages} {plans} {s} q is some l did calm =
-      by_answer due code p a c calm settled apart l.input l.read (inl (omega (arith, is))) (record {
+  run_shown {frames} {pages} {plans} {s} q is some l did no_faults =
+      by_answer due code p a c no_faults flushed apart l.input l.read (inl (omega (arith, is))) (record {
         answer = good frames pages plans s l;
         due = is_good frames pages plans s l;
         status = is;
@@ -69,27 +69,27 @@ module _ (r : Report) (count seed code : ℕ) (p : Option State) (a c : Streams)
     run_lacks is {stop} why stopped kept quiet =
         let h : StoppedLoading T.Memory a.left c.left a.reads c.reads =
         subst (λ s. StoppedLoading s a.left c.left a.reads c.reads) why stopped in
-        by_memory due code p a c (record { reads = λ not. h.1; writes = λ not. quiet }) settled apart h.0.bytes h.0.read
+        by_memory due code p a c (record { reads = λ not. h.1; writes = λ not. quiet }) flushed apart h.0.bytes h.0.read
         none is h.0.header kept
 
     -- a write of the text failed
-    pub run_cut : a.written.held ≡ [] → {frames pages : ℕ} {plans : List Plan} {s : State} → code ≡ 4
+    pub run_cut : a.written.buffered ≡ [] → {frames pages : ℕ} {plans : List Plan} {s : State} → code ≡ 4
         → (l : LoadsImage a.left c.left frames pages plans s) → SendsPart a.written c.written
         (shown r l.parsed count seed)
         → RoseByOne a.writes c.writes → c.reads ≡ a.reads → EndsBy due code p a c
     run_cut start {frames} {pages} {plans} {s} is l part rose reads =
-        by_write_fault due code p a c (record { reads = λ not. reads; writes = λ not. absurd (not is) }) settled apart
+        by_write_fault due code p a c (record { reads = λ not. reads; writes = λ not. absurd (not is) }) flushed apart
         l.input l.read
         none is (part_plain due a c l.input (shown r l.parsed count seed) (good frames pages plans s l)
         (is_good frames pages plans s l) refl refl start part) rose
 
     -- the image has a fault, or its reading failed
-    pub run_faulted : a.written.held ≡ [] → {stop : LoadError} {e f : ImageError} → stop ≡ T.Image e
+    pub run_faulted : a.written.buffered ≡ [] → {stop : LoadError} {e f : ImageError} → stop ≡ T.Image e
         → StoppedLoading stop a.left c.left a.reads c.reads → (code ≢ 4 → c.writes ≡ a.writes) → f ≡ e
         → MatchOption (image_line f) ((code ≡ 3) × Keeps a.written c.written)
         (λ line. EndsLine 2 line code (writing a.written a.writes) (writing c.written c.writes)) → EndsBy due code p a c
     run_faulted start {stop} {e} {f} why stopped quiet same ends =
         let h : RefusesAfter image_parts a.left c.left a.reads c.reads e =
         subst (λ s. StoppedLoading s a.left c.left a.reads c.reads) why stopped in
-        by_refusal due code p a c start settled apart none quiet e h.0 h.1 tt (λ good. (good, refl))
+        by_refusal due code p a c start flushed apart none quiet e h.0 h.1 tt (λ good. (good, refl))
         (is_refused h.0 h.1.bytes e) same ends

@@ -10,7 +10,7 @@ use Rattle.pip_input.specs.declared.input.LineEnd.{LineEnd}
 use Rattle.pip_input.proofs.Taking.{all_read}
 use Rattle.pip_io.specs.Causes.{RoseByOne}
 use Rattle.pip_io.specs.Taken.{Taken, Appends, Keeps, SendsPart}
-use Rattle.pip_io.specs.Told.{Writing, writing}
+use Rattle.pip_io.specs.Histories.{Writing, writing}
 use Rattle.pip_io.proofs.Taken.{Appends-kept, Appends-nil, Appends-trans, Keeps-trans, SendsPart-after, cut_sent}
 use Rattle.pip_model.specs.Grammar.{lines_of}
 use Rattle.pip_model.specs.Text.{transcript_from}
@@ -40,7 +40,7 @@ not_read Memory e n before after names is = absurd (subst (λ e. Names Memory n 
 -- ---- it isn't known what stands at the head
 
 unsettled : (v : Option World) (n : ℕ) (i : Held) (a b : Streams) → b.left ≡ a.left → Keeps a.written b.written
-    → b.written.held ≢ [] → RoseByOne a.writes b.writes → IsUnwritten v n i a b
+    → b.written.buffered ≢ [] → RoseByOne a.writes b.writes → IsUnwritten v n i a b
 unsettled v n i a b left kept some rose = record {
   bytes = [];
   beyond = i.bytes;
@@ -72,16 +72,16 @@ has_no_line NoMemory machine machine' n i j a b kept taken h = absurd h
 has_no_line Limit machine machine' n i j a b kept taken h = absurd h
 
 pub no_line_none : (e : End) (i j : Held) (a b : Streams) → HasNoLine e i j a b
-    → ◌≡◌ {A = Option End} (Some e) (Some ReadFault) → b.written.held ≡ []
+    → ◌≡◌ {A = Option End} (Some e) (Some ReadFault) → b.written.buffered ≡ []
 no_line_none e i j a b h is = (subst (λ e. HasNoLine e i j a b) (some_same is) h).3
 
 -- ---- after a settling
 
 module _ (a : Streams) (w : Taken) (m : ℕ) (kept : Keeps a.written w) (same : m ≡ a.writes) where
-  abbrev settled_first : Streams
-  settled_first = record { left = a.left; written = w; reads = a.reads; writes = m }
+  abbrev flushed_first : Streams
+  flushed_first = record { left = a.left; written = w; reads = a.reads; writes = m }
 
-  takes_after : (i : Held) (b : Streams) (bytes beyond : List ℕ) → TakesLast i settled_first b bytes beyond
+  takes_after : (i : Held) (b : Streams) (bytes beyond : List ℕ) → TakesLast i flushed_first b bytes beyond
       → TakesLast i a b bytes beyond
   takes_after i b bytes beyond t = record { read = t.read; few = t.few }
 
@@ -89,7 +89,7 @@ module _ (a : Streams) (w : Taken) (m : ℕ) (kept : Keeps a.written w) (same : 
   wrote_after c t h = Appends-trans a.written w c [] t kept h
 
   ends_after : (e : End) (v : Option World) (n : ℕ) (i : Held) (b : Streams) (machine : Option State)
-      → EndsTurn e v n i settled_first b machine → EndsTurn e v n i a b machine
+      → EndsTurn e v n i flushed_first b machine → EndsTurn e v n i a b machine
   ends_after Finished v n i b machine d =
       record {
         bytes = d.bytes;
@@ -151,7 +151,7 @@ module _ (a : Streams) (w : Taken) (m : ℕ) (kept : Keeps a.written w) (same : 
       }
 
   pub did_after : (end : Option End) (machine machine' : Option State) (n : ℕ) (i j : Held) (b : Streams)
-      → TurnDoes end machine machine' n i j settled_first b → TurnDoes end machine machine' n i j a b
+      → TurnDoes end machine machine' n i j flushed_first b → TurnDoes end machine machine' n i j a b
   did_after None machine machine' n i j b h = (
     record { reads = h.0.reads; writes = h.0.writes ∙ same },
     λ v stands. let d = h.1 v stands in
@@ -179,23 +179,23 @@ pub ends_settled : {a b : Streams} {w : Taken} {m : ℕ} (machine machine' : Opt
     → (HoldsLine (still i) j b.left head → (v : Option World) → StandsIfAny machine v
     → EndsTurn e v n i (record { left = a.left; written = w; reads = a.reads; writes = m }) b machine')
     → TurnDoes (Some e) machine machine' n i j a b
-ends_settled {a} {b} {w} {m} machine machine' n i j e {found} {head} is line taken calm ends =
+ends_settled {a} {b} {w} {m} machine machine' n i j e {found} {head} is line taken no_faults ends =
     did_after a w m taken line.2 (Some e) machine machine' n i j b (
-      record { reads = λ not. line.1; writes = calm },
+      record { reads = λ not. line.1; writes = no_faults },
       ends (subst (HoldsLine (still i) j b.left) is line.0),
     )
 
 -- ---- before a settling
 
 module _ (a c : Streams) (w : Taken) (m : ℕ) (v : Option World) (n : ℕ) (i : Held) (machine : Option State) where
-  abbrev settled_last : Streams
-  settled_last = record { left = c.left; written = w; reads = c.reads; writes = m }
+  abbrev flushed_last : Streams
+  flushed_last = record { left = c.left; written = w; reads = c.reads; writes = m }
 
-  takes_before : (bytes beyond : List ℕ) → TakesLast i a c bytes beyond → TakesLast i a settled_last bytes beyond
+  takes_before : (bytes beyond : List ℕ) → TakesLast i a c bytes beyond → TakesLast i a flushed_last bytes beyond
   takes_before bytes beyond t = record { read = t.read; few = t.few }
 
   -- nothing was tried
-  read_fault_stays : w ≡ c.written → IsUnread i a c → IsUnread i a settled_last
+  read_fault_stays : w ≡ c.written → IsUnread i a c → IsUnread i a flushed_last
   read_fault_stays same d = record {
     rest = d.rest;
     takes = takes_before d.rest [] d.takes;
@@ -205,7 +205,7 @@ module _ (a c : Streams) (w : Taken) (m : ℕ) (v : Option World) (n : ℕ) (i :
     rose = d.rose;
   }
 
-  write_fault_stays : w ≡ c.written → m ≡ c.writes → IsUnwritten v n i a c → IsUnwritten v n i a settled_last
+  write_fault_stays : w ≡ c.written → m ≡ c.writes → IsUnwritten v n i a c → IsUnwritten v n i a flushed_last
   write_fault_stays same count d = record {
     bytes = d.bytes;
     beyond = d.beyond;
@@ -218,7 +218,7 @@ module _ (a c : Streams) (w : Taken) (m : ℕ) (v : Option World) (n : ℕ) (i :
   module _ (kept : Keeps c.written w) where
     -- what was held was written
     stays : (e : End) → status_of e ≢ 3 → status_of e ≢ 4 → EndsTurn e v n i a c machine
-        → EndsTurn e v n i a settled_last machine
+        → EndsTurn e v n i a flushed_last machine
     stays Finished not3 not4 d =
         record {
           bytes = d.bytes;
@@ -268,7 +268,7 @@ module _ (a c : Streams) (w : Taken) (m : ℕ) (v : Option World) (n : ℕ) (i :
     -- a part of it was
     module _ (some : w.held ≢ []) (rose : RoseByOne a.writes m) where
       nothing_cut : (beyond : List ℕ) → Consumes (bytes_coming i a) c.left beyond → Keeps a.written c.written
-          → IsUnwritten v n i a settled_last
+          → IsUnwritten v n i a flushed_last
       nothing_cut beyond read wrote = record {
         bytes = [];
         beyond = beyond;
@@ -279,7 +279,7 @@ module _ (a c : Streams) (w : Taken) (m : ℕ) (v : Option World) (n : ℕ) (i :
       }
 
       cut : (e : End) → status_of e ≢ 3 → status_of e ≢ 4 → EndsTurn e v n i a c machine
-          → IsUnwritten v n i a settled_last
+          → IsUnwritten v n i a flushed_last
       cut Finished not3 not4 d = record {
         bytes = d.bytes;
         beyond = [];
@@ -351,15 +351,15 @@ module _ (a c : Streams) (w : Taken) (m : ℕ) (machine machine' : Option State)
 
 -- nothing is held at an end that is no failed write
 held_none : (e e' : End) (before after : Writing) → IsSettled e e' before after → e' ≢ WriteFault
-    → after.written.held ≡ []
+    → after.written.buffered ≡ []
 held_none e e' before after s not = elim s.1 [
   | inl whole ↦ whole.1
   | inr part ↦ absurd (not part.0)
 ]
 
 pub none_held : (e e' : End) (before after : Writing)
-    → (◌≡◌ {A = Option End} (Some e) (Some ReadFault) → before.written.held ≡ []) → Settles e e' before after
-    → e' ≢ WriteFault → after.written.held ≡ []
+    → (◌≡◌ {A = Option End} (Some e) (Some ReadFault) → before.written.buffered ≡ []) → Settles e e' before after
+    → e' ≢ WriteFault → after.written.buffered ≡ []
 none_held ReadFault e' before after none s not = ap (λ w. w.held) s.1 ∙ none refl
 none_held WriteFault e' before after none s not = absurd (not s.0)
 none_held Finished e' before after none s not = held_none Finished e' before after s not

@@ -6,7 +6,7 @@ use Rattle.pip_dump.specs.Totals.{TotalsOf}
 use Rattle.pip_dump.specs.declared.numbers.Totals.{Totals}
 use Rattle.pip_io.specs.Causes.{RoseByOne}
 use Rattle.pip_io.specs.Taken.{Taken, Appends, Keeps, SendsPart}
-use Rattle.pip_io.specs.Told.{writing}
+use Rattle.pip_io.specs.Histories.{writing}
 use Rattle.pip_model.specs.Happens.{outcomes}
 use Rattle.pip_model.specs.Layout.{LaysOut}
 use Rattle.pip_model.specs.Partitions.{IsHeld}
@@ -39,7 +39,7 @@ module _ (p : State) where
 
 -- what is told of the sink goes from `before` and `writes` on; what is told of the source stays
 module _ (count seed code : ℕ) (p : Option State) (before after : Taken) (writes writes' : ℕ) (start : before.held ≡ [])
-    (settled : code ≢ 4 → after.held ≡ []) (left : Option (List ℕ)) (reads : ℕ) where
+    (flushed : code ≢ 4 → after.held ≡ []) (left : Option (List ℕ)) (reads : ℕ) where
   abbrev due : Due
   due = soak_due count seed
 
@@ -53,12 +53,12 @@ module _ (count seed code : ℕ) (p : Option State) (before after : Taken) (writ
   loaded = record { is = refl; decided = inl tt }
 
   quiet : (code ≢ 4 → writes' ≡ writes) → IsCalm code a b
-  quiet calm = record { reads = λ not. refl; writes = calm }
+  quiet no_faults = record { reads = λ not. refl; writes = no_faults }
 
   pub load_done : code ≡ 0 → Appends before after (soak_text count seed) → StandsIfAny p (Some (soak_world count seed))
       → writes' ≡ writes → EndsBy due code p a b
   load_done is wrote machine same =
-      by_answer due code p a b (quiet (λ not. same)) settled (λ e. (refl, refl)) [] (Consumes-nil left)
+      by_answer due code p a b (quiet (λ not. same)) flushed (λ e. (refl, refl)) [] (Consumes-nil left)
       (inl (omega (arith, is)))
       (record {
         answer = plainly 0 (soak_text count seed) (Some (soak_world count seed));
@@ -72,11 +72,11 @@ module _ (count seed code : ℕ) (p : Option State) (before after : Taken) (writ
     pub load_cut : code ≡ 4 → SendsPart before after (soak_text count seed) → RoseByOne writes writes'
         → EndsBy due code p a b
     load_cut is part rose =
-        by_write_fault due code p a b (quiet (λ not. absurd (not is))) settled (λ e. (refl, refl)) []
+        by_write_fault due code p a b (quiet (λ not. absurd (not is))) flushed (λ e. (refl, refl)) []
         (Consumes-nil left) none is
         (part_plain due a b [] (soak_text count seed) _ loaded refl refl start part) rose
 
     pub load_lacks : code ≡ 5 → Keeps before after → writes' ≡ writes → EndsBy due code p a b
     load_lacks is kept same =
-        by_memory due code p a b (quiet (λ not. same)) settled (λ e. (refl, refl)) [] (Consumes-nil left) none is tt
+        by_memory due code p a b (quiet (λ not. same)) flushed (λ e. (refl, refl)) [] (Consumes-nil left) none is tt
         kept

@@ -13,7 +13,7 @@ use Rattle.pip_input.specs.declared.input.LineEnd.TheVariants.{Newline, Last, En
 use Rattle.pip_input.proofs.Taking.{all_read, line_split, took_line}
 use Rattle.pip_io.specs.Causes.{RoseByOne}
 use Rattle.pip_io.specs.Taken.{Taken, Appends, AppendsPart, Keeps, SendsPart}
-use Rattle.pip_io.specs.Told.{Writing, writing}
+use Rattle.pip_io.specs.Histories.{Writing, writing}
 use Rattle.pip_io.proofs.Taken.{Appends-kept, Appends-trans, Keeps-trans, part_sent}
 use Rattle.pip_model.specs.Grammar.{lines_of}
 use Rattle.pip_model.specs.Script.{bad}

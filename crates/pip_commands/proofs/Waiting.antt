@@ -27,7 +27,7 @@ begins_none n =
       good = (c.rest, c.memory, c.is);
     }
 
-module _ (a : Streams) (none : a.written.held ≡ []) where
+module _ (a : Streams) (none : a.written.buffered ≡ []) where
   pub script_waits : Waits script_due a a
   script_waits = waits_first a none script_due (record {
     lines = [];

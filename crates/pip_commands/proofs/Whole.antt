@@ -44,7 +44,7 @@ begins_run i a nil room = record {
   wrote = Appends-nil a.written;
   stands = tt;
   number = omega arith;
-  calm = record { reads = refl; writes = refl };
+  no_faults = record { reads = refl; writes = refl };
 }
 
 pub runs_on : (a b c : Streams) (i j : Held) (machine machine' : Option State) (n : ℕ) → HasRun a b i machine n
@@ -68,7 +68,7 @@ runs_on a b c i j machine machine' n run turn =
       wrote = Appends-trans a.written b.written c.written run.text on.text run.wrote on.wrote;
       stands = on.stands;
       number = omega arith;
-      calm = calm_both a b c run.calm turn.0;
+      no_faults = calm_both a b c run.no_faults turn.0;
     }
 
 -- bytes were read after those that are held
@@ -84,9 +84,9 @@ module _ (a b c : Streams) (i : Held) (machine : Option State) (n : ℕ) (run : 
   -- the counts, from the beginning
   calm_all : (code : ℕ) → IsCalm code b c → IsCalm code a c
   calm_all code last = record {
-    reads = λ not. last.reads not ∙ run.calm.reads;
+    reads = λ not. last.reads not ∙ run.no_faults.reads;
     writes = λ not. last.writes not ∙
-        run.calm.writes;
+        run.no_faults.writes;
   }
 
   -- all that was read, from the beginning
@@ -147,9 +147,9 @@ module _ (a b c : Streams) (i : Held) (machine : Option State) (n : ℕ) (run : 
   }
 
   -- a part of a line was read after what was run, all that was given is out, and no call failed
-  pub lines_wait : c.written.held ≡ [] → Keeps b.written c.written → NoneFailed b c → (bytes : List ℕ)
+  pub lines_wait : c.written.buffered ≡ [] → Keeps b.written c.written → NoneFailed b c → (bytes : List ℕ)
       → Consumes b.left c.left bytes → IsLineless i bytes → Waits script_due a c
-  lines_wait out kept calm bytes read is =
+  lines_wait out kept no_faults bytes read is =
       let rest = i.bytes ++ bytes in
       let all : length rest ≡ length i.bytes + length bytes = length-append i.bytes bytes in
       let room = is.room in
@@ -162,8 +162,8 @@ module _ (a b c : Streams) (i : Held) (machine : Option State) (n : ℕ) (run : 
         read = rw (← append-nil (run.lines ++ rest)) (read_all rest [] takes);
         so_far = told_so_far rest is.plain is.short (few_all rest [] takes) kept;
         out = out;
-        reads = calm.reads ∙ run.calm.reads;
-        writes = calm.writes ∙ run.calm.writes;
+        reads = no_faults.reads ∙ run.no_faults.reads;
+        writes = no_faults.writes ∙ run.no_faults.writes;
       }
 
   whole_after : (xs ys : List ℕ) → AreWholeLines xs → AreWholeLines ys → AreWholeLines (xs ++ ys)
@@ -185,9 +185,9 @@ module _ (a b c : Streams) (i : Held) (machine : Option State) (n : ℕ) (run : 
     long = long.long;
   })
 
-  module _ (code : ℕ) (last : IsCalm code b c) (settled : code ≢ 4 → c.written.held ≡ []) where
-    calm : IsCalm code a c
-    calm = calm_all code last
+  module _ (code : ℕ) (last : IsCalm code b c) (flushed : code ≢ 4 → c.written.buffered ≡ []) where
+    no_faults : IsCalm code a c
+    no_faults = calm_all code last
 
     -- all was read, and is good
     finishes : (machine' : Option State) → code ≡ 0 → HasFinished run.world n i b c machine'
@@ -195,7 +195,7 @@ module _ (a b c : Streams) (i : Held) (machine : Option State) (n : ℕ) (run : 
     finishes machine' is d =
         let bytes = run.lines ++ d.bytes in
         let told = told_all d.bytes _ d.told in
-        by_answer script_due code machine' a c calm settled apart bytes
+        by_answer script_due code machine' a c no_faults flushed apart bytes
         (rw (← append-nil bytes) (read_all d.bytes [] d.takes)) (inl (omega arith))
         (record {
           answer = plainly 0 (script_text bytes) (script_world bytes);
@@ -253,7 +253,7 @@ module _ (a b c : Streams) (i : Held) (machine : Option State) (n : ℕ) (run : 
           ends : (bytes : List ℕ) → Consumes a.left c.left bytes
               → IsAnswered script_due bytes (plainly 2 end.text None) c.left
               → EndsBy script_due code None a c
-          ends bytes read due = by_answer script_due code None a c calm settled apart bytes read
+          ends bytes read due = by_answer script_due code None a c no_faults flushed apart bytes read
               (inl (omega arith)) (record {
                 answer = plainly 2 end.text None;
                 due = due;
@@ -266,12 +266,12 @@ module _ (a b c : Streams) (i : Held) (machine : Option State) (n : ℕ) (run : 
     ends_unread : code ≡ 3 → IsUnread i b c → EndsBy script_due code None a c
     ends_unread is d =
         let bytes = run.lines ++ d.rest in
-        by_read_fault script_due code None a c calm settled apart bytes
+        by_read_fault script_due code None a c no_faults flushed apart bytes
         (rw (← append-nil bytes) (read_all d.rest [] d.takes)) refl is
-        (told_so_far d.rest d.plain d.short (few_all d.rest [] d.takes) d.wrote) (rw (← run.calm.reads) d.rose)
+        (told_so_far d.rest d.plain d.short (few_all d.rest [] d.takes) d.wrote) (rw (← run.no_faults.reads) d.rose)
 
     -- a write failed
-    module _ (start : a.written.held ≡ []) (is : code ≡ 4) (d : IsUnwritten run.world n i b c) where
+    module _ (start : a.written.buffered ≡ []) (is : code ≡ 4) (d : IsUnwritten run.world n i b c) where
       abbrev taken : List ℕ
       taken = run.lines ++ d.bytes
 
@@ -282,13 +282,14 @@ module _ (a b c : Streams) (i : Held) (machine : Option State) (n : ℕ) (run : 
       ends_cut : (bytes : List ℕ) → Consumes a.left c.left bytes
           → IsDueLast script_due bytes [] (script_text taken) c.left
           → EndsBy script_due code None a c
-      ends_cut bytes read due = by_write_fault script_due code None a c calm settled apart bytes read refl is (record {
-        front = [];
-        last = script_text taken;
-        due = due;
-        out = past_nothing a.written c.written (script_text taken) start part;
-        part = part;
-      }) (rw (← run.calm.writes) d.rose)
+      ends_cut bytes read due = by_write_fault script_due code None a c no_faults flushed apart bytes read
+          refl is (record {
+            front = [];
+            last = script_text taken;
+            due = due;
+            out = past_nothing a.written c.written (script_text taken) start part;
+            part = part;
+          }) (rw (← run.no_faults.writes) d.rose)
 
       at_line : IsJudged taken → EndsBy script_due code None a c
       at_line judged = ends_cut (taken ++ d.beyond) (read_all d.bytes d.beyond d.takes) (inr (record {
@@ -328,7 +329,7 @@ module _ (a b c : Streams) (i : Held) (machine : Option State) (n : ℕ) (run : 
     ends_memory : code ≡ 5 → LacksMemoryToBoot run.world i b c → EndsBy script_due code None a c
     ends_memory is d =
         let fresh = run.goes.fresh d.first in
-        by_memory script_due code None a c calm settled apart ((run.lines ++ (d.line ++ d.newline)) ++ d.beyond)
+        by_memory script_due code None a c no_faults flushed apart ((run.lines ++ (d.line ++ d.newline)) ++ d.beyond)
         (read_all (d.line ++ d.newline) d.beyond d.takes) refl is (record {
           before = run.lines;
           line = d.line;
@@ -352,7 +353,7 @@ module _ (a b c : Streams) (i : Held) (machine : Option State) (n : ℕ) (run : 
         let count = run.count in
         let limit = d.limit in
         let all : length (run.lines ++ d.bytes) ≡ max_input = omega arith in
-        by_limit script_due code None a c calm settled apart ((run.lines ++ d.bytes) ++ d.last ∷ [])
+        by_limit script_due code None a c no_faults flushed apart ((run.lines ++ d.bytes) ++ d.last ∷ [])
         (read_all d.bytes (d.last ∷ []) d.takes) refl is (record {
           first = run.lines ++ d.bytes;
           beyond = d.last;
@@ -362,7 +363,7 @@ module _ (a b c : Streams) (i : Held) (machine : Option State) (n : ℕ) (run : 
         })
 
     -- the other ends have no machine
-    ends_as : a.written.held ≡ [] → (e : End) (machine' : Option State) → e ≢ Finished → code ≡ status_of e
+    ends_as : a.written.buffered ≡ [] → (e : End) (machine' : Option State) → e ≢ Finished → code ≡ status_of e
         → EndsTurn e run.world n i b c machine' → EndsBy script_due code None a c
     ends_as start Finished machine' other is turn = absurd (other refl)
     ends_as start BadLine machine' other is turn = ends_bad turn is
@@ -374,14 +375,14 @@ module _ (a b c : Streams) (i : Held) (machine : Option State) (n : ℕ) (run : 
 -- ---- by the last turn
 
 pub script_finished : (a b c : Streams) (i j : Held) (machine machine' : Option State) (n : ℕ)
-    (run : HasRun a b i machine n) → c.written.held ≡ [] → TurnDoes (Some Finished) machine machine' n i j b c
+    (run : HasRun a b i machine n) → c.written.buffered ≡ [] → TurnDoes (Some Finished) machine machine' n i j b c
     → EndsBy script_due 0 machine' a c
-script_finished a b c i j machine machine' n run settled turn =
-    finishes a b c i machine n run 0 turn.0 (λ not. settled) machine' refl (turn.1 run.world run.stands)
+script_finished a b c i j machine machine' n run flushed turn =
+    finishes a b c i machine n run 0 turn.0 (λ not. flushed) machine' refl (turn.1 run.world run.stands)
 
 pub script_ends : (e : End) (a b c : Streams) (i j : Held) (machine machine' : Option State) (n status : ℕ)
-    (run : HasRun a b i machine n) → a.written.held ≡ [] → (status ≢ 4 → c.written.held ≡ []) → e ≢ Finished
+    (run : HasRun a b i machine n) → a.written.buffered ≡ [] → (status ≢ 4 → c.written.buffered ≡ []) → e ≢ Finished
     → status ≡ status_of e → TurnDoes (Some e) machine machine' n i j b c → EndsBy script_due status None a c
-script_ends e a b c i j machine machine' n status run start settled other is turn =
-    ends_as a b c i machine n run status (rw is turn.0) settled start e machine' other is
+script_ends e a b c i j machine machine' n status run start flushed other is turn =
+    ends_as a b c i machine n run status (rw is turn.0) flushed start e machine' other is
     (turn.1 run.world run.stands)

@@ -10,7 +10,7 @@ use Rattle.pip_input.specs.declared.input.LineEnd.TheVariants.{Newline}
 use Rattle.pip_io.specs.Causes.{RoseByOne}
 use Rattle.pip_io.specs.Moments.{NoneFailed}
 use Rattle.pip_io.specs.Taken.{Appends, AppendsPart, Keeps, SendsPart}
-use Rattle.pip_io.specs.Told.{Writing}
+use Rattle.pip_io.specs.Histories.{Writing}
 use Rattle.pip_model.specs.Grammar.{lines_of}
 use Rattle.pip_model.specs.Text.{Transcript, finished, bad_at, text_before, line_text, transcript_from}
 use Rattle.pip_model.specs.Worlds.{World}
@@ -57,7 +57,7 @@ pub record HasRun (a b : Streams) (i : Held) (machine : Option State) (n : ℕ) 
   pub wrote : Appends a.written b.written text
   pub stands : StandsIfAny machine world
   pub number : n ≤ length lines + 1
-  pub calm : NoneFailed a b
+  pub no_faults : NoneFailed a b
 
 -- ---- One turn, from world v at line n: i is held before and j after, and the streams go from a to b
 
@@ -174,7 +174,7 @@ pub record HasLine (count : ℕ) (machine machine' : Option State) (i j : Held) 
   pub holds : HoldsLine (still i) j b.left (Newline count)
   pub kept : IO.Keeps (bytes_coming i a) (bytes_coming j b)
   pub taken : Keeps a.written b.written
-  pub calm : NoneFailed a b
+  pub no_faults : NoneFailed a b
   pub same : machine' ≡ machine
 
 -- such a line comes, or the turn ends the script
@@ -186,9 +186,9 @@ LineComes (Err e) machine machine' n i j a b = TurnDoes (Some e) machine machine
 -- not be written. Nothing was taken to be written. i was held of the input before, and j is held now
 abbrev pub HasNoLine : End → Held → Held → Streams → Streams → Type 0
 HasNoLine ReadFault i j a b =
-    HoldsPart (still i) j × (b.writes ≡ a.writes) × RoseByOne a.reads b.reads × (b.written.held ≡ [])
+    HoldsPart (still i) j × (b.writes ≡ a.writes) × RoseByOne a.reads b.reads × (b.written.buffered ≡ [])
 HasNoLine WriteFault i j a b =
-    (j ≡ i) × (b.left ≡ a.left) × (b.reads ≡ a.reads) × (b.written.held ≢ []) × RoseByOne a.writes b.writes
+    (j ≡ i) × (b.left ≡ a.left) × (b.reads ≡ a.reads) × (b.written.buffered ≢ []) × RoseByOne a.writes b.writes
 HasNoLine _ _ _ _ _ = ⊥
 
 -- what became of what was held at an end: after a failed read or write nothing was tried; else it was written, or a
@@ -201,10 +201,10 @@ StaysSo end end' before after =
 abbrev pub IsSettled : End → End → Writing → Writing → Type 0
 IsSettled end end' before after =
     Keeps before.written after.written
-    × (((end' ≡ end) × (after.written.held ≡ []) × (after.faults ≡ before.faults))
-    ⊎ ((end' ≡ WriteFault) × (after.written.held ≢ []) × RoseByOne before.faults after.faults))
+    × (((end' ≡ end) × (after.written.buffered ≡ []) × (after.faults ≡ before.faults))
+    ⊎ ((end' ≡ WriteFault) × (after.written.buffered ≢ []) × RoseByOne before.faults after.faults))
 
--- after a fault nothing more is written; any other end is settled
+-- after a fault nothing more is written; any other end is flushed
 abbrev pub Settles : End → End → Writing → Writing → Type 0
 Settles ReadFault end' before after = StaysSo ReadFault end' before after
 Settles WriteFault end' before after = StaysSo WriteFault end' before after

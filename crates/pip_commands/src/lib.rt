@@ -6,7 +6,7 @@
 //! differ in their last step alone share one, and `text` has the lines that the commands write themselves.
 //!
 //! - `script`: `line` runs one line, over any port once there is one; `turn` takes a line from the input and runs it
-//!   (`LineComes`); the sink is settled before more is read, and at the end. Between two turns `HasRun` holds: all
+//!   (`LineComes`); the sink is flushed before more is read, and at the end. Between two turns `HasRun` holds: all
 //!   lines before were run, their text was given to the sink, and the machine, if there is one, represents their world.
 //! - `run`, `tree` and `core` are one body: an image is read into a new machine, `run/report` makes the steps and shows
 //!   the trace, the tree or the frames.

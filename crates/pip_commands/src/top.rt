@@ -30,9 +30,10 @@ pub fn pip<S: Source, K: Sink>(
     source: &mut S,
     sink: &mut K,
 ) -> Ended
-    requires paced { MayStart (due_of (command_of (map string_bytes words.now))) S.is_open S.allows S.told K.told
+    requires paced { MayStart (due_of (command_of (map string_bytes words.now))) S.is_open S.allows S.history K.history
         source.old sink.old }
-    ensures ends { Fulfils (due_of (command_of (map string_bytes words.now))) result S.told K.told source.old sink.old
+    ensures ends { Fulfils (due_of (command_of (map string_bytes words.now))) result S.history K.history
+        source.old sink.old
         source.new sink.new }
 {
     match read_words(words) {

@@ -39,14 +39,15 @@ const MAX_BYTES: u32 = 1 << 26;
 /// at most 4096 frames. After an error it may hold some of the words.
 pub fn read_core<S: Source, M: Frames>(source: &mut S, mem: &mut M) -> Result<(), CoreError>
     requires is_open { S.is_open source.old }
-    requires paced { MayRead S.allows (BeginsLines (length (M.memory mem.old))) (alone (S.told source.old)) }
+    requires paced { MayRead S.allows (BeginsLines (length (M.memory mem.old))) (alone (S.history source.old)) }
     requires zeros { M.memory mem.old ≡ replicate (length (M.memory mem.old)) (zeros 1024) }
     requires most { length (M.memory mem.old) ≤ 4096 }
     ensures reads { MatchResult result
-        (λ _. IsText (length (M.memory mem.old)) (S.told source.old).left (S.told source.new).left (M.memory mem.new)
-        × ((S.told source.new).faults ≡ (S.told source.old).faults))
-        (RefusesText (length (M.memory mem.old)) (S.told source.old).left (S.told source.new).left
-        (S.told source.old).faults (S.told source.new).faults) }
+        (λ _. IsText (length (M.memory mem.old)) (S.history source.old).left (S.history source.new).left
+        (M.memory mem.new)
+        × ((S.history source.new).faults ≡ (S.history source.old).faults))
+        (RefusesText (length (M.memory mem.old)) (S.history source.old).left (S.history source.new).left
+        (S.history source.old).faults (S.history source.new).faults) }
     ensures count { length (M.memory mem.new) ≡ length (M.memory mem.old) }
 {
     let mut sink = Discard::new();
@@ -60,17 +61,19 @@ pub fn read_core_from_joint<S: Source, K: Sink, M: Frames>(
     mem: &mut M,
 ) -> Result<(), CoreError>
     requires is_open { S.is_open joint.old.source.now }
-    requires settled { (K.told joint.old.sink.now).written.held ≡ [] }
-    requires paced { MayRead S.allows (BeginsLines (length (M.memory mem.old))) (joined S.told K.told joint.old) }
+    requires flushed { (K.history joint.old.sink.now).written.buffered ≡ [] }
+    requires paced { MayRead S.allows (BeginsLines (length (M.memory mem.old))) (joined S.history K.history joint.old) }
     requires zeros { M.memory mem.old ≡ replicate (length (M.memory mem.old)) (zeros 1024) }
     requires most { length (M.memory mem.old) ≤ 4096 }
     ensures same_source { joint.new.source.ghost_name ≡ joint.old.source.ghost_name }
     ensures sink { joint.new.sink ≡ joint.old.sink }
     ensures reads { MatchResult result
-        (λ _. IsText (length (M.memory mem.old)) (S.told joint.old.source.now).left (S.told joint.new.source.now).left
-        (M.memory mem.new) × ((S.told joint.new.source.now).faults ≡ (S.told joint.old.source.now).faults))
-        (RefusesText (length (M.memory mem.old)) (S.told joint.old.source.now).left (S.told joint.new.source.now).left
-        (S.told joint.old.source.now).faults (S.told joint.new.source.now).faults) }
+        (λ _. IsText (length (M.memory mem.old)) (S.history joint.old.source.now).left
+        (S.history joint.new.source.now).left
+        (M.memory mem.new) × ((S.history joint.new.source.now).faults ≡ (S.history joint.old.source.now).faults))
+        (RefusesText (length (M.memory mem.old)) (S.history joint.old.source.now).left
+        (S.history joint.new.source.now).left
+        (S.history joint.old.source.now).faults (S.history joint.new.source.now).faults) }
     ensures count { length (M.memory mem.new) ≡ length (M.memory mem.old) }
 {
     let mut input = Input::with_room(MAX_BYTES);

@@ -1,7 +1,7 @@
 -- What a call on a machine and a sink did of a list of acts.
 use Rattle.std.specs.Prelude.{◌≡◌, ◌≢◌, ℕ, List, [], ◌∷◌, ◌++◌, Result, MatchResult}
 use Rattle.pip_io.specs.Taken.{Taken, Appends}
-use Rattle.pip_io.specs.Told.{Writing}
+use Rattle.pip_io.specs.Histories.{Writing}
 use Rattle.pip_model.specs.Acts.{Act, Writes, after_acts, text_of}
 use Rattle.pip_model.specs.Effects.{next}
 use Rattle.pip_model.specs.Worlds.{World, ctx_on}

@@ -28,9 +28,9 @@ pub(crate) fn carry<W, P: Port, K: Sink, L: Ledger>(
     requires cpu { cpu < P.count port.old }
     requires next { IsNext (P.stands port.old) cpu next }
     requires proper { IsEffect effect.now }
-    ensures acts { Acts result (P.stands port.old) (P.stands port.new) (K.told sink.old) (K.told sink.new)
+    ensures acts { Acts result (P.stands port.old) (P.stands port.new) (K.history sink.old) (K.history sink.new)
         (λ w. effect_acts w t cpu (ctx_on w cpu) effect.now) }
-    ensures cause { HasCause (K.told sink.old).faults (K.told sink.new).faults result }
+    ensures cause { HasCause (K.history sink.old).faults (K.history sink.new).faults result }
     ensures count { P.count port.new ≡ P.count port.old }
 {
     match effect {
@@ -73,9 +73,9 @@ fn load<W, P: Port, K: Sink, L: Ledger>(
 ) -> Result<(), Failed>
     requires cpu { cpu < P.count port.old }
     requires next { IsNext (P.stands port.old) cpu next }
-    ensures acts { Acts result (P.stands port.old) (P.stands port.new) (K.told sink.old) (K.told sink.new)
+    ensures acts { Acts result (P.stands port.old) (P.stands port.new) (K.history sink.old) (K.history sink.new)
         (λ w. effect_acts w t cpu (ctx_on w cpu) (F.Loads register va size)) }
-    ensures cause { HasCause (K.told sink.old).faults (K.told sink.new).faults result }
+    ensures cause { HasCause (K.history sink.old).faults (K.history sink.new).faults result }
     ensures count { P.count port.new ≡ P.count port.old }
 {
     let outcome = port.load(cpu, va, size, steps);
@@ -101,9 +101,9 @@ fn store<W, P: Port, K: Sink, L: Ledger>(
     requires cpu { cpu < P.count port.old }
     requires next { IsNext (P.stands port.old) cpu next }
     requires word { IsEffect (F.Stores va word size) }
-    ensures acts { Acts result (P.stands port.old) (P.stands port.new) (K.told sink.old) (K.told sink.new)
+    ensures acts { Acts result (P.stands port.old) (P.stands port.new) (K.history sink.old) (K.history sink.new)
         (λ w. effect_acts w t cpu (ctx_on w cpu) (F.Stores va word size)) }
-    ensures cause { HasCause (K.told sink.old).faults (K.told sink.new).faults result }
+    ensures cause { HasCause (K.history sink.old).faults (K.history sink.new).faults result }
     ensures count { P.count port.new ≡ P.count port.old }
 {
     let outcome = port.store(cpu, va, size, word, steps);
@@ -127,9 +127,9 @@ fn trap<P: Port, K: Sink, L: Ledger>(
 ) -> Result<(), Failed>
     requires cpu { cpu < P.count port.old }
     requires vector { vector < 256 }
-    ensures acts { Acts result (P.stands port.old) (P.stands port.new) (K.told sink.old) (K.told sink.new)
+    ensures acts { Acts result (P.stands port.old) (P.stands port.new) (K.history sink.old) (K.history sink.new)
         (λ w. effect_acts w t cpu (ctx_on w cpu) (F.Traps vector a b)) }
-    ensures cause { HasCause (K.told sink.old).faults (K.told sink.new).faults result }
+    ensures cause { HasCause (K.history sink.old).faults (K.history sink.new).faults result }
     ensures count { P.count port.new ≡ P.count port.old }
 {
     let outcome = port.trap(cpu, vector, a, b, steps);
@@ -149,9 +149,9 @@ fn interrupt<P: Port, K: Sink, L: Ledger>(
     requires cpu { cpu < P.count port.old }
     requires next { IsNext (P.stands port.old) cpu next }
     requires vector { vector < 256 }
-    ensures acts { Acts result (P.stands port.old) (P.stands port.new) (K.told sink.old) (K.told sink.new)
+    ensures acts { Acts result (P.stands port.old) (P.stands port.new) (K.history sink.old) (K.history sink.new)
         (λ w. effect_acts w t cpu (ctx_on w cpu) (F.Interrupts vector)) }
-    ensures cause { HasCause (K.told sink.old).faults (K.told sink.new).faults result }
+    ensures cause { HasCause (K.history sink.old).faults (K.history sink.new).faults result }
     ensures count { P.count port.new ≡ P.count port.old }
 {
     port.set_pc(cpu, next);
@@ -171,9 +171,9 @@ fn call<P: Port, K: Sink, L: Ledger>(
 ) -> Result<(), Failed>
     requires cpu { cpu < P.count port.old }
     requires next { IsNext (P.stands port.old) cpu next }
-    ensures acts { Acts result (P.stands port.old) (P.stands port.new) (K.told sink.old) (K.told sink.new)
+    ensures acts { Acts result (P.stands port.old) (P.stands port.new) (K.history sink.old) (K.history sink.new)
         (λ w. effect_acts w t cpu (ctx_on w cpu) (F.Calls number)) }
-    ensures cause { HasCause (K.told sink.old).faults (K.told sink.new).faults result }
+    ensures cause { HasCause (K.history sink.old).faults (K.history sink.new).faults result }
     ensures count { P.count port.new ≡ P.count port.old }
 {
     let args = arguments_of(port, cpu);
@@ -193,9 +193,9 @@ fn show<P: Port, K: Sink>(
 ) -> Result<(), Failed>
     requires cpu { cpu < P.count port.old }
     requires next { IsNext (P.stands port.old) cpu next }
-    ensures acts { Acts result (P.stands port.old) (P.stands port.new) (K.told sink.old) (K.told sink.new)
+    ensures acts { Acts result (P.stands port.old) (P.stands port.new) (K.history sink.old) (K.history sink.new)
         (λ w. effect_acts w t cpu (ctx_on w cpu) (F.Shows word)) }
-    ensures cause { HasCause (K.told sink.old).faults (K.told sink.new).faults result }
+    ensures cause { HasCause (K.history sink.old).faults (K.history sink.new).faults result }
     ensures count { P.count port.new ≡ P.count port.old }
 {
     match write_out(sink, t, cpu, word) {

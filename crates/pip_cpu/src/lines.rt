@@ -19,7 +19,7 @@ pub fn write_line<K: Sink, const N: usize>(
     sink: &mut K,
     line: &ArrayString<N>,
 ) -> Result<(), Failed>
-    ensures { Writes K.told sink.old sink.new result line.now.bytes }
+    ensures { Writes K.history sink.old sink.new result line.now.bytes }
 {
     write_all(sink, line.as_bytes())
 }
@@ -27,7 +27,7 @@ pub fn write_line<K: Sink, const N: usize>(
 /// Writes the line of what moved control, if something did. For a sink that discards it no line is made.
 #[inline(always)]
 pub fn write_moved<K: Sink>(sink: &mut K, t: u64, cpu: u32, outcome: Outcome) -> Result<(), Failed>
-    ensures { Writes K.told sink.old sink.new result (moved_line t cpu outcome) }
+    ensures { Writes K.history sink.old sink.new result (moved_line t cpu outcome) }
 {
     if sink.discards() {
         return Ok(());
@@ -49,7 +49,7 @@ fn write_switch<K: Sink>(
     to: u32,
     vector: u32,
 ) -> Result<(), Failed>
-    ensures { Writes K.told sink.old sink.new result (moved_line t cpu (O.Switched from to vector)) }
+    ensures { Writes K.history sink.old sink.new result (moved_line t cpu (O.Switched from to vector)) }
 {
     let mut line: ArrayString<ROOM> = ArrayString::new();
     push_head(&mut line, t, cpu);
@@ -60,7 +60,7 @@ fn write_switch<K: Sink>(
 // Writes the line of a processor that parked.
 #[inline(never)]
 fn write_park<K: Sink>(sink: &mut K, t: u64, cpu: u32, from: u32, vector: u32) -> Result<(), Failed>
-    ensures { Writes K.told sink.old sink.new result (moved_line t cpu (O.Parked from vector)) }
+    ensures { Writes K.history sink.old sink.new result (moved_line t cpu (O.Parked from vector)) }
 {
     let mut line: ArrayString<ROOM> = ArrayString::new();
     push_head(&mut line, t, cpu);
@@ -81,7 +81,7 @@ pub fn write_call<K: Sink>(
     number: u32,
     outcome: Outcome,
 ) -> Result<(), Failed>
-    ensures { Writes K.told sink.old sink.new result (call_line t cpu number outcome) }
+    ensures { Writes K.history sink.old sink.new result (call_line t cpu number outcome) }
 {
     if sink.discards() {
         return Ok(());
@@ -98,7 +98,7 @@ fn write_told<K: Sink>(
     number: u32,
     outcome: &Outcome,
 ) -> Result<(), Failed>
-    ensures { Writes K.told sink.old sink.new result (call_line t cpu number outcome.now) }
+    ensures { Writes K.history sink.old sink.new result (call_line t cpu number outcome.now) }
 {
     let mut line = ArrayString::new();
     push_call(&mut line, t, cpu, number, outcome);
@@ -108,7 +108,7 @@ fn write_told<K: Sink>(
 /// Writes the line of a word that is shown. For a sink that discards it no line is made.
 #[inline(always)]
 pub fn write_out<K: Sink>(sink: &mut K, t: u64, cpu: u32, word: u32) -> Result<(), Failed>
-    ensures { Writes K.told sink.old sink.new result (out_line t cpu word) }
+    ensures { Writes K.history sink.old sink.new result (out_line t cpu word) }
 {
     if sink.discards() {
         return Ok(());
@@ -119,7 +119,7 @@ pub fn write_out<K: Sink>(sink: &mut K, t: u64, cpu: u32, word: u32) -> Result<(
 // Writes the line of a word.
 #[inline(never)]
 fn write_shown<K: Sink>(sink: &mut K, t: u64, cpu: u32, word: u32) -> Result<(), Failed>
-    ensures { Writes K.told sink.old sink.new result (out_line t cpu word) }
+    ensures { Writes K.history sink.old sink.new result (out_line t cpu word) }
 {
     let mut line = ArrayString::new();
     push_head(&mut line, t, cpu);

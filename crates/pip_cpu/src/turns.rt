@@ -29,10 +29,10 @@ pub fn turn<W, P: Port, K: Sink, L: Ledger>(
     steps: &mut Steps<L>,
 ) -> Result<TurnEnd, Failed>
     requires { cpu < P.count port.old }
-    ensures acts { Acts result (P.stands port.old) (P.stands port.new) (K.told sink.old) (K.told sink.new)
+    ensures acts { Acts result (P.stands port.old) (P.stands port.new) (K.history sink.old) (K.history sink.new)
         (λ w. turn w cpu t) }
     ensures end { (w : World) → P.stands port.old w → IfOk result (λ e. e ≡ turn_end w cpu) }
-    ensures cause { HasCause (K.told sink.old).faults (K.told sink.new).faults result }
+    ensures cause { HasCause (K.history sink.old).faults (K.history sink.new).faults result }
     ensures count { P.count port.new ≡ P.count port.old }
 {
     let outcome = port.poll(cpu, steps);
@@ -57,10 +57,10 @@ fn fetch<W, P: Port, K: Sink, L: Ledger>(
     steps: &mut Steps<L>,
 ) -> Result<TurnEnd, Failed>
     requires { cpu < P.count port.old }
-    ensures acts { Acts result (P.stands port.old) (P.stands port.new) (K.told sink.old) (K.told sink.new)
+    ensures acts { Acts result (P.stands port.old) (P.stands port.new) (K.history sink.old) (K.history sink.new)
         (λ w. fetch_acts w t cpu) }
     ensures end { (w : World) → P.stands port.old w → IfOk result (λ e. e ≡ fetched_end (outcome_of w (E.Fetch cpu))) }
-    ensures cause { HasCause (K.told sink.old).faults (K.told sink.new).faults result }
+    ensures cause { HasCause (K.history sink.old).faults (K.history sink.new).faults result }
     ensures count { P.count port.new ≡ P.count port.old }
 {
     let outcome = port.fetch(cpu, steps);
@@ -87,9 +87,9 @@ fn execute<W, P: Port, K: Sink, L: Ledger>(
     steps: &mut Steps<L>,
 ) -> Result<(), Failed>
     requires { cpu < P.count port.old }
-    ensures acts { Acts result (P.stands port.old) (P.stands port.new) (K.told sink.old) (K.told sink.new)
+    ensures acts { Acts result (P.stands port.old) (P.stands port.new) (K.history sink.old) (K.history sink.new)
         (λ w. word_acts w t cpu word (runs_on w cpu)) }
-    ensures cause { HasCause (K.told sink.old).faults (K.told sink.new).faults result }
+    ensures cause { HasCause (K.history sink.old).faults (K.history sink.new).faults result }
     ensures count { P.count port.new ≡ P.count port.old }
 {
     match port.ctx(cpu) {

@@ -82,15 +82,15 @@ impl Transducer for Disassembler {
 
 /// Writes the image that the source holds as an assembly text, part by part (docs/FORMATS.md, "Assembly"). At Ok the
 /// source was read to its end and the whole text was written. At `Image` the text of what was accepted before the fault
-/// was written; at `Write` all of it up to some place in the text of the last part that was read. The sink is settled
+/// was written; at `Write` all of it up to some place in the text of the last part that was read. The sink is flushed
 /// after each part: whatever the source asks for at a read, it is asked nowhere but where the text of all that was read
 /// is out.
 pub fn disassemble<S: Source, K: Sink>(source: &mut S, sink: &mut K) -> Result<(), DisError>
     requires is_open { S.is_open source.old }
-    requires none { (K.told sink.old).written.held ≡ [] }
-    requires paced { MayWait (parts_due image_parts) S.allows (streams S.told K.told source.old sink.old) }
-    ensures { Ends (parts_due image_parts) false (outcome result) (streams S.told K.told source.old sink.old)
-        (streams S.told K.told source.new sink.new) }
+    requires none { (K.history sink.old).written.buffered ≡ [] }
+    requires paced { MayWait (parts_due image_parts) S.allows (streams S.history K.history source.old sink.old) }
+    ensures { Ends (parts_due image_parts) false (outcome result) (streams S.history K.history source.old sink.old)
+        (streams S.history K.history source.new sink.new) }
 {
     match drive(&mut Disassembler::new(), source, sink) {
         Ok(None) => Ok(()),

@@ -41,18 +41,18 @@ pub record Driving {V : Type 0} (d e : DueOf V) (front : List ℕ) (a b : Stream
   pub text : List ℕ
   pub read : Consumes a.left b.left (bytes ++ front)
   pub wrote : Appends a.written b.written text
-  pub start : a.written.held ≡ []
-  pub calm : NoneFailed a b
+  pub start : a.written.buffered ≡ []
+  pub no_faults : NoneFailed a b
   pub leads : LeadsAfter d e bytes text
 
-pub starts : {V : Type 0} (d : DueOf V) (a : Streams) → a.written.held ≡ [] → Driving d d [] a a
+pub starts : {V : Type 0} (d : DueOf V) (a : Streams) → a.written.buffered ≡ [] → Driving d d [] a a
 starts d a none = record {
   bytes = [];
   text = [];
   read = Consumes-nil a.left;
   wrote = Appends-nil a.written;
   start = none;
-  calm = record { reads = refl; writes = refl };
+  no_faults = record { reads = refl; writes = refl };
   leads = LeadsAfter-refl d;
 }
 
@@ -76,15 +76,15 @@ module _ {V : Type 0} (d e : DueOf V) (front : List ℕ) (a b : Streams) (x : Dr
   }
 
   -- all that was written is out
-  pub settles : (f : DueOf V) (w : Taken) (k : ℕ) → LeadsAfter e f [] [] → Keeps b.written w → k ≡ b.writes
+  pub flushes : (f : DueOf V) (w : Taken) (k : ℕ) → LeadsAfter e f [] [] → Keeps b.written w → k ≡ b.writes
       → Driving d f front a (record b { written = w; writes = k })
-  settles f w k leads kept same = record {
+  flushes f w k leads kept same = record {
     bytes = x.bytes;
     text = x.text;
     read = x.read;
     wrote = Appends-kept _ _ _ _ x.wrote kept;
     start = x.start;
-    calm = record { reads = x.calm.reads; writes = same ∙ x.calm.writes };
+    no_faults = record { reads = x.no_faults.reads; writes = same ∙ x.no_faults.writes };
     leads = led f leads;
   }
 
@@ -97,7 +97,7 @@ module _ {V : Type 0} (d e : DueOf V) (front : List ℕ) (a b : Streams) (x : Dr
     read = rw (is, ← append_assoc x.bytes front piece) (Consumes-trans _ _ _ _ _ x.read more);
     wrote = x.wrote;
     start = x.start;
-    calm = record { reads = same ∙ x.calm.reads; writes = x.calm.writes };
+    no_faults = record { reads = same ∙ x.no_faults.reads; writes = x.no_faults.writes };
     leads = x.leads;
   }
 
@@ -111,12 +111,12 @@ module _ {V : Type 0} (d e : DueOf V) (front : List ℕ) (a b : Streams) (x : Dr
     read = rw (is, append_assoc x.bytes (take count front) (drop count front), take-append-drop count front) x.read;
     wrote = Appends-trans _ _ _ _ _ x.wrote wrote;
     start = x.start;
-    calm = record { reads = x.calm.reads; writes = same ∙ x.calm.writes };
+    no_faults = record { reads = x.no_faults.reads; writes = same ∙ x.no_faults.writes };
     leads = LeadsAfter-trans d e f x.bytes x.text (take count front) t x.leads leads;
   }
 
   -- it waits, and all that was written is out
-  pub waits : b.written.held ≡ [] → e.so_far front [] → Waits d a b
+  pub waits : b.written.buffered ≡ [] → e.so_far front [] → Waits d a b
   waits out due = record {
     so_far = record {
       bytes = x.bytes ++ front;
@@ -125,13 +125,14 @@ module _ {V : Type 0} (d e : DueOf V) (front : List ℕ) (a b : Streams) (x : Dr
       due = x.leads.so_far front [] due;
       wrote = subst (Appends a.written b.written) (sym (append-nil x.text)) x.wrote;
       out = out;
-      writes = x.calm.writes;
+      writes = x.no_faults.writes;
     };
-    reads = x.calm.reads;
+    reads = x.no_faults.reads;
   }
 
   -- and a read failed
-  pub read_failed : (left : Option (List ℕ)) (k : ℕ) → b.written.held ≡ [] → e.so_far front [] → Keeps-known b.left left
+  pub read_failed : (left : Option (List ℕ)) (k : ℕ) → b.written.buffered ≡ [] → e.so_far front []
+      → Keeps-known b.left left
       → RoseByOne b.reads k → IsOut d a (record b { left = left; reads = k }) × RoseByOne a.reads k
   read_failed left k out due kept rose = let w = (waits out due).so_far in (
     record {
@@ -143,12 +144,12 @@ module _ {V : Type 0} (d e : DueOf V) (front : List ℕ) (a b : Streams) (x : Dr
       out = w.out;
       writes = w.writes;
     },
-    subst (λ n. RoseByOne n k) x.calm.reads rose,
+    subst (λ n. RoseByOne n k) x.no_faults.reads rose,
   )
 
   -- a write failed, or what is held could not be written
   module _ (t : List ℕ) (w : Taken) (k : ℕ) (part : SendsPart b.written w t) (rose : RoseByOne b.writes k)
-      (loose : Bool) (law : loose ≡ true → Loose d) (way : (b.written.held ≡ []) ⊎ (loose ≡ true)) where
+      (loose : Bool) (law : loose ≡ true → Loose d) (way : (b.written.buffered ≡ []) ⊎ (loose ≡ true)) where
     cut : (t ≢ []) ⊎ (loose ≡ true)
         → ((v : V) × IsAnswer d (x.bytes ++ front) (x.text ++ []) t b.left v) ⊎ d.midway (x.bytes ++ front)
         (x.text ++ []) t
@@ -156,7 +157,7 @@ module _ {V : Type 0} (d e : DueOf V) (front : List ℕ) (a b : Streams) (x : Dr
     cut some due =
         let all : SendsPart a.written w ((x.text ++ []) ++ t) =
         rw (append-nil x.text) (SendsPart-after _ _ _ _ _ x.wrote part) in
-        let rises = subst (λ n. RoseByOne n k) x.calm.writes rose in
+        let rises = subst (λ n. RoseByOne n k) x.no_faults.writes rose in
         elim way [
           | inl out ↦ record {
             bytes = x.bytes ++ front;
@@ -168,7 +169,7 @@ module _ {V : Type 0} (d e : DueOf V) (front : List ℕ) (a b : Streams) (x : Dr
             past = rw (append-nil x.text) (past_sent _ _ _ _ _ x.wrote out part);
             part = all;
             rose = rises;
-            reads = x.calm.reads;
+            reads = x.no_faults.reads;
           }
           | inr is ↦ record {
             bytes = x.bytes ++ front;
@@ -183,7 +184,7 @@ module _ {V : Type 0} (d e : DueOf V) (front : List ℕ) (a b : Streams) (x : Dr
             past = past_nothing _ _ _ x.start all;
             part = all;
             rose = rises;
-            reads = x.calm.reads;
+            reads = x.no_faults.reads;
           }
         ]
 
@@ -223,7 +224,7 @@ module _ {V : Type 0} (d e : DueOf V) (front : List ℕ) (a b : Streams) (x : Dr
     };
     wrote = rw (append-nil x.text) (Appends-trans _ _ _ _ _ x.wrote wrote);
     out = out;
-    calm = record { reads = x.calm.reads; writes = same ∙ x.calm.writes };
+    no_faults = record { reads = x.no_faults.reads; writes = same ∙ x.no_faults.writes };
   }
 
 -- by whether something may be held

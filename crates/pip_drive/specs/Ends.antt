@@ -16,7 +16,7 @@ module _ {V : Type 0} (d : DueOf V) where
     pub read : Consumes a.left b.left bytes
     pub due : d.so_far bytes text
     pub wrote : Appends a.written b.written text
-    pub out : b.written.held ≡ []
+    pub out : b.written.buffered ≡ []
     pub writes : b.writes ≡ a.writes
 
   -- so, and no read failed
@@ -41,8 +41,8 @@ module _ {V : Type 0} (d : DueOf V) where
     pub read : Consumes a.left b.left bytes
     pub answer : IsAnswer bytes front last b.left v
     pub wrote : Appends a.written b.written (front ++ last)
-    pub out : b.written.held ≡ []
-    pub calm : NoneFailed a b
+    pub out : b.written.buffered ≡ []
+    pub no_faults : NoneFailed a b
 
   -- a write failed: all of the front went out, and a part of the last, but not the whole
   pub record IsCutShort (loose : Bool) (a b : Streams) : Type 0 where

@@ -25,10 +25,10 @@ pub fn drive<M: Transducer, S: Source, K: Sink>(
     sink: &mut K,
 ) -> Result<M::End, FailedStream>
     requires is_open { S.is_open source.old }
-    requires none { (K.told sink.old).written.held ≡ [] }
-    requires paced { MayWait (M.due transducer.old) S.allows (streams S.told K.told source.old sink.old) }
-    ensures { Ends (M.due transducer.old) M.is_loose result (streams S.told K.told source.old sink.old)
-        (streams S.told K.told source.new sink.new) }
+    requires none { (K.history sink.old).written.buffered ≡ [] }
+    requires paced { MayWait (M.due transducer.old) S.allows (streams S.history K.history source.old sink.old) }
+    ensures { Ends (M.due transducer.old) M.is_loose result (streams S.history K.history source.old sink.old)
+        (streams S.history K.history source.new sink.new) }
 {
     let mut window = Window::new();
     let mut text = Text::new();
@@ -37,7 +37,7 @@ pub fn drive<M: Transducer, S: Source, K: Sink>(
     loop {
         match transducer.step(window.as_slice(), ended, &mut text) {
             Step::Read(room) => {
-                match settle_held(sink, held) {
+                match flush_buffered(sink, held) {
                     Ok(()) => held = false,
                     Err(_) => return Err(FailedStream::Write),
                 }
@@ -72,22 +72,23 @@ pub fn drive<M: Transducer, S: Source, K: Sink>(
 }
 
 // Writes what the sink holds, where it may hold something.
-fn settle_held<K: Sink>(sink: &mut K, held: bool) -> Result<(), Failed>
-    requires { held ≡ false → (K.told sink.old).written.held ≡ [] }
-    ensures kept { Keeps (K.told sink.old).written (K.told sink.new).written }
-    ensures none { OnOk result ((K.told sink.new).written.held ≡ []) }
-    ensures some { OnErr result ((held ≡ true) × ((K.told sink.new).written.held ≢ [])) }
-    ensures cause { HasCause (K.told sink.old).faults (K.told sink.new).faults result }
+fn flush_buffered<K: Sink>(sink: &mut K, held: bool) -> Result<(), Failed>
+    requires { held ≡ false → (K.history sink.old).written.buffered ≡ [] }
+    ensures kept { Keeps (K.history sink.old).written (K.history sink.new).written }
+    ensures none { OnOk result ((K.history sink.new).written.buffered ≡ []) }
+    ensures some { OnErr result ((held ≡ true) × ((K.history sink.new).written.buffered ≢ [])) }
+    ensures cause { HasCause (K.history sink.old).faults (K.history sink.new).faults result }
 {
-    if held { sink.settle() } else { Ok(()) }
+    if held { sink.flush() } else { Ok(()) }
 }
 
 // Writes a text, no piece of it by more than one `write_all`.
 fn write_pieces<K: Sink>(sink: &mut K, text: &Text) -> Result<(), Failed>
-    ensures whole { OnOk result (Appends (K.told sink.old).written (K.told sink.new).written (text_bytes text.now)) }
-    ensures prefix { OnErr result (AppendsPart (K.told sink.old).written (K.told sink.new).written
+    ensures whole { OnOk result (Appends (K.history sink.old).written (K.history sink.new).written
         (text_bytes text.now)) }
-    ensures cause { HasCause (K.told sink.old).faults (K.told sink.new).faults result }
+    ensures prefix { OnErr result (AppendsPart (K.history sink.old).written (K.history sink.new).written
+        (text_bytes text.now)) }
+    ensures cause { HasCause (K.history sink.old).faults (K.history sink.new).faults result }
 {
     let (front, rest) = text.parts();
     write_all(sink, front)?;
@@ -96,16 +97,18 @@ fn write_pieces<K: Sink>(sink: &mut K, text: &Text) -> Result<(), Failed>
 
 // Writes a text and all that the sink holds, where there is something.
 fn write_text<K: Sink>(sink: &mut K, text: &Text, held: bool) -> Result<(), Failed>
-    requires { held ≡ false → (K.told sink.old).written.held ≡ [] }
-    ensures whole { OnOk result (Appends (K.told sink.old).written (K.told sink.new).written (text_bytes text.now)) }
-    ensures part { OnErr result (SendsPart (K.told sink.old).written (K.told sink.new).written (text_bytes text.now)) }
-    ensures none { OnOk result ((K.told sink.new).written.held ≡ []) }
+    requires { held ≡ false → (K.history sink.old).written.buffered ≡ [] }
+    ensures whole { OnOk result (Appends (K.history sink.old).written (K.history sink.new).written
+        (text_bytes text.now)) }
+    ensures part { OnErr result (SendsPart (K.history sink.old).written (K.history sink.new).written
+        (text_bytes text.now)) }
+    ensures none { OnOk result ((K.history sink.new).written.buffered ≡ []) }
     ensures some { OnErr result ((text_bytes text.now ≢ []) ⊎ (held ≡ true)) }
-    ensures cause { HasCause (K.told sink.old).faults (K.told sink.new).faults result }
+    ensures cause { HasCause (K.history sink.old).faults (K.history sink.new).faults result }
 {
     if !held && text.as_slice().is_empty() {
         return Ok(());
     }
     write_pieces(sink, text)?;
-    sink.settle()
+    sink.flush()
 }

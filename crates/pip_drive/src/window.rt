@@ -57,11 +57,12 @@ impl Window {
         requires some { 0 < room }
         requires fits { length (window_bytes self.old) + room ≤ 16384 }
         requires is_open { S.is_open source.old }
-        requires settled { (K.told _sink.now).written.held ≡ [] }
-        requires allowed { S.allows (streams S.told K.told source.old _sink.now) }
-        ensures reads { ReadsAhead result (window_bytes self.old) (window_bytes self.new) room (S.told source.old).left
-            (S.told source.new).left }
-        ensures cause { HasCause (S.told source.old).faults (S.told source.new).faults result }
+        requires flushed { (K.history _sink.now).written.buffered ≡ [] }
+        requires allowed { S.allows (streams S.history K.history source.old _sink.now) }
+        ensures reads { ReadsAhead result (window_bytes self.old) (window_bytes self.new) room
+            (S.history source.old).left
+            (S.history source.new).left }
+        ensures cause { HasCause (S.history source.old).faults (S.history source.new).faults result }
         ensures is_open { IfOk result (λ n. 0 < n → S.is_open source.new) }
     {
         self.bytes.copy_within(self.start..self.end, 0);

@@ -15,7 +15,7 @@ use Rattle.pip_image.proofs.Loaded.{image_begun, image_loaded, image_with, loads
 use Rattle.pip_image.proofs.Steps.{faultless_after, takes_refused}
 use Rattle.pip_io.specs.Moments.{Streams, beside}
 use Rattle.pip_io.specs.Pacing.{MayRead}
-use Rattle.pip_io.specs.Told.{Writing}
+use Rattle.pip_io.specs.Histories.{Writing}
 use Rattle.pip_io.proofs.Pacing.{paced_after}
 use Rattle.pip_model.specs.Booted.{HasBooted, IsBooted}
 use Rattle.pip_model.specs.Images.{Holds, Page, Part, PartsRead, image_parts, page_parts, plan_parts, image_word}

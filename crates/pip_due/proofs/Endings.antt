@@ -5,7 +5,7 @@ use Rattle.std.specs.Io.KnownBytes.{Consumes}
 use Rattle.std.proofs.KnownBytes.{Consumes-nil}
 use Rattle.pip_io.specs.Causes.{RoseByOne}
 use Rattle.pip_io.specs.Taken.{Taken, GrowsInPart, GrowsPast, Keeps, SendsPart, SendsPast}
-use Rattle.pip_io.specs.Told.{Writing, writing}
+use Rattle.pip_io.specs.Histories.{Writing, writing}
 use Rattle.pip_switch.specs.Standing.{State}
 use Rattle.pip_due.specs.Machines.{StandsIfAny}
 use Rattle.pip_due.specs.EndsBy.{Response, GivesAnswer, Due, EndsBy, IsAnswered, IsOfAnswer, IsSoFar, PassesLimit}
@@ -45,7 +45,7 @@ no_world p is = subst (λ q. StandsIfAny q None) (sym is) tt
 -- a part of an answer that is written when all was read
 pub part_plain : (d : Due) (a b : Streams) (bytes text : List ℕ) (v : Response) → IsAnswered d bytes v b.left
     → v.front ≡ [] → v.last ≡ Some text
-    → a.written.held ≡ [] → SendsPart a.written b.written text → WritesPart d bytes a b
+    → a.written.buffered ≡ [] → SendsPart a.written b.written text → WritesPart d bytes a b
 part_plain d a b bytes text v due f l none part = record {
   front = [];
   last = text;
@@ -56,17 +56,17 @@ part_plain d a b bytes text v due f l none part = record {
 
 -- what ends from a sink that is the same, where nothing was held
 pub ends_same : {K : Type 0} (told : K → Writing) {sink mid : K} {d : Due} {code : ℕ} {p : Option State}
-    {left : Option (List ℕ)} {reads : ℕ} {b : Streams} → mid ≡ sink → (told sink).written.held ≡ []
-    → ((told mid).written.held ≡ [] → EndsBy d code p (beside left reads (told mid)) b)
+    {left : Option (List ℕ)} {reads : ℕ} {b : Streams} → mid ≡ sink → (told sink).written.buffered ≡ []
+    → ((told mid).written.buffered ≡ [] → EndsBy d code p (beside left reads (told mid)) b)
     → EndsBy d code p (beside left reads (told sink)) b
 ends_same told {sink} {mid} {d} {code} {p} {left} {reads} {b} same none ends =
     subst (λ k. EndsBy d code p (beside left reads (told k)) b) same
-    (ends (subst (λ k. (told k).written.held ≡ []) (sym same) none))
+    (ends (subst (λ k. (told k).written.buffered ≡ []) (sym same) none))
 
 -- ---- the ways to end, from a to b
 
-module _ (d : Due) (code : ℕ) (p : Option State) (a b : Streams) (calm : IsCalm code a b)
-    (settled : code ≢ 4 → b.written.held ≡ [])
+module _ (d : Due) (code : ℕ) (p : Option State) (a b : Streams) (no_faults : IsCalm code a b)
+    (flushed : code ≢ 4 → b.written.buffered ≡ [])
     (unread : d.unread code ≡ true → (b.left ≡ a.left) × (b.reads ≡ a.reads)) (bytes : List ℕ)
     (read : Consumes a.left b.left bytes) where
   pub by_answer : IsOfAnswer code → GivesAnswer d bytes code p a b → EndsBy d code p a b
@@ -79,8 +79,8 @@ module _ (d : Due) (code : ℕ) (p : Option State) (a b : Streams) (calm : IsCal
     memory = λ e. absurd (outside code 5 o e (omega arith) (omega arith));
     limit = λ e. absurd (outside code 6 o e (omega arith) (omega arith));
     none = λ l m. absurd (within code o l m);
-    calm = calm;
-    settled = settled;
+    no_faults = no_faults;
+    flushed = flushed;
     unread = unread;
   }
 
@@ -95,8 +95,8 @@ module _ (d : Due) (code : ℕ) (p : Option State) (a b : Streams) (calm : IsCal
       memory = λ e. absurd (omega (arith, e, is));
       limit = λ e. absurd (omega (arith, e, is));
       none = λ l m. none;
-      calm = calm;
-      settled = settled;
+      no_faults = no_faults;
+      flushed = flushed;
       unread = unread;
     }
 
@@ -110,8 +110,8 @@ module _ (d : Due) (code : ℕ) (p : Option State) (a b : Streams) (calm : IsCal
       memory = λ e. absurd (omega (arith, e, is));
       limit = λ e. absurd (omega (arith, e, is));
       none = λ l m. none;
-      calm = calm;
-      settled = settled;
+      no_faults = no_faults;
+      flushed = flushed;
       unread = unread;
     }
 
@@ -125,8 +125,8 @@ module _ (d : Due) (code : ℕ) (p : Option State) (a b : Streams) (calm : IsCal
       memory = λ e. (x, kept);
       limit = λ e. absurd (omega (arith, e, is));
       none = λ l m. none;
-      calm = calm;
-      settled = settled;
+      no_faults = no_faults;
+      flushed = flushed;
       unread = unread;
     }
 
@@ -140,13 +140,13 @@ module _ (d : Due) (code : ℕ) (p : Option State) (a b : Streams) (calm : IsCal
       memory = λ e. absurd (omega (arith, e, is));
       limit = λ e. x;
       none = λ l m. none;
-      calm = calm;
-      settled = settled;
+      no_faults = no_faults;
+      flushed = flushed;
       unread = unread;
     }
 
     -- a line is the answer, and was written, or a part of it
-    pub by_plain : a.written.held ≡ [] → (status : ℕ) (line : List ℕ) → IsOfAnswer status
+    pub by_plain : a.written.buffered ≡ [] → (status : ℕ) (line : List ℕ) → IsOfAnswer status
         → IsAnswered d bytes (plainly status line None) b.left
         → EndsLine status line code (writing a.written a.writes) (writing b.written b.writes) → EndsBy d code p a b
     by_plain start status line o due (inl whole) = by_answer (subst IsOfAnswer (sym whole.0) o) (record {

@@ -3,7 +3,7 @@ use Rattle.std.proofs.Common.{◌≡◌, ◌≢◌, ℕ, inl, inr, true, Option,
 use Rattle.std.specs.Prelude.{MatchOption}
 use Rattle.pip_image.specs.Reading.{EndsAtMost, IsCut, IsFault, Refuses}
 use Rattle.pip_io.specs.Taken.{Keeps}
-use Rattle.pip_io.specs.Told.{writing}
+use Rattle.pip_io.specs.Histories.{writing}
 use Rattle.pip_model.specs.Images.{Part, image_parts}
 use Rattle.pip_model.specs.declared.image.ImageError.{ImageError}
 use Rattle.pip_switch.specs.Standing.{State}
@@ -13,8 +13,9 @@ use Rattle.pip_due.specs.Streams.{EndsLine, Streams}
 use Rattle.pip_due.proofs.Endings.{by_plain, by_read_fault}
 use Rattle.pip_due.proofs.ImageFaults.{by_line}
 
-module _ (d : Due) (code : ℕ) (p : Option State) (a c : Streams) (start : a.written.held ≡ [])
-    (settled : code ≢ 4 → c.written.held ≡ []) (unread : d.unread code ≡ true → (c.left ≡ a.left) × (c.reads ≡ a.reads))
+module _ (d : Due) (code : ℕ) (p : Option State) (a c : Streams) (start : a.written.buffered ≡ [])
+    (flushed : code ≢ 4 → c.written.buffered ≡ [])
+    (unread : d.unread code ≡ true → (c.left ≡ a.left) × (c.reads ≡ a.reads))
     (none : p ≡ None) (quiet : code ≢ 4 → c.writes ≡ a.writes) (e : ImageError) (parts : List Part)
     (x : Refuses image_parts parts a.left c.left a.reads c.reads e) where
   abbrev Ends : Option (List ℕ) → Type 0
@@ -34,11 +35,11 @@ module _ (d : Due) (code : ℕ) (p : Option State) (a c : Streams) (start : a.wr
       elim (by_line e A B x.why) [
         | inl cut ↦
             let at3 : (code ≡ 3) × Keeps a.written c.written = subst Ends cut.1 ends in
-            by_read_fault d code p a c (record { reads = λ not. absurd (not at3.0); writes = quiet }) settled unread
+            by_read_fault d code p a c (record { reads = λ not. absurd (not at3.0); writes = quiet }) flushed unread
             x.bytes x.taken
             none at3.0 (record { text = []; due = so_far cut.0.fault; limit = limit; wrote = at3.1 }) cut.0.rose
         | inr fault ↦
-            by_plain d code p a c (record { reads = λ not. fault.0.1; writes = quiet }) settled unread x.bytes x.taken
+            by_plain d code p a c (record { reads = λ not. fault.0.1; writes = quiet }) flushed unread x.bytes x.taken
             none start 2
             fault.1.0 (inl (omega arith)) (refused fault.1.0 fault.1.1 fault.0.0) (subst Ends fault.1.1 ends)
       ]

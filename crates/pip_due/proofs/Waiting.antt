@@ -21,7 +21,7 @@ nothing_told = refl
 pub no_fault : IsFaultless image_parts []
 no_fault = subst EndsAtMost (sym (ap (λ t. t.fault) nothing_told)) tt
 
-module _ (a : Streams) (none : a.written.held ≡ []) where
+module _ (a : Streams) (none : a.written.buffered ≡ []) where
   -- after bytes for which no text is due
   pub waits_after : (d : Due) (bytes : List ℕ) (left : Option (List ℕ)) → Consumes a.left left bytes
       → d.so_far bytes [] → IsWithin d.limit bytes

@@ -1,6 +1,6 @@
 -- A command on a source and a sink: where it may start, and that it ends by what is due.
 use Rattle.pip_io.specs.Moments.{Streams, joined, streams}
-use Rattle.pip_io.specs.Told.{Remaining, Writing}
+use Rattle.pip_io.specs.Histories.{Remaining, Writing}
 use Rattle.pip_io.specs.declared.joint.Joint.{Joint}
 use Rattle.pip_due.specs.EndsBy.{Due, EndsBy}
 use Rattle.pip_due.specs.Pacing.{IsPaced}

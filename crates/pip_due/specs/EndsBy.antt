@@ -3,7 +3,7 @@ use Rattle.std.specs.Prelude.{◌≡◌, ◌≢◌, ℕ, ◌≤◌, ◌<◌, ◌
 use Rattle.std.specs.Io.KnownBytes.{Consumes, IsAtEnd}
 use Rattle.pip_io.specs.Causes.{RoseByOne}
 use Rattle.pip_io.specs.Taken.{Appends, Keeps, SendsPart, SendsPast}
-use Rattle.pip_io.specs.Told.{Writing}
+use Rattle.pip_io.specs.Histories.{Writing}
 use Rattle.pip_model.specs.Worlds.{World}
 use Rattle.pip_switch.specs.Standing.{State}
 use Rattle.pip_due.specs.Machines.{StandsIfAny}
@@ -114,8 +114,8 @@ pub record EndsBy (d : Due) (code : ℕ) (p : Option State) (a b : Streams) : Ty
   -- at 3 to 6 no machine is handed back
   pub none : 3 ≤ code → code ≤ 6 → p ≡ None
   -- no read failed but at 3, no write but at 4, and but at 4 all that was written is out
-  pub calm : IsCalm code a b
-  pub settled : code ≢ 4 → b.written.held ≡ []
+  pub no_faults : IsCalm code a b
+  pub flushed : code ≢ 4 → b.written.buffered ≡ []
   -- what reads nothing leaves the source alone
   pub unread : d.unread code ≡ true → (b.left ≡ a.left) × (b.reads ≡ a.reads)
 

@@ -9,13 +9,13 @@ pub record Waits (d : Due) (a b : Streams) : Type 0 where
   pub bytes : List ℕ
   pub read : Consumes a.left b.left bytes
   pub so_far : IsSoFar d bytes a b
-  pub out : b.written.held ≡ []
+  pub out : b.written.buffered ≡ []
   pub reads : b.reads ≡ a.reads
   pub writes : b.writes ≡ a.writes
 
 -- nothing is held; the source is open if the command waits at first, and whatever it asks for at a read holds wherever
 -- the command waits
 pub record IsPaced (d : Due) (opened : Type 0) (may_read : Streams → Type 0) (a : Streams) : Type 0 where
-  pub none : a.written.held ≡ []
+  pub none : a.written.buffered ≡ []
   pub is_open : Waits d a a → opened
   pub allows : (now : Streams) → Waits d a now → may_read now

@@ -2,7 +2,7 @@
 use Rattle.std.specs.Prelude.{◌≡◌, ◌≢◌, ◌⊎◌, ℕ, List}
 use Rattle.pip_io.specs.Causes.{RoseByOne}
 use Rattle.pip_io.specs.Taken.{Appends, SendsPart}
-use Rattle.pip_io.specs.Told.{Writing}
+use Rattle.pip_io.specs.Histories.{Writing}
 -- what a source and a sink tell at a moment, passed on
 pub use Rattle.pip_io.specs.Moments.{Streams, beside, streams}
 

@@ -31,18 +31,19 @@ pub fn load<S: Source, K: Sink, L: Ledger>(
     steps: &mut Steps<L>,
 ) -> Result<Begun, LoadError>
     requires is_open { S.is_open joint.old.source.now }
-    requires settled { (K.told joint.old.sink.now).written.held ≡ [] }
-    requires paced { MayRead S.allows (IsFaultless image_parts) (joined S.told K.told joint.old) }
+    requires flushed { (K.history joint.old.sink.now).written.buffered ≡ [] }
+    requires paced { MayRead S.allows (IsFaultless image_parts) (joined S.history K.history joint.old) }
     ensures same_source { joint.new.source.ghost_name ≡ joint.old.source.ghost_name }
     ensures sink { joint.new.sink ≡ joint.old.sink }
     ensures loads { MatchResult result
-        (λ b. LoadsFrames (S.told joint.old.source.now).left (S.told joint.new.source.now).left b.head
+        (λ b. LoadsFrames (S.history joint.old.source.now).left (S.history joint.new.source.now).left b.head
         (⟦<RawFrames as Frames>⟧.memory b.mem))
-        (λ stop. StoppedLoading stop (S.told joint.old.source.now).left (S.told joint.new.source.now).left
-        (S.told joint.old.source.now).faults (S.told joint.new.source.now).faults) }
+        (λ stop. StoppedLoading stop (S.history joint.old.source.now).left (S.history joint.new.source.now).left
+        (S.history joint.old.source.now).faults (S.history joint.new.source.now).faults) }
     ensures limits { IfOk result (λ b. IsHeader b.head) }
     ensures booted { IfOk result (λ b. HasBooted (⟦<RawFrames as Frames>⟧.memory b.mem)) }
-    ensures calm { OnOk result ((S.told joint.new.source.now).faults ≡ (S.told joint.old.source.now).faults) }
+    ensures no_faults { OnOk result ((S.history joint.new.source.now).faults ≡
+        (S.history joint.old.source.now).faults) }
 {
     let mut reader = JointReader::new();
     let head = reader.header(joint)?;
@@ -57,20 +58,21 @@ pub fn load_front<S: Source, K: Sink, L: Ledger>(
     steps: &mut Steps<L>,
 ) -> Result<Begun, LoadError>
     requires is_open { S.is_open joint.old.source.now }
-    requires settled { (K.told joint.old.sink.now).written.held ≡ [] }
-    requires paced { MayRead S.allows (IsFaultless image_parts) (joined S.told K.told joint.old) }
+    requires flushed { (K.history joint.old.sink.now).written.buffered ≡ [] }
+    requires paced { MayRead S.allows (IsFaultless image_parts) (joined S.history K.history joint.old) }
     ensures same_source { joint.new.source.ghost_name ≡ joint.old.source.ghost_name }
     ensures sink { joint.new.sink ≡ joint.old.sink }
     ensures loads { MatchResult result
-        (λ b. LoadsFront (S.told joint.old.source.now).left (S.told joint.new.source.now).left b.head
+        (λ b. LoadsFront (S.history joint.old.source.now).left (S.history joint.new.source.now).left b.head
         (⟦<RawFrames as Frames>⟧.memory b.mem))
-        (λ stop. StoppedLoading stop (S.told joint.old.source.now).left (S.told joint.new.source.now).left
-        (S.told joint.old.source.now).faults (S.told joint.new.source.now).faults) }
+        (λ stop. StoppedLoading stop (S.history joint.old.source.now).left (S.history joint.new.source.now).left
+        (S.history joint.old.source.now).faults (S.history joint.new.source.now).faults) }
     ensures inside { IfErr result IsStopInside }
     ensures limits { IfOk result (λ b. IsHeader b.head) }
     ensures booted { IfOk result (λ b. HasBooted (⟦<RawFrames as Frames>⟧.memory b.mem)) }
     ensures is_open { OnOk result (S.is_open joint.new.source.now) }
-    ensures calm { OnOk result ((S.told joint.new.source.now).faults ≡ (S.told joint.old.source.now).faults) }
+    ensures no_faults { OnOk result ((S.history joint.new.source.now).faults ≡
+        (S.history joint.old.source.now).faults) }
 {
     let mut reader = JointReader::new();
     let head = reader.header(joint)?;

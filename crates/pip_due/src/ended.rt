@@ -31,10 +31,10 @@ impl Ended {
 
 /// Writes one line and all that the sink holds, and ends with this status, or with 4 where that can't be written.
 pub fn end_with<K: Sink>(sink: &mut K, line: &[u8], status: u8) -> Ended
-    ensures wrote { EndsLine status line.now result.status (K.told sink.old) (K.told sink.new) }
-    ensures calm { result.status ≢ 4 → (K.told sink.new).faults ≡ (K.told sink.old).faults }
+    ensures wrote { EndsLine status line.now result.status (K.history sink.old) (K.history sink.new) }
+    ensures no_faults { result.status ≢ 4 → (K.history sink.new).faults ≡ (K.history sink.old).faults }
     ensures none { result.machine ≡ None }
-    ensures settled { result.status ≢ 4 → (K.told sink.new).written.held ≡ [] }
+    ensures flushed { result.status ≢ 4 → (K.history sink.new).written.buffered ≡ [] }
 {
     match write_out(sink, line) {
         Ok(()) => Ended::with_status(status),
@@ -45,13 +45,13 @@ pub fn end_with<K: Sink>(sink: &mut K, line: &[u8], status: u8) -> Ended
 /// Ends at a fault of an image: with the line that names it, or without one where the source failed. The sink holds
 /// nothing.
 pub fn end_at_image<K: Sink>(sink: &mut K, fault: ImageError) -> Ended
-    requires { (K.told sink.old).written.held ≡ [] }
+    requires { (K.history sink.old).written.buffered ≡ [] }
     ensures wrote { MatchOption (image_line fault)
-        ((result.status ≡ 3) × Keeps (K.told sink.old).written (K.told sink.new).written)
-        (λ line. EndsLine 2 line result.status (K.told sink.old) (K.told sink.new)) }
-    ensures calm { result.status ≢ 4 → (K.told sink.new).faults ≡ (K.told sink.old).faults }
+        ((result.status ≡ 3) × Keeps (K.history sink.old).written (K.history sink.new).written)
+        (λ line. EndsLine 2 line result.status (K.history sink.old) (K.history sink.new)) }
+    ensures no_faults { result.status ≢ 4 → (K.history sink.new).faults ≡ (K.history sink.old).faults }
     ensures none { result.machine ≡ None }
-    ensures settled { result.status ≢ 4 → (K.told sink.new).written.held ≡ [] }
+    ensures flushed { result.status ≢ 4 → (K.history sink.new).written.buffered ≡ [] }
 {
     match bad_image(fault) {
         None => Ended::with_status(3),

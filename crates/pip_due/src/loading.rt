@@ -70,16 +70,17 @@ pub fn load<S: Source, K: Sink, G: Fn(Plan) -> F, F: Callback + Drop, L: Ledger>
     requires makes { G.IsAlwaysCallable make }
     requires answer { (p : Plan) (f : F) → G.post make p f → AnswersDue (F.may_ask f) (F.answers f) p }
     requires is_open { S.is_open joint.old.source.now }
-    requires settled { (K.told joint.old.sink.now).written.held ≡ [] }
-    requires paced { MayRead S.allows (IsFaultless image_parts) (joined S.told K.told joint.old) }
+    requires flushed { (K.history joint.old.sink.now).written.buffered ≡ [] }
+    requires paced { MayRead S.allows (IsFaultless image_parts) (joined S.history K.history joint.old) }
     ensures same_source { joint.new.source.ghost_name ≡ joint.old.source.ghost_name }
     ensures sink { joint.new.sink ≡ joint.old.sink }
     ensures loads { MatchResult result
-        (λ l. LoadsImage (S.told joint.old.source.now).left (S.told joint.new.source.now).left l.frames l.pages
+        (λ l. LoadsImage (S.history joint.old.source.now).left (S.history joint.new.source.now).left l.frames l.pages
         l.lines.items l.machine)
-        (λ stop. StoppedLoading stop (S.told joint.old.source.now).left (S.told joint.new.source.now).left
-        (S.told joint.old.source.now).faults (S.told joint.new.source.now).faults) }
-    ensures calm { OnOk result ((S.told joint.new.source.now).faults ≡ (S.told joint.old.source.now).faults) }
+        (λ stop. StoppedLoading stop (S.history joint.old.source.now).left (S.history joint.new.source.now).left
+        (S.history joint.old.source.now).faults (S.history joint.new.source.now).faults) }
+    ensures no_faults { OnOk result ((S.history joint.new.source.now).faults ≡
+        (S.history joint.old.source.now).faults) }
     ensures below { IfOk result (λ l. AllByRecursion (λ p. p.line < 16) l.lines.items) }
 {
     let mut reader = JointReader::new();
@@ -102,17 +103,18 @@ pub fn load_after<S: Source, K: Sink, G: Fn(Plan) -> F, F: Callback + Drop, L: L
     requires makes { G.IsAlwaysCallable make }
     requires answer { (p : Plan) (f : F) → G.post make p f → AnswersDue (F.may_ask f) (F.answers f) p }
     requires is_open { S.is_open joint.old.source.now }
-    requires settled { (K.told joint.old.sink.now).written.held ≡ [] }
-    requires paced { MayRead S.allows (IsFaultless (coming reader.old.place)) (joined S.told K.told joint.old) }
+    requires flushed { (K.history joint.old.sink.now).written.buffered ≡ [] }
+    requires paced { MayRead S.allows (IsFaultless (coming reader.old.place)) (joined S.history K.history joint.old) }
     ensures same_source { joint.new.source.ghost_name ≡ joint.old.source.ghost_name }
     ensures sink { joint.new.sink ≡ joint.old.sink }
     ensures loads { (first : Option (List ℕ)) → TakesParts image_parts (coming reader.old.place) (header_parts head.now)
-        first (S.told joint.old.source.now).left → MatchResult result
-        (λ l. LoadsImage first (S.told joint.new.source.now).left l.frames l.pages l.lines.items l.machine)
-        (λ stop. StoppedAfter head.now stop first (S.told joint.new.source.now).left
-        (S.told joint.old.source.now).faults (S.told joint.new.source.now).faults) }
+        first (S.history joint.old.source.now).left → MatchResult result
+        (λ l. LoadsImage first (S.history joint.new.source.now).left l.frames l.pages l.lines.items l.machine)
+        (λ stop. StoppedAfter head.now stop first (S.history joint.new.source.now).left
+        (S.history joint.old.source.now).faults (S.history joint.new.source.now).faults) }
     ensures frames { IfOk result (λ l. l.frames ≡ head.now.frames) }
-    ensures calm { OnOk result ((S.told joint.new.source.now).faults ≡ (S.told joint.old.source.now).faults) }
+    ensures no_faults { OnOk result ((S.history joint.new.source.now).faults ≡
+        (S.history joint.old.source.now).faults) }
     ensures below { IfOk result (λ l. AllByRecursion (λ p. p.line < 16) l.lines.items) }
 {
     let lines = lines_of(alloc, head.plans.as_slice(), make)?;
@@ -137,17 +139,18 @@ pub fn load_frames<S: Source, K: Sink, L: Ledger>(
     requires plans { reader.old.place.plans ≡ 0 }
     requires limits { IsHeader head.now }
     requires is_open { S.is_open joint.old.source.now }
-    requires settled { (K.told joint.old.sink.now).written.held ≡ [] }
-    requires paced { MayRead S.allows (IsFaultless (coming reader.old.place)) (joined S.told K.told joint.old) }
+    requires flushed { (K.history joint.old.sink.now).written.buffered ≡ [] }
+    requires paced { MayRead S.allows (IsFaultless (coming reader.old.place)) (joined S.history K.history joint.old) }
     ensures same_source { joint.new.source.ghost_name ≡ joint.old.source.ghost_name }
     ensures sink { joint.new.sink ≡ joint.old.sink }
     ensures loads { (first : Option (List ℕ)) → TakesParts image_parts (coming reader.old.place) (header_parts head.now)
-        first (S.told joint.old.source.now).left → MatchResult result
-        (λ mem. LoadsFrames first (S.told joint.new.source.now).left head.now (⟦<RawFrames as Frames>⟧.memory mem))
-        (λ stop. StoppedAfter head.now stop first (S.told joint.new.source.now).left
-        (S.told joint.old.source.now).faults (S.told joint.new.source.now).faults) }
+        first (S.history joint.old.source.now).left → MatchResult result
+        (λ mem. LoadsFrames first (S.history joint.new.source.now).left head.now (⟦<RawFrames as Frames>⟧.memory mem))
+        (λ stop. StoppedAfter head.now stop first (S.history joint.new.source.now).left
+        (S.history joint.old.source.now).faults (S.history joint.new.source.now).faults) }
     ensures booted { IfOk result (λ mem. HasBooted (⟦<RawFrames as Frames>⟧.memory mem)) }
-    ensures calm { OnOk result ((S.told joint.new.source.now).faults ≡ (S.told joint.old.source.now).faults) }
+    ensures no_faults { OnOk result ((S.history joint.new.source.now).faults ≡
+        (S.history joint.old.source.now).faults) }
 {
     let mut mem = RawFrames::new(alloc, head.frames)?;
     boot_zeros(&mut mem, steps);

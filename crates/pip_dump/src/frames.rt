@@ -72,9 +72,9 @@ fn group_line(words: &[u32; 1024], k: u32) -> ArrayString<80>
 fn groups_text<K: Sink>(words: &[u32; 1024], first: u32, sink: &mut K) -> Result<(), Failed>
     requires most { first ≤ 128 }
     requires zeros { AreZero words.now 0 (8 * first) }
-    ensures text { Wrote result (K.told sink.old).written (K.told sink.new).written
+    ensures text { Wrote result (K.history sink.old).written (K.history sink.new).written
         (flat_map (group_text (slice_index words.now)) (numbers_from 0 128)) }
-    ensures cause { HasCause (K.told sink.old).faults (K.told sink.new).faults result }
+    ensures cause { HasCause (K.history sink.old).faults (K.history sink.new).faults result }
 {
     let mut from = first;
     while let Some(k) = next_group(words, from) {
@@ -97,9 +97,9 @@ fn frame_line(f: Frame) -> ArrayString<17>
 
 // Writes the lines of a frame with these words, none where all are 0.
 fn words_text<K: Sink>(f: Frame, words: &[u32; 1024], sink: &mut K) -> Result<(), Failed>
-    ensures text { Wrote result (K.told sink.old).written (K.told sink.new).written
+    ensures text { Wrote result (K.history sink.old).written (K.history sink.new).written
         (words_text f (slice_index words.now)) }
-    ensures cause { HasCause (K.told sink.old).faults (K.told sink.new).faults result }
+    ensures cause { HasCause (K.history sink.old).faults (K.history sink.new).faults result }
 {
     let Some(first) = next_group(words, 0) else {
         return Ok(());
@@ -118,9 +118,9 @@ pub fn frame_text<M: Frames, K: Sink, L: Ledger>(
     steps: &mut Steps<L>,
 ) -> Result<(), Failed>
     requires { f < length (M.memory mem.now) }
-    ensures text { (t : Tree) → IsHeld t (M.memory mem.now) → Wrote result (K.told sink.old).written
-        (K.told sink.new).written (frame_text t f) }
-    ensures cause { HasCause (K.told sink.old).faults (K.told sink.new).faults result }
+    ensures text { (t : Tree) → IsHeld t (M.memory mem.now) → Wrote result (K.history sink.old).written
+        (K.history sink.new).written (frame_text t f) }
+    ensures cause { HasCause (K.history sink.old).faults (K.history sink.new).faults result }
     ensures steps { steps.new ≤ steps.old + 32 }
 {
     words_text(f, mem.frame(f, steps), sink)
@@ -133,9 +133,9 @@ pub fn frames_text<M: Frames, K: Sink, L: Ledger>(
     sink: &mut K,
     steps: &mut Steps<L>,
 ) -> Result<(), Failed>
-    ensures text { (t : Tree) → IsHeld t (M.memory mem.now) → Wrote result (K.told sink.old).written
-        (K.told sink.new).written (frames_text t) }
-    ensures cause { HasCause (K.told sink.old).faults (K.told sink.new).faults result }
+    ensures text { (t : Tree) → IsHeld t (M.memory mem.now) → Wrote result (K.history sink.old).written
+        (K.history sink.new).written (frames_text t) }
+    ensures cause { HasCause (K.history sink.old).faults (K.history sink.new).faults result }
 {
     for f in 0..mem.count() {
         frame_text(mem, Frame::new(f), sink, steps)?;

@@ -70,10 +70,10 @@ fn table_text<K: Sink>(
 ) -> Result<(), Failed>
     requires { i < 1024 }
     ensures text { (t : Tree) (x : Node) (old : Taken) (whole : List ℕ) → AreLeaves t x i leaves.now → AreGiven t x i
-        given.now → RowsLeft t x (1024 * i) old (K.told sink.old).written whole → MatchResult result
-        (λ _. RowsLeft t x (1024 * i + 1024) old (K.told sink.new).written whole)
-        (λ _. AppendsPart old (K.told sink.new).written whole) }
-    ensures cause { HasCause (K.told sink.old).faults (K.told sink.new).faults result }
+        given.now → RowsLeft t x (1024 * i) old (K.history sink.old).written whole → MatchResult result
+        (λ _. RowsLeft t x (1024 * i + 1024) old (K.history sink.new).written whole)
+        (λ _. AppendsPart old (K.history sink.new).written whole) }
+    ensures cause { HasCause (K.history sink.old).faults (K.history sink.new).faults result }
 {
     let mut line = ArrayString::new();
     let mut from = 0;
@@ -100,8 +100,9 @@ fn rows_text<M: Frames, K: Sink, L: Ledger>(
 ) -> Result<(), Failed>
     requires { HasPartition (M.memory mem.now) part }
     ensures text { InEach (M.memory mem.now) part
-        (λ t x. Wrote result (K.told sink.old).written (K.told sink.new).written (flat_map (row_text t x) x.rows)) }
-    ensures cause { HasCause (K.told sink.old).faults (K.told sink.new).faults result }
+        (λ t x. Wrote result (K.history sink.old).written (K.history sink.new).written
+        (flat_map (row_text t x) x.rows)) }
+    ensures cause { HasCause (K.history sink.old).faults (K.history sink.new).faults result }
 {
     let mut from = 0;
     while let Some(i) = next_tables(mem, part, from, steps) {
@@ -122,9 +123,9 @@ pub(crate) fn part_text<M: Frames, K: Sink, L: Ledger>(
 ) -> Result<(), Failed>
     requires { HasPartition (M.memory mem.now) place.now.part }
     ensures text { InEach (M.memory mem.now) place.now.part
-        (λ t x. place.now.depth ≡ depth_of t x → Wrote result (K.told sink.old).written (K.told sink.new).written
+        (λ t x. place.now.depth ≡ depth_of t x → Wrote result (K.history sink.old).written (K.history sink.new).written
         (part_text t x)) }
-    ensures cause { HasCause (K.told sink.old).faults (K.told sink.new).faults result }
+    ensures cause { HasCause (K.history sink.old).faults (K.history sink.new).faults result }
 {
     write_all(sink, head_line(mem, place, steps).as_bytes())?;
     rows_text(mem, place.part, sink, steps)

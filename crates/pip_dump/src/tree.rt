@@ -20,9 +20,9 @@ pub fn tree_text<M: Frames, K: Sink, L: Ledger>(
     steps: &mut Steps<L>,
 ) -> Result<(), Failed>
     requires { HasPartition (M.memory mem.now) 1 }
-    ensures text { (t : Tree) → IsHeld t (M.memory mem.now) → Wrote result (K.told sink.old).written
-        (K.told sink.new).written (tree_text t) }
-    ensures cause { HasCause (K.told sink.old).faults (K.told sink.new).faults result }
+    ensures text { (t : Tree) → IsHeld t (M.memory mem.now) → Wrote result (K.history sink.old).written
+        (K.history sink.new).written (tree_text t) }
+    ensures cause { HasCause (K.history sink.old).faults (K.history sink.new).faults result }
 {
     let mut next = Some(first_place());
     for _i in 0..mem.count() {

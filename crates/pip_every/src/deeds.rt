@@ -36,7 +36,7 @@ fn make_event<P: Port, L: Ledger>(
 
 // Writes the line of a deed, if it has one.
 fn write_deed<K: Sink>(sink: &mut K, cpu: u32, deed: &Deed, outcome: Outcome) -> Result<(), Failed>
-    ensures { Writes K.told sink.old sink.new result (deed_line cpu deed.now outcome) }
+    ensures { Writes K.history sink.old sink.new result (deed_line cpu deed.now outcome) }
 {
     match deed {
         Deed::Call { number, .. } => write_call(sink, 0, cpu, *number, outcome),
@@ -54,7 +54,7 @@ fn do_deed<P: Port, K: Sink, L: Ledger>(
     steps: &mut Steps<L>,
 ) -> Result<(), Failed>
     requires { cpu < P.count port.old }
-    ensures acts { Acts result (P.stands port.old) (P.stands port.new) (K.told sink.old) (K.told sink.new)
+    ensures acts { Acts result (P.stands port.old) (P.stands port.new) (K.history sink.old) (K.history sink.new)
         (λ w. deed_acts w cpu deed.now) }
     ensures count { P.count port.new ≡ P.count port.old }
 {
@@ -72,7 +72,7 @@ pub(crate) fn act_from_menu<P: Port, K: Sink, L: Ledger>(
     steps: &mut Steps<L>,
 ) -> Result<(), Failed>
     requires { cpu < P.count port.old }
-    ensures acts { Acts result (P.stands port.old) (P.stands port.new) (K.told sink.old) (K.told sink.new)
+    ensures acts { Acts result (P.stands port.old) (P.stands port.new) (K.history sink.old) (K.history sink.new)
         (λ w. hostile_acts w cpu deed.now) }
     ensures count { P.count port.new ≡ P.count port.old }
 {

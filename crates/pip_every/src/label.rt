@@ -1,7 +1,7 @@
 //! What a choice shows.
 ghost use Rattle.std.specs.Prelude.{◌≡◌, ◌<◌, [], Some};
 ghost use Rattle.pip_io.specs.Taken.{plain};
-ghost use Rattle.pip_io.specs.Told.{writing};
+ghost use Rattle.pip_io.specs.Histories.{writing};
 
 use pip_io::{Failed, Sink};
 use std::alloc::Global;
@@ -40,7 +40,7 @@ impl Label {
 }
 
 impl Sink for Label {
-    ghost told = { λ s. writing (plain (Some s.bytes.items)) s.failed };
+    ghost history = { λ s. writing (plain (Some s.bytes.items)) s.failed };
 
     fn write(&mut self, piece: &[u8]) -> Result<usize, Failed> {
         match self.bytes.extend_from_slice(piece) {
@@ -53,7 +53,7 @@ impl Sink for Label {
     }
 
     /// It holds nothing.
-    fn settle(&mut self) -> Result<(), Failed> {
+    fn flush(&mut self) -> Result<(), Failed> {
         Ok(())
     }
 }

@@ -35,7 +35,7 @@ part_unfilled k filled buf left left' before now p part next e parses f size h =
     let l = length-take-le filled.count buf f.count in
     part_refused k p part next e filled.failed (take filled.count buf) left left' before now parses (sym h) f.taken
     (λ w few right. f.ended w (omega arith) (ap is_fault (sym h) ∙ right)) f.rose (λ w. ap is_fault h ∙ f.right w)
-    f.calm
+    f.no_faults
 
 -- where a part was taken, the buffer was filled
 pub filled_whole : {A : Type 0} (k : ℕ) (filled : Filled) (buf : List ℕ) (left left' : Option (List ℕ))
@@ -57,7 +57,7 @@ pub filled_calm : {A : Type 0} (k : ℕ) (filled : Filled) (buf : List ℕ) (lef
 filled_calm k filled buf left left' before now p x r parses f size e = go filled.failed refl
   where
     go : (b : Bool) → filled.failed ≡ b → now ≡ before
-    go false w = f.calm w
+    go false w = f.no_faults w
     go true w =
         let whole = filled_whole k filled buf left left' before now p x r parses f size e in
         let few = f.few w in

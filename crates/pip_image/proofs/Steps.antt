@@ -45,13 +45,13 @@ pub part_refused : {A : Type 0} (k : ℕ) (p : List ℕ → Result (A × List �
     → is_fault {X = A × List ℕ} (Err e) ≡ false → IsAtEnd left') → (failed ≡ true → RoseByOne before now)
     → (failed ≡ true → is_fault {X = A × List ℕ} (Err e) ≡ false) → (failed ≡ false → now ≡ before)
     → Refuses (one_part p part next) [] left left' before now (fault_of e failed)
-part_refused {A} k p part next e failed bytes left left' before now parses h taken over rose right calm =
+part_refused {A} k p part next e failed bytes left left' before now parses h taken over rose right no_faults =
     let go = ap (λ s. goes_on s (λ x rest. part_before (part x) (next x rest))) h in
     record {
       bytes = bytes;
       taken = taken;
       why = why e failed (λ rest. subst (λ s. Goes k (length bytes) rest s (p (bytes ++ rest))) h (parses bytes rest))
-          go over rose right calm;
+          go over rose right no_faults;
     }
   where
     judged : {A : Type 0} (p : List ℕ → Result (A × List ℕ) ImageError)
@@ -62,8 +62,8 @@ part_refused {A} k p part next e failed bytes left left' before now parses h tak
 
     spared : (failed : Bool) → (failed ≡ true → ◌≡◌ {A = Bool} true false) → (failed ≡ false → now ≡ before)
         → now ≡ before
-    spared true right calm = absurd (false≢true (sym (right refl)))
-    spared false right calm = calm refl
+    spared true right no_faults = absurd (false≢true (sym (right refl)))
+    spared false right no_faults = no_faults refl
 
     why : (e : ImageError) (failed : Bool) → ((rest : List ℕ) → Goes k (length bytes) rest (Err e) (p (bytes ++ rest)))
         → one_part p part next bytes ≡ only_fault e → (failed ≡ false → length bytes < k
@@ -71,26 +71,26 @@ part_refused {A} k p part next e failed bytes left left' before now parses h tak
         → (failed ≡ true → is_fault {X = A × List ℕ} (Err e) ≡ false) → (failed ≡ false → now ≡ before)
         → by_read (fault_of e failed) (IsCut (one_part p part next) [] bytes before now)
         (IsFault (one_part p part next) [] bytes left' (fault_of e failed) × (now ≡ before))
-    why (F.Short at) true g go over rose right calm =
+    why (F.Short at) true g go over rose right no_faults =
         record { rose = rose refl; whole = ap (λ t. t.parts) go; fault = subst (λ t. EndsAtMost t.fault) (sym go) tt }
-    why (F.Short at) false g go over rose right calm = (inr (go, over refl (g []) refl), calm refl)
-    why F.Read failed g go over rose right calm = absurd (g [])
-    why (F.Magic at) failed g go over rose right calm =
-        (judged p part next bytes left' (F.Magic at) g, spared failed right calm)
-    why (F.OldVersion at) failed g go over rose right calm =
-        (judged p part next bytes left' (F.OldVersion at) g, spared failed right calm)
-    why (F.Frames at) failed g go over rose right calm =
-        (judged p part next bytes left' (F.Frames at) g, spared failed right calm)
-    why (F.Cpus at) failed g go over rose right calm =
-        (judged p part next bytes left' (F.Cpus at) g, spared failed right calm)
-    why (F.Plan at) failed g go over rose right calm =
-        (judged p part next bytes left' (F.Plan at) g, spared failed right calm)
-    why (F.Page at) failed g go over rose right calm =
-        (judged p part next bytes left' (F.Page at) g, spared failed right calm)
-    why (F.Twice at) failed g go over rose right calm =
-        (judged p part next bytes left' (F.Twice at) g, spared failed right calm)
-    why (F.Long at) failed g go over rose right calm =
-        (judged p part next bytes left' (F.Long at) g, spared failed right calm)
+    why (F.Short at) false g go over rose right no_faults = (inr (go, over refl (g []) refl), no_faults refl)
+    why F.Read failed g go over rose right no_faults = absurd (g [])
+    why (F.Magic at) failed g go over rose right no_faults =
+        (judged p part next bytes left' (F.Magic at) g, spared failed right no_faults)
+    why (F.OldVersion at) failed g go over rose right no_faults =
+        (judged p part next bytes left' (F.OldVersion at) g, spared failed right no_faults)
+    why (F.Frames at) failed g go over rose right no_faults =
+        (judged p part next bytes left' (F.Frames at) g, spared failed right no_faults)
+    why (F.Cpus at) failed g go over rose right no_faults =
+        (judged p part next bytes left' (F.Cpus at) g, spared failed right no_faults)
+    why (F.Plan at) failed g go over rose right no_faults =
+        (judged p part next bytes left' (F.Plan at) g, spared failed right no_faults)
+    why (F.Page at) failed g go over rose right no_faults =
+        (judged p part next bytes left' (F.Page at) g, spared failed right no_faults)
+    why (F.Twice at) failed g go over rose right no_faults =
+        (judged p part next bytes left' (F.Twice at) g, spared failed right no_faults)
+    why (F.Long at) failed g go over rose right no_faults =
+        (judged p part next bytes left' (F.Long at) g, spared failed right no_faults)
 
 -- bytes that don't fill a part and aren't wrong for it have no fault but that they end
 pub part_open : {A : Type 0} (k : ℕ) (p : List ℕ → Result (A × List ℕ) ImageError)

@@ -15,4 +15,4 @@ pub record IsFilled (wrong : List ℕ → Bool) (filled : Filled) (buf : List �
   pub rose : filled.failed ≡ true → RoseByOne before now
   pub right : filled.failed ≡ true → wrong (take filled.count buf) ≡ false
   pub few : filled.failed ≡ true → filled.count < length buf
-  pub calm : filled.failed ≡ false → now ≡ before
+  pub no_faults : filled.failed ≡ false → now ≡ before

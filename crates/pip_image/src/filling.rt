@@ -68,13 +68,14 @@ pub fn fill<S: Source, K: Sink>(
 ) -> Filled
     requires sought { IsSought sought.now }
     requires is_open { S.is_open joint.old.source.now }
-    requires settled { (K.told joint.old.sink.now).written.held ≡ [] }
-    requires paced { MayRead S.allows (IsUnfilled (length buf.old) sought.now) (joined S.told K.told joint.old) }
+    requires flushed { (K.history joint.old.sink.now).written.buffered ≡ [] }
+    requires paced { MayRead S.allows (IsUnfilled (length buf.old) sought.now) (joined S.history K.history joint.old) }
     ensures same_source { joint.new.source.ghost_name ≡ joint.old.source.ghost_name }
     ensures sink { joint.new.sink ≡ joint.old.sink }
-    ensures filled { IsFilled (is_wrong sought.now) result buf.new (S.told joint.old.source.now).left
-        (S.told joint.new.source.now).left (S.told joint.old.source.now).faults (S.told joint.new.source.now).faults }
-    ensures later { (S.told joint.old.source.now).faults ≤ (S.told joint.new.source.now).faults }
+    ensures filled { IsFilled (is_wrong sought.now) result buf.new (S.history joint.old.source.now).left
+        (S.history joint.new.source.now).left (S.history joint.old.source.now).faults
+        (S.history joint.new.source.now).faults }
+    ensures later { (S.history joint.old.source.now).faults ≤ (S.history joint.new.source.now).faults }
     ensures is_open { result.count ≡ length buf.new → S.is_open joint.new.source.now }
 {
     let mut taken = 0;

@@ -29,16 +29,17 @@ pub fn load_from_joint<S: Source, K: Sink, M: Frames>(
     requires after { IsAfter head.now reader.old.place }
     requires boot { LaysOut (boot_tree head.now.frames) (M.memory mem.old) }
     requires is_open { S.is_open joint.old.source.now }
-    requires settled { (K.told joint.old.sink.now).written.held ≡ [] }
-    requires paced { MayRead S.allows (IsFaultless (coming reader.old.place)) (joined S.told K.told joint.old) }
+    requires flushed { (K.history joint.old.sink.now).written.buffered ≡ [] }
+    requires paced { MayRead S.allows (IsFaultless (coming reader.old.place)) (joined S.history K.history joint.old) }
     ensures same_source { joint.new.source.ghost_name ≡ joint.old.source.ghost_name }
     ensures sink { joint.new.sink ≡ joint.old.sink }
-    ensures loaded { let a = joined S.told K.told joint.old in
-        let b = joined S.told K.told joint.new in
+    ensures loaded { let a = joined S.history K.history joint.old in
+        let b = joined S.history K.history joint.new in
         MatchResult result (λ _. LoadsAll head.now.frames (coming reader.old.place) a.left b.left (M.memory mem.new))
         (LoadsUpTo head.now.frames (coming reader.old.place) a.left b.left a.reads b.reads (M.memory mem.new)) }
-    ensures later { (S.told joint.old.source.now).faults ≤ (S.told joint.new.source.now).faults }
-    ensures calm { OnOk result ((S.told joint.new.source.now).faults ≡ (S.told joint.old.source.now).faults) }
+    ensures later { (S.history joint.old.source.now).faults ≤ (S.history joint.new.source.now).faults }
+    ensures no_faults { OnOk result ((S.history joint.new.source.now).faults ≡
+        (S.history joint.old.source.now).faults) }
     ensures count { length (M.memory mem.new) ≡ length (M.memory mem.old) }
 {
     match load_pages(reader, joint, head, mem) {
@@ -58,12 +59,12 @@ pub fn load_pages<S: Source, K: Sink, M: Frames>(
     requires after { IsAfter head.now reader.old.place }
     requires boot { LaysOut (boot_tree head.now.frames) (M.memory mem.old) }
     requires is_open { S.is_open joint.old.source.now }
-    requires settled { (K.told joint.old.sink.now).written.held ≡ [] }
-    requires paced { MayRead S.allows (IsFaultless (coming reader.old.place)) (joined S.told K.told joint.old) }
+    requires flushed { (K.history joint.old.sink.now).written.buffered ≡ [] }
+    requires paced { MayRead S.allows (IsFaultless (coming reader.old.place)) (joined S.history K.history joint.old) }
     ensures same_source { joint.new.source.ghost_name ≡ joint.old.source.ghost_name }
     ensures sink { joint.new.sink ≡ joint.old.sink }
-    ensures loaded { let a = joined S.told K.told joint.old in
-        let b = joined S.told K.told joint.new in
+    ensures loaded { let a = joined S.history K.history joint.old in
+        let b = joined S.history K.history joint.new in
         MatchResult result (λ _. Loads head.now.frames (coming reader.old.place) (coming reader.new.place) a.left b.left
         reader.new.place.seen.items (M.memory mem.new))
         (LoadsUpTo head.now.frames (coming reader.old.place) a.left b.left a.reads b.reads (M.memory mem.new)) }
@@ -71,8 +72,9 @@ pub fn load_pages<S: Source, K: Sink, M: Frames>(
     ensures pages { OnOk result (reader.new.place.pages ≡ 0) }
     ensures inside { IfErr result IsFaultWithin }
     ensures is_open { OnOk result (S.is_open joint.new.source.now) }
-    ensures later { (S.told joint.old.source.now).faults ≤ (S.told joint.new.source.now).faults }
-    ensures calm { OnOk result ((S.told joint.new.source.now).faults ≡ (S.told joint.old.source.now).faults) }
+    ensures later { (S.history joint.old.source.now).faults ≤ (S.history joint.new.source.now).faults }
+    ensures no_faults { OnOk result ((S.history joint.new.source.now).faults ≡
+        (S.history joint.old.source.now).faults) }
     ensures count { length (M.memory mem.new) ≡ length (M.memory mem.old) }
 {
     let mut words = [0; 1024];

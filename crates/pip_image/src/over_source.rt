@@ -44,19 +44,20 @@ impl<'a, S: Source> ImageReader<'a, S> {
     pub fn header(&mut self) -> Result<Header, ImageError>
         requires new { IsNew self.old.reader.place }
         requires is_open { S.is_open self.old.source.now }
-        requires paced { MayRead S.allows IsHeaderless (alone (S.told self.old.source.now)) }
+        requires paced { MayRead S.allows IsHeaderless (alone (S.history self.old.source.now)) }
         ensures same_source { self.new.source.ghost_name ≡ self.old.source.ghost_name }
         ensures reads { MatchResult result
             (λ h. TakesParts image_parts (coming self.new.reader.place) (header_parts h)
-            (S.told self.old.source.now).left (S.told self.new.source.now).left)
-            (RefusesHeader image_parts (S.told self.old.source.now).left (S.told self.new.source.now).left
-            (S.told self.old.source.now).faults (S.told self.new.source.now).faults) }
+            (S.history self.old.source.now).left (S.history self.new.source.now).left)
+            (RefusesHeader image_parts (S.history self.old.source.now).left (S.history self.new.source.now).left
+            (S.history self.old.source.now).faults (S.history self.new.source.now).faults) }
         ensures plans { IfOk result (λ _. self.new.reader.place.plans ≡ 0) }
         ensures place { IfOk result (λ h. IsAfter h self.new.reader.place) }
         ensures limits { IfOk result IsHeader }
-        ensures later { (S.told self.old.source.now).faults ≤ (S.told self.new.source.now).faults }
+        ensures later { (S.history self.old.source.now).faults ≤ (S.history self.new.source.now).faults }
         ensures is_open { OnOk result (S.is_open self.new.source.now) }
-        ensures calm { OnOk result ((S.told self.new.source.now).faults ≡ (S.told self.old.source.now).faults) }
+        ensures no_faults { OnOk result ((S.history self.new.source.now).faults ≡
+            (S.history self.old.source.now).faults) }
     {
         let mut sink = Discard::new();
         let mut joint = Joint::new(&mut *self.source, &mut sink);
@@ -68,24 +69,26 @@ impl<'a, S: Source> ImageReader<'a, S> {
         requires plans { self.old.reader.place.plans ≡ 0 }
         requires is_open { S.is_open self.old.source.now }
         requires paced { MayRead S.allows (IsPartless (coming self.old.reader.place))
-            (alone (S.told self.old.source.now)) }
+            (alone (S.history self.old.source.now)) }
         ensures same_source { self.new.source.ghost_name ≡ self.old.source.ghost_name }
         ensures reads { MatchResult result
-            (λ r. MatchOption r (EndsInput (coming self.old.reader.place) (S.told self.old.source.now).left
-            (S.told self.new.source.now).left)
+            (λ r. MatchOption r (EndsInput (coming self.old.reader.place) (S.history self.old.source.now).left
+            (S.history self.new.source.now).left)
             (λ v. TakesParts (coming self.old.reader.place) (coming self.new.reader.place)
-            (Holds (record { vpage = v; words = words.new }) ∷ []) (S.told self.old.source.now).left
-            (S.told self.new.source.now).left))
-            (Refuses (coming self.old.reader.place) [] (S.told self.old.source.now).left
-            (S.told self.new.source.now).left (S.told self.old.source.now).faults (S.told self.new.source.now).faults) }
+            (Holds (record { vpage = v; words = words.new }) ∷ []) (S.history self.old.source.now).left
+            (S.history self.new.source.now).left))
+            (Refuses (coming self.old.reader.place) [] (S.history self.old.source.now).left
+            (S.history self.new.source.now).left (S.history self.old.source.now).faults
+            (S.history self.new.source.now).faults) }
         ensures plans { self.new.reader.place.plans ≡ 0 }
         ensures frames { self.new.reader.place.frames ≡ self.old.reader.place.frames }
         ensures pages { IfOk result
             (λ r. IfSome r (λ _. self.new.reader.place.pages + 1 ≡ self.old.reader.place.pages)) }
         ensures next { IfOk result (λ r. IfSome r (IsNextPage self.old.reader.place self.new.reader.place)) }
-        ensures later { (S.told self.old.source.now).faults ≤ (S.told self.new.source.now).faults }
+        ensures later { (S.history self.old.source.now).faults ≤ (S.history self.new.source.now).faults }
         ensures is_open { IfOk result (λ r. IfSome r (λ _. S.is_open self.new.source.now)) }
-        ensures calm { OnOk result ((S.told self.new.source.now).faults ≡ (S.told self.old.source.now).faults) }
+        ensures no_faults { OnOk result ((S.history self.new.source.now).faults ≡
+            (S.history self.old.source.now).faults) }
     {
         let mut sink = Discard::new();
         let mut joint = Joint::new(&mut *self.source, &mut sink);
@@ -106,16 +109,18 @@ pub fn load_image<S: Source, M: Frames>(
     requires boot { LaysOut (boot_tree head.now.frames) (M.memory mem.old) }
     requires is_open { S.is_open reader.old.source.now }
     requires paced { MayRead S.allows (IsFaultless (coming reader.old.reader.place))
-        (alone (S.told reader.old.source.now)) }
+        (alone (S.history reader.old.source.now)) }
     ensures same_source { reader.new.source.ghost_name ≡ reader.old.source.ghost_name }
     ensures loaded { MatchResult result
-        (λ _. LoadsAll head.now.frames (coming reader.old.reader.place) (S.told reader.old.source.now).left
-        (S.told reader.new.source.now).left (M.memory mem.new))
-        (LoadsUpTo head.now.frames (coming reader.old.reader.place) (S.told reader.old.source.now).left
-        (S.told reader.new.source.now).left (S.told reader.old.source.now).faults (S.told reader.new.source.now).faults
+        (λ _. LoadsAll head.now.frames (coming reader.old.reader.place) (S.history reader.old.source.now).left
+        (S.history reader.new.source.now).left (M.memory mem.new))
+        (LoadsUpTo head.now.frames (coming reader.old.reader.place) (S.history reader.old.source.now).left
+        (S.history reader.new.source.now).left (S.history reader.old.source.now).faults
+        (S.history reader.new.source.now).faults
         (M.memory mem.new)) }
-    ensures later { (S.told reader.old.source.now).faults ≤ (S.told reader.new.source.now).faults }
-    ensures calm { OnOk result ((S.told reader.new.source.now).faults ≡ (S.told reader.old.source.now).faults) }
+    ensures later { (S.history reader.old.source.now).faults ≤ (S.history reader.new.source.now).faults }
+    ensures no_faults { OnOk result ((S.history reader.new.source.now).faults ≡
+        (S.history reader.old.source.now).faults) }
     ensures count { length (M.memory mem.new) ≡ length (M.memory mem.old) }
 {
     let mut sink = Discard::new();

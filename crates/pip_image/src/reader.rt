@@ -44,21 +44,22 @@ impl JointReader {
     ) -> Result<Header, ImageError>
         requires new { IsNew self.old.place }
         requires is_open { S.is_open joint.old.source.now }
-        requires settled { (K.told joint.old.sink.now).written.held ≡ [] }
-        requires paced { MayRead S.allows IsHeaderless (joined S.told K.told joint.old) }
+        requires flushed { (K.history joint.old.sink.now).written.buffered ≡ [] }
+        requires paced { MayRead S.allows IsHeaderless (joined S.history K.history joint.old) }
         ensures same_source { joint.new.source.ghost_name ≡ joint.old.source.ghost_name }
         ensures sink { joint.new.sink ≡ joint.old.sink }
-        ensures reads { let a = joined S.told K.told joint.old in
-            let b = joined S.told K.told joint.new in
+        ensures reads { let a = joined S.history K.history joint.old in
+            let b = joined S.history K.history joint.new in
             MatchResult result (λ h. TakesParts image_parts (coming self.new.place) (header_parts h) a.left b.left)
             (RefusesHeader image_parts a.left b.left a.reads b.reads) }
         ensures plans { IfOk result (λ _. self.new.place.plans ≡ 0) }
         ensures place { IfOk result (λ h. IsAfter h self.new.place) }
         ensures limits { IfOk result IsHeader }
-        ensures later { (S.told joint.old.source.now).faults ≤ (S.told joint.new.source.now).faults }
+        ensures later { (S.history joint.old.source.now).faults ≤ (S.history joint.new.source.now).faults }
         ensures is_open { OnOk result (S.is_open joint.new.source.now) }
         ensures inside { IfErr result IsFaultWithin }
-        ensures calm { OnOk result ((S.told joint.new.source.now).faults ≡ (S.told joint.old.source.now).faults) }
+        ensures no_faults { OnOk result ((S.history joint.new.source.now).faults ≡
+            (S.history joint.old.source.now).faults) }
     {
         let fields = self.fields(joint)?;
         let mut plans = ArrayVec::new();
@@ -88,12 +89,12 @@ impl JointReader {
     ) -> Result<Fields, ImageError>
         requires new { IsNew self.old.place }
         requires is_open { S.is_open joint.old.source.now }
-        requires settled { (K.told joint.old.sink.now).written.held ≡ [] }
-        requires paced { MayRead S.allows (IsPartless image_parts) (joined S.told K.told joint.old) }
+        requires flushed { (K.history joint.old.sink.now).written.buffered ≡ [] }
+        requires paced { MayRead S.allows (IsPartless image_parts) (joined S.history K.history joint.old) }
         ensures same_source { joint.new.source.ghost_name ≡ joint.old.source.ghost_name }
         ensures sink { joint.new.sink ≡ joint.old.sink }
-        ensures reads { let a = joined S.told K.told joint.old in
-            let b = joined S.told K.told joint.new in
+        ensures reads { let a = joined S.history K.history joint.old in
+            let b = joined S.history K.history joint.new in
             MatchResult result
             (λ f. TakesParts image_parts (coming self.new.place) (Head (fields_seen f) ∷ []) a.left b.left)
             (Refuses image_parts [] a.left b.left a.reads b.reads) }
@@ -102,10 +103,11 @@ impl JointReader {
         ensures line { OnOk result (self.new.place.line ≡ 0) }
         ensures place { IfOk result (λ f. (self.new.place.frames ≡ f.frames) × (self.new.place.pages ≡ f.pages)
             × (self.new.place.seen.items ≡ [])) }
-        ensures later { (S.told joint.old.source.now).faults ≤ (S.told joint.new.source.now).faults }
+        ensures later { (S.history joint.old.source.now).faults ≤ (S.history joint.new.source.now).faults }
         ensures is_open { OnOk result (S.is_open joint.new.source.now) }
         ensures inside { IfErr result IsFaultWithin }
-        ensures calm { OnOk result ((S.told joint.new.source.now).faults ≡ (S.told joint.old.source.now).faults) }
+        ensures no_faults { OnOk result ((S.history joint.new.source.now).faults ≡
+            (S.history joint.old.source.now).faults) }
     {
         let mut bytes = [0; 24];
         let filled = fill(joint, &Sought::Fields, &mut bytes);
@@ -125,12 +127,12 @@ impl JointReader {
     ) -> Result<Plan, ImageError>
         requires plans { 0 < self.old.place.plans }
         requires is_open { S.is_open joint.old.source.now }
-        requires settled { (K.told joint.old.sink.now).written.held ≡ [] }
-        requires paced { MayRead S.allows (IsPartless (coming self.old.place)) (joined S.told K.told joint.old) }
+        requires flushed { (K.history joint.old.sink.now).written.buffered ≡ [] }
+        requires paced { MayRead S.allows (IsPartless (coming self.old.place)) (joined S.history K.history joint.old) }
         ensures same_source { joint.new.source.ghost_name ≡ joint.old.source.ghost_name }
         ensures sink { joint.new.sink ≡ joint.old.sink }
-        ensures reads { let a = joined S.told K.told joint.old in
-            let b = joined S.told K.told joint.new in
+        ensures reads { let a = joined S.history K.history joint.old in
+            let b = joined S.history K.history joint.new in
             MatchResult result
             (λ p. TakesParts (coming self.old.place) (coming self.new.place) (Line p ∷ []) a.left b.left)
             (Refuses (coming self.old.place) [] a.left b.left a.reads b.reads) }
@@ -139,10 +141,11 @@ impl JointReader {
             × (self.new.place.line ≡ p.line + 1)) }
         ensures place { IfOk result (λ _. (self.new.place.frames ≡ self.old.place.frames)
             × (self.new.place.pages ≡ self.old.place.pages) × (self.new.place.seen ≡ self.old.place.seen)) }
-        ensures later { (S.told joint.old.source.now).faults ≤ (S.told joint.new.source.now).faults }
+        ensures later { (S.history joint.old.source.now).faults ≤ (S.history joint.new.source.now).faults }
         ensures is_open { OnOk result (S.is_open joint.new.source.now) }
         ensures inside { IfErr result IsFaultWithin }
-        ensures calm { OnOk result ((S.told joint.new.source.now).faults ≡ (S.told joint.old.source.now).faults) }
+        ensures no_faults { OnOk result ((S.history joint.new.source.now).faults ≡
+            (S.history joint.old.source.now).faults) }
     {
         let mut bytes = [0; 12];
         let sought = Sought::Plan {
@@ -174,12 +177,12 @@ impl JointReader {
     ) -> Result<Option<VPage>, ImageError>
         requires plans { self.old.place.plans ≡ 0 }
         requires is_open { S.is_open joint.old.source.now }
-        requires settled { (K.told joint.old.sink.now).written.held ≡ [] }
-        requires paced { MayRead S.allows (IsPartless (coming self.old.place)) (joined S.told K.told joint.old) }
+        requires flushed { (K.history joint.old.sink.now).written.buffered ≡ [] }
+        requires paced { MayRead S.allows (IsPartless (coming self.old.place)) (joined S.history K.history joint.old) }
         ensures same_source { joint.new.source.ghost_name ≡ joint.old.source.ghost_name }
         ensures sink { joint.new.sink ≡ joint.old.sink }
-        ensures reads { let a = joined S.told K.told joint.old in
-            let b = joined S.told K.told joint.new in
+        ensures reads { let a = joined S.history K.history joint.old in
+            let b = joined S.history K.history joint.new in
             MatchResult result (λ r. MatchOption r (EndsInput (coming self.old.place) a.left b.left)
             (λ v. TakesParts (coming self.old.place) (coming self.new.place)
             (Holds (record { vpage = v; words = words.new }) ∷ []) a.left b.left))
@@ -188,9 +191,10 @@ impl JointReader {
         ensures frames { self.new.place.frames ≡ self.old.place.frames }
         ensures pages { IfOk result (λ r. IfSome r (λ _. self.new.place.pages + 1 ≡ self.old.place.pages)) }
         ensures next { IfOk result (λ r. IfSome r (IsNextPage self.old.place self.new.place)) }
-        ensures later { (S.told joint.old.source.now).faults ≤ (S.told joint.new.source.now).faults }
+        ensures later { (S.history joint.old.source.now).faults ≤ (S.history joint.new.source.now).faults }
         ensures is_open { IfOk result (λ r. IfSome r (λ _. S.is_open joint.new.source.now)) }
-        ensures calm { OnOk result ((S.told joint.new.source.now).faults ≡ (S.told joint.old.source.now).faults) }
+        ensures no_faults { OnOk result ((S.history joint.new.source.now).faults ≡
+            (S.history joint.old.source.now).faults) }
     {
         if self.place.pages == 0 {
             self.end(joint)?;
@@ -208,17 +212,18 @@ impl JointReader {
         requires plans { self.old.place.plans ≡ 0 }
         requires pages { self.old.place.pages ≡ 0 }
         requires is_open { S.is_open joint.old.source.now }
-        requires settled { (K.told joint.old.sink.now).written.held ≡ [] }
-        requires paced { MayRead S.allows (IsPartless (coming self.old.place)) (joined S.told K.told joint.old) }
+        requires flushed { (K.history joint.old.sink.now).written.buffered ≡ [] }
+        requires paced { MayRead S.allows (IsPartless (coming self.old.place)) (joined S.history K.history joint.old) }
         ensures same_source { joint.new.source.ghost_name ≡ joint.old.source.ghost_name }
         ensures sink { joint.new.sink ≡ joint.old.sink }
         ensures place { self.new.place ≡ self.old.place }
-        ensures reads { let a = joined S.told K.told joint.old in
-            let b = joined S.told K.told joint.new in
+        ensures reads { let a = joined S.history K.history joint.old in
+            let b = joined S.history K.history joint.new in
             MatchResult result (λ _. EndsInput (coming self.old.place) a.left b.left)
             (Refuses (coming self.old.place) [] a.left b.left a.reads b.reads) }
-        ensures later { (S.told joint.old.source.now).faults ≤ (S.told joint.new.source.now).faults }
-        ensures calm { OnOk result ((S.told joint.new.source.now).faults ≡ (S.told joint.old.source.now).faults) }
+        ensures later { (S.history joint.old.source.now).faults ≤ (S.history joint.new.source.now).faults }
+        ensures no_faults { OnOk result ((S.history joint.new.source.now).faults ≡
+            (S.history joint.old.source.now).faults) }
     {
         let mut byte = [0];
         match joint.read(&mut byte) {
@@ -237,12 +242,12 @@ impl JointReader {
         requires plans { self.old.place.plans ≡ 0 }
         requires pages { 0 < self.old.place.pages }
         requires is_open { S.is_open joint.old.source.now }
-        requires settled { (K.told joint.old.sink.now).written.held ≡ [] }
-        requires paced { MayRead S.allows (IsPartless (coming self.old.place)) (joined S.told K.told joint.old) }
+        requires flushed { (K.history joint.old.sink.now).written.buffered ≡ [] }
+        requires paced { MayRead S.allows (IsPartless (coming self.old.place)) (joined S.history K.history joint.old) }
         ensures same_source { joint.new.source.ghost_name ≡ joint.old.source.ghost_name }
         ensures sink { joint.new.sink ≡ joint.old.sink }
-        ensures reads { let a = joined S.told K.told joint.old in
-            let b = joined S.told K.told joint.new in
+        ensures reads { let a = joined S.history K.history joint.old in
+            let b = joined S.history K.history joint.new in
             MatchResult result (λ v. TakesParts (coming self.old.place) (coming self.new.place)
             (Holds (record { vpage = v; words = words.new }) ∷ []) a.left b.left)
             (Refuses (coming self.old.place) [] a.left b.left a.reads b.reads) }
@@ -250,10 +255,11 @@ impl JointReader {
         ensures frames { self.new.place.frames ≡ self.old.place.frames }
         ensures pages { IfOk result (λ _. self.new.place.pages + 1 ≡ self.old.place.pages) }
         ensures next { IfOk result (IsNextPage self.old.place self.new.place) }
-        ensures later { (S.told joint.old.source.now).faults ≤ (S.told joint.new.source.now).faults }
+        ensures later { (S.history joint.old.source.now).faults ≤ (S.history joint.new.source.now).faults }
         ensures is_open { OnOk result (S.is_open joint.new.source.now) }
         ensures inside { IfErr result IsFaultWithin }
-        ensures calm { OnOk result ((S.told joint.new.source.now).faults ≡ (S.told joint.old.source.now).faults) }
+        ensures no_faults { OnOk result ((S.history joint.new.source.now).faults ≡
+            (S.history joint.old.source.now).faults) }
     {
         let mut bytes = [0; 4100];
         let place = &self.place;

@@ -94,15 +94,16 @@ impl Input {
     ) -> Result<LineEnd, Failed>
         requires part { HoldsPart (still self.old) self.old }
         requires is_open { S.is_open joint.old.source.now }
-        requires settled { (K.told joint.old.sink.now).written.held ≡ [] }
-        requires paced { MayRead S.allows (IsLineless self.old) (joined S.told K.told joint.old) }
+        requires flushed { (K.history joint.old.sink.now).written.buffered ≡ [] }
+        requires paced { MayRead S.allows (IsLineless self.old) (joined S.history K.history joint.old) }
         ensures same_source { joint.new.source.ghost_name ≡ joint.old.source.ghost_name }
         ensures sink { joint.new.sink ≡ joint.old.sink }
-        ensures kept { Keeps (prepend_known self.old.bytes (S.told joint.old.source.now).left)
-            (prepend_known self.new.bytes (S.told joint.new.source.now).left) }
-        ensures line { IfOk result (HoldsLine (still self.old) self.new (S.told joint.new.source.now).left) }
+        ensures kept { Keeps (prepend_known self.old.bytes (S.history joint.old.source.now).left)
+            (prepend_known self.new.bytes (S.history joint.new.source.now).left) }
+        ensures line { IfOk result (HoldsLine (still self.old) self.new (S.history joint.new.source.now).left) }
         ensures part { OnErr result (HoldsPart (still self.old) self.new) }
-        ensures cause { HasCause (S.told joint.old.source.now).faults (S.told joint.new.source.now).faults result }
+        ensures cause { HasCause (S.history joint.old.source.now).faults
+            (S.history joint.new.source.now).faults result }
         ensures is_open { (n : ℕ) → result ≡ Ok (LineEnd.Newline n) → S.is_open joint.new.source.now }
     {
         loop {
@@ -131,15 +132,16 @@ impl Input {
         joint: &mut Joint<'_, S, K>,
     ) -> Result<LineEnd, Failed>
         requires is_open { S.is_open joint.old.source.now }
-        requires settled { (K.told joint.old.sink.now).written.held ≡ [] }
-        requires paced { MayRead S.allows (IsLineless self.old) (joined S.told K.told joint.old) }
+        requires flushed { (K.history joint.old.sink.now).written.buffered ≡ [] }
+        requires paced { MayRead S.allows (IsLineless self.old) (joined S.history K.history joint.old) }
         ensures same_source { joint.new.source.ghost_name ≡ joint.old.source.ghost_name }
         ensures sink { joint.new.sink ≡ joint.old.sink }
-        ensures kept { Keeps (prepend_known self.old.bytes (S.told joint.old.source.now).left)
-            (prepend_known self.new.bytes (S.told joint.new.source.now).left) }
-        ensures line { IfOk result (HoldsLine (still self.old) self.new (S.told joint.new.source.now).left) }
+        ensures kept { Keeps (prepend_known self.old.bytes (S.history joint.old.source.now).left)
+            (prepend_known self.new.bytes (S.history joint.new.source.now).left) }
+        ensures line { IfOk result (HoldsLine (still self.old) self.new (S.history joint.new.source.now).left) }
         ensures part { OnErr result (HoldsPart (still self.old) self.new) }
-        ensures cause { HasCause (S.told joint.old.source.now).faults (S.told joint.new.source.now).faults result }
+        ensures cause { HasCause (S.history joint.old.source.now).faults
+            (S.history joint.new.source.now).faults result }
         ensures is_open { (n : ℕ) → result ≡ Ok (LineEnd.Newline n) → S.is_open joint.new.source.now }
     {
         match self.line_ahead() {
@@ -191,17 +193,18 @@ impl Input {
     fn read_on<S: Source, K: Sink>(&mut self, joint: &mut Joint<'_, S, K>) -> Result<usize, Failed>
         requires short { length self.old.bytes < MAX_HELD }
         requires is_open { S.is_open joint.old.source.now }
-        requires settled { (K.told joint.old.sink.now).written.held ≡ [] }
-        requires allowed { S.allows (joined S.told K.told joint.old) }
+        requires flushed { (K.history joint.old.sink.now).written.buffered ≡ [] }
+        requires allowed { S.allows (joined S.history K.history joint.old) }
         ensures same_source { joint.new.source.ghost_name ≡ joint.old.source.ghost_name }
         ensures sink { joint.new.sink ≡ joint.old.sink }
-        ensures kept { Keeps (prepend_known self.old.bytes (S.told joint.old.source.now).left)
-            (prepend_known self.new.bytes (S.told joint.new.source.now).left) }
+        ensures kept { Keeps (prepend_known self.old.bytes (S.history joint.old.source.now).left)
+            (prepend_known self.new.bytes (S.history joint.new.source.now).left) }
         ensures more { IfOk result
-            (λ count. ReadsOn count self.old self.new (S.told joint.old.source.now).left
-            (S.told joint.new.source.now).left) }
+            (λ count. ReadsOn count self.old self.new (S.history joint.old.source.now).left
+            (S.history joint.new.source.now).left) }
         ensures part { OnErr result (self.new ≡ self.old) }
-        ensures cause { HasCause (S.told joint.old.source.now).faults (S.told joint.new.source.now).faults result }
+        ensures cause { HasCause (S.history joint.old.source.now).faults
+            (S.history joint.new.source.now).faults result }
         ensures is_open { IfOk result (λ count. 0 < count → S.is_open joint.new.source.now) }
     {
         self.bytes.copy_within(self.start..self.end, 0);

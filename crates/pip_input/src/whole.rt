@@ -25,17 +25,17 @@ pub fn read_whole<S: Source, K: Sink>(
     joint: &mut Joint<'_, S, K>,
 ) -> Result<Vec<u8>, ReadError>
     requires is_open { S.is_open joint.old.source.now }
-    requires settled { (K.told joint.old.sink.now).written.held ≡ [] }
-    requires paced { MayRead S.allows IsWithinLimit (joined S.told K.told joint.old) }
+    requires flushed { (K.history joint.old.sink.now).written.buffered ≡ [] }
+    requires paced { MayRead S.allows IsWithinLimit (joined S.history K.history joint.old) }
     ensures same_source { joint.new.source.ghost_name ≡ joint.old.source.ghost_name }
     ensures sink { joint.new.sink ≡ joint.old.sink }
     ensures read { MatchResult result
-        (λ bytes. TakesWhole bytes.items (S.told joint.old.source.now).left (S.told joint.new.source.now).left)
-        (StopsReading (S.told joint.old.source.now).left (S.told joint.new.source.now).left
-        (S.told joint.old.source.now).faults (S.told joint.new.source.now).faults) }
-    ensures later { (S.told joint.old.source.now).faults ≤ (S.told joint.new.source.now).faults }
-    ensures calm { result ≢ Err ReadError.Failed → (S.told joint.new.source.now).faults
-        ≡ (S.told joint.old.source.now).faults }
+        (λ bytes. TakesWhole bytes.items (S.history joint.old.source.now).left (S.history joint.new.source.now).left)
+        (StopsReading (S.history joint.old.source.now).left (S.history joint.new.source.now).left
+        (S.history joint.old.source.now).faults (S.history joint.new.source.now).faults) }
+    ensures later { (S.history joint.old.source.now).faults ≤ (S.history joint.new.source.now).faults }
+    ensures no_faults { result ≢ Err ReadError.Failed → (S.history joint.new.source.now).faults
+        ≡ (S.history joint.old.source.now).faults }
 {
     let mut bytes = Vec::new(alloc);
     let mut chunk = [0; 4096];

@@ -5,7 +5,7 @@ use Rattle.std.proofs.Common.{sym, subst}
 use Rattle.std.proofs.KnownBytes.{Consumes-trans}
 use Rattle.pip_io.specs.Moments.{Streams, beside}
 use Rattle.pip_io.specs.Pacing.{MayRead}
-use Rattle.pip_io.specs.Told.{Writing}
+use Rattle.pip_io.specs.Histories.{Writing}
 
 -- after bytes that were read without a fault
 pub paced_after : (allows : Streams → Type 0) (P Q : List ℕ → Type 0) (a b : Option (List ℕ)) (m n : ℕ) (w : Writing)

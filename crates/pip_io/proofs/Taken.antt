@@ -1,4 +1,4 @@
--- How texts are taken, sent and held, one after another.
+-- How texts are taken, sent and buffered, one after another.
 use Rattle.std.specs.Prelude.{Result, Ok, Err, IsErr, OnErr, OnOk}
 use Rattle.std.proofs.Common.{◌≡◌, ◌≢◌, ℕ, List, [], ◌∷◌, ◌++◌, Option, None, Some, sym, ap, subst, ◌∙◌, append_assoc}
 use Rattle.std.proofs.Common.{append-nil}
@@ -6,15 +6,15 @@ use Rattle.pip_io.specs.Taken.{Taken, Appends, AppendsPart, GrowsInPart, GrowsPa
 use Rattle.pip_io.specs.Taken.{Wrote, over}
 use Rattle.pip_io.proofs.Pieces.{left_more}
 
-more_left : (held rest : List ℕ) → rest ≢ [] → held ++ rest ≢ []
+more_left : (buffered rest : List ℕ) → rest ≢ [] → buffered ++ rest ≢ []
 more_left [] rest some = some
-more_left (b ∷ held) rest some = λ none. cc
+more_left (b ∷ buffered) rest some = λ none. cc
 
 -- ---- by what went out
 
-sends_nil : (x : Option (List ℕ)) (held : List ℕ) → Sends x x (held ++ []) held
-sends_nil None held = tt
-sends_nil (Some xs) held = ([], sym (append-nil xs), sym (append-nil held))
+sends_nil : (x : Option (List ℕ)) (buffered : List ℕ) → Sends x x (buffered ++ []) buffered
+sends_nil None buffered = tt
+sends_nil (Some xs) buffered = ([], sym (append-nil xs), sym (append-nil buffered))
 
 sends_trans : (x y z : Option (List ℕ)) (a b c t u : List ℕ) → Sends x y (a ++ t) b → Sends y z (b ++ u) c
     → Sends x z (a ++ (t ++ u)) c
@@ -71,10 +71,13 @@ part_held (Some xs) (Some ys) all b p some = (p.0, b, p.1, p.2, some)
 -- ---- by what was taken
 
 pub Appends-nil : (a : Taken) → Appends a a []
-Appends-nil a = record { sends = sends_nil a.out a.held }
+Appends-nil a = record { sends = sends_nil a.out a.buffered }
 
 pub Appends-trans : (a b c : Taken) (t u : List ℕ) → Appends a b t → Appends b c u → Appends a c (t ++ u)
-Appends-trans a b c t u p q = record { sends = sends_trans a.out b.out c.out a.held b.held c.held t u p.sends q.sends }
+Appends-trans a b c t u p q = record {
+  sends = sends_trans a.out b.out c.out a.buffered b.buffered c.buffered t u
+      p.sends q.sends;
+}
 
 pub Keeps-refl : (a : Taken) → Keeps a a
 Keeps-refl a = Appends-nil a
@@ -87,21 +90,24 @@ Appends-kept a b c t p q = rw (← append-nil t) (Appends-trans a b c t [] p q)
 
 -- a text after one that was taken
 pub SendsPart-after : (a b c : Taken) (t u : List ℕ) → Appends a b t → SendsPart b c u → SendsPart a c (t ++ u)
-SendsPart-after a b c t u p q = record { grows = part_after a.out b.out c.out a.held b.held t u p.sends q.grows }
+SendsPart-after a b c t u p q = record {
+  grows = part_after a.out b.out c.out a.buffered b.buffered t u
+      p.sends q.grows;
+}
 
 -- a part of a longer text
 pub SendsPart-more : (a b : Taken) (t more : List ℕ) → SendsPart a b t → SendsPart a b (t ++ more)
-SendsPart-more a b t more p = record { grows = part_more a.out b.out a.held t more p.grows }
+SendsPart-more a b t more p = record { grows = part_more a.out b.out a.buffered t more p.grows }
 
 -- a part was taken
 pub part_sent : (a b : Taken) (t : List ℕ) → AppendsPart a b t → SendsPart a b t
 part_sent a b t p =
-    rw (← p.3) (record { grows = part_taken a.out b.out a.held b.held p.0 p.1 p.2.sends p.4 })
+    rw (← p.3) (record { grows = part_taken a.out b.out a.buffered b.buffered p.0 p.1 p.2.sends p.4 })
 
--- all of it was taken, and then not all that was held went out
-pub cut_sent : (a b c : Taken) (t : List ℕ) → Appends a b t → Keeps b c → c.held ≢ [] → SendsPart a c t
+-- all of it was taken, and then not all that was buffered went out
+pub cut_sent : (a b c : Taken) (t : List ℕ) → Appends a b t → Keeps b c → c.buffered ≢ [] → SendsPart a c t
 cut_sent a b c t p kept some =
-    record { grows = part_held a.out c.out (a.held ++ t) c.held (Appends-kept a b c t p kept).sends some }
+    record { grows = part_held a.out c.out (a.buffered ++ t) c.buffered (Appends-kept a b c t p kept).sends some }
 
 past_part : (x y z : Option (List ℕ)) (a b t u : List ℕ) → Sends x y (a ++ t) b → b ≡ [] → GrowsInPart y z (b ++ u)
     → GrowsPast x z (a ++ t)
@@ -132,11 +138,17 @@ past_after (Some xs) (Some ys) (Some zs) a b t u p q = (
 )
 
 -- a part of a text went out after one that had gone out whole
-pub past_sent : (a b c : Taken) (t u : List ℕ) → Appends a b t → b.held ≡ [] → SendsPart b c u → SendsPast a c t
-past_sent a b c t u p none q = record { grows = past_part a.out b.out c.out a.held b.held t u p.sends none q.grows }
+pub past_sent : (a b c : Taken) (t u : List ℕ) → Appends a b t → b.buffered ≡ [] → SendsPart b c u → SendsPast a c t
+past_sent a b c t u p none q = record {
+  grows = past_part a.out b.out c.out a.buffered b.buffered t u p.sends
+      none q.grows;
+}
 
 pub SendsPast-after : (a b c : Taken) (t u : List ℕ) → Appends a b t → SendsPast b c u → SendsPast a c (t ++ u)
-SendsPast-after a b c t u p q = record { grows = past_after a.out b.out c.out a.held b.held t u p.sends q.grows }
+SendsPast-after a b c t u p q = record {
+  grows = past_after a.out b.out c.out a.buffered b.buffered t u
+      p.sends q.grows;
+}
 
 -- a fact serves where it is asked at an error alone
 pub on_err : {T E : Type 0} (r : Result T E) (P : Type 0) → P → OnErr r P
@@ -151,17 +163,17 @@ wrote_err old new text (Err e) so h = h
 
 -- a text that was taken, and then a settling
 module _ {T E : Type 0} (r : Result T E) (a b c : Taken) (t : List ℕ) (p : Appends a b t) (kept : Keeps b c) where
-  pub settled_whole : OnOk r (Appends a c t)
-  settled_whole = by r
+  pub flushed_whole : OnOk r (Appends a c t)
+  flushed_whole = by r
     where
       by : (r : Result T E) → OnOk r (Appends a c t)
       by (Ok x) = Appends-kept a b c t p kept
       by (Err e) = tt
 
-  pub settled_part : OnErr r (c.held ≢ []) → OnErr r (SendsPart a c t)
-  settled_part some = by r some
+  pub flushed_part : OnErr r (c.buffered ≢ []) → OnErr r (SendsPart a c t)
+  flushed_part some = by r some
     where
-      by : (r : Result T E) → OnErr r (c.held ≢ []) → OnErr r (SendsPart a c t)
+      by : (r : Result T E) → OnErr r (c.buffered ≢ []) → OnErr r (SendsPart a c t)
       by (Ok x) some = tt
       by (Err e) some = cut_sent a b c t p kept some
 
@@ -180,7 +192,10 @@ moved (Some xs) (Some ys) a b part rest bytes p same = (
 -- that one took a part of the bytes
 pub over_moved : (a b : Taken) (part rest bytes : List ℕ) → Appends a b part → part ++ rest ≡ bytes
     → Keeps (over a bytes) (over b rest)
-over_moved a b part rest bytes p same = record { sends = moved a.out b.out a.held b.held part rest bytes p.sends same }
+over_moved a b part rest bytes p same = record {
+  sends = moved a.out b.out a.buffered b.buffered part rest bytes
+      p.sends same;
+}
 
 grown : (x : Option (List ℕ)) (a bytes piece : List ℕ) → Sends x x ((a ++ bytes) ++ piece) (a ++ (bytes ++ piece))
 grown None a bytes piece = tt
@@ -190,14 +205,14 @@ grown (Some xs) a bytes piece = ([], sym (append-nil xs), sym (append_assoc a by
 pub over_grown : (a : Taken) (bytes piece bytes' : List ℕ) → bytes' ≡ bytes ++ piece
     → Appends (over a bytes) (over a bytes') piece
 over_grown a bytes piece bytes' same =
-    rw same (record { sends = grown a.out a.held bytes piece })
+    rw same (record { sends = grown a.out a.buffered bytes piece })
 
 -- there are none
-pub over_none : (held bytes : List ℕ) → held ≡ [] → bytes ≡ [] → held ++ bytes ≡ []
-over_none held bytes h b = rw (h, b)
+pub over_none : (buffered bytes : List ℕ) → buffered ≡ [] → bytes ≡ [] → buffered ++ bytes ≡ []
+over_none buffered bytes h b = rw (h, b)
 
-pub over_some : (held bytes : List ℕ) → bytes ≢ [] → held ++ bytes ≢ []
-over_some held bytes some = more_left held bytes some
+pub over_some : (buffered bytes : List ℕ) → bytes ≢ [] → buffered ++ bytes ≢ []
+over_some buffered bytes some = more_left buffered bytes some
 
-pub under_some : (held bytes : List ℕ) → held ≢ [] → held ++ bytes ≢ []
-under_some held bytes some = left_more held bytes some
+pub under_some : (buffered bytes : List ℕ) → buffered ≢ [] → buffered ++ bytes ≢ []
+under_some buffered bytes some = left_more buffered bytes some

@@ -15,7 +15,7 @@ RoseByOne before now = now ≡ next_count before
 pub record HasCause {T E : Type 0} (before now : ℕ) (result : Result T E) : Type 0 where
   pub later : before ≤ now
   pub failed : OnErr result (RoseByOne before now)
-  pub calm : OnOk result (now ≡ before)
+  pub no_faults : OnOk result (now ≡ before)
 
 -- the count of faults after a call: one more exactly where it failed
 abbrev pub faults_after : {T E : Type 0} → Result T E → ℕ → ℕ

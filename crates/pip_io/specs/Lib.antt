@@ -1,5 +1,5 @@
 pub mod Taken
-pub mod Told
+pub mod Histories
 pub mod Causes
 pub mod Gathering
 pub mod Memory

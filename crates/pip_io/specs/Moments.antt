@@ -1,10 +1,11 @@
 -- What a source and a sink tell at a moment, and how calls lead from one moment, a, to a later one, b.
 use Rattle.std.specs.Prelude.{◌≡◌, ℕ, List, Option, None}
 use Rattle.pip_io.specs.Taken.{Taken, plain}
-use Rattle.pip_io.specs.Told.{Remaining, Writing, writing}
+use Rattle.pip_io.specs.Histories.{Remaining, Writing, writing}
 use Rattle.pip_io.specs.declared.joint.Joint.{Joint}
 
--- the bytes that are left, where these are told, what was taken to be written, and how often a read and a write failed
+-- the bytes that are left, where these are history, what was taken to be written, and how often a read and a write
+-- failed
 pub record Streams : Type 0 where
   pub left : Option (List ℕ)
   pub written : Taken

@@ -4,21 +4,21 @@ use Rattle.std.specs.Prelude.{◌≡◌, ◌≢◌, ℕ, List, [], ◌++◌, tak
 -- the bytes that went out, where the sink tells them, and those that it took and holds
 pub record Taken : Type 0 where
   pub out : Option (List ℕ)
-  pub held : List ℕ
+  pub buffered : List ℕ
 
 -- a sink that holds nothing
 abbrev pub plain : Option (List ℕ) → Taken
-plain out = record { out = out; held = [] }
+plain out = record { out = out; buffered = [] }
 
--- known bytes grow by the front of `all`, and what is after that is held
+-- known bytes grow by the front of `all`, and what is after that is buffered
 abbrev pub Sends : Option (List ℕ) → Option (List ℕ) → List ℕ → List ℕ → Type 0
-Sends None after all held = Unit {0}
-Sends (Some xs) None all held = ⊥
-Sends (Some xs) (Some ys) all held = (front : List ℕ) × (ys ≡ xs ++ front) × (front ++ held ≡ all)
+Sends None after all buffered = Unit {0}
+Sends (Some xs) None all buffered = ⊥
+Sends (Some xs) (Some ys) all buffered = (front : List ℕ) × (ys ≡ xs ++ front) × (front ++ buffered ≡ all)
 
--- a text was taken. Of what was held before and of the text some front went out, and the rest is held
+-- a text was taken. Of what was buffered before and of the text some front went out, and the rest is buffered
 pub record Appends (a b : Taken) (text : List ℕ) : Type 0 where
-  pub sends : Sends a.out b.out (a.held ++ text) b.held
+  pub sends : Sends a.out b.out (a.buffered ++ text) b.buffered
 
 -- nothing was taken
 abbrev pub Keeps : Taken → Taken → Type 0
@@ -44,9 +44,9 @@ GrowsInPart (Some xs) None all = ⊥
 GrowsInPart (Some xs) (Some ys) all =
     (front : List ℕ) × (rest : List ℕ) × (ys ≡ xs ++ front) × (front ++ rest ≡ all) × (rest ≢ [])
 
--- of what was held before and a text a part went out, and not the whole
+-- of what was buffered before and a text a part went out, and not the whole
 pub record SendsPart (a b : Taken) (text : List ℕ) : Type 0 where
-  pub grows : GrowsInPart a.out b.out (a.held ++ text)
+  pub grows : GrowsInPart a.out b.out (a.buffered ++ text)
 
 -- known bytes grow by all of these, and it may be by more
 abbrev pub GrowsPast : Option (List ℕ) → Option (List ℕ) → List ℕ → Type 0
@@ -54,10 +54,10 @@ GrowsPast None after all = Unit {0}
 GrowsPast (Some xs) None all = ⊥
 GrowsPast (Some xs) (Some ys) all = (more : List ℕ) × (ys ≡ xs ++ (all ++ more))
 
--- all that was held before and a text went out, and it may be more
+-- all that was buffered before and a text went out, and it may be more
 pub record SendsPast (a b : Taken) (text : List ℕ) : Type 0 where
-  pub grows : GrowsPast a.out b.out (a.held ++ text)
+  pub grows : GrowsPast a.out b.out (a.buffered ++ text)
 
 -- what a sink over another took: after what that one holds stand bytes that it was not given yet
 abbrev pub over : Taken → List ℕ → Taken
-over inner bytes = record { out = inner.out; held = inner.held ++ bytes }
+over inner bytes = record { out = inner.out; buffered = inner.buffered ++ bytes }

@@ -29,14 +29,14 @@ impl<'a, S: Source, K: Sink> Joint<'a, S, K> {
     pub fn read(&mut self, buf: &mut [u8]) -> Result<usize, Failed>
         requires some { 0 < length buf.old }
         requires is_open { S.is_open self.old.source.now }
-        requires settled { (K.told self.old.sink.now).written.held ≡ [] }
-        requires allowed { S.allows (joined S.told K.told self.old) }
+        requires flushed { (K.history self.old.sink.now).written.buffered ≡ [] }
+        requires allowed { S.allows (joined S.history K.history self.old) }
         ensures same_source { self.new.source.ghost_name ≡ self.old.source.ghost_name }
         ensures sink { self.new.sink ≡ self.old.sink }
         ensures bound { ReadsAtMost result buf.new }
-        ensures bytes { ReadConsumes (S.told self.old.source.now).left (S.told self.new.source.now).left result
+        ensures bytes { ReadConsumes (S.history self.old.source.now).left (S.history self.new.source.now).left result
             buf.new }
-        ensures cause { HasCause (S.told self.old.source.now).faults (S.told self.new.source.now).faults result }
+        ensures cause { HasCause (S.history self.old.source.now).faults (S.history self.new.source.now).faults result }
         ensures is_open { IfOk result (λ n. 0 < n → S.is_open self.new.source.now) }
     {
         self.source.read(buf)

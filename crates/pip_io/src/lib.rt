@@ -3,8 +3,8 @@
 //! What a source tells (`Remaining`) is the bytes that are left, if it reveals them, and what a sink tells (`Writing`)
 //! is what it took; each also tells a count of faults that never falls. A call that fails raises the count by one and
 //! has read or taken nothing; a call that succeeds leaves the count as it was. What a sink took (`Taken`) is what went
-//! out, followed by what the sink holds. A text *appends* to it (`Appends`), and `settle` sends out what is held.
-//! `write_all` gives the sink the whole text, or a prefix that isn't all of it; `write_out` also settles. A `Gatherer`
+//! out, followed by what the sink holds. A text *appends* to it (`Appends`), and `flush` sends out what is buffered.
+//! `write_all` gives the sink the whole text, or a prefix that isn't all of it; `write_out` also flushes. A `Gatherer`
 //! passes on up to 16384 bytes at once to the sink below it. For a sink that `discards` no text need be made.
 //!
 //! A `Joint` is a source and a sink together. Code that is given a `Joint` reads only through it, so only while the

@@ -5,7 +5,7 @@ ghost use Rattle.std.specs.Io.{ReadsAtMost, WritesAtMost};
 ghost use Rattle.std.specs.Io.KnownBytes.{ReadConsumes};
 ghost use Rattle.pip_io.specs.Causes.{HasCause, next_count, faults_after};
 ghost use Rattle.pip_io.specs.Taken.{WriteTakes, plain};
-ghost use Rattle.pip_io.specs.Told.{remaining, writing};
+ghost use Rattle.pip_io.specs.Histories.{remaining, writing};
 
 use crate::calls::Calls;
 use crate::{Failed, Sink, Source};
@@ -32,7 +32,7 @@ impl<'a> SureSource<'a> {
 impl Source for SureSource<'_> {
     ghost use Rattle.pip_io.specs.Memory.{sure_left};
 
-    ghost told = { λ s. remaining (Some (sure_left s)) 0 };
+    ghost history = { λ s. remaining (Some (sure_left s)) 0 };
 
     /// Reads all that is left, or as much of it as fits.
     fn read(&mut self, buf: &mut [u8]) -> Result<usize, Failed>
@@ -78,7 +78,7 @@ impl Source for MemSource<'_> {
     ghost use Rattle.pip_io.specs.Memory.{source_left, source_calls, source_faults, source_failing};
     ghost use Rattle.pip_io.specs.Memory.{read_fails};
 
-    ghost told = { λ s. remaining (Some (source_left s)) (source_faults s) };
+    ghost history = { λ s. remaining (Some (source_left s)) (source_faults s) };
 
     /// Fails if the call's number is listed; else it reads all that is left, or as much of it as fits.
     fn read(&mut self, buf: &mut [u8]) -> Result<usize, Failed>
@@ -147,7 +147,7 @@ impl Sink for MemSink<'_> {
     ghost use Rattle.pip_io.specs.Memory.{sink_bytes, sink_room, sink_calls, sink_faults};
     ghost use Rattle.pip_io.specs.Memory.{sink_failing, write_fails};
 
-    ghost told = { λ s. writing (plain (Some (sink_bytes s))) (sink_faults s) };
+    ghost history = { λ s. writing (plain (Some (sink_bytes s))) (sink_faults s) };
 
     /// Fails if the call's number is listed or the piece is longer than the room that is left; else it takes the whole
     /// piece.
@@ -178,7 +178,7 @@ impl Sink for MemSink<'_> {
     }
 
     /// It holds nothing.
-    fn settle(&mut self) -> Result<(), Failed> {
+    fn flush(&mut self) -> Result<(), Failed> {
         Ok(())
     }
 }
@@ -195,7 +195,7 @@ impl Discard {
 }
 
 impl Sink for Discard {
-    ghost told = { λ _. writing (plain None) 0 };
+    ghost history = { λ _. writing (plain None) 0 };
 
     /// Takes the whole piece.
     fn write(&mut self, piece: &[u8]) -> Result<usize, Failed>
@@ -211,7 +211,7 @@ impl Sink for Discard {
     }
 
     /// It holds nothing.
-    fn settle(&mut self) -> Result<(), Failed> {
+    fn flush(&mut self) -> Result<(), Failed> {
         Ok(())
     }
 

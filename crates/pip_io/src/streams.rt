@@ -4,7 +4,7 @@ ghost use Rattle.std.specs.Io.{ReadsAtMost, WritesAtMost};
 ghost use Rattle.std.specs.Io.KnownBytes.{ReadConsumes, WriteAppends};
 ghost use Rattle.pip_io.specs.Causes.{HasCause, faults_after};
 ghost use Rattle.pip_io.specs.Taken.{WriteTakes, plain};
-ghost use Rattle.pip_io.specs.Told.{remaining, writing};
+ghost use Rattle.pip_io.specs.Histories.{remaining, writing};
 
 use crate::{Failed, Sink, Source};
 use std::io::{Read, Write};
@@ -31,7 +31,7 @@ impl<R: Read> StdSource<R> {
 impl<R: Read> Source for StdSource<R> {
     ghost use Rattle.pip_io.specs.Streams.{reader_of, reader_faults};
 
-    ghost told = { λ s. remaining None (reader_faults s) };
+    ghost history = { λ s. remaining None (reader_faults s) };
 
     /// Makes one read of the reader, and fails if that fails.
     fn read(&mut self, buf: &mut [u8]) -> Result<usize, Failed>
@@ -78,7 +78,7 @@ impl<W: Write> StdSink<W> {
 impl<W: Write> Sink for StdSink<W> {
     ghost use Rattle.pip_io.specs.Streams.{writer_of, writer_faults};
 
-    ghost told = { λ s. writing (plain None) (writer_faults s) };
+    ghost history = { λ s. writing (plain None) (writer_faults s) };
 
     /// Makes one write to the writer, and fails if that fails or takes nothing.
     fn write(&mut self, piece: &[u8]) -> Result<usize, Failed>
@@ -103,7 +103,7 @@ impl<W: Write> Sink for StdSink<W> {
     }
 
     /// It holds nothing.
-    fn settle(&mut self) -> Result<(), Failed> {
+    fn flush(&mut self) -> Result<(), Failed> {
         Ok(())
     }
 

@@ -5,7 +5,7 @@ ghost use Rattle.std.specs.Io.KnownBytes.{ReadConsumes};
 ghost use Rattle.pip_io.specs.Causes.{HasCause};
 ghost use Rattle.pip_io.specs.Moments.{Streams};
 ghost use Rattle.pip_io.specs.Taken.{Appends, AppendsPart, Keeps, SendsPart, WriteTakes};
-ghost use Rattle.pip_io.specs.Told.{Remaining, Writing};
+ghost use Rattle.pip_io.specs.Histories.{Remaining, Writing};
 
 use thiserror::Error;
 
@@ -18,7 +18,7 @@ pub struct Failed;
 pub trait Source {
     /// What it tells of itself: the bytes that are left, if it says which, and how many faults it has counted. The
     /// count never falls.
-    ghost told: { Self → Remaining };
+    ghost history: { Self → Remaining };
 
     /// Whether a `Joint` with a sink may read more, by what the two tell. It always may, unless a source says
     /// otherwise. Code that reads through a `Joint` is proved for any source, so it reads only when its own contract
@@ -36,8 +36,8 @@ pub trait Source {
         requires some { 0 < length buf.old }
         requires is_open { is_open self.old }
         ensures bound { ReadsAtMost result buf.new }
-        ensures bytes { ReadConsumes (told self.old).left (told self.new).left result buf.new }
-        ensures cause { HasCause (told self.old).faults (told self.new).faults result }
+        ensures bytes { ReadConsumes (history self.old).left (history self.new).left result buf.new }
+        ensures cause { HasCause (history self.old).faults (history self.new).faults result }
         ensures is_open { IfOk result (λ n. 0 < n → is_open self.new) };
 }
 
@@ -45,7 +45,7 @@ pub trait Source {
 pub trait Sink {
     /// What it tells of itself: what it took, which is the bytes that went out, if it says which, and those that it
     /// still holds; and how many faults it has counted. The count never falls.
-    ghost told: { Self → Writing };
+    ghost history: { Self → Writing };
 
     /// Takes the front of a piece that isn't empty, and answers how many bytes it took, at least one. It fails only if
     /// it counted one more fault, and then it took nothing. Above this crate that is called: a write failed.
@@ -53,20 +53,20 @@ pub trait Sink {
         requires { 0 < length piece.now }
         ensures bound { WritesAtMost result piece.now }
         ensures some { IfOk result (λ n. 0 < n) }
-        ensures bytes { WriteTakes (told self.old).written (told self.new).written result piece.now }
-        ensures cause { HasCause (told self.old).faults (told self.new).faults result };
+        ensures bytes { WriteTakes (history self.old).written (history self.new).written result piece.now }
+        ensures cause { HasCause (history self.old).faults (history self.new).faults result };
 
     /// Writes all that it holds. It fails only if it counted one more fault, and then it still holds something.
-    fn settle(&mut self) -> Result<(), Failed>
-        ensures kept { Keeps (told self.old).written (told self.new).written }
-        ensures none { OnOk result ((told self.new).written.held ≡ []) }
-        ensures some { OnErr result ((told self.new).written.held ≢ []) }
-        ensures cause { HasCause (told self.old).faults (told self.new).faults result };
+    fn flush(&mut self) -> Result<(), Failed>
+        ensures kept { Keeps (history self.old).written (history self.new).written }
+        ensures none { OnOk result ((history self.new).written.buffered ≡ []) }
+        ensures some { OnErr result ((history self.new).written.buffered ≢ []) }
+        ensures cause { HasCause (history self.old).faults (history self.new).faults result };
 
     /// Whether nothing that is written is kept, so that no text need be made for it. A sink that says what went out
     /// doesn't discard.
     fn discards(&self) -> bool
-        ensures untold { IsTrue result → (told self.now).written.out ≡ None }
+        ensures untold { IsTrue result → (history self.now).written.out ≡ None }
     {
         false
     }
@@ -76,9 +76,9 @@ pub trait Sink {
 /// of it.
 #[inline(always)]
 pub fn write_all<K: Sink>(sink: &mut K, text: &[u8]) -> Result<(), Failed>
-    ensures whole { OnOk result (Appends (K.told sink.old).written (K.told sink.new).written text.now) }
-    ensures prefix { OnErr result (AppendsPart (K.told sink.old).written (K.told sink.new).written text.now) }
-    ensures cause { HasCause (K.told sink.old).faults (K.told sink.new).faults result }
+    ensures whole { OnOk result (Appends (K.history sink.old).written (K.history sink.new).written text.now) }
+    ensures prefix { OnErr result (AppendsPart (K.history sink.old).written (K.history sink.new).written text.now) }
+    ensures cause { HasCause (K.history sink.old).faults (K.history sink.new).faults result }
     ensures empty { text.now ≡ [] → (sink.new ≡ sink.old) × IsOk result }
 {
     let mut rest = text;
@@ -93,11 +93,11 @@ pub fn write_all<K: Sink>(sink: &mut K, text: &[u8]) -> Result<(), Failed>
 
 /// Writes a whole text, and all that the sink holds.
 pub fn write_out<K: Sink>(sink: &mut K, text: &[u8]) -> Result<(), Failed>
-    ensures whole { OnOk result (Appends (K.told sink.old).written (K.told sink.new).written text.now) }
-    ensures part { OnErr result (SendsPart (K.told sink.old).written (K.told sink.new).written text.now) }
-    ensures none { OnOk result ((K.told sink.new).written.held ≡ []) }
-    ensures cause { HasCause (K.told sink.old).faults (K.told sink.new).faults result }
+    ensures whole { OnOk result (Appends (K.history sink.old).written (K.history sink.new).written text.now) }
+    ensures part { OnErr result (SendsPart (K.history sink.old).written (K.history sink.new).written text.now) }
+    ensures none { OnOk result ((K.history sink.new).written.buffered ≡ []) }
+    ensures cause { HasCause (K.history sink.old).faults (K.history sink.new).faults result }
 {
     write_all(sink, text)?;
-    sink.settle()
+    sink.flush()
 }

@@ -27,9 +27,9 @@ pub fn lab<S: Source, K: Sink>(
     sink: &mut K,
 ) -> Ended
     requires paced { MayStart (lab_due_of (lab_command_of (map string_bytes words.now))) S.is_open
-        S.allows S.told K.told
+        S.allows S.history K.history
         source.old sink.old }
-    ensures ends { Fulfils (lab_due_of (lab_command_of (map string_bytes words.now))) result S.told K.told
+    ensures ends { Fulfils (lab_due_of (lab_command_of (map string_bytes words.now))) result S.history K.history
         source.old sink.old
         source.new sink.new }
 {

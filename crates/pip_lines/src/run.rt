@@ -28,9 +28,9 @@ pub fn run_lines<P: Port, K: Sink, F: Callback, L: Ledger>(
 ) -> Result<(), Failed>
     requires below { AllByRecursion (λ p. p.line < 16) lines.now }
     requires seed { seed ≢ 0 }
-    ensures acts { Acts result (P.stands port.old) (P.stands port.new) (K.told sink.old) (K.told sink.new)
+    ensures acts { Acts result (P.stands port.old) (P.stands port.new) (K.history sink.old) (K.history sink.new)
         (λ w. run_steps w lines.now seed (P.count port.old) count 0) }
-    ensures cause { HasCause (K.told sink.old).faults (K.told sink.new).faults result }
+    ensures cause { HasCause (K.history sink.old).faults (K.history sink.new).faults result }
     ensures count { P.count port.new ≡ P.count port.old }
 {
     let cpus = port.cpus();
@@ -53,9 +53,9 @@ fn run_scheduled<P: Port, K: Sink, F: Callback, S: Schedule, L: Ledger>(
     requires below { AllByRecursion (λ p. p.line < 16) lines.now }
     requires cpus { S.cpus schedule.old ≡ P.count port.old }
     ensures acts { (seed : ℕ) → S.is_at schedule.old seed 0 → Acts result (P.stands port.old) (P.stands port.new)
-        (K.told sink.old) (K.told sink.new)
+        (K.history sink.old) (K.history sink.new)
         (λ w. run_steps w lines.now seed (P.count port.old) count 0) }
-    ensures cause { HasCause (K.told sink.old).faults (K.told sink.new).faults result }
+    ensures cause { HasCause (K.history sink.old).faults (K.history sink.new).faults result }
     ensures count { P.count port.new ≡ P.count port.old }
 {
     for i in 0..count {

@@ -33,10 +33,10 @@ pub fn trace<P: Port, K: Sink, F: Callback, L: Ledger>(
 ) -> Result<(), Failed>
     requires below { AllByRecursion (λ p. p.line < 16) lines.now }
     requires seed { seed ≢ 0 }
-    ensures acts { Acts result (P.stands port.old) (P.stands port.new) (K.told sink.old) (K.told sink.new)
+    ensures acts { Acts result (P.stands port.old) (P.stands port.new) (K.history sink.old) (K.history sink.new)
         (λ w. trace_acts w (trace_image_line frames (P.count port.old) (length lines.now) pages) lines.now seed
         (P.count port.old) count) }
-    ensures cause { HasCause (K.told sink.old).faults (K.told sink.new).faults result }
+    ensures cause { HasCause (K.history sink.old).faults (K.history sink.new).faults result }
     ensures count { P.count port.new ≡ P.count port.old }
 {
     write_image(frames, port.cpus(), lines.len() as u64, pages, sink)?;
@@ -52,7 +52,7 @@ pub fn write_image<K: Sink>(
     pages: u32,
     sink: &mut K,
 ) -> Result<(), Failed>
-    ensures { Writes K.told sink.old sink.new result (trace_image_line frames cpus plans pages) }
+    ensures { Writes K.history sink.old sink.new result (trace_image_line frames cpus plans pages) }
 {
     let mut buffer = Buffer::new();
     let mut line: ArrayString<64> = ArrayString::new();
@@ -70,7 +70,7 @@ pub fn write_image<K: Sink>(
 
 /// Writes the last line of a run of that many steps.
 pub fn write_end<K: Sink>(sink: &mut K, count: u32) -> Result<(), Failed>
-    ensures { Writes K.told sink.old sink.new result (end_line count) }
+    ensures { Writes K.history sink.old sink.new result (end_line count) }
 {
     let mut line: ArrayString<16> = ArrayString::new();
     line.push_str("end ");

@@ -12,7 +12,7 @@ use Rattle.pip_image.proofs.Steps.{after_fault}
 use Rattle.pip_io.specs.Causes.{RoseByOne}
 use Rattle.pip_io.specs.Pacing.{MayRead}
 use Rattle.pip_io.specs.Taken.{Keeps}
-use Rattle.pip_io.specs.Told.{Writing, writing}
+use Rattle.pip_io.specs.Histories.{Writing, writing}
 use Rattle.pip_io.specs.Moments.{beside}
 use Rattle.pip_model.specs.Images.{Part, image_parts}
 use Rattle.pip_model.specs.declared.image.ImageError.{ImageError}
@@ -61,7 +61,7 @@ after_front allows told {sink} {mid} {h} {m} {a} {b} {j} {k} kept same l paced =
 
 -- ---- where it waits at first
 
-pub against_waits : (a : Streams) → a.written.held ≡ [] → (states from : ℕ) (depth : Option ℕ) (origin : Start)
+pub against_waits : (a : Streams) → a.written.buffered ≡ [] → (states from : ℕ) (depth : Option ℕ) (origin : Start)
     → Waits (against_due states from depth origin) a a
 against_waits a none states from depth origin =
     waits_first a none (against_due states from depth origin) (inl no_fault, refl) tt
@@ -69,7 +69,7 @@ against_waits a none states from depth origin =
 -- ---- the ends
 
 module _ (states from : ℕ) (depth : Option ℕ) (origin : Start) (code : ℕ) (p : Option State) (a c : Streams)
-    (settled : code ≢ 4 → c.written.held ≡ []) (none : p ≡ None) (start : a.written.held ≡ []) where
+    (flushed : code ≢ 4 → c.written.buffered ≡ []) (none : p ≡ None) (start : a.written.buffered ≡ []) where
   abbrev due : Due
   due = against_due states from depth origin
 
@@ -105,7 +105,7 @@ module _ (states from : ℕ) (depth : Option ℕ) (origin : Start) (code : ℕ) 
   against_lacks is {stop} why stopped kept quiet =
       let h : StoppedLoading T.Memory a.left c.left a.reads c.reads =
       subst (λ s. StoppedLoading s a.left c.left a.reads c.reads) why stopped in
-      by_memory due code p a c (record { reads = λ not. h.1; writes = λ not. quiet }) settled apart h.0.bytes h.0.read
+      by_memory due code p a c (record { reads = λ not. h.1; writes = λ not. quiet }) flushed apart h.0.bytes h.0.read
       none is (inl h.0.header) kept
 
   -- the image has a fault, or its reading failed
@@ -117,7 +117,7 @@ module _ (states from : ℕ) (depth : Option ℕ) (origin : Start) (code : ℕ) 
       let h : RefusesAfter image_parts a.left c.left a.reads c.reads e =
       subst (λ s. StoppedLoading s a.left c.left a.reads c.reads) why stopped in
       let inside : IsFaultWithin e = subst IsStopInside why within in
-      by_refusal due code p a c start settled apart none quiet e h.0 h.1 tt (λ good. (inl good, refl))
+      by_refusal due code p a c start flushed apart none quiet e h.0 h.1 tt (λ good. (inl good, refl))
       (is_refused h.0 h.1.bytes e inside) same ends
 
   -- ---- after it
@@ -129,7 +129,7 @@ module _ (states from : ℕ) (depth : Option ℕ) (origin : Start) (code : ℕ) 
         → EndsBy due code p a c
     against_unread is {stop} why {before} same stopped kept quiet =
         let t : StopsMenu b c.left before c.reads Unread = subst (StopsMenu b c.left before c.reads) why stopped in
-        by_read_fault due code p a c (record { reads = λ not. absurd (not is); writes = λ not. quiet }) settled apart
+        by_read_fault due code p a c (record { reads = λ not. absurd (not is); writes = λ not. quiet }) flushed apart
         (l.front ++ t.0.bytes) (both_read h m a.left b c.left l t.0.bytes t.0.taken) none is (record {
           text = [];
           due = (inr (begins l t.0.bytes, t.0.begins), refl);
@@ -166,7 +166,7 @@ module _ (states from : ℕ) (depth : Option ℕ) (origin : Start) (code : ℕ) 
     against_bad {stop} fault why {before} same stopped quiet {line} is ends =
         let t : StopsMenu b c.left before c.reads (Bad fault) =
         subst (StopsMenu b c.left before c.reads) why stopped in
-        by_plain due code p a c (record { reads = λ not. t.1 ∙ same; writes = quiet }) settled apart
+        by_plain due code p a c (record { reads = λ not. t.1 ∙ same; writes = quiet }) flushed apart
         (l.front ++ t.0.bytes) (both_read h m a.left b c.left l t.0.bytes t.0.taken) none start 2 (bad_menu_line fault)
         (inl (omega arith)) (bad_answered fault t.0)
         (subst (λ x. EndsLine 2 x code (writing a.written a.writes) (writing c.written c.writes)) is ends)
@@ -176,8 +176,8 @@ module _ (states from : ℕ) (depth : Option ℕ) (origin : Start) (code : ℕ) 
         → EndsWithFound (IsSearchedAgainst menu states from depth origin) l.parsed code (writing a.written a.writes)
         (writing c.written c.writes)
         → EndsBy due code p a c
-    against_searched menu t calm (inl (text, (found, ends))) =
-        by_plain due code p a c calm settled apart (l.front ++ t.bytes)
+    against_searched menu t no_faults (inl (text, (found, ends))) =
+        by_plain due code p a c no_faults flushed apart (l.front ++ t.bytes)
         (both_read h m a.left b c.left l t.bytes t.taken) none start 0 text (inl (omega arith)) (record {
           is = inr (
             begins l t.bytes,
@@ -185,7 +185,7 @@ module _ (states from : ℕ) (depth : Option ℕ) (origin : Start) (code : ℕ) 
           );
           decided = inr (t.ended, tt);
         }) ends
-    against_searched menu t calm (inr (is, kept)) =
-        by_memory due code p a c calm settled apart (l.front ++ t.bytes)
+    against_searched menu t no_faults (inr (is, kept)) =
+        by_memory due code p a c no_faults flushed apart (l.front ++ t.bytes)
         (both_read h m a.left b c.left l t.bytes t.taken) none is
         (inr (t.ended, (begins l t.bytes, (menu, t.is)))) kept

@@ -5,7 +5,7 @@ use Rattle.pip_base.specs.Memory.{Memory}
 use Rattle.pip_image.specs.Reading.{IsFault, RefusesAfter}
 use Rattle.pip_image.specs.declared.header.Header.{Header}
 use Rattle.pip_io.specs.Taken.{Keeps}
-use Rattle.pip_io.specs.Told.{writing}
+use Rattle.pip_io.specs.Histories.{writing}
 use Rattle.pip_model.specs.Images.{Image, Part, image_parts}
 use Rattle.pip_model.specs.declared.image.ImageError.{ImageError}
 use Rattle.pip_switch.specs.Standing.{State}
@@ -22,7 +22,7 @@ use Rattle.pip_due.proofs.ImageFaults.{is_faulty, no_image}
 use Rattle.pip_due.proofs.Refused.{by_refusal}
 
 module _ (P : Image → Response → Type 0) (code : ℕ) (p : Option State) (a c : Streams)
-    (settled : code ≢ 4 → c.written.held ≡ []) (none : p ≡ None) (start : a.written.held ≡ []) where
+    (flushed : code ≢ 4 → c.written.buffered ≡ []) (none : p ≡ None) (start : a.written.buffered ≡ []) where
   abbrev due : Due
   due = searching_due P
 
@@ -47,11 +47,11 @@ module _ (P : Image → Response → Type 0) (code : ℕ) (p : Option State) (a 
   -- the search ended, and its text was written or not; or there was no memory for it
   pub found_ends : {h : Header} {m : Memory} (l : LoadsFrames a.left c.left h m) → IsCalm code a c
       → EndsWithFound P l.parsed code (writing a.written a.writes) (writing c.written c.writes) → EndsBy due code p a c
-  found_ends {h} {m} l calm (inl (text, (found, ends))) =
-      by_plain due code p a c calm settled apart l.input l.read none start 0 text (inl (omega arith))
+  found_ends {h} {m} l no_faults (inl (text, (found, ends))) =
+      by_plain due code p a c no_faults flushed apart l.input l.read none start 0 text (inl (omega arith))
       (is_found h m l text found) ends
-  found_ends {h} {m} l calm (inr (is, kept)) =
-      by_memory due code p a c calm settled apart l.input l.read none is (inr (l.whole, (l.parsed, l.good))) kept
+  found_ends {h} {m} l no_faults (inr (is, kept)) =
+      by_memory due code p a c no_faults flushed apart l.input l.read none is (inr (l.whole, (l.parsed, l.good))) kept
 
   -- there was no memory after the header
   pub found_lacks : code ≡ 5 → {stop : LoadError} → stop ≡ T.Memory → StoppedLoading stop a.left c.left a.reads c.reads
@@ -59,7 +59,7 @@ module _ (P : Image → Response → Type 0) (code : ℕ) (p : Option State) (a 
   found_lacks is {stop} why stopped kept quiet =
       let h : StoppedLoading T.Memory a.left c.left a.reads c.reads =
       subst (λ s. StoppedLoading s a.left c.left a.reads c.reads) why stopped in
-      by_memory due code p a c (record { reads = λ not. h.1; writes = λ not. quiet }) settled apart h.0.bytes h.0.read
+      by_memory due code p a c (record { reads = λ not. h.1; writes = λ not. quiet }) flushed apart h.0.bytes h.0.read
       none is (inl h.0.header) kept
 
   -- the image has a fault, or its reading failed
@@ -70,5 +70,5 @@ module _ (P : Image → Response → Type 0) (code : ℕ) (p : Option State) (a 
   found_faulted {stop} {e} {f} why stopped quiet same ends =
       let h : RefusesAfter image_parts a.left c.left a.reads c.reads e =
       subst (λ s. StoppedLoading s a.left c.left a.reads c.reads) why stopped in
-      by_refusal due code p a c start settled apart none quiet e h.0 h.1 tt (λ good. (good, refl))
+      by_refusal due code p a c start flushed apart none quiet e h.0 h.1 tt (λ good. (good, refl))
       (is_refused h.0 h.1.bytes e) same ends

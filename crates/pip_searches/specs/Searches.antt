@@ -9,7 +9,7 @@ use Rattle.pip_every.specs.Moments.{moment_at}
 use Rattle.pip_every.specs.declared.menus.May.{May}
 use Rattle.pip_image.specs.declared.header.Header.{Header}
 use Rattle.pip_io.specs.Taken.{Keeps}
-use Rattle.pip_io.specs.Told.{Writing}
+use Rattle.pip_io.specs.Histories.{Writing}
 use Rattle.pip_model.specs.Acts.{after_acts}
 use Rattle.pip_model.specs.Booted.{IsBooted}
 use Rattle.pip_model.specs.Images.{Image}

@@ -22,9 +22,9 @@ pub fn open_slot<P: Port, K: Sink, L: Ledger>(
     steps: &mut Steps<L>,
 ) -> Result<(), Failed>
     requires { 0 < P.count port.old }
-    ensures acts { Acts result (P.stands port.old) (P.stands port.new) (K.told sink.old) (K.told sink.new)
+    ensures acts { Acts result (P.stands port.old) (P.stands port.new) (K.history sink.old) (K.history sink.new)
         (λ w. opening w child t) }
-    ensures cause { HasCause (K.told sink.old).faults (K.told sink.new).faults result }
+    ensures cause { HasCause (K.history sink.old).faults (K.history sink.new).faults result }
     ensures count { P.count port.new ≡ P.count port.old }
 {
     let outcome = port.call(0, YIELD, &[child, SAVED, NOT_SAVED, 0, 0], steps);
@@ -41,9 +41,9 @@ pub fn inner_once<P: Port, K: Sink, L: Ledger>(
 ) -> Result<(), Failed>
     requires some { 0 < P.count port.old }
     requires here { (w : World) → P.stands port.old w → here ≡ root_runs w }
-    ensures acts { Acts result (P.stands port.old) (P.stands port.new) (K.told sink.old) (K.told sink.new)
+    ensures acts { Acts result (P.stands port.old) (P.stands port.new) (K.history sink.old) (K.history sink.new)
         (λ w. slot_turn w t) }
-    ensures cause { HasCause (K.told sink.old).faults (K.told sink.new).faults result }
+    ensures cause { HasCause (K.history sink.old).faults (K.history sink.new).faults result }
     ensures count { P.count port.new ≡ P.count port.old }
 {
     if here {
@@ -65,9 +65,9 @@ pub fn close_slot<P: Port, K: Sink, L: Ledger>(
 ) -> Result<(), Failed>
     requires some { 0 < P.count port.old }
     requires here { (w : World) → P.stands port.old w → here ≡ root_runs w }
-    ensures acts { Acts result (P.stands port.old) (P.stands port.new) (K.told sink.old) (K.told sink.new)
+    ensures acts { Acts result (P.stands port.old) (P.stands port.new) (K.history sink.old) (K.history sink.new)
         (λ w. closing w t) }
-    ensures cause { HasCause (K.told sink.old).faults (K.told sink.new).faults result }
+    ensures cause { HasCause (K.history sink.old).faults (K.history sink.new).faults result }
     ensures count { P.count port.new ≡ P.count port.old }
 {
     if here {

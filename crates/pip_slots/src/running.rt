@@ -26,9 +26,9 @@ pub fn run_rounds<M: Frames, K: Sink, L: Ledger>(
 ) -> Result<(), Failed>
     requires some { 0 < length machine.old.cpus }
     requires few { plan_steps round.now * count ≤ 2 ^ 63 }
-    ensures acts { Acts result (StandsAs machine.old) (StandsAs machine.new) (K.told sink.old) (K.told sink.new)
+    ensures acts { Acts result (StandsAs machine.old) (StandsAs machine.new) (K.history sink.old) (K.history sink.new)
         (λ w. slot_run w (rounds round.now count) 0) }
-    ensures cause { HasCause (K.told sink.old).faults (K.told sink.new).faults result }
+    ensures cause { HasCause (K.history sink.old).faults (K.history sink.new).faults result }
     ensures count { length machine.new.cpus ≡ length machine.old.cpus }
 {
     let mut t = 0u64;
@@ -49,10 +49,10 @@ pub fn run_slots<M: Frames, K: Sink, L: Ledger>(
 ) -> Result<u64, Failed>
     requires some { 0 < length machine.old.cpus }
     requires few { first + plan_steps slots.now ≤ 2 ^ 63 }
-    ensures acts { Acts result (StandsAs machine.old) (StandsAs machine.new) (K.told sink.old) (K.told sink.new)
+    ensures acts { Acts result (StandsAs machine.old) (StandsAs machine.new) (K.history sink.old) (K.history sink.new)
         (λ w. slot_run w slots.now first) }
     ensures next { IfOk result (λ t. t ≡ first + plan_steps slots.now) }
-    ensures cause { HasCause (K.told sink.old).faults (K.told sink.new).faults result }
+    ensures cause { HasCause (K.history sink.old).faults (K.history sink.new).faults result }
     ensures count { length machine.new.cpus ≡ length machine.old.cpus }
 {
     let mut t = first;
@@ -74,9 +74,9 @@ fn one_slot<M: Frames, K: Sink, L: Ledger>(
 ) -> Result<(), Failed>
     requires some { 0 < length machine.old.cpus }
     requires small { t + (slot.turns + 2) ≤ 2 ^ 63 }
-    ensures acts { Acts result (StandsAs machine.old) (StandsAs machine.new) (K.told sink.old) (K.told sink.new)
+    ensures acts { Acts result (StandsAs machine.old) (StandsAs machine.new) (K.history sink.old) (K.history sink.new)
         (λ w. slot_acts w slot t) }
-    ensures cause { HasCause (K.told sink.old).faults (K.told sink.new).faults result }
+    ensures cause { HasCause (K.history sink.old).faults (K.history sink.new).faults result }
     ensures count { length machine.new.cpus ≡ length machine.old.cpus }
 {
     open_slot(machine, slot.child, t, sink, steps)?;
@@ -95,9 +95,9 @@ fn inner_steps<M: Frames, K: Sink, L: Ledger>(
 ) -> Result<(), Failed>
     requires some { 0 < length machine.old.cpus }
     requires small { t + turns ≤ 2 ^ 63 }
-    ensures acts { Acts result (StandsAs machine.old) (StandsAs machine.new) (K.told sink.old) (K.told sink.new)
+    ensures acts { Acts result (StandsAs machine.old) (StandsAs machine.new) (K.history sink.old) (K.history sink.new)
         (λ w. slot_turns w turns t) }
-    ensures cause { HasCause (K.told sink.old).faults (K.told sink.new).faults result }
+    ensures cause { HasCause (K.history sink.old).faults (K.history sink.new).faults result }
     ensures count { length machine.new.cpus ≡ length machine.old.cpus }
 {
     for k in 0..turns {

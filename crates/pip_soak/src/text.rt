@@ -21,9 +21,9 @@ struct CountLine<'a> {
 // Writes a line.
 fn write_line<K: Sink>(line: &CountLine<'_>, sink: &mut K) -> Result<(), Failed>
     requires { length line.now.name.now ≤ 16 }
-    ensures text { Wrote result (K.told sink.old).written (K.told sink.new).written
+    ensures text { Wrote result (K.history sink.old).written (K.history sink.new).written
         (counted_text line.now.name.now line.now.count) }
-    ensures cause { HasCause (K.told sink.old).faults (K.told sink.new).faults result }
+    ensures cause { HasCause (K.history sink.old).faults (K.history sink.new).faults result }
 {
     let mut text: ArrayString<28> = ArrayString::new();
     text.push_str(line.name);
@@ -43,10 +43,10 @@ fn write_three<K: Sink>(
     requires first { length first.now.name.now ≤ 16 }
     requires second { length second.now.name.now ≤ 16 }
     requires third { length third.now.name.now ≤ 16 }
-    ensures text { Wrote result (K.told sink.old).written (K.told sink.new).written
+    ensures text { Wrote result (K.history sink.old).written (K.history sink.new).written
         (counted_text first.now.name.now first.now.count ++ counted_text second.now.name.now second.now.count ++
         counted_text third.now.name.now third.now.count) }
-    ensures cause { HasCause (K.told sink.old).faults (K.told sink.new).faults result }
+    ensures cause { HasCause (K.history sink.old).faults (K.history sink.new).faults result }
 {
     write_line(first, sink)?;
     write_line(second, sink)?;
@@ -55,8 +55,8 @@ fn write_three<K: Sink>(
 
 // Writes the lines of all events and of the outcomes but replies.
 fn write_outcomes<K: Sink>(counts: &Counts, sink: &mut K) -> Result<(), Failed>
-    ensures text { Wrote result (K.told sink.old).written (K.told sink.new).written (kinds_text counts.now) }
-    ensures cause { HasCause (K.told sink.old).faults (K.told sink.new).faults result }
+    ensures text { Wrote result (K.history sink.old).written (K.history sink.new).written (kinds_text counts.now) }
+    ensures cause { HasCause (K.history sink.old).faults (K.history sink.new).faults result }
 {
     write_three(
         &CountLine {
@@ -92,9 +92,9 @@ fn write_outcomes<K: Sink>(counts: &Counts, sink: &mut K) -> Result<(), Failed>
 
 // Writes the line of the replies with a status, below 19, by its number.
 fn write_reply<K: Sink>(status: u32, count: u32, sink: &mut K) -> Result<(), Failed>
-    ensures text { Wrote result (K.told sink.old).written (K.told sink.new).written
+    ensures text { Wrote result (K.history sink.old).written (K.history sink.new).written
         (counted_text (codes "reply " ++ decimal status) count) }
-    ensures cause { HasCause (K.told sink.old).faults (K.told sink.new).faults result }
+    ensures cause { HasCause (K.history sink.old).faults (K.history sink.new).faults result }
 {
     let mut name: ArrayString<16> = ArrayString::new();
     name.push_str("reply ");
@@ -110,8 +110,8 @@ fn write_reply<K: Sink>(status: u32, count: u32, sink: &mut K) -> Result<(), Fai
 
 // Writes the lines of all replies by their statuses.
 fn write_replies<K: Sink>(replies: &[u32; 19], sink: &mut K) -> Result<(), Failed>
-    ensures text { Wrote result (K.told sink.old).written (K.told sink.new).written (replies_text replies.now) }
-    ensures cause { HasCause (K.told sink.old).faults (K.told sink.new).faults result }
+    ensures text { Wrote result (K.history sink.old).written (K.history sink.new).written (replies_text replies.now) }
+    ensures cause { HasCause (K.history sink.old).faults (K.history sink.new).faults result }
 {
     for s in 0..19 {
         write_reply(s, replies[s as usize], sink)?;
@@ -121,8 +121,8 @@ fn write_replies<K: Sink>(replies: &[u32; 19], sink: &mut K) -> Result<(), Faile
 
 // Writes the lines of the totals.
 fn write_totals<K: Sink>(totals: &Totals, sink: &mut K) -> Result<(), Failed>
-    ensures text { Wrote result (K.told sink.old).written (K.told sink.new).written (sums_text totals.now) }
-    ensures cause { HasCause (K.told sink.old).faults (K.told sink.new).faults result }
+    ensures text { Wrote result (K.history sink.old).written (K.history sink.new).written (sums_text totals.now) }
+    ensures cause { HasCause (K.history sink.old).faults (K.history sink.new).faults result }
 {
     write_three(
         &CountLine {
@@ -149,9 +149,9 @@ pub fn load_text<K: Sink>(
     count: u32,
     sink: &mut K,
 ) -> Result<(), Failed>
-    ensures text { Wrote result (K.told sink.old).written (K.told sink.new).written
+    ensures text { Wrote result (K.history sink.old).written (K.history sink.new).written
         (load_text counts.now totals.now count) }
-    ensures cause { HasCause (K.told sink.old).faults (K.told sink.new).faults result }
+    ensures cause { HasCause (K.history sink.old).faults (K.history sink.new).faults result }
 {
     write_outcomes(counts, sink)?;
     write_replies(&counts.replies, sink)?;

@@ -1,7 +1,7 @@
 ghost use Rattle.std.specs.Prelude.{◌<◌};
 ghost use Rattle.pip_base.specs.Opening.{CanOpen};
 ghost use Rattle.pip_io.specs.Memory.{source_faults};
-ghost use Rattle.pip_io.specs.Told.{remaining};
+ghost use Rattle.pip_io.specs.Histories.{remaining};
 ghost use Rattle.pip_lines.specs.Due.{AnswersDue};
 
 use pip_base::{Plan, Steps};
@@ -573,7 +573,7 @@ struct Ending<'a> {
 impl Source for Ending<'_> {
     ghost use Rattle.std.specs.Prelude.{None};
 
-    ghost told = { λ s. remaining None (source_faults s.source) };
+    ghost history = { λ s. remaining None (source_faults s.source) };
 
     fn read(&mut self, buf: &mut [u8]) -> Result<usize, Failed> {
         let count = self.source.read(buf)?;

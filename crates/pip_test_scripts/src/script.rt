@@ -2,7 +2,7 @@ ghost use Rattle.std.specs.Prelude.{◌<◌, ◌≤◌};
 ghost use Rattle.pip_base.specs.Opening.{CanOpen};
 ghost use Rattle.pip_io.specs.Memory.{source_faults};
 ghost use Rattle.pip_io.specs.Taken.{plain};
-ghost use Rattle.pip_io.specs.Told.{remaining, writing};
+ghost use Rattle.pip_io.specs.Histories.{remaining, writing};
 
 use crate::ends::{check_end, holds};
 use pip_base::Steps;
@@ -261,7 +261,7 @@ struct Drip<'a>(MemSource<'a>);
 impl Source for Drip<'_> {
     ghost use Rattle.std.specs.Prelude.{None};
 
-    ghost told = { λ s. remaining None (source_faults s.0) };
+    ghost history = { λ s. remaining None (source_faults s.0) };
 
     fn read(&mut self, buf: &mut [u8]) -> Result<usize, Failed> {
         self.0.read(&mut buf[..1])
@@ -396,7 +396,7 @@ struct Typed<'a> {
 impl Source for Typed<'_> {
     ghost use Rattle.std.specs.Prelude.{None};
 
-    ghost told = { λ _. remaining None 0 };
+    ghost history = { λ _. remaining None 0 };
 
     fn read(&mut self, buf: &mut [u8]) -> Result<usize, Failed> {
         if self.next >= self.pieces.len() {
@@ -422,7 +422,7 @@ impl Sink for Watched<'_> {
     ghost use Rattle.std.specs.Prelude.{None};
     ghost use Rattle.pip_io.specs.Taken.{plain};
 
-    ghost told = { λ _. writing (plain None) 0 };
+    ghost history = { λ _. writing (plain None) 0 };
 
     fn write(&mut self, piece: &[u8]) -> Result<usize, Failed> {
         self.written
@@ -430,7 +430,7 @@ impl Sink for Watched<'_> {
         Ok(piece.len())
     }
 
-    fn settle(&mut self) -> Result<(), Failed> {
+    fn flush(&mut self) -> Result<(), Failed> {
         Ok(())
     }
 }
@@ -487,7 +487,7 @@ struct Blanks {
 impl Source for Blanks {
     ghost use Rattle.std.specs.Prelude.{None};
 
-    ghost told = { λ _. remaining None 0 };
+    ghost history = { λ _. remaining None 0 };
 
     fn read(&mut self, buf: &mut [u8]) -> Result<usize, Failed> {
         let count = buf.len().min(self.bytes as usize).min(121);
@@ -559,13 +559,13 @@ impl Sink for Trickle<'_> {
     ghost use Rattle.pip_io.specs.Memory.{sink_faults};
     ghost use Rattle.pip_io.specs.Taken.{plain};
 
-    ghost told = { λ s. writing (plain None) (sink_faults s.0) };
+    ghost history = { λ s. writing (plain None) (sink_faults s.0) };
 
     fn write(&mut self, piece: &[u8]) -> Result<usize, Failed> {
         self.0.write(&piece[..1])
     }
 
-    fn settle(&mut self) -> Result<(), Failed> {
+    fn flush(&mut self) -> Result<(), Failed> {
         Ok(())
     }
 }

@@ -121,12 +121,12 @@ impl<W: Write> Write for Slow<W> {
     }
 }
 
-// Writes a piece that many times, and settles.
+// Writes a piece that many times, and flushes.
 fn gather<K: Sink>(sink: &mut K, piece: &[u8], times: u32) -> Result<(), Failed> {
     for _ in 0..times {
         write_all(sink, piece)?;
     }
-    sink.settle()
+    sink.flush()
 }
 
 // Gathers 1200 pieces of 50 bytes, where a write fails, and compares how many bytes were written.
@@ -180,9 +180,9 @@ fn a_gatherer_holds_what_was_not_written(rt: HostRuntime) -> Result<(), Fail> {
     }));
     let result = write_all(&mut gatherer, b"abcdefgh");
     holds(&rt, result.is_ok(), "a piece");
-    let first = gatherer.settle();
+    let first = gatherer.flush();
     holds(&rt, first == Err(Failed), "the first try");
-    let second = gatherer.settle();
+    let second = gatherer.flush();
     holds(&rt, second.is_ok(), "the second try");
     same(&rt, written.as_slice(), b"abcdefgh".as_slice(), "the piece");
     Ok(())

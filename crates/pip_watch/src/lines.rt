@@ -13,7 +13,7 @@ use pip_script::{push_decimal, push_word};
 /// Writes a line for each child, at most 8, with the address of its descriptor.
 pub fn write_children<K: Sink>(children: &[u32], sink: &mut K) -> Result<(), Failed>
     requires { length children.now ≤ 8 }
-    ensures { Writes K.told sink.old sink.new result (built_from 0 children.now) }
+    ensures { Writes K.history sink.old sink.new result (built_from 0 children.now) }
 {
     for i in 0..children.len() {
         write_child(i as u32, children[i], sink)?;
@@ -23,7 +23,7 @@ pub fn write_children<K: Sink>(children: &[u32], sink: &mut K) -> Result<(), Fai
 
 // Writes the line of child `i`.
 fn write_child<K: Sink>(i: u32, address: u32, sink: &mut K) -> Result<(), Failed>
-    ensures { Writes K.told sink.old sink.new result (built_line i address) }
+    ensures { Writes K.history sink.old sink.new result (built_line i address) }
 {
     let mut line: ArrayString<64> = ArrayString::new();
     line.push_str("built ");
@@ -36,7 +36,7 @@ fn write_child<K: Sink>(i: u32, address: u32, sink: &mut K) -> Result<(), Failed
 
 /// Writes the line of a decision, if it has one.
 pub fn write_decision<K: Sink>(sink: &mut K, t: u64, decision: Decision) -> Result<(), Failed>
-    ensures { Writes K.told sink.old sink.new result (decision_line t decision) }
+    ensures { Writes K.history sink.old sink.new result (decision_line t decision) }
 {
     let mut buffer = Buffer::new();
     let mut line: ArrayString<64> = ArrayString::new();

@@ -27,7 +27,7 @@ pub fn write_search<K: Sink>(
     requires ways { map (λ way. way.items) ways.now ≡ runs_to search.now.visits.items search.now.found.items }
     requires traced { AreTraced search.now.visits.items search.now.found.items }
     requires some { 1 ≤ cpus }
-    ensures { Writes K.told sink.old sink.new result
+    ensures { Writes K.history sink.old sink.new result
         (search_text cpus lines.now (witnesses_of verdict search.now.visits.items search.now.found.items)
         (length search.now.visits.items) verdict) }
 {
@@ -47,7 +47,7 @@ fn write_labels<K: Sink>(
     requires ways { map (λ way. way.items) ways.now ≡ runs_to search.now.visits.items search.now.found.items }
     requires traced { AreTraced search.now.visits.items search.now.found.items }
     requires some { 1 ≤ cpus }
-    ensures { Writes K.told sink.old sink.new result
+    ensures { Writes K.history sink.old sink.new result
         (flat_map (witness_line cpus lines.now) (witnesses_of verdict search.now.visits.items search.now.found.items)) }
 {
     for k in 0..search.found.len() {
@@ -71,7 +71,7 @@ fn write_label<K: Sink>(
 ) -> Result<(), Failed>
     requires some { 0 < depth }
     requires cpus { 1 ≤ cpus }
-    ensures { Writes K.told sink.old sink.new result
+    ensures { Writes K.history sink.old sink.new result
         (decimal (depth - 1) ++ inner label.now ++ codes ":" ++ flat_map (spaced_run cpus lines.now) way.now ++ codes
         "\n") }
 {
@@ -82,7 +82,7 @@ fn write_label<K: Sink>(
 
 /// Writes what a label shows, at a step, and a colon.
 pub fn write_shown<K: Sink>(sink: &mut K, label: &[u8], step: u32) -> Result<(), Failed>
-    ensures { Writes K.told sink.old sink.new result (decimal step ++ inner label.now ++ codes ":") }
+    ensures { Writes K.history sink.old sink.new result (decimal step ++ inner label.now ++ codes ":") }
 {
     write_number(sink, step)?;
     write_all(sink, inner(label))?;
@@ -90,7 +90,7 @@ pub fn write_shown<K: Sink>(sink: &mut K, label: &[u8], step: u32) -> Result<(),
 }
 
 fn write_number<K: Sink>(sink: &mut K, n: u32) -> Result<(), Failed>
-    ensures { Writes K.told sink.old sink.new result (decimal n) }
+    ensures { Writes K.history sink.old sink.new result (decimal n) }
 {
     let mut number: ArrayString<10> = ArrayString::new();
     push_decimal(&mut number, n);
@@ -109,7 +109,7 @@ pub fn inner(label: &[u8]) -> &[u8]
 
 /// Writes the last line: how many states there are, and how the search ended.
 pub fn write_verdict<K: Sink>(sink: &mut K, count: u64, verdict: Extent) -> Result<(), Failed>
-    ensures { Writes K.told sink.old sink.new result (verdict_line count verdict) }
+    ensures { Writes K.history sink.old sink.new result (verdict_line count verdict) }
 {
     let mut buffer = Buffer::new();
     let mut line: ArrayString<64> = ArrayString::new();

@@ -17,7 +17,7 @@ const RUN_ROOM: usize = 40;
 /// after them are deeds.
 pub fn write_way<K: Sink>(sink: &mut K, cpus: u32, lines: &[u32], way: &[Run]) -> Result<(), Failed>
     requires { 1 ≤ cpus }
-    ensures { Writes K.told sink.old sink.new result (flat_map (spaced_run cpus lines.now) way.now) }
+    ensures { Writes K.history sink.old sink.new result (flat_map (spaced_run cpus lines.now) way.now) }
 {
     for k in 0..way.len() {
         write_run(sink, cpus, lines, way[k])?;
@@ -28,7 +28,7 @@ pub fn write_way<K: Sink>(sink: &mut K, cpus: u32, lines: &[u32], way: &[Run]) -
 // Writes a run after a space.
 fn write_run<K: Sink>(sink: &mut K, cpus: u32, lines: &[u32], run: Run) -> Result<(), Failed>
     requires { 1 ≤ cpus }
-    ensures { Writes K.told sink.old sink.new result (spaced_run cpus lines.now run) }
+    ensures { Writes K.history sink.old sink.new result (spaced_run cpus lines.now run) }
 {
     let mut word: ArrayString<RUN_ROOM> = ArrayString::new();
     word.push_str(" ");
@@ -82,7 +82,7 @@ fn push_times(word: &mut ArrayString<RUN_ROOM>, count: u32)
 
 /// Writes how often a choice is made, if more than once.
 pub fn write_times<K: Sink>(sink: &mut K, count: u32) -> Result<(), Failed>
-    ensures { Writes K.told sink.old sink.new result (times_text count) }
+    ensures { Writes K.history sink.old sink.new result (times_text count) }
 {
     let mut word: ArrayString<RUN_ROOM> = ArrayString::new();
     push_times(&mut word, count);

@@ -2,7 +2,7 @@
 use Rattle.std.proofs.Common.{◌≡◌, ◌≢◌, ℕ, inl, Option, None, List, [], refl, arith}
 use Rattle.std.proofs.KnownBytes.{Consumes-nil}
 use Rattle.pip_io.specs.Taken.{Taken}
-use Rattle.pip_io.specs.Told.{writing}
+use Rattle.pip_io.specs.Histories.{writing}
 use Rattle.pip_switch.specs.Standing.{State}
 use Rattle.pip_due.specs.EndsBy.{EndsBy}
 use Rattle.pip_due.specs.Streams.{EndsLine, beside}
@@ -16,9 +16,9 @@ pub usage_ends : (usage : List ℕ) (code : ℕ) (p : Option State) (left : Opti
     → EndsLine 1 usage code (writing before writes) (writing after writes')
     → EndsBy (unknown_due usage) code p (beside left reads (writing before writes))
     (beside left reads (writing after writes'))
-usage_ends usage code p left reads before after writes writes' start none calm settled told =
+usage_ends usage code p left reads before after writes writes' start none no_faults flushed told =
     by_plain (unknown_due usage) code p (beside left reads (writing before writes))
     (beside left reads (writing after writes'))
-    (record { reads = λ not. refl; writes = calm }) settled (λ e. (refl, refl)) [] (Consumes-nil left) none start 1
+    (record { reads = λ not. refl; writes = no_faults }) flushed (λ e. (refl, refl)) [] (Consumes-nil left) none start 1
     usage
     (inl (omega arith)) (record { is = refl; decided = inl tt }) told

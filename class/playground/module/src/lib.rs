@@ -189,7 +189,7 @@ impl Sink for Host {
         Ok(piece.len())
     }
 
-    fn settle(&mut self) -> Result<(), Failed> {
+    fn flush(&mut self) -> Result<(), Failed> {
         Ok(())
     }
 }

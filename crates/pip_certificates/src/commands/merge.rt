@@ -47,8 +47,8 @@ impl From<LineStop> for MergeStop {
 /// Merges the lines of all parts of a certificate, which are sorted, and writes what they say together
 /// (docs/CERTIFICATES.md). No machine is handed back.
 pub fn merge<S: Source, K: Sink>(alloc: Global, source: &mut S, sink: &mut K) -> Ended
-    requires paced { MayStart merge_due S.is_open S.allows S.told K.told source.old sink.old }
-    ensures ends { Fulfils merge_due result S.told K.told source.old sink.old source.new sink.new }
+    requires paced { MayStart merge_due S.is_open S.allows S.history K.history source.old sink.old }
+    ensures ends { Fulfils merge_due result S.history K.history source.old sink.old source.new sink.new }
 {
     let mut joint = Joint::new(source, sink);
     merge_input(alloc, &mut joint)
@@ -56,10 +56,10 @@ pub fn merge<S: Source, K: Sink>(alloc: Global, source: &mut S, sink: &mut K) ->
 
 // Merges what a joint reads.
 fn merge_input<S: Source, K: Sink>(alloc: Global, joint: &mut Joint<'_, S, K>) -> Ended
-    requires paced { MayStartJoined merge_due S.is_open S.allows S.told K.told joint.old }
+    requires paced { MayStartJoined merge_due S.is_open S.allows S.history K.history joint.old }
     ensures same_source { joint.new.source.ghost_name ≡ joint.old.source.ghost_name }
     ensures same_sink { joint.new.sink.ghost_name ≡ joint.old.sink.ghost_name }
-    ensures ends { FulfilsJoined merge_due result S.told K.told joint.old joint.new }
+    ensures ends { FulfilsJoined merge_due result S.history K.history joint.old joint.new }
 {
     let mut line = Vec::new(alloc);
     let mut merger = Merger::new(alloc);
@@ -82,15 +82,16 @@ fn merge_lines<S: Source, K: Sink>(
 ) -> Result<(), MergeStop>
     requires first { merging_of merger.old ≡ no_merging }
     requires is_open { S.is_open joint.old.source.now }
-    requires settled { (K.told joint.old.sink.now).written.held ≡ [] }
-    requires paced { MayRead S.allows BeginsMerge (joined S.told K.told joint.old) }
+    requires flushed { (K.history joint.old.sink.now).written.buffered ≡ [] }
+    requires paced { MayRead S.allows BeginsMerge (joined S.history K.history joint.old) }
     ensures same_source { joint.new.source.ghost_name ≡ joint.old.source.ghost_name }
     ensures sink { joint.new.sink ≡ joint.old.sink }
     ensures merges { MatchResult result
-        (λ _. TakesMerge (S.told joint.old.source.now).left (S.told joint.new.source.now).left (merging_of merger.new)
-        × ((S.told joint.new.source.now).faults ≡ (S.told joint.old.source.now).faults))
-        (StopsMerge (S.told joint.old.source.now).left (S.told joint.new.source.now).left
-        (S.told joint.old.source.now).faults (S.told joint.new.source.now).faults line.new.items) }
+        (λ _. TakesMerge (S.history joint.old.source.now).left (S.history joint.new.source.now).left
+        (merging_of merger.new)
+        × ((S.history joint.new.source.now).faults ≡ (S.history joint.old.source.now).faults))
+        (StopsMerge (S.history joint.old.source.now).left (S.history joint.new.source.now).left
+        (S.history joint.old.source.now).faults (S.history joint.new.source.now).faults line.new.items) }
 {
     let mut reader = LineReader::new();
     for before in 0..u64::MAX {

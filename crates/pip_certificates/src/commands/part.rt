@@ -33,8 +33,8 @@ use std::sync::ledger::{Blank, Ledger};
 /// Checks the part that comes after an image, and writes its lines in the order in which it found them: its keys, those
 /// that it asks, its labels, and the part itself (docs/CERTIFICATES.md). No line comes before `from` turns were made.
 pub fn part<S: Source, K: Sink>(alloc: Global, from: u32, source: &mut S, sink: &mut K) -> Ended
-    requires paced { MayStart (part_due from) S.is_open S.allows S.told K.told source.old sink.old }
-    ensures ends { Fulfils (part_due from) result S.told K.told source.old sink.old source.new sink.new }
+    requires paced { MayStart (part_due from) S.is_open S.allows S.history K.history source.old sink.old }
+    ensures ends { Fulfils (part_due from) result S.history K.history source.old sink.old source.new sink.new }
 {
     part_counted::<S, K, Brand>(alloc, from, source, sink, Blank::new(1))
 }
@@ -48,8 +48,8 @@ fn part_counted<S: Source, K: Sink, L: Ledger>(
     blank: Blank,
 ) -> Ended
     requires blank { CanOpen blank.name blank.parts L.name L.parts }
-    requires paced { MayStart (part_due from) S.is_open S.allows S.told K.told source.old sink.old }
-    ensures ends { Fulfils (part_due from) result S.told K.told source.old sink.old source.new sink.new }
+    requires paced { MayStart (part_due from) S.is_open S.allows S.history K.history source.old sink.old }
+    ensures ends { Fulfils (part_due from) result S.history K.history source.old sink.old source.new sink.new }
 {
     let mut steps: Steps<L> = Steps::new(blank);
     let mut joint = Joint::new(source, sink);
@@ -63,10 +63,10 @@ fn part_joined<S: Source, K: Sink, L: Ledger>(
     joint: &mut Joint<'_, S, K>,
     steps: &mut Steps<L>,
 ) -> Ended
-    requires paced { MayStartJoined (part_due from) S.is_open S.allows S.told K.told joint.old }
+    requires paced { MayStartJoined (part_due from) S.is_open S.allows S.history K.history joint.old }
     ensures same_source { joint.new.source.ghost_name ≡ joint.old.source.ghost_name }
     ensures same_sink { joint.new.sink.ghost_name ≡ joint.old.sink.ghost_name }
-    ensures ends { FulfilsJoined (part_due from) result S.told K.told joint.old joint.new }
+    ensures ends { FulfilsJoined (part_due from) result S.history K.history joint.old joint.new }
 {
     match load_front(alloc, joint, steps) {
         Ok(begun) => after_image(alloc, begun, from, joint, steps),
@@ -107,15 +107,15 @@ fn after_image<S: Source, K: Sink, L: Ledger>(
     requires limits { IsHeader begun.head }
     requires count { length (⟦<RawFrames as Frames>⟧.memory begun.mem) ≡ begun.head.frames }
     requires is_open { S.is_open joint.old.source.now }
-    requires none { (K.told joint.old.sink.now).written.held ≡ [] }
-    requires paced { MayRead S.allows (HasNoFault (header_said begun.head)) (joined S.told K.told joint.old) }
+    requires none { (K.history joint.old.sink.now).written.buffered ≡ [] }
+    requires paced { MayRead S.allows (HasNoFault (header_said begun.head)) (joined S.history K.history joint.old) }
     ensures same_source { joint.new.source.ghost_name ≡ joint.old.source.ghost_name }
     ensures same_sink { joint.new.sink.ghost_name ≡ joint.old.sink.ghost_name }
-    ensures ends { (left : Option (List ℕ)) → LoadsFront left (S.told joint.old.source.now).left begun.head
+    ensures ends { (left : Option (List ℕ)) → LoadsFront left (S.history joint.old.source.now).left begun.head
         (⟦<RawFrames as Frames>⟧.memory begun.mem) → EndsBy (part_due from) result.status result.machine
-        (beside left (S.told joint.old.source.now).faults (K.told joint.old.sink.now))
-        (joined S.told K.told joint.new) }
-    ensures none { result.status ≢ 4 → (K.told joint.new.sink.now).written.held ≡ [] }
+        (beside left (S.history joint.old.source.now).faults (K.history joint.old.sink.now))
+        (joined S.history K.history joint.new) }
+    ensures none { result.status ≢ 4 → (K.history joint.new.sink.now).written.buffered ≡ [] }
 {
     let limits = limits_of(&begun.head);
     let size = size_of(&begun.head);
@@ -144,12 +144,12 @@ fn end_checked<K: Sink, L: Ledger>(
     requires way { length read.way.items ≤ 10000000 }
     requires can { All (λ k. k < begun.head.cpus + length begun.head.plans.items) read.way.items }
     requires marks { length read.marks.items < 2 ^ 32 - 1 }
-    requires none { (K.told sink.old).written.held ≡ [] }
+    requires none { (K.history sink.old).written.buffered ≡ [] }
     ensures ends { (i : Image) → BeginsFrames i begun.head (⟦<RawFrames as Frames>⟧.memory begun.mem) → EndsWithPart
-        (IsPartAnswer from i (Ok (part_seen read))) result.status (K.told sink.old) (K.told sink.new) }
-    ensures calm { result.status ≢ 4 → (K.told sink.new).faults ≡ (K.told sink.old).faults }
+        (IsPartAnswer from i (Ok (part_seen read))) result.status (K.history sink.old) (K.history sink.new) }
+    ensures no_faults { result.status ≢ 4 → (K.history sink.new).faults ≡ (K.history sink.old).faults }
     ensures none { result.machine ≡ None }
-    ensures settled { result.status ≢ 4 → (K.told sink.new).written.held ≡ [] }
+    ensures flushed { result.status ≢ 4 → (K.history sink.new).written.buffered ≡ [] }
 {
     let Begun { head, mem } = begun;
     match check(alloc, &head, mem, &read, from, steps) {

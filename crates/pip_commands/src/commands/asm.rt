@@ -16,8 +16,8 @@ use std::alloc::Global;
 /// Writes the image that an assembly text is (docs/FORMATS.md, "Assembly"). The whole input is read before a line is
 /// judged.
 pub fn asm<S: Source, K: Sink>(alloc: Global, source: &mut S, sink: &mut K) -> Ended
-    requires paced { MayStart asm_due S.is_open S.allows S.told K.told source.old sink.old }
-    ensures ends { Fulfils asm_due result S.told K.told source.old sink.old source.new sink.new }
+    requires paced { MayStart asm_due S.is_open S.allows S.history K.history source.old sink.old }
+    ensures ends { Fulfils asm_due result S.history K.history source.old sink.old source.new sink.new }
 {
     let mut joint = Joint::new(source, sink);
     assemble_input(alloc, &mut joint)
@@ -25,10 +25,10 @@ pub fn asm<S: Source, K: Sink>(alloc: Global, source: &mut S, sink: &mut K) -> E
 
 // Assembles what a joint reads.
 fn assemble_input<S: Source, K: Sink>(alloc: Global, joint: &mut Joint<'_, S, K>) -> Ended
-    requires paced { MayStartJoined asm_due S.is_open S.allows S.told K.told joint.old }
+    requires paced { MayStartJoined asm_due S.is_open S.allows S.history K.history joint.old }
     ensures same_source { joint.new.source.ghost_name ≡ joint.old.source.ghost_name }
     ensures same_sink { joint.new.sink.ghost_name ≡ joint.old.sink.ghost_name }
-    ensures ends { FulfilsJoined asm_due result S.told K.told joint.old joint.new }
+    ensures ends { FulfilsJoined asm_due result S.history K.history joint.old joint.new }
 {
     match read_whole(alloc, joint) {
         Ok(text) => write_assembly(alloc, text.as_slice(), &mut *joint.sink),
@@ -41,12 +41,13 @@ fn assemble_input<S: Source, K: Sink>(alloc: Global, joint: &mut Joint<'_, S, K>
 // Writes the image of a text, or the line that names its first fault.
 fn write_assembly<K: Sink>(alloc: Global, text: &[u8], sink: &mut K) -> Ended
     requires limit { length text.now ≤ 2 ^ 24 }
-    requires none { (K.told sink.old).written.held ≡ [] }
-    ensures wrote { EndsWithResponse (asm_answer (assembly text.now)) result.status (K.told sink.old) (K.told sink.new)
-        ⊎ ((result.status ≡ 5) × Keeps (K.told sink.old).written (K.told sink.new).written) }
-    ensures calm { result.status ≢ 4 → (K.told sink.new).faults ≡ (K.told sink.old).faults }
+    requires none { (K.history sink.old).written.buffered ≡ [] }
+    ensures wrote { EndsWithResponse (asm_answer (assembly text.now)) result.status (K.history sink.old)
+        (K.history sink.new)
+        ⊎ ((result.status ≡ 5) × Keeps (K.history sink.old).written (K.history sink.new).written) }
+    ensures no_faults { result.status ≢ 4 → (K.history sink.new).faults ≡ (K.history sink.old).faults }
     ensures none { result.machine ≡ None }
-    ensures settled { result.status ≢ 4 → (K.told sink.new).written.held ≡ [] }
+    ensures flushed { result.status ≢ 4 → (K.history sink.new).written.buffered ≡ [] }
 {
     match assemble(alloc, text) {
         Ok(image) => end_with(sink, image.as_slice(), 0),

@@ -26,8 +26,8 @@ use std::sync::ledger::{Blank, Ledger};
 pub fn audit<S: Source, K: Sink>(alloc: Global, frames: u32, source: &mut S, sink: &mut K) -> Ended
     requires least { 16 ≤ frames }
     requires most { frames ≤ 4096 }
-    requires paced { MayStart (audit_due frames) S.is_open S.allows S.told K.told source.old sink.old }
-    ensures ends { Fulfils (audit_due frames) result S.told K.told source.old sink.old source.new sink.new }
+    requires paced { MayStart (audit_due frames) S.is_open S.allows S.history K.history source.old sink.old }
+    ensures ends { Fulfils (audit_due frames) result S.history K.history source.old sink.old source.new sink.new }
 {
     let mut joint = Joint::new(source, sink);
     audit_input(alloc, frames, &mut joint)
@@ -37,10 +37,10 @@ pub fn audit<S: Source, K: Sink>(alloc: Global, frames: u32, source: &mut S, sin
 fn audit_input<S: Source, K: Sink>(alloc: Global, frames: u32, joint: &mut Joint<'_, S, K>) -> Ended
     requires least { 16 ≤ frames }
     requires most { frames ≤ 4096 }
-    requires paced { MayStartJoined (audit_due frames) S.is_open S.allows S.told K.told joint.old }
+    requires paced { MayStartJoined (audit_due frames) S.is_open S.allows S.history K.history joint.old }
     ensures same_source { joint.new.source.ghost_name ≡ joint.old.source.ghost_name }
     ensures same_sink { joint.new.sink.ghost_name ≡ joint.old.sink.ghost_name }
-    ensures ends { FulfilsJoined (audit_due frames) result S.told K.told joint.old joint.new }
+    ensures ends { FulfilsJoined (audit_due frames) result S.history K.history joint.old joint.new }
 {
     let Ok(mut room) = take_room(alloc, frames) else {
         return Ended::with_status(5);
@@ -77,15 +77,15 @@ fn take_room(alloc: Global, frames: u32) -> Result<AuditRoom, AllocError>
 // Judges what was read, with a counter of steps that nobody reads, and writes the answer.
 fn judge<K: Sink, L: Ledger>(room: &mut AuditRoom, sink: &mut K, blank: Blank) -> Ended
     requires blank { CanOpen blank.name blank.parts L.name L.parts }
-    requires none { (K.told sink.old).written.held ≡ [] }
+    requires none { (K.history sink.old).written.buffered ≡ [] }
     requires room { IsFor (length (⟦<RawFrames as Frames>⟧.memory room.old.mem)) room.old.auditor }
     requires shape { IsMemory (⟦<RawFrames as Frames>⟧.memory room.old.mem) }
     requires words { HasWordsOnly (⟦<RawFrames as Frames>⟧.memory room.old.mem) }
     ensures wrote { EndsWithResponse (found_answer (finding (⟦<RawFrames as Frames>⟧.memory room.old.mem)))
-        result.status (K.told sink.old) (K.told sink.new) }
-    ensures calm { result.status ≢ 4 → (K.told sink.new).faults ≡ (K.told sink.old).faults }
+        result.status (K.history sink.old) (K.history sink.new) }
+    ensures no_faults { result.status ≢ 4 → (K.history sink.new).faults ≡ (K.history sink.old).faults }
     ensures machine { result.machine ≡ None }
-    ensures none { result.status ≢ 4 → (K.told sink.new).written.held ≡ [] }
+    ensures none { result.status ≢ 4 → (K.history sink.new).written.buffered ≡ [] }
 {
     let mut steps: Steps<L> = Steps::new(blank);
     let verdict = room.auditor.audit(&room.mem, &mut steps);
@@ -102,11 +102,11 @@ fn tell<M: Frames, K: Sink, L: Ledger>(
     requires shape { IsMemory (M.memory mem.now) }
     requires words { HasWordsOnly (M.memory mem.now) }
     requires verdict { verdict ≡ verdict_of (finding (M.memory mem.now)) }
-    ensures wrote { EndsWithResponse (found_answer (finding (M.memory mem.now))) result.status (K.told sink.old)
-        (K.told sink.new) }
-    ensures calm { result.status ≢ 4 → (K.told sink.new).faults ≡ (K.told sink.old).faults }
+    ensures wrote { EndsWithResponse (found_answer (finding (M.memory mem.now))) result.status (K.history sink.old)
+        (K.history sink.new) }
+    ensures no_faults { result.status ≢ 4 → (K.history sink.new).faults ≡ (K.history sink.old).faults }
     ensures machine { result.machine ≡ None }
-    ensures none { result.status ≢ 4 → (K.told sink.new).written.held ≡ [] }
+    ensures none { result.status ≢ 4 → (K.history sink.new).written.buffered ≡ [] }
 {
     if let Some(line) = no_line(verdict) {
         return end_with(sink, line.as_str().as_bytes(), 9);

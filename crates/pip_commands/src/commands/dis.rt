@@ -11,8 +11,8 @@ use std::alloc::Global;
 /// Writes an image as an assembly text (docs/FORMATS.md, "Assembly"). It takes no memory. Whatever
 /// the source asks for at a read, it is asked nowhere but where the text of all that was read is out.
 pub fn dis<S: Source, K: Sink>(_alloc: Global, source: &mut S, sink: &mut K) -> Ended
-    requires paced { MayStart dis_due S.is_open S.allows S.told K.told source.old sink.old }
-    ensures ends { Fulfils dis_due result S.told K.told source.old sink.old source.new sink.new }
+    requires paced { MayStart dis_due S.is_open S.allows S.history K.history source.old sink.old }
+    ensures ends { Fulfils dis_due result S.history K.history source.old sink.old source.new sink.new }
 {
     match drive(&mut Disassembler::new(), source, sink) {
         Ok(None) => Ended::with_status(0),

@@ -38,8 +38,8 @@ pub fn native<S: Source, K: Sink>(
 ) -> Ended
     requires least { 1 ≤ n }
     requires most { n ≤ 8 }
-    requires paced { MayStart (native_due n count) S.is_open S.allows S.told K.told source.old sink.old }
-    ensures ends { Fulfils (native_due n count) result S.told K.told source.old sink.old source.new sink.new }
+    requires paced { MayStart (native_due n count) S.is_open S.allows S.history K.history source.old sink.old }
+    ensures ends { Fulfils (native_due n count) result S.history K.history source.old sink.old source.new sink.new }
 {
     let scheduling = Monitored {
         count,
@@ -89,9 +89,9 @@ fn watch<M: Frames, F: Callback, C: Chooser, K: Sink, L: Ledger>(
 ) -> Result<(), Failed>
     requires below { AllByRecursion (λ p. p.line < 16) lines.now }
     requires some { 0 < length machine.old.cpus }
-    ensures acts { Acts result (StandsAs machine.old) (StandsAs machine.new) (K.told sink.old) (K.told sink.new)
+    ensures acts { Acts result (StandsAs machine.old) (StandsAs machine.new) (K.history sink.old) (K.history sink.new)
         (λ w. watched_steps w lines.now monitor.old count 0) }
-    ensures cause { HasCause (K.told sink.old).faults (K.told sink.new).faults result }
+    ensures cause { HasCause (K.history sink.old).faults (K.history sink.new).faults result }
 {
     for i in 0..count {
         let t = i as u64;

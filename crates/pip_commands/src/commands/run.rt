@@ -29,8 +29,9 @@ pub fn run<S: Source, K: Sink>(
     sink: &mut K,
 ) -> Ended
     requires seed { 1 ≤ seed }
-    requires paced { MayStart (run_due R.Trace count seed) S.is_open S.allows S.told K.told source.old sink.old }
-    ensures ends { Fulfils (run_due R.Trace count seed) result S.told K.told source.old sink.old source.new sink.new }
+    requires paced { MayStart (run_due R.Trace count seed) S.is_open S.allows S.history K.history source.old sink.old }
+    ensures ends { Fulfils (run_due R.Trace count seed) result S.history K.history source.old sink.old
+        source.new sink.new }
 {
     make_run(Report::Trace, alloc, count, seed, source, sink)
 }
@@ -45,8 +46,9 @@ pub fn tree<S: Source, K: Sink>(
     sink: &mut K,
 ) -> Ended
     requires seed { 1 ≤ seed }
-    requires paced { MayStart (run_due R.Tree count seed) S.is_open S.allows S.told K.told source.old sink.old }
-    ensures ends { Fulfils (run_due R.Tree count seed) result S.told K.told source.old sink.old source.new sink.new }
+    requires paced { MayStart (run_due R.Tree count seed) S.is_open S.allows S.history K.history source.old sink.old }
+    ensures ends { Fulfils (run_due R.Tree count seed) result S.history K.history source.old sink.old
+        source.new sink.new }
 {
     make_run(Report::Tree, alloc, count, seed, source, sink)
 }
@@ -61,8 +63,9 @@ pub fn core_dump<S: Source, K: Sink>(
     sink: &mut K,
 ) -> Ended
     requires seed { 1 ≤ seed }
-    requires paced { MayStart (run_due R.Frames count seed) S.is_open S.allows S.told K.told source.old sink.old }
-    ensures ends { Fulfils (run_due R.Frames count seed) result S.told K.told source.old sink.old source.new sink.new }
+    requires paced { MayStart (run_due R.Frames count seed) S.is_open S.allows S.history K.history source.old sink.old }
+    ensures ends { Fulfils (run_due R.Frames count seed) result S.history K.history source.old sink.old
+        source.new sink.new }
 {
     make_run(Report::Frames, alloc, count, seed, source, sink)
 }
@@ -77,8 +80,9 @@ fn make_run<S: Source, K: Sink>(
     sink: &mut K,
 ) -> Ended
     requires seed { 1 ≤ seed }
-    requires paced { MayStart (run_due report count seed) S.is_open S.allows S.told K.told source.old sink.old }
-    ensures ends { Fulfils (run_due report count seed) result S.told K.told source.old sink.old source.new sink.new }
+    requires paced { MayStart (run_due report count seed) S.is_open S.allows S.history K.history source.old sink.old }
+    ensures ends { Fulfils (run_due report count seed) result S.history K.history source.old sink.old
+        source.new sink.new }
 {
     run_counted::<S, K, Brand>(report, alloc, count, seed, source, sink, Blank::new(1))
 }
@@ -95,8 +99,9 @@ fn run_counted<S: Source, K: Sink, L: Ledger>(
 ) -> Ended
     requires blank { CanOpen blank.name blank.parts L.name L.parts }
     requires seed { 1 ≤ seed }
-    requires paced { MayStart (run_due report count seed) S.is_open S.allows S.told K.told source.old sink.old }
-    ensures ends { Fulfils (run_due report count seed) result S.told K.told source.old sink.old source.new sink.new }
+    requires paced { MayStart (run_due report count seed) S.is_open S.allows S.history K.history source.old sink.old }
+    ensures ends { Fulfils (run_due report count seed) result S.history K.history source.old sink.old
+        source.new sink.new }
 {
     let mut steps: Steps<L> = Steps::new(blank);
     let mut joint = Joint::new(source, sink);
@@ -124,10 +129,10 @@ fn run_plans<S: Source, K: Sink, G: Fn(Plan) -> F, F: Callback + Drop, L: Ledger
     requires makes { G.IsAlwaysCallable make }
     requires answer { (p : Plan) (f : F) → G.post make p f → AnswersDue (F.may_ask f) (F.answers f) p }
     requires seed { 1 ≤ seed }
-    requires paced { MayStartJoined (run_due report count seed) S.is_open S.allows S.told K.told joint.old }
+    requires paced { MayStartJoined (run_due report count seed) S.is_open S.allows S.history K.history joint.old }
     ensures same_source { joint.new.source.ghost_name ≡ joint.old.source.ghost_name }
     ensures same_sink { joint.new.sink.ghost_name ≡ joint.old.sink.ghost_name }
-    ensures ends { FulfilsJoined (run_due report count seed) result S.told K.told joint.old joint.new }
+    ensures ends { FulfilsJoined (run_due report count seed) result S.history K.history joint.old joint.new }
 {
     match load(alloc, joint, make, steps) {
         Ok(mut loaded) => match report.show(&mut loaded, count, seed, &mut *joint.sink, steps) {

@@ -19,8 +19,8 @@ use turn::{End, take_turn};
 /// Runs a script (docs/FORMATS.md, "Scripts"). What was answered is written before more is read. At status 0 the
 /// machine that its boot line made is handed back.
 pub fn script<S: Source, K: Sink>(alloc: Global, source: &mut S, sink: &mut K) -> Ended
-    requires paced { MayStart script_due S.is_open S.allows S.told K.told source.old sink.old }
-    ensures ends { Fulfils script_due result S.told K.told source.old sink.old source.new sink.new }
+    requires paced { MayStart script_due S.is_open S.allows S.history K.history source.old sink.old }
+    ensures ends { Fulfils script_due result S.history K.history source.old sink.old source.new sink.new }
 {
     run_script::<S, K, Brand>(alloc, source, sink, Blank::new(1))
 }
@@ -33,8 +33,8 @@ fn run_script<S: Source, K: Sink, L: Ledger>(
     blank: Blank,
 ) -> Ended
     requires blank { CanOpen blank.name blank.parts L.name L.parts }
-    requires paced { MayStart script_due S.is_open S.allows S.told K.told source.old sink.old }
-    ensures ends { Fulfils script_due result S.told K.told source.old sink.old source.new sink.new }
+    requires paced { MayStart script_due S.is_open S.allows S.history K.history source.old sink.old }
+    ensures ends { Fulfils script_due result S.history K.history source.old sink.old source.new sink.new }
 {
     let mut steps: Steps<L> = Steps::new(blank);
     let mut joint = Joint::new(source, sink);
@@ -47,10 +47,10 @@ fn run_lines<S: Source, K: Sink, L: Ledger>(
     joint: &mut Joint<'_, S, K>,
     steps: &mut Steps<L>,
 ) -> Ended
-    requires paced { MayStartJoined script_due S.is_open S.allows S.told K.told joint.old }
+    requires paced { MayStartJoined script_due S.is_open S.allows S.history K.history joint.old }
     ensures same_source { joint.new.source.ghost_name ≡ joint.old.source.ghost_name }
     ensures same_sink { joint.new.sink.ghost_name ≡ joint.old.sink.ghost_name }
-    ensures ends { FulfilsJoined script_due result S.told K.told joint.old joint.new }
+    ensures ends { FulfilsJoined script_due result S.history K.history joint.old joint.new }
 {
     let mut input = Input::new();
     let mut machine = None;

@@ -37,8 +37,8 @@ pub fn soak<S: Source, K: Sink>(
 ) -> Ended
     requires count { count ≤ 1000000 }
     requires seed { 1 ≤ seed }
-    requires none { (K.told sink.old).written.held ≡ [] }
-    ensures ends { Fulfils (soak_due count seed) result S.told K.told _source.old sink.old _source.new sink.new }
+    requires none { (K.history sink.old).written.buffered ≡ [] }
+    ensures ends { Fulfils (soak_due count seed) result S.history K.history _source.old sink.old _source.new sink.new }
 {
     make_load::<K, Brand>(alloc, count, seed, sink, Blank::new(1))
 }
@@ -54,9 +54,9 @@ fn make_load<K: Sink, L: Ledger>(
     requires blank { CanOpen blank.name blank.parts L.name L.parts }
     requires count { count ≤ 1000000 }
     requires seed { 1 ≤ seed }
-    requires none { (K.told sink.old).written.held ≡ [] }
+    requires none { (K.history sink.old).written.buffered ≡ [] }
     ensures ends { (left : Option (List ℕ)) (reads : ℕ) → EndsBy (soak_due count seed) result.status result.machine
-        (beside left reads (K.told sink.old)) (beside left reads (K.told sink.new)) }
+        (beside left reads (K.history sink.old)) (beside left reads (K.history sink.new)) }
 {
     let mut steps: Steps<L> = Steps::new(blank);
     let Ok(mut machine) = new_machine(alloc, FRAMES, PROCESSORS, &mut steps) else {
@@ -81,12 +81,12 @@ fn write_load<K: Sink>(
     sink: &mut K,
 ) -> Result<(), Failed>
     ensures whole { OnOk result
-        (Appends (K.told sink.old).written (K.told sink.new).written (load_text counts.now totals.now count)) }
+        (Appends (K.history sink.old).written (K.history sink.new).written (load_text counts.now totals.now count)) }
     ensures part { OnErr result
-        (SendsPart (K.told sink.old).written (K.told sink.new).written (load_text counts.now totals.now count)) }
-    ensures none { OnOk result ((K.told sink.new).written.held ≡ []) }
-    ensures cause { HasCause (K.told sink.old).faults (K.told sink.new).faults result }
+        (SendsPart (K.history sink.old).written (K.history sink.new).written (load_text counts.now totals.now count)) }
+    ensures none { OnOk result ((K.history sink.new).written.buffered ≡ []) }
+    ensures cause { HasCause (K.history sink.old).faults (K.history sink.new).faults result }
 {
     load_text(counts, totals, count, sink)?;
-    sink.settle()
+    sink.flush()
 }

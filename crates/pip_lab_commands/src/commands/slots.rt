@@ -34,8 +34,9 @@ pub fn slots<S: Source, K: Sink>(
     requires most { n ≤ 8 }
     requires steps { rounds * round_steps round.items < 2 ^ 32 }
     requires children { AllByRecursion (λ x. x.child < n) round.items }
-    requires paced { MayStart (slots_due n rounds round) S.is_open S.allows S.told K.told source.old sink.old }
-    ensures ends { Fulfils (slots_due n rounds round) result S.told K.told source.old sink.old source.new sink.new }
+    requires paced { MayStart (slots_due n rounds round) S.is_open S.allows S.history K.history source.old sink.old }
+    ensures ends { Fulfils (slots_due n rounds round) result S.history K.history source.old sink.old
+        source.new sink.new }
 {
     let scheduling = Slotted { round, rounds };
     children::<S, K, _, Brand>(alloc, n, scheduling, source, sink, Blank::new(1))

@@ -44,9 +44,10 @@ pub fn against<S: Source, K: Sink>(
 ) -> Ended
     requires some { 1 ≤ states }
     requires seed { 1 ≤ start.seed }
-    requires paced { MayStart (against_due states from depth start) S.is_open S.allows S.told K.told source.old
+    requires paced { MayStart (against_due states from depth start) S.is_open S.allows S.history K.history source.old
         sink.old }
-    ensures ends { Fulfils (against_due states from depth start) result S.told K.told source.old sink.old source.new
+    ensures ends { Fulfils (against_due states from depth start) result S.history K.history source.old
+        sink.old source.new
         sink.new }
 {
     against_counted::<S, K, Brand>(
@@ -75,9 +76,10 @@ fn against_counted<S: Source, K: Sink, L: Ledger>(
     requires blank { CanOpen blank.name blank.parts L.name L.parts }
     requires some { 1 ≤ states }
     requires seed { 1 ≤ start.seed }
-    requires paced { MayStart (against_due states from depth start) S.is_open S.allows S.told K.told source.old
+    requires paced { MayStart (against_due states from depth start) S.is_open S.allows S.history K.history source.old
         sink.old }
-    ensures ends { Fulfils (against_due states from depth start) result S.told K.told source.old sink.old source.new
+    ensures ends { Fulfils (against_due states from depth start) result S.history K.history source.old
+        sink.old source.new
         sink.new }
 {
     let mut steps: Steps<L> = Steps::new(blank);
@@ -97,10 +99,11 @@ fn against_joined<S: Source, K: Sink, L: Ledger>(
 ) -> Ended
     requires some { 1 ≤ states }
     requires seed { 1 ≤ start.seed }
-    requires paced { MayStartJoined (against_due states from depth start) S.is_open S.allows S.told K.told joint.old }
+    requires paced { MayStartJoined (against_due states from depth start) S.is_open S.allows S.history
+        K.history joint.old }
     ensures same_source { joint.new.source.ghost_name ≡ joint.old.source.ghost_name }
     ensures same_sink { joint.new.sink.ghost_name ≡ joint.old.sink.ghost_name }
-    ensures ends { FulfilsJoined (against_due states from depth start) result S.told K.told joint.old joint.new }
+    ensures ends { FulfilsJoined (against_due states from depth start) result S.history K.history joint.old joint.new }
 {
     match load_front(alloc, joint, steps) {
         Ok(begun) => after_image(alloc, begun, states, from, depth, start, joint),
@@ -124,15 +127,15 @@ fn after_image<S: Source, K: Sink>(
     requires some { 1 ≤ states }
     requires seed { 1 ≤ start.seed }
     requires is_open { S.is_open joint.old.source.now }
-    requires none { (K.told joint.old.sink.now).written.held ≡ [] }
-    requires paced { MayRead S.allows BeginsMenu (joined S.told K.told joint.old) }
+    requires none { (K.history joint.old.sink.now).written.buffered ≡ [] }
+    requires paced { MayRead S.allows BeginsMenu (joined S.history K.history joint.old) }
     ensures same_source { joint.new.source.ghost_name ≡ joint.old.source.ghost_name }
     ensures same_sink { joint.new.sink.ghost_name ≡ joint.old.sink.ghost_name }
-    ensures ends { (left : Option (List ℕ)) → LoadsFront left (S.told joint.old.source.now).left begun.head
+    ensures ends { (left : Option (List ℕ)) → LoadsFront left (S.history joint.old.source.now).left begun.head
         (⟦<RawFrames as Frames>⟧.memory begun.mem) → EndsBy (against_due states from depth start) result.status
-        result.machine (beside left (S.told joint.old.source.now).faults (K.told joint.old.sink.now))
-        (joined S.told K.told joint.new) }
-    ensures none { result.status ≢ 4 → (K.told joint.new.sink.now).written.held ≡ [] }
+        result.machine (beside left (S.history joint.old.source.now).faults (K.history joint.old.sink.now))
+        (joined S.history K.history joint.new) }
+    ensures none { result.status ≢ 4 → (K.history joint.new.sink.now).written.buffered ≡ [] }
 {
     match read_menu(joint) {
         Ok(menu) => end_search(

@@ -28,8 +28,9 @@ pub fn apart<S: Source, K: Sink>(
 ) -> Ended
     requires some { 1 ≤ states }
     requires seed { 1 ≤ seed }
-    requires paced { MayStart (apart_due states count seed) S.is_open S.allows S.told K.told source.old sink.old }
-    ensures ends { Fulfils (apart_due states count seed) result S.told K.told source.old sink.old source.new sink.new }
+    requires paced { MayStart (apart_due states count seed) S.is_open S.allows S.history K.history source.old sink.old }
+    ensures ends { Fulfils (apart_due states count seed) result S.history K.history source.old sink.old
+        source.new sink.new }
 {
     apart_counted::<S, K, Brand>(alloc, states, count, seed, source, sink, Blank::new(1))
 }
@@ -47,8 +48,9 @@ fn apart_counted<S: Source, K: Sink, L: Ledger>(
     requires blank { CanOpen blank.name blank.parts L.name L.parts }
     requires some { 1 ≤ states }
     requires seed { 1 ≤ seed }
-    requires paced { MayStart (apart_due states count seed) S.is_open S.allows S.told K.told source.old sink.old }
-    ensures ends { Fulfils (apart_due states count seed) result S.told K.told source.old sink.old source.new sink.new }
+    requires paced { MayStart (apart_due states count seed) S.is_open S.allows S.history K.history source.old sink.old }
+    ensures ends { Fulfils (apart_due states count seed) result S.history K.history source.old sink.old
+        source.new sink.new }
 {
     let mut steps: Steps<L> = Steps::new(blank);
     let mut joint = Joint::new(source, sink);
@@ -66,10 +68,10 @@ fn apart_joined<S: Source, K: Sink, L: Ledger>(
 ) -> Ended
     requires some { 1 ≤ states }
     requires seed { 1 ≤ seed }
-    requires paced { MayStartJoined (apart_due states count seed) S.is_open S.allows S.told K.told joint.old }
+    requires paced { MayStartJoined (apart_due states count seed) S.is_open S.allows S.history K.history joint.old }
     ensures same_source { joint.new.source.ghost_name ≡ joint.old.source.ghost_name }
     ensures same_sink { joint.new.sink.ghost_name ≡ joint.old.sink.ghost_name }
-    ensures ends { FulfilsJoined (apart_due states count seed) result S.told K.told joint.old joint.new }
+    ensures ends { FulfilsJoined (apart_due states count seed) result S.history K.history joint.old joint.new }
 {
     match load(alloc, joint, steps) {
         Ok(begun) => end_apart(alloc, begun, states, count, seed, &mut *joint.sink),

@@ -31,8 +31,9 @@ pub fn every<S: Source, K: Sink>(
 ) -> Ended
     requires some { 1 ≤ states }
     requires seed { 1 ≤ start.seed }
-    requires paced { MayStart (every_due states from depth start) S.is_open S.allows S.told K.told source.old sink.old }
-    ensures ends { Fulfils (every_due states from depth start) result S.told K.told source.old sink.old source.new
+    requires paced { MayStart (every_due states from depth start) S.is_open S.allows S.history K.history
+        source.old sink.old }
+    ensures ends { Fulfils (every_due states from depth start) result S.history K.history source.old sink.old source.new
         sink.new }
 {
     every_counted::<S, K, Brand>(
@@ -61,8 +62,9 @@ fn every_counted<S: Source, K: Sink, L: Ledger>(
     requires blank { CanOpen blank.name blank.parts L.name L.parts }
     requires some { 1 ≤ states }
     requires seed { 1 ≤ start.seed }
-    requires paced { MayStart (every_due states from depth start) S.is_open S.allows S.told K.told source.old sink.old }
-    ensures ends { Fulfils (every_due states from depth start) result S.told K.told source.old sink.old source.new
+    requires paced { MayStart (every_due states from depth start) S.is_open S.allows S.history K.history
+        source.old sink.old }
+    ensures ends { Fulfils (every_due states from depth start) result S.history K.history source.old sink.old source.new
         sink.new }
 {
     let mut steps: Steps<L> = Steps::new(blank);
@@ -82,10 +84,11 @@ fn every_joined<S: Source, K: Sink, L: Ledger>(
 ) -> Ended
     requires some { 1 ≤ states }
     requires seed { 1 ≤ start.seed }
-    requires paced { MayStartJoined (every_due states from depth start) S.is_open S.allows S.told K.told joint.old }
+    requires paced { MayStartJoined (every_due states from depth start) S.is_open S.allows S.history
+        K.history joint.old }
     ensures same_source { joint.new.source.ghost_name ≡ joint.old.source.ghost_name }
     ensures same_sink { joint.new.sink.ghost_name ≡ joint.old.sink.ghost_name }
-    ensures ends { FulfilsJoined (every_due states from depth start) result S.told K.told joint.old joint.new }
+    ensures ends { FulfilsJoined (every_due states from depth start) result S.history K.history joint.old joint.new }
 {
     match load(alloc, joint, steps) {
         Ok(begun) => end_search(

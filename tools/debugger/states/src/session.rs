@@ -33,7 +33,7 @@ impl Sink for Text {
         Ok(piece.len())
     }
 
-    fn settle(&mut self) -> Result<(), Failed> {
+    fn flush(&mut self) -> Result<(), Failed> {
         Ok(())
     }
 }

@@ -18,11 +18,11 @@ returns g c = record {
       let lines = flat_map (turn_line s.cpus.items) (alone_of s).lines in
       wrote_of _ _ _ (head ++ lines) (verdict_line (length s.search.visits.items) s.end) c.write_verdict.result
       (Appends-trans _ _ _ head lines
-      (subst (λ cs. Appends (g.K.Sink.told c.args.sink.now).written (g.K.Sink.told c.write_head.new.sink).written
+      (subst (λ cs. Appends (g.K.Sink.history c.args.sink.now).written (g.K.Sink.history c.write_head.new.sink).written
       (guest_line s.top cs)) c.as_slice.ensures.value c.in_ok-write_head.ensures.wrote)
       c.in_ok-write_lines.ensures.wrote)
-      (subst (λ n. Wrote c.write_verdict.result (g.K.Sink.told c.write_lines.new.sink).written
-      (g.K.Sink.told c.write_verdict.new.sink).written (verdict_line n s.end)) count c.write_verdict.ensures.wrote);
+      (subst (λ n. Wrote c.write_verdict.result (g.K.Sink.history c.write_lines.new.sink).written
+      (g.K.Sink.history c.write_verdict.new.sink).written (verdict_line n s.end)) count c.write_verdict.ensures.wrote);
   cause = search rules;
 }
 
@@ -34,7 +34,8 @@ returns-in_err-write_head g c = record {
       let lines = flat_map (turn_line s.cpus.items) (alone_of s).lines in
       part_longer _ _ (head ++ lines) (verdict_line (length s.search.visits.items) s.end)
       (part_longer _ _ head lines
-      (subst (λ cs. AppendsPart (g.K.Sink.told c.args.sink.now).written (g.K.Sink.told c.write_head.new.sink).written
+      (subst (λ cs. AppendsPart (g.K.Sink.history c.args.sink.now).written
+      (g.K.Sink.history c.write_head.new.sink).written
       (guest_line s.top cs)) c.as_slice.ensures.value c.in_err-write_head.ensures.wrote)));
   cause = search rules;
 }
@@ -48,7 +49,7 @@ returns-in_err-write_lines g c = record {
       let lines = flat_map (turn_line s.cpus.items) (alone_of s).lines in
       part_longer _ _ (head ++ lines) (verdict_line (length s.search.visits.items) s.end)
       (part_after _ _ _ head lines
-      (subst (λ cs. Appends (g.K.Sink.told c.args.sink.now).written (g.K.Sink.told c.write_head.new.sink).written
+      (subst (λ cs. Appends (g.K.Sink.history c.args.sink.now).written (g.K.Sink.history c.write_head.new.sink).written
       (guest_line s.top cs)) c.as_slice.ensures.value c.in_ok-write_head.ensures.wrote)
       c.in_err-write_lines.ensures.wrote));
   cause = search rules;

@@ -25,5 +25,5 @@ loop-k-preserved g c = record {
   wrote = one_more (λ x. guest_text (alone_of x)) _ _ _ c.args.guests.now c.loop-k.k c.index-guests-k.result
       (read_at c.args.guests.now c.loop-k.k c.index-guests-k.result c.loop-k-test.true c.index-guests-k.is)
       c.loop-k.invariant.wrote c.in_ok-write_guest.ensures.wrote;
-  calm = c.in_ok-write_guest.ensures.cause.calm ∙ c.loop-k.invariant.calm;
+  no_faults = c.in_ok-write_guest.ensures.cause.no_faults ∙ c.loop-k.invariant.no_faults;
 }

@@ -15,10 +15,10 @@ returns g c = record {
       let k = c.args.known.now in
       wrote_of _ _ _ (flat_map guest_text (map alone_of k.guests.items))
       (root_line k.root ++ taken_line k.line ++ apart_line (hold_apart (known_of k))) c.write_end.result
-      (subst (Appends (g.K.Sink.told c.args.sink.now).written (g.K.Sink.told c.write_guests.new.sink).written)
+      (subst (Appends (g.K.Sink.history c.args.sink.now).written (g.K.Sink.history c.write_guests.new.sink).written)
       (guests_text k.guests.items c.as_slice.result.now c.as_slice.ensures.value) c.in_ok-write_guests.ensures.wrote)
-      (subst (λ b. Wrote c.write_end.result (g.K.Sink.told c.write_guests.new.sink).written
-      (g.K.Sink.told c.write_end.new.sink).written (root_line k.root ++ taken_line k.line ++ apart_line b))
+      (subst (λ b. Wrote c.write_end.result (g.K.Sink.history c.write_guests.new.sink).written
+      (g.K.Sink.history c.write_end.new.sink).written (root_line k.root ++ taken_line k.line ++ apart_line b))
       c.hold_apart.ensures c.write_end.ensures.wrote);
   cause = search rules;
 }
@@ -29,7 +29,7 @@ returns-in_err-write_guests g c = record {
       let k = c.args.known.now in
       part_longer _ _ (flat_map guest_text (map alone_of k.guests.items))
       (root_line k.root ++ taken_line k.line ++ apart_line (hold_apart (known_of k)))
-      (subst (AppendsPart (g.K.Sink.told c.args.sink.now).written (g.K.Sink.told c.write_guests.new.sink).written)
+      (subst (AppendsPart (g.K.Sink.history c.args.sink.now).written (g.K.Sink.history c.write_guests.new.sink).written)
       (guests_text k.guests.items c.as_slice.result.now c.as_slice.ensures.value) c.in_err-write_guests.ensures.wrote));
   cause = search rules;
 }

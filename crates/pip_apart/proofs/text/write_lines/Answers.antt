@@ -32,12 +32,12 @@ returns-in_err-write_turn g c = record {
       let less : c.loop-k.k < length s.search.found.items = omega (arith, c.loop-k-test.true, c.len-k-end.ensures) in
       let vs = s.search.visits.items in
       let fs = s.search.found.items in
-      subst (AppendsPart (g.K.Sink.told c.args.sink.now).written (g.K.Sink.told c.write_turn.new.sink).written)
+      subst (AppendsPart (g.K.Sink.history c.args.sink.now).written (g.K.Sink.history c.write_turn.new.sink).written)
       (found_lines s.cpus.items s.end vs fs)
       (cut_here (found_line s.cpus.items s.end vs) _ _ _ fs c.loop-k.k c.index-found.result.now
       (found_at (λ way. way.items) vs fs s.ways.items c.requires.ways c.loop-k.k less c.index-found.result.now
       c.index-found.ensures c.index.result.now c.index.ensures) c.loop-k.invariant.wrote
-      (subst (AppendsPart (g.K.Sink.told c.loop-k.sink).written (g.K.Sink.told c.write_turn.new.sink).written)
+      (subst (AppendsPart (g.K.Sink.history c.loop-k.sink).written (g.K.Sink.history c.write_turn.new.sink).written)
       (line_here (λ way. way.items) vs fs s.ways.items c.requires.ways c.loop-k.k less c.index-found.result.now
       c.index-found.ensures c.index.result.now c.index.ensures s.end c.if-not-covers.ensures c.requires.traced
       s.cpus.items c.deref.result.now c.deref-in-loop-k.result.now c.deref-in-loop-k-2.result.now
@@ -55,13 +55,13 @@ loop-k-preserved g c =
       wrote = one_more (found_line s.cpus.items s.end vs) _ _ _ fs c.loop-k.k c.index-found.result.now
           (found_at (λ way. way.items) vs fs s.ways.items c.requires.ways c.loop-k.k less c.index-found.result.now
           c.index-found.ensures c.index.result.now c.index.ensures) c.loop-k.invariant.wrote
-          (subst (Appends (g.K.Sink.told c.loop-k.sink).written (g.K.Sink.told c.write_turn.new.sink).written)
+          (subst (Appends (g.K.Sink.history c.loop-k.sink).written (g.K.Sink.history c.write_turn.new.sink).written)
           (line_here (λ way. way.items) vs fs s.ways.items c.requires.ways c.loop-k.k less c.index-found.result.now
           c.index-found.ensures c.index.result.now c.index.ensures s.end c.if-not-covers.ensures c.requires.traced
           s.cpus.items c.deref.result.now c.deref-in-loop-k.result.now c.deref-in-loop-k-2.result.now
           c.deref.ensures.value c.deref-in-loop-k.ensures.value c.deref-in-loop-k-2.ensures.value)
           c.in_ok-write_turn.ensures.wrote);
-      calm = c.in_ok-write_turn.ensures.cause.calm ∙ c.loop-k.invariant.calm;
+      no_faults = c.in_ok-write_turn.ensures.cause.no_faults ∙ c.loop-k.invariant.no_faults;
     }
 
 pub returns : goal.returns
@@ -71,7 +71,7 @@ returns g c = record {
       let most : length s.search.found.items ≤ c.loop-k.k = omega (arith, c.loop-k-test.false, c.len-k-end.ensures) in
       let vs = s.search.visits.items in
       let fs = s.search.found.items in
-      subst (Appends (g.K.Sink.told c.args.sink.now).written (g.K.Sink.told c.loop-k.sink).written)
+      subst (Appends (g.K.Sink.history c.args.sink.now).written (g.K.Sink.history c.loop-k.sink).written)
       (ap (flat_map (found_line s.cpus.items s.end vs)) (all_taken fs c.loop-k.k most)
       ∙ found_lines s.cpus.items s.end vs fs) c.loop-k.invariant.wrote;
   cause = search rules;

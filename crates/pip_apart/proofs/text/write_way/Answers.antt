@@ -19,5 +19,5 @@ loop-k-preserved g c = record {
   wrote = one_more (turns_text c.args.cpus.now) _ _ _ c.args.way.now c.loop-k.k _
       (slice_get-get_or c.args.way.now c.loop-k.k _ c.loop-k-test.true) c.loop-k.invariant.wrote
       c.in_ok-write_turns.ensures.wrote;
-  calm = c.in_ok-write_turns.ensures.cause.calm ∙ c.loop-k.invariant.calm;
+  no_faults = c.in_ok-write_turns.ensures.cause.no_faults ∙ c.loop-k.invariant.no_faults;
 }

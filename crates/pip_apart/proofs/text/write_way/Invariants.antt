@@ -6,7 +6,7 @@ use Rattle.pip_apart.proofs.text.write_way.Given as goal
 
 abbrev pub invariant-loop-k : goal.invariant-loop-k
 invariant-loop-k g l = record {
-  wrote : Appends (g.K.Sink.told l.fn.sink).written (g.K.Sink.told l.sink).written
+  wrote : Appends (g.K.Sink.history l.fn.sink).written (g.K.Sink.history l.sink).written
       (flat_map (turns_text l.fn.cpus) (take l.k l.fn.way));
-  calm : (g.K.Sink.told l.sink).faults ≡ (g.K.Sink.told l.fn.sink).faults;
+  no_faults : (g.K.Sink.history l.sink).faults ≡ (g.K.Sink.history l.fn.sink).faults;
 }

@@ -14,7 +14,7 @@ loop-taken-preserved g c = record {
   size = search (rules, overwrites);
   some = search (rules, overwrites);
   is_open = search rules;
-  calm = search rules;
+  no_faults = search rules;
   taken = subst (Consumes _ _) (sym (take_filled c.loop-taken.taken c.in-Ok.count _ c.loop-taken.buf c.read.new.buf
       c.loop-taken.invariant.some c.in-Ok.ensures.bound.0))
       (Consumes-trans _ _ _ _ _ c.loop-taken.invariant.taken c.in-Ok.ensures.bytes.0);
@@ -27,8 +27,8 @@ read-requires-clause-allowed g c =
     let size = was.size in
     let front = length-take-le c.loop-taken.taken c.loop-taken.buf some in
     let few : length (take c.loop-taken.taken c.loop-taken.buf) < length c.args.buf.now = search (rules, arith) in
-    subst (λ s. g.S.Source.allows (streams g.S.Source.told g.K.Sink.told c.loop-taken.joint.source.now s.now))
+    subst (λ s. g.S.Source.allows (streams g.S.Source.history g.K.Sink.history c.loop-taken.joint.source.now s.now))
     (sym was.sink)
-    (subst (λ n. g.S.Source.allows (beside (g.S.Source.told c.loop-taken.joint.source.now).left n
-    (g.K.Sink.told c.args.joint.now.sink.now))) (sym was.calm)
+    (subst (λ n. g.S.Source.allows (beside (g.S.Source.history c.loop-taken.joint.source.now).left n
+    (g.K.Sink.history c.args.joint.now.sink.now))) (sym was.no_faults)
     (c.requires.paced (take c.loop-taken.taken c.loop-taken.buf) _ was.taken few))

@@ -9,8 +9,8 @@ invariant-loop-taken g l = record {
   size : length l.buf ≡ length l.fn.buf;
   some : l.taken ≤ length l.buf;
   is_open : g.S.Source.is_open l.joint.source.now;
-  calm : (g.S.Source.told l.joint.source.now).faults ≡ (g.S.Source.told l.fn.joint.source.now).faults;
-  taken : Consumes (g.S.Source.told l.fn.joint.source.now).left (g.S.Source.told l.joint.source.now).left
+  no_faults : (g.S.Source.history l.joint.source.now).faults ≡ (g.S.Source.history l.fn.joint.source.now).faults;
+  taken : Consumes (g.S.Source.history l.fn.joint.source.now).left (g.S.Source.history l.joint.source.now).left
       (take l.taken l.buf);
 }
 

@@ -18,8 +18,8 @@ pub returns-in_err-take_front-clause-reads : goal.returns-in_err-take_front-clau
 returns-in_err-take_front-clause-reads g c =
     let a = c.args in
     let h : StopsText (base_from a.limits (part_seen a.part.now) a.least a.left a.at)
-    (g.S.Source.told a.joint.now.source.now).left (g.S.Source.told c.take_front.new.joint.source.now).left
-    (g.S.Source.told a.joint.now.source.now).faults (g.S.Source.told c.take_front.new.joint.source.now).faults
+    (g.S.Source.history a.joint.now.source.now).left (g.S.Source.history c.take_front.new.joint.source.now).left
+    (g.S.Source.history a.joint.now.source.now).faults (g.S.Source.history c.take_front.new.joint.source.now).faults
     c.in_err-take_front.field-0.0 =
     of_stops (base_from a.limits (part_seen a.part.now) a.least a.left a.at) 12 a.at
     (base_next a.limits (part_seen a.part.now) a.least a.at (a.left - 1))

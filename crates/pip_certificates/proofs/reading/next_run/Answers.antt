@@ -21,8 +21,8 @@ pub returns-in_err-take_front-clause-reads : goal.returns-in_err-take_front-clau
 returns-in_err-take_front-clause-reads g c =
     let a = c.args in
     let h : StopsText (runs_from a.limits (part_seen a.part.now) a.last a.left a.at)
-    (g.S.Source.told a.joint.now.source.now).left (g.S.Source.told c.take_front.new.joint.source.now).left
-    (g.S.Source.told a.joint.now.source.now).faults (g.S.Source.told c.take_front.new.joint.source.now).faults
+    (g.S.Source.history a.joint.now.source.now).left (g.S.Source.history c.take_front.new.joint.source.now).left
+    (g.S.Source.history a.joint.now.source.now).faults (g.S.Source.history c.take_front.new.joint.source.now).faults
     c.in_err-take_front.field-0.0 =
     of_stops (runs_from a.limits (part_seen a.part.now) a.last a.left a.at) 8 a.at
     (run_next a.limits (part_seen a.part.now) a.last a.at (a.left - 1))
@@ -50,8 +50,9 @@ pub returns-in_err-resize-clause-reads : goal.returns-in_err-resize-clause-reads
 returns-in_err-resize-clause-reads g c =
     let a = c.args in
     let h : StopsText (runs_from a.limits (part_seen a.part.now) a.last a.left a.at)
-    (g.S.Source.told a.joint.now.source.now).left (g.S.Source.told c.take_front.new.joint.source.now).left
-    (g.S.Source.told a.joint.now.source.now).faults (g.S.Source.told c.take_front.new.joint.source.now).faults Memory =
+    (g.S.Source.history a.joint.now.source.now).left (g.S.Source.history c.take_front.new.joint.source.now).left
+    (g.S.Source.history a.joint.now.source.now).faults
+    (g.S.Source.history c.take_front.new.joint.source.now).faults Memory =
     stops_memory (runs_from a.limits (part_seen a.part.now) a.last a.left a.at) c.take_front.new.buf _ _ _ _
     c.in_ok-take_front.ensures.front.0 c.in_ok-take_front.ensures.front.1 in
     search rules

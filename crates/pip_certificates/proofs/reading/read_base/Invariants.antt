@@ -9,10 +9,10 @@ invariant-loop-left g l = record {
   name : l.joint.source.ghost_name ≡ l.fn.joint.source.ghost_name;
   sink : l.joint.sink ≡ l.fn.joint.sink;
   is_open : g.S.Source.is_open l.joint.source.now;
-  calm : (g.S.Source.told l.joint.source.now).faults ≡ (g.S.Source.told l.fn.joint.source.now).faults;
+  no_faults : (g.S.Source.history l.joint.source.now).faults ≡ (g.S.Source.history l.fn.joint.source.now).faults;
   taken : TakesText (base_said l.fn.limits (part_seen l.fn.part) l.fn.at)
       (base_from l.fn.limits (part_seen l.part) l.least l.left l.place)
-      (g.S.Source.told l.fn.joint.source.now).left (g.S.Source.told l.joint.source.now).left;
+      (g.S.Source.history l.fn.joint.source.now).left (g.S.Source.history l.joint.source.now).left;
   base : AreBaseWords l.fn.limits.frames l.part.base.items;
   way : l.part.way ≡ l.fn.part.way;
   marks : l.part.marks ≡ l.fn.part.marks;

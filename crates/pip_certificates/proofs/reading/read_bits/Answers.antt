@@ -14,9 +14,9 @@ read_chunk-requires-clause-paced g c =
     let u = marks_from (part_seen c.loop-left.part) c.loop-left.left c.loop-left.place in
     let t = marks_from (part_seen a.part.now) a.count a.at in
     let paced = paced_after g.S.Source.allows (HasNoFault t) (HasNoFault u) _ _ _ _
-    (g.K.Sink.told a.joint.now.sink.now) was.taken.bytes
-    was.calm was.taken.taken (open_after t u _ _ was.taken) c.requires.paced in
-    subst (λ s. MayRead g.S.Source.allows (HasNoFault u) (streams g.S.Source.told g.K.Sink.told
+    (g.K.Sink.history a.joint.now.sink.now) was.taken.bytes
+    was.no_faults was.taken.taken (open_after t u _ _ was.taken) c.requires.paced in
+    subst (λ s. MayRead g.S.Source.allows (HasNoFault u) (streams g.S.Source.history g.K.Sink.history
     c.loop-left.joint.source.now s.now)) (sym was.sink)
     paced
 
@@ -24,12 +24,12 @@ pub returns-in_err-read_chunk-clause-reads : goal.returns-in_err-read_chunk-clau
 returns-in_err-read_chunk-clause-reads g c =
     let was = c.loop-left.invariant in
     let a = c.args in
-    let h : StopsText (marks_from (part_seen a.part.now) a.count a.at) (g.S.Source.told a.joint.now.source.now).left
-    (g.S.Source.told c.read_chunk.new.joint.source.now).left (g.S.Source.told a.joint.now.source.now).faults
-    (g.S.Source.told c.read_chunk.new.joint.source.now).faults c.in_err-read_chunk.field-0.0 =
+    let h : StopsText (marks_from (part_seen a.part.now) a.count a.at) (g.S.Source.history a.joint.now.source.now).left
+    (g.S.Source.history c.read_chunk.new.joint.source.now).left (g.S.Source.history a.joint.now.source.now).faults
+    (g.S.Source.history c.read_chunk.new.joint.source.now).faults c.in_err-read_chunk.field-0.0 =
     stops_after (marks_from (part_seen a.part.now) a.count a.at)
     (marks_from (part_seen c.loop-left.part) c.loop-left.left c.loop-left.place)
-    _ _ _ _ _ _ _ was.calm was.taken c.in_err-read_chunk.ensures.reads in
+    _ _ _ _ _ _ _ was.no_faults was.taken c.in_err-read_chunk.ensures.reads in
     search rules
 
 pub loop-left-preserved : goal.loop-left-preserved
@@ -44,7 +44,7 @@ loop-left-preserved g c =
       name = now.same_source ∙ was.name;
       sink = now.sink ∙ was.sink;
       is_open = now.is_open;
-      calm = now.reads.1 ∙ was.calm;
+      no_faults = now.reads.1 ∙ was.no_faults;
       taken = takes_as (marks_from (part_seen a.part.now) a.count a.at)
           (marks_from (part_seen c.loop-left.part) c.loop-left.left c.loop-left.place)
           (marks_from (part_seen c.read_chunk.new.part)) _ _ _ _ _ _ _ was.taken now.reads.0

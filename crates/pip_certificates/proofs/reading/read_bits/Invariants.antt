@@ -8,10 +8,10 @@ invariant-loop-left g l = record {
   name : l.joint.source.ghost_name ≡ l.fn.joint.source.ghost_name;
   sink : l.joint.sink ≡ l.fn.joint.sink;
   is_open : g.S.Source.is_open l.joint.source.now;
-  calm : (g.S.Source.told l.joint.source.now).faults ≡ (g.S.Source.told l.fn.joint.source.now).faults;
+  no_faults : (g.S.Source.history l.joint.source.now).faults ≡ (g.S.Source.history l.fn.joint.source.now).faults;
   taken : TakesText (marks_from (part_seen l.fn.part) l.fn.count l.fn.at)
       (marks_from (part_seen l.part) l.left l.place)
-      (g.S.Source.told l.fn.joint.source.now).left (g.S.Source.told l.joint.source.now).left;
+      (g.S.Source.history l.fn.joint.source.now).left (g.S.Source.history l.joint.source.now).left;
   base : l.part.base ≡ l.fn.part.base;
   way : l.part.way ≡ l.fn.part.way;
   few : length l.part.marks.items + l.left ≤ l.fn.count;

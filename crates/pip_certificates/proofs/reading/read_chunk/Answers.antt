@@ -12,8 +12,8 @@ take_front-requires-clause-paced g c = λ bytes left taken few.
 pub returns-in_err-take_front-clause-reads : goal.returns-in_err-take_front-clause-reads
 returns-in_err-take_front-clause-reads g c =
     let a = c.args in
-    let h : StopsText (marks_from (part_seen a.part.now) a.left a.at) (g.S.Source.told a.joint.now.source.now).left
-    (g.S.Source.told c.take_front.new.joint.source.now).left (g.S.Source.told a.joint.now.source.now).faults
-    (g.S.Source.told c.take_front.new.joint.source.now).faults c.in_err-take_front.field-0.0 =
+    let h : StopsText (marks_from (part_seen a.part.now) a.left a.at) (g.S.Source.history a.joint.now.source.now).left
+    (g.S.Source.history c.take_front.new.joint.source.now).left (g.S.Source.history a.joint.now.source.now).faults
+    (g.S.Source.history c.take_front.new.joint.source.now).faults c.in_err-take_front.field-0.0 =
     chunk_stops (part_seen a.part.now) a.left a.at _ c.requires.least _ _ _ _ _ c.in_err-take_front.ensures.front in
     search rules

@@ -14,15 +14,15 @@ read_way-requires-clause-paced g c =
     let a = c.args in
     let t = part_said a.limits a.at in
     let u = runs_said a.limits (part_seen c.read_base.new.part) c.in_ok-at.at in
-    let taken : TakesText t u (g.S.Source.told a.joint.now.source.now).left
-    (g.S.Source.told c.read_base.new.joint.source.now).left = subst (λ q. TakesText (base_said a.limits q a.at) u
-    (g.S.Source.told a.joint.now.source.now).left (g.S.Source.told c.read_base.new.joint.source.now).left)
+    let taken : TakesText t u (g.S.Source.history a.joint.now.source.now).left
+    (g.S.Source.history c.read_base.new.joint.source.now).left = subst (λ q. TakesText (base_said a.limits q a.at) u
+    (g.S.Source.history a.joint.now.source.now).left (g.S.Source.history c.read_base.new.joint.source.now).left)
     c.new-part.ensures
     c.in_ok-at.ensures.reads.0 in
     let paced = paced_after g.S.Source.allows (HasNoFault t) (HasNoFault u) _ _ _ _
-    (g.K.Sink.told a.joint.now.sink.now) taken.bytes
+    (g.K.Sink.history a.joint.now.sink.now) taken.bytes
     c.in_ok-at.ensures.reads.1 taken.taken (open_after t u _ _ taken) c.requires.paced in
-    subst (λ s. MayRead g.S.Source.allows (HasNoFault u) (streams g.S.Source.told g.K.Sink.told
+    subst (λ s. MayRead g.S.Source.allows (HasNoFault u) (streams g.S.Source.history g.K.Sink.history
     c.read_base.new.joint.source.now s.now))
     (sym c.in_ok-at.ensures.sink) paced
 
@@ -31,14 +31,14 @@ returns-in_err-at-2-clause-reads g c =
     let a = c.args in
     let t = part_said a.limits a.at in
     let u = runs_said a.limits (part_seen c.read_base.new.part) c.in_ok-at.at in
-    let taken : TakesText t u (g.S.Source.told a.joint.now.source.now).left
-    (g.S.Source.told c.read_base.new.joint.source.now).left = subst (λ q. TakesText (base_said a.limits q a.at) u
-    (g.S.Source.told a.joint.now.source.now).left (g.S.Source.told c.read_base.new.joint.source.now).left)
+    let taken : TakesText t u (g.S.Source.history a.joint.now.source.now).left
+    (g.S.Source.history c.read_base.new.joint.source.now).left = subst (λ q. TakesText (base_said a.limits q a.at) u
+    (g.S.Source.history a.joint.now.source.now).left (g.S.Source.history c.read_base.new.joint.source.now).left)
     c.new-part.ensures
     c.in_ok-at.ensures.reads.0 in
-    let h : StopsText t (g.S.Source.told a.joint.now.source.now).left
-    (g.S.Source.told c.read_way.new.joint.source.now).left (g.S.Source.told a.joint.now.source.now).faults
-    (g.S.Source.told c.read_way.new.joint.source.now).faults c.in_err-at-2.field-0.0 =
+    let h : StopsText t (g.S.Source.history a.joint.now.source.now).left
+    (g.S.Source.history c.read_way.new.joint.source.now).left (g.S.Source.history a.joint.now.source.now).faults
+    (g.S.Source.history c.read_way.new.joint.source.now).faults c.in_err-at-2.field-0.0 =
     stops_after t u _ _ _ _ _ _ _ c.in_ok-at.ensures.reads.1 taken c.in_err-at-2.ensures.reads in
     search rules
 
@@ -48,17 +48,17 @@ read_marks-requires-clause-paced g c =
     let t = part_said a.limits a.at in
     let u = runs_said a.limits (part_seen c.read_base.new.part) c.in_ok-at.at in
     let v = marks_said (part_seen c.read_way.new.part) c.in_ok-at-2.at in
-    let first : TakesText t u (g.S.Source.told a.joint.now.source.now).left
-    (g.S.Source.told c.read_base.new.joint.source.now).left = subst (λ q. TakesText (base_said a.limits q a.at) u
-    (g.S.Source.told a.joint.now.source.now).left (g.S.Source.told c.read_base.new.joint.source.now).left)
+    let first : TakesText t u (g.S.Source.history a.joint.now.source.now).left
+    (g.S.Source.history c.read_base.new.joint.source.now).left = subst (λ q. TakesText (base_said a.limits q a.at) u
+    (g.S.Source.history a.joint.now.source.now).left (g.S.Source.history c.read_base.new.joint.source.now).left)
     c.new-part.ensures
     c.in_ok-at.ensures.reads.0 in
     let taken = takes_then t u v _ _ _ first c.in_ok-at-2.ensures.reads.0 in
     let paced = paced_after g.S.Source.allows (HasNoFault t) (HasNoFault v) _ _ _ _
-    (g.K.Sink.told a.joint.now.sink.now) taken.bytes
+    (g.K.Sink.history a.joint.now.sink.now) taken.bytes
     (c.in_ok-at-2.ensures.reads.1 ∙ c.in_ok-at.ensures.reads.1) taken.taken (open_after t v _ _ taken)
     c.requires.paced in
-    subst (λ s. MayRead g.S.Source.allows (HasNoFault v) (streams g.S.Source.told g.K.Sink.told
+    subst (λ s. MayRead g.S.Source.allows (HasNoFault v) (streams g.S.Source.history g.K.Sink.history
     c.read_way.new.joint.source.now s.now))
     (sym (c.in_ok-at-2.ensures.sink ∙ c.in_ok-at.ensures.sink)) paced
 
@@ -68,15 +68,15 @@ returns-in_err-read_marks-clause-reads g c =
     let t = part_said a.limits a.at in
     let u = runs_said a.limits (part_seen c.read_base.new.part) c.in_ok-at.at in
     let v = marks_said (part_seen c.read_way.new.part) c.in_ok-at-2.at in
-    let first : TakesText t u (g.S.Source.told a.joint.now.source.now).left
-    (g.S.Source.told c.read_base.new.joint.source.now).left = subst (λ q. TakesText (base_said a.limits q a.at) u
-    (g.S.Source.told a.joint.now.source.now).left (g.S.Source.told c.read_base.new.joint.source.now).left)
+    let first : TakesText t u (g.S.Source.history a.joint.now.source.now).left
+    (g.S.Source.history c.read_base.new.joint.source.now).left = subst (λ q. TakesText (base_said a.limits q a.at) u
+    (g.S.Source.history a.joint.now.source.now).left (g.S.Source.history c.read_base.new.joint.source.now).left)
     c.new-part.ensures
     c.in_ok-at.ensures.reads.0 in
     let taken = takes_then t u v _ _ _ first c.in_ok-at-2.ensures.reads.0 in
-    let h : StopsText t (g.S.Source.told a.joint.now.source.now).left
-    (g.S.Source.told c.read_marks.new.joint.source.now).left (g.S.Source.told a.joint.now.source.now).faults
-    (g.S.Source.told c.read_marks.new.joint.source.now).faults c.in_err-read_marks.field-0.0 =
+    let h : StopsText t (g.S.Source.history a.joint.now.source.now).left
+    (g.S.Source.history c.read_marks.new.joint.source.now).left (g.S.Source.history a.joint.now.source.now).faults
+    (g.S.Source.history c.read_marks.new.joint.source.now).faults c.in_err-read_marks.field-0.0 =
     stops_after t v _ _ _ _ _ _ _ (c.in_ok-at-2.ensures.reads.1 ∙ c.in_ok-at.ensures.reads.1) taken
     c.in_err-read_marks.ensures.reads in
     search rules
@@ -87,9 +87,9 @@ returns-clause-reads g c =
     let t = part_said a.limits a.at in
     let u = runs_said a.limits (part_seen c.read_base.new.part) c.in_ok-at.at in
     let v = marks_said (part_seen c.read_way.new.part) c.in_ok-at-2.at in
-    let first : TakesText t u (g.S.Source.told a.joint.now.source.now).left
-    (g.S.Source.told c.read_base.new.joint.source.now).left = subst (λ q. TakesText (base_said a.limits q a.at) u
-    (g.S.Source.told a.joint.now.source.now).left (g.S.Source.told c.read_base.new.joint.source.now).left)
+    let first : TakesText t u (g.S.Source.history a.joint.now.source.now).left
+    (g.S.Source.history c.read_base.new.joint.source.now).left = subst (λ q. TakesText (base_said a.limits q a.at) u
+    (g.S.Source.history a.joint.now.source.now).left (g.S.Source.history c.read_base.new.joint.source.now).left)
     c.new-part.ensures
     c.in_ok-at.ensures.reads.0 in (
       ends_after t v _ _ _ _ (takes_then t u v _ _ _ first c.in_ok-at-2.ensures.reads.0)

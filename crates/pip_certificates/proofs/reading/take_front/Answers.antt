@@ -14,5 +14,5 @@ returns-in-Ok-2-clause-front g c =
       record { bytes = take n buf; taken = f.taken; few = few },
       ap (λ k. record { kind = Short; at = c.args.at + k }) (search rules),
       f.ended more,
-      c.in-Ok-2.ensures.cause.calm,
+      c.in-Ok-2.ensures.cause.no_faults,
     )

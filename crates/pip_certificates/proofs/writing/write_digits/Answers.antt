@@ -16,5 +16,5 @@ pub loop-rest-preserved : goal.loop-rest-preserved
 loop-rest-preserved g c = record {
   wrote = piece_more byte_digits _ _ _ c.loop-rest.rest.now c.args.bytes.now c.split_at.result.0.now
       c.split_at.result.1.now (search rules) c.loop-rest.invariant.wrote c.in_ok-write_piece.ensures.wrote;
-  calm = c.in_ok-write_piece.ensures.cause.calm ∙ c.loop-rest.invariant.calm;
+  no_faults = c.in_ok-write_piece.ensures.cause.no_faults ∙ c.loop-rest.invariant.no_faults;
 }

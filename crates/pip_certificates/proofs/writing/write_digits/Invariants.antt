@@ -6,8 +6,8 @@ use Rattle.pip_certificates.proofs.writing.write_digits.Given as goal
 -- the digits of the bytes before the rest were written
 abbrev pub invariant-loop-rest : goal.invariant-loop-rest
 invariant-loop-rest g l = record {
-  wrote : HasFront byte_digits (g.K.Sink.told l.fn.sink).written (g.K.Sink.told l.sink).written l.rest l.fn.bytes;
-  calm : (g.K.Sink.told l.sink).faults ≡ (g.K.Sink.told l.fn.sink).faults;
+  wrote : HasFront byte_digits (g.K.Sink.history l.fn.sink).written (g.K.Sink.history l.sink).written l.rest l.fn.bytes;
+  no_faults : (g.K.Sink.history l.sink).faults ≡ (g.K.Sink.history l.fn.sink).faults;
 }
 
 abbrev pub decreases-loop-rest : goal.decreases-loop-rest

@@ -18,8 +18,8 @@ returns-in_err-write_all-2 g c = record {
   wrote = MatchResult-from_err c.from_residual-in_err-write_all-2.result _ _
       c.from_residual-in_err-write_all-2.ensures.0 (λ _.
       part_after _ _ _ (codes "line") _ c.in_ok-write_all.ensures.whole
-      (part_longer _ _ _ _ (subst (AppendsPart (g.K.Sink.told c.write_all.new.sink).written
-      (g.K.Sink.told c.write_all-2.new.sink).written) c.inner.ensures c.in_err-write_all-2.ensures.prefix)));
+      (part_longer _ _ _ _ (subst (AppendsPart (g.K.Sink.history c.write_all.new.sink).written
+      (g.K.Sink.history c.write_all-2.new.sink).written) c.inner.ensures c.in_err-write_all-2.ensures.prefix)));
   cause = search rules;
 }
 
@@ -27,7 +27,7 @@ pub returns : goal.returns
 returns g c = record {
   wrote = wrote_after _ _ _ _ _ c.write_all-3.result
       (Appends-trans _ _ _ (codes "line") _ c.in_ok-write_all.ensures.whole
-      (subst (Appends (g.K.Sink.told c.write_all.new.sink).written (g.K.Sink.told c.write_all-2.new.sink).written)
+      (subst (Appends (g.K.Sink.history c.write_all.new.sink).written (g.K.Sink.history c.write_all-2.new.sink).written)
       c.inner.ensures c.in_ok-write_all-2.ensures.whole))
       c.write_all-3.ensures.whole c.write_all-3.ensures.prefix;
   cause = search rules;

@@ -20,7 +20,8 @@ returns-in_err-write_label g c =
     record {
       wrote = MatchResult-from_err c.from_residual.result _ _ c.from_residual.ensures.0 (λ _.
           cut_here label_line _ _ _ (labels found) k x.label.items at c.loop-k.invariant.wrote
-          (subst (λ b. AppendsPart (g.K.Sink.told c.loop-k.sink).written (g.K.Sink.told c.write_label.new.sink).written
+          (subst (λ b. AppendsPart (g.K.Sink.history c.loop-k.sink).written
+          (g.K.Sink.history c.write_label.new.sink).written
           (label_line b)) (c.deref.ensures.value ∙ ap (λ v. v.label.items) (sym c.index-found-k.is))
           c.in_err-write_label.ensures.wrote));
       cause = search rules;
@@ -36,15 +37,16 @@ loop-k-preserved g c =
     ∙ ap (option_map (λ f. f.label.items)) (slice_get_read found (length found) k x refl here c.index-found-k.is) in
     record {
       wrote = one_more label_line _ _ _ (labels found) k x.label.items at c.loop-k.invariant.wrote
-          (subst (λ b. Appends (g.K.Sink.told c.loop-k.sink).written (g.K.Sink.told c.write_label.new.sink).written
+          (subst (λ b. Appends (g.K.Sink.history c.loop-k.sink).written
+          (g.K.Sink.history c.write_label.new.sink).written
           (label_line b)) (c.deref.ensures.value ∙ ap (λ v. v.label.items) (sym c.index-found-k.is))
           c.in_ok-write_label.ensures.wrote);
-      calm = c.in_ok-write_label.ensures.cause.calm ∙ c.loop-k.invariant.calm;
+      no_faults = c.in_ok-write_label.ensures.cause.no_faults ∙ c.loop-k.invariant.no_faults;
     }
 
 pub returns : goal.returns
 returns g c = record {
-  wrote = subst (Appends (g.K.Sink.told c.args.sink.now).written (g.K.Sink.told c.loop-k.sink).written)
+  wrote = subst (Appends (g.K.Sink.history c.args.sink.now).written (g.K.Sink.history c.loop-k.sink).written)
       (ap (flat_map label_line) (all_taken (λ f. f.label.items) c.args.found.now c.loop-k.k
       (search (rules, arith)))) c.loop-k.invariant.wrote;
   cause = search rules;

@@ -8,7 +8,7 @@ use Rattle.pip_certificates.proofs.writing.write_labels.Given as goal
 -- the lines of the labels before this one were written
 abbrev pub invariant-loop-k : goal.invariant-loop-k
 invariant-loop-k g l = record {
-  wrote : Appends (g.K.Sink.told l.fn.sink).written (g.K.Sink.told l.sink).written
+  wrote : Appends (g.K.Sink.history l.fn.sink).written (g.K.Sink.history l.sink).written
       (flat_map label_line (take l.k (labels l.fn.found)));
-  calm : (g.K.Sink.told l.sink).faults ≡ (g.K.Sink.told l.fn.sink).faults;
+  no_faults : (g.K.Sink.history l.sink).faults ≡ (g.K.Sink.history l.fn.sink).faults;
 }

@@ -7,7 +7,7 @@ use Rattle.pip_certificates.proofs.writing.write_numbers.Goals as goal
 pub returns : goal.returns
 returns g c =
     let n = c.args.numbers.now in
-    subst (Writes g.K.Sink.told c.args.sink.now c.write_line.new.sink c.write_line.result)
+    subst (Writes g.K.Sink.history c.args.sink.now c.write_line.new.sink c.write_line.result)
     (c.push_str.ensures.bytes ∙ ap (λ t. t ++ codes "\n") (c.push_word-5.ensures.bytes
     ∙ ap (λ t. t ++ core_words (n.sum ∷ [])) (c.push_word-4.ensures.bytes
     ∙ ap (λ t. t ++ core_words (n.labels ∷ [])) (c.push_word-3.ensures.bytes

@@ -35,12 +35,12 @@ loop-k-preserved g c =
     record {
       wrote = one_more (stop_line c.args.kind.now) _ _ _ (stops keys) k (stop_of x) at c.loop-k.invariant.wrote
           c.in_ok-write_stop.ensures.wrote;
-      calm = c.in_ok-write_stop.ensures.cause.calm ∙ c.loop-k.invariant.calm;
+      no_faults = c.in_ok-write_stop.ensures.cause.no_faults ∙ c.loop-k.invariant.no_faults;
     }
 
 pub returns : goal.returns
 returns g c = record {
-  wrote = subst (Appends (g.K.Sink.told c.args.sink.now).written (g.K.Sink.told c.loop-k.sink).written)
+  wrote = subst (Appends (g.K.Sink.history c.args.sink.now).written (g.K.Sink.history c.loop-k.sink).written)
       (ap (flat_map (stop_line c.args.kind.now)) (all_taken stop_of c.args.keys.now c.loop-k.k
       (search (rules, arith)))) c.loop-k.invariant.wrote;
   cause = search rules;

@@ -17,11 +17,11 @@ use pip_ways::write_verdict;
 
 /// Ends where all lines could be merged: with what they say, or with the line that says why that isn't all.
 pub fn end_merged<K: Sink>(merger: &Merger, sink: &mut K) -> Ended
-    ensures wrote { EndsWithResponse (merge_response (merging_of merger.now)) result.status (K.told sink.old)
-        (K.told sink.new) }
-    ensures calm { result.status ≢ 4 → (K.told sink.new).faults ≡ (K.told sink.old).faults }
+    ensures wrote { EndsWithResponse (merge_response (merging_of merger.now)) result.status (K.history sink.old)
+        (K.history sink.new) }
+    ensures no_faults { result.status ≢ 4 → (K.history sink.new).faults ≡ (K.history sink.old).faults }
     ensures none { result.machine ≡ None }
-    ensures settled { result.status ≢ 4 → (K.told sink.new).written.held ≡ [] }
+    ensures flushed { result.status ≢ 4 → (K.history sink.new).written.buffered ≡ [] }
 {
     if !merger.begins() {
         return end_with(sink, b"no start\n", 9);
@@ -46,19 +46,19 @@ fn uneven_line(what: Uneven) -> &'static [u8]
     }
 }
 
-// Writes what the parts are of, each label, and the last line, and settles.
+// Writes what the parts are of, each label, and the last line, and flushes.
 fn write_merged<K: Sink>(merger: &Merger, sink: &mut K) -> Result<(), Failed>
-    ensures { WritesOut K.told sink.old sink.new result (merged_text (merging_of merger.now)) }
+    ensures { WritesOut K.history sink.old sink.new result (merged_text (merging_of merger.now)) }
 {
     write_front(merger, sink)?;
     let depth = merger.deepest();
     write_verdict(sink, merger.states(), Extent::Closed { depth })?;
-    sink.settle()
+    sink.flush()
 }
 
 // Writes what the parts are of, and each label.
 fn write_front<K: Sink>(merger: &Merger, sink: &mut K) -> Result<(), Failed>
-    ensures { Writes K.told sink.old sink.new result (merged_front (merging_of merger.now)) }
+    ensures { Writes K.history sink.old sink.new result (merged_front (merging_of merger.now)) }
 {
     write_about(merger.about(), sink)?;
     write_labels(merger.labels(), sink)
@@ -66,7 +66,7 @@ fn write_front<K: Sink>(merger: &Merger, sink: &mut K) -> Result<(), Failed>
 
 // Writes the line of what the parts are of.
 fn write_about<K: Sink>(about: &[u8], sink: &mut K) -> Result<(), Failed>
-    ensures { Writes K.told sink.old sink.new result (about_line about.now) }
+    ensures { Writes K.history sink.old sink.new result (about_line about.now) }
 {
     write_all(sink, b"image ")?;
     write_all(sink, about)?;
@@ -75,7 +75,7 @@ fn write_about<K: Sink>(about: &[u8], sink: &mut K) -> Result<(), Failed>
 
 // Writes the lines of labels.
 fn write_labels<K: Sink>(labels: &[Vec<u8>], sink: &mut K) -> Result<(), Failed>
-    ensures { Writes K.told sink.old sink.new result (flat_map label_line (label_texts labels.now)) }
+    ensures { Writes K.history sink.old sink.new result (flat_map label_line (label_texts labels.now)) }
 {
     for k in 0..labels.len() {
         write_label(labels[k].as_slice(), sink)?;
@@ -84,7 +84,7 @@ fn write_labels<K: Sink>(labels: &[Vec<u8>], sink: &mut K) -> Result<(), Failed>
 }
 
 fn write_label<K: Sink>(label: &[u8], sink: &mut K) -> Result<(), Failed>
-    ensures { Writes K.told sink.old sink.new result (label_line label.now) }
+    ensures { Writes K.history sink.old sink.new result (label_line label.now) }
 {
     write_all(sink, b"line")?;
     write_all(sink, label)?;
@@ -93,11 +93,11 @@ fn write_label<K: Sink>(label: &[u8], sink: &mut K) -> Result<(), Failed>
 
 /// Ends at line `number`, the first that can't be merged, which reads so.
 pub fn end_broken<K: Sink>(number: u64, line: &[u8], fault: MergeFault, sink: &mut K) -> Ended
-    ensures wrote { EndsLine (fault_status fault) (fault_text number line.now fault) result.status (K.told sink.old)
-        (K.told sink.new) }
-    ensures calm { result.status ≢ 4 → (K.told sink.new).faults ≡ (K.told sink.old).faults }
+    ensures wrote { EndsLine (fault_status fault) (fault_text number line.now fault) result.status (K.history sink.old)
+        (K.history sink.new) }
+    ensures no_faults { result.status ≢ 4 → (K.history sink.new).faults ≡ (K.history sink.old).faults }
     ensures none { result.machine ≡ None }
-    ensures settled { result.status ≢ 4 → (K.told sink.new).written.held ≡ [] }
+    ensures flushed { result.status ≢ 4 → (K.history sink.new).written.buffered ≡ [] }
 {
     match fault {
         MergeFault::Form => end_with(sink, bad_line(number, "form").as_str().as_bytes(), 2),
@@ -111,10 +111,11 @@ pub fn end_broken<K: Sink>(number: u64, line: &[u8], fault: MergeFault, sink: &m
 
 // Ends with a word and the line of a key.
 fn end_at_key<K: Sink>(word: &[u8], line: &[u8], sink: &mut K) -> Ended
-    ensures wrote { EndsLine 9 (line_text (word.now ++ line.now)) result.status (K.told sink.old) (K.told sink.new) }
-    ensures calm { result.status ≢ 4 → (K.told sink.new).faults ≡ (K.told sink.old).faults }
+    ensures wrote { EndsLine 9 (line_text (word.now ++ line.now)) result.status (K.history sink.old)
+        (K.history sink.new) }
+    ensures no_faults { result.status ≢ 4 → (K.history sink.new).faults ≡ (K.history sink.old).faults }
     ensures none { result.machine ≡ None }
-    ensures settled { result.status ≢ 4 → (K.told sink.new).written.held ≡ [] }
+    ensures flushed { result.status ≢ 4 → (K.history sink.new).written.buffered ≡ [] }
 {
     if write_two(word, line, sink).is_err() {
         return Ended::with_status(4);
@@ -123,7 +124,7 @@ fn end_at_key<K: Sink>(word: &[u8], line: &[u8], sink: &mut K) -> Ended
 }
 
 fn write_two<K: Sink>(first: &[u8], second: &[u8], sink: &mut K) -> Result<(), Failed>
-    ensures { Writes K.told sink.old sink.new result (first.now ++ second.now) }
+    ensures { Writes K.history sink.old sink.new result (first.now ++ second.now) }
 {
     write_all(sink, first)?;
     write_all(sink, second)

@@ -94,16 +94,16 @@ impl LineReader {
         line: &mut Vec<u8>,
     ) -> Result<LineKind, LineStop>
         requires is_open { S.is_open joint.old.source.now }
-        requires settled { (K.told joint.old.sink.now).written.held ≡ [] }
-        requires paced { MayRead S.allows (IsUnended self.old) (joined S.told K.told joint.old) }
+        requires flushed { (K.history joint.old.sink.now).written.buffered ≡ [] }
+        requires paced { MayRead S.allows (IsUnended self.old) (joined S.history K.history joint.old) }
         ensures same_source { joint.new.source.ghost_name ≡ joint.old.source.ghost_name }
         ensures sink { joint.new.sink ≡ joint.old.sink }
         ensures takes { MatchResult result
-            (λ kind. TakesNextLine self.old self.new line.new.items (S.told joint.old.source.now).left
-            (S.told joint.new.source.now).left kind
-            × ((S.told joint.new.source.now).faults ≡ (S.told joint.old.source.now).faults))
-            (StopsLine self.old (S.told joint.old.source.now).left (S.told joint.new.source.now).left
-            (S.told joint.old.source.now).faults (S.told joint.new.source.now).faults) }
+            (λ kind. TakesNextLine self.old self.new line.new.items (S.history joint.old.source.now).left
+            (S.history joint.new.source.now).left kind
+            × ((S.history joint.new.source.now).faults ≡ (S.history joint.old.source.now).faults))
+            (StopsLine self.old (S.history joint.old.source.now).left (S.history joint.new.source.now).left
+            (S.history joint.old.source.now).faults (S.history joint.new.source.now).faults) }
         ensures is_open { result ≡ Ok LineKind.Whole → S.is_open joint.new.source.now }
     {
         line.clear();
@@ -147,14 +147,16 @@ impl LineReader {
     // Reads further bytes where none are held, and answers how many; none at the end of the input.
     fn read_on<S: Source, K: Sink>(&mut self, joint: &mut Joint<'_, S, K>) -> Result<usize, Failed>
         requires is_open { S.is_open joint.old.source.now }
-        requires settled { (K.told joint.old.sink.now).written.held ≡ [] }
-        requires allowed { S.allows (joined S.told K.told joint.old) }
+        requires flushed { (K.history joint.old.sink.now).written.buffered ≡ [] }
+        requires allowed { S.allows (joined S.history K.history joint.old) }
         ensures same_source { joint.new.source.ghost_name ≡ joint.old.source.ghost_name }
         ensures sink { joint.new.sink ≡ joint.old.sink }
         ensures bytes { MatchResult result
-            (λ count. ReadsAfter count self.new (S.told joint.old.source.now).left (S.told joint.new.source.now).left)
-            (λ _. Keeps (S.told joint.old.source.now).left (S.told joint.new.source.now).left) }
-        ensures cause { HasCause (S.told joint.old.source.now).faults (S.told joint.new.source.now).faults result }
+            (λ count. ReadsAfter count self.new (S.history joint.old.source.now).left
+            (S.history joint.new.source.now).left)
+            (λ _. Keeps (S.history joint.old.source.now).left (S.history joint.new.source.now).left) }
+        ensures cause { HasCause (S.history joint.old.source.now).faults
+            (S.history joint.new.source.now).faults result }
         ensures is_open { IfOk result (λ count. 0 < count → S.is_open joint.new.source.now) }
     {
         let count = joint.read(&mut self.chunk)?;

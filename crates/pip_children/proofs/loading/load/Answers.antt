@@ -22,27 +22,30 @@ returns-then-head-n-clause-loads g c =
         read = record { bytes = l.0.bytes; read = l.0.read; header = l.0.header; same = l.1 };
         few = c.if-head-n.true;
       },
-      head.calm,
+      head.no_faults,
     )
 
 pub returns-in-Err-Image-clause-loads : goal.returns-in-Err-Image-clause-loads
 returns-in-Err-Image-clause-loads g c =
     let head = c.in-Ok.ensures in
-    let x : StoppedAfter c.in-Ok.head (R.Image c.in-Err-Image.fault) (g.S.Source.told c.args.joint.now.source.now).left
-    (g.S.Source.told c.load_after.new.joint.source.now).left (g.S.Source.told c.header.new.joint.source.now).faults
-    (g.S.Source.told c.load_after.new.joint.source.now).faults =
-    subst (λ stop. StoppedAfter c.in-Ok.head stop (g.S.Source.told c.args.joint.now.source.now).left
-    (g.S.Source.told c.load_after.new.joint.source.now).left (g.S.Source.told c.header.new.joint.source.now).faults
-    (g.S.Source.told c.load_after.new.joint.source.now).faults) c.in-Err-Image.field-0-is
+    let x : StoppedAfter c.in-Ok.head (R.Image c.in-Err-Image.fault)
+    (g.S.Source.history c.args.joint.now.source.now).left
+    (g.S.Source.history c.load_after.new.joint.source.now).left
+    (g.S.Source.history c.header.new.joint.source.now).faults
+    (g.S.Source.history c.load_after.new.joint.source.now).faults =
+    subst (λ stop. StoppedAfter c.in-Ok.head stop (g.S.Source.history c.args.joint.now.source.now).left
+    (g.S.Source.history c.load_after.new.joint.source.now).left
+    (g.S.Source.history c.header.new.joint.source.now).faults
+    (g.S.Source.history c.load_after.new.joint.source.now).faults) c.in-Err-Image.field-0-is
     (c.in-Err-Image.ensures.loads _ head.reads) in
     let refused : Refuses image_parts (header_parts c.in-Ok.head ++ x.0)
-    (g.S.Source.told c.args.joint.now.source.now).left
-    (g.S.Source.told c.load_after.new.joint.source.now).left (g.S.Source.told c.args.joint.now.source.now).faults
-    (g.S.Source.told c.load_after.new.joint.source.now).faults c.in-Err-Image.fault =
+    (g.S.Source.history c.args.joint.now.source.now).left
+    (g.S.Source.history c.load_after.new.joint.source.now).left (g.S.Source.history c.args.joint.now.source.now).faults
+    (g.S.Source.history c.load_after.new.joint.source.now).faults c.in-Err-Image.fault =
     subst (λ n. Refuses image_parts (header_parts c.in-Ok.head ++ x.0)
-    (g.S.Source.told c.args.joint.now.source.now).left (g.S.Source.told c.load_after.new.joint.source.now).left n
-    (g.S.Source.told c.load_after.new.joint.source.now).faults
-    c.in-Err-Image.fault) head.calm x.1 in
+    (g.S.Source.history c.args.joint.now.source.now).left (g.S.Source.history c.load_after.new.joint.source.now).left n
+    (g.S.Source.history c.load_after.new.joint.source.now).faults
+    c.in-Err-Image.fault) head.no_faults x.1 in
     record {
       parts = header_parts c.in-Ok.head ++ x.0;
       refused = refused;
@@ -52,19 +55,21 @@ returns-in-Err-Image-clause-loads g c =
 pub returns-in-Err-Memory-clause-loads : goal.returns-in-Err-Memory-clause-loads
 returns-in-Err-Memory-clause-loads g c =
     let head = c.in-Ok.ensures in
-    let x : StoppedAfter c.in-Ok.head R.Memory (g.S.Source.told c.args.joint.now.source.now).left
-    (g.S.Source.told c.load_after.new.joint.source.now).left (g.S.Source.told c.header.new.joint.source.now).faults
-    (g.S.Source.told c.load_after.new.joint.source.now).faults =
-    subst (λ stop. StoppedAfter c.in-Ok.head stop (g.S.Source.told c.args.joint.now.source.now).left
-    (g.S.Source.told c.load_after.new.joint.source.now).left (g.S.Source.told c.header.new.joint.source.now).faults
-    (g.S.Source.told c.load_after.new.joint.source.now).faults) c.in-Err-Memory.field-0-is
+    let x : StoppedAfter c.in-Ok.head R.Memory (g.S.Source.history c.args.joint.now.source.now).left
+    (g.S.Source.history c.load_after.new.joint.source.now).left
+    (g.S.Source.history c.header.new.joint.source.now).faults
+    (g.S.Source.history c.load_after.new.joint.source.now).faults =
+    subst (λ stop. StoppedAfter c.in-Ok.head stop (g.S.Source.history c.args.joint.now.source.now).left
+    (g.S.Source.history c.load_after.new.joint.source.now).left
+    (g.S.Source.history c.header.new.joint.source.now).faults
+    (g.S.Source.history c.load_after.new.joint.source.now).faults) c.in-Err-Memory.field-0-is
     (c.in-Err-Memory.ensures.loads _ head.reads) in (
       record {
         frames = c.in-Ok.head.frames;
         read = record { bytes = x.0.bytes; read = x.0.read; header = x.0.header; same = x.1 };
         roomy = c.if-head-n.false;
       },
-      x.2 ∙ head.calm,
+      x.2 ∙ head.no_faults,
     )
 
 pub header-requires-clause-paced : goal.header-requires-clause-paced
@@ -75,7 +80,7 @@ pub load_after-requires-clause-paced : goal.load_after-requires-clause-paced
 load_after-requires-clause-paced g c =
     let head = c.in-Ok.ensures in
     let next = coming c.header.new.self.place in
-    pages_paced g.S.Source.allows g.K.Sink.told (ap (λ s. s.now) head.sink) head.calm head.reads (λ bytes is. (
+    pages_paced g.S.Source.allows g.K.Sink.history (ap (λ s. s.now) head.sink) head.no_faults head.reads (λ bytes is. (
       is,
       unshort_told c.args.n c.in-Ok.head (next bytes).parts (head.reads.bytes ++ bytes)
           (ap (λ t. t.parts) (head.reads.is bytes) ∙ after_parts (header_parts c.in-Ok.head) (next bytes))

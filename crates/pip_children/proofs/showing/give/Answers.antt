@@ -13,8 +13,8 @@ pub returns-in_err-write_image-clause-shows : goal.returns-in_err-write_image-cl
 returns-in_err-write_image-clause-shows g c = λ i b.
     MatchResult-from_err c.from_residual.result _ _ c.from_residual.ensures.0 (λ _.
     let l = c.args.loaded.now in
-    let old = (g.K.Sink.told c.args.sink.now).written in
-    let new = (g.K.Sink.told c.write_image.new.sink).written in
+    let old = (g.K.Sink.history c.args.sink.now).written in
+    let new = (g.K.Sink.history c.write_image.new.sink).written in
     cut_first (g.R.Scheduling.schedule c.args.scheduling) i c.args.n l.frames l.pages l.lines.items l.machine b old new
     (subst (λ k. AppendsPart old new (trace_image_line l.frames k (length l.lines.items) l.pages)) c.cpus.ensures
     (subst (λ ps. AppendsPart old new (trace_image_line l.frames c.cpus.result (length ps) l.pages))
@@ -33,13 +33,13 @@ returns-in_err-write_children-clause-shows g c = λ i b.
     MatchResult-from_err c.from_residual-in_err-write_children.result _ _
     c.from_residual-in_err-write_children.ensures.0 (λ _.
     let l = c.args.loaded.now in
-    let old = (g.K.Sink.told c.args.sink.now).written in
-    let one = (g.K.Sink.told c.write_image.new.sink).written in
+    let old = (g.K.Sink.history c.args.sink.now).written in
+    let one = (g.K.Sink.history c.write_image.new.sink).written in
     cut_built (g.R.Scheduling.schedule c.args.scheduling) i c.args.n l.frames l.pages l.lines.items l.machine b old one
     (subst (λ k. Appends old one (trace_image_line l.frames k (length l.lines.items) l.pages)) c.cpus.ensures
     (subst (λ ps. Appends old one (trace_image_line l.frames c.cpus.result (length ps) l.pages))
     c.as_slice-lines.ensures.value c.in_ok-write_image.ensures.wrote))
-    (g.K.Sink.told c.write_children.new.sink).written c.as_slice.result.now
+    (g.K.Sink.history c.write_children.new.sink).written c.as_slice.result.now
     (c.as_slice.ensures.value ∙ c.build_children-children.ensures.addresses) c.in_err-write_children.ensures.wrote)
 
 pub run-requires-clause-least : goal.run-requires-clause-least
@@ -64,11 +64,11 @@ returns-clause-shows g c = λ i b.
     let l = c.args.loaded.now in
     let n = c.args.n in
     let s = g.R.Scheduling.schedule c.args.scheduling in
-    let old = (g.K.Sink.told c.args.sink.now).written in
-    let one = (g.K.Sink.told c.write_image.new.sink).written in
-    let two = (g.K.Sink.told c.write_children.new.sink).written in
-    let three = (g.K.Sink.told c.run.new.sink).written in
-    let new = (g.K.Sink.told c.write_end.new.sink).written in
+    let old = (g.K.Sink.history c.args.sink.now).written in
+    let one = (g.K.Sink.history c.write_image.new.sink).written in
+    let two = (g.K.Sink.history c.write_children.new.sink).written in
+    let three = (g.K.Sink.history c.run.new.sink).written in
+    let new = (g.K.Sink.history c.write_end.new.sink).written in
     let w = ready_world (image_world i) n in
     let stands = c.build_children-children.ensures.world (with_handlers (image_world i) 256)
     (c.set_handlers.ensures.world (image_world i) b.stands)
@@ -92,10 +92,10 @@ returns-in_err-run-clause-shows g c = λ i b.
     let l = c.args.loaded.now in
     let n = c.args.n in
     let s = g.R.Scheduling.schedule c.args.scheduling in
-    let old = (g.K.Sink.told c.args.sink.now).written in
-    let one = (g.K.Sink.told c.write_image.new.sink).written in
-    let two = (g.K.Sink.told c.write_children.new.sink).written in
-    let new = (g.K.Sink.told c.run.new.sink).written in
+    let old = (g.K.Sink.history c.args.sink.now).written in
+    let one = (g.K.Sink.history c.write_image.new.sink).written in
+    let two = (g.K.Sink.history c.write_children.new.sink).written in
+    let new = (g.K.Sink.history c.run.new.sink).written in
     let w = ready_world (image_world i) n in
     let stands = c.build_children-children.ensures.world (with_handlers (image_world i) 256)
     (c.set_handlers.ensures.world (image_world i) b.stands)

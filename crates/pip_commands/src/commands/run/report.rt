@@ -45,13 +45,14 @@ impl Report {
         requires below { AllByRecursion (λ p. p.line < 16) loaded.old.lines.items }
         requires seed { 1 ≤ seed }
         ensures shows { (i : Image) → Begins i loaded.old.frames loaded.old.pages loaded.old.lines.items
-            loaded.old.machine → ShowsOut result self i count seed (K.told sink.old).written (K.told sink.new).written
+            loaded.old.machine → ShowsOut result self i count seed (K.history sink.old).written
+            (K.history sink.new).written
             loaded.new.machine }
-        ensures none { OnOk result ((K.told sink.new).written.held ≡ []) }
-        ensures cause { HasCause (K.told sink.old).faults (K.told sink.new).faults result }
+        ensures none { OnOk result ((K.history sink.new).written.buffered ≡ []) }
+        ensures cause { HasCause (K.history sink.old).faults (K.history sink.new).faults result }
     {
         self.give(loaded, count, seed, sink, steps)?;
-        sink.settle()
+        sink.flush()
     }
 
     // Makes the steps and writes the text.
@@ -67,9 +68,9 @@ impl Report {
         requires below { AllByRecursion (λ p. p.line < 16) loaded.old.lines.items }
         requires seed { 1 ≤ seed }
         ensures shows { (i : Image) → Begins i loaded.old.frames loaded.old.pages loaded.old.lines.items
-            loaded.old.machine → ShowsReport result self i count seed (K.told sink.old).written
-            (K.told sink.new).written loaded.new.machine }
-        ensures cause { HasCause (K.told sink.old).faults (K.told sink.new).faults result }
+            loaded.old.machine → ShowsReport result self i count seed (K.history sink.old).written
+            (K.history sink.new).written loaded.new.machine }
+        ensures cause { HasCause (K.history sink.old).faults (K.history sink.new).faults result }
     {
         let machine = &mut loaded.machine;
         let lines = loaded.lines.as_slice();
@@ -104,9 +105,9 @@ fn write_tree<M: Frames, K: Sink, L: Ledger>(
     steps: &mut Steps<L>,
 ) -> Result<(), Failed>
     requires { HasPartition (M.memory mem.now) 1 }
-    ensures wrote { (t : Tree) → IsHeld t (M.memory mem.now) → Wrote result (K.told sink.old).written
-        (K.told sink.new).written (tree_text t ++ end_line count) }
-    ensures cause { HasCause (K.told sink.old).faults (K.told sink.new).faults result }
+    ensures wrote { (t : Tree) → IsHeld t (M.memory mem.now) → Wrote result (K.history sink.old).written
+        (K.history sink.new).written (tree_text t ++ end_line count) }
+    ensures cause { HasCause (K.history sink.old).faults (K.history sink.new).faults result }
 {
     tree_text(mem, sink, steps)?;
     write_end(sink, count)
@@ -119,9 +120,9 @@ fn write_frames<M: Frames, K: Sink, L: Ledger>(
     sink: &mut K,
     steps: &mut Steps<L>,
 ) -> Result<(), Failed>
-    ensures wrote { (t : Tree) → IsHeld t (M.memory mem.now) → Wrote result (K.told sink.old).written
-        (K.told sink.new).written (frames_text t ++ end_line count) }
-    ensures cause { HasCause (K.told sink.old).faults (K.told sink.new).faults result }
+    ensures wrote { (t : Tree) → IsHeld t (M.memory mem.now) → Wrote result (K.history sink.old).written
+        (K.history sink.new).written (frames_text t ++ end_line count) }
+    ensures cause { HasCause (K.history sink.old).faults (K.history sink.new).faults result }
 {
     frames_text(mem, sink, steps)?;
     write_end(sink, count)

@@ -62,12 +62,13 @@ pub fn run_line<K: Sink, L: Ledger>(
     sink: &mut K,
     steps: &mut Steps<L>,
 ) -> Result<(), ScriptLineError>
-    ensures later { (K.told sink.old).faults ≤ (K.told sink.new).faults }
-    ensures write { IsErrOf result ScriptLineError.Write → RoseByOne (K.told sink.old).faults (K.told sink.new).faults }
-    ensures calm { result ≢ Err ScriptLineError.Write → (K.told sink.new).faults ≡ (K.told sink.old).faults }
+    ensures later { (K.history sink.old).faults ≤ (K.history sink.new).faults }
+    ensures write { IsErrOf result ScriptLineError.Write → RoseByOne (K.history sink.old).faults
+        (K.history sink.new).faults }
+    ensures no_faults { result ≢ Err ScriptLineError.Write → (K.history sink.new).faults ≡ (K.history sink.old).faults }
     ensures did { (v : Option World) → StandsIfAny machine.old v → MatchResult result
-        (λ _. Runs v line.now (K.told sink.old).written (K.told sink.new).written machine.new)
-        (λ stop. Stopped stop v line.now (K.told sink.old).written (K.told sink.new).written) }
+        (λ _. Runs v line.now (K.history sink.old).written (K.history sink.new).written machine.new)
+        (λ stop. Stopped stop v line.now (K.history sink.old).written (K.history sink.new).written) }
 {
     if is_blank(line) {
         return Ok(());
@@ -89,12 +90,13 @@ fn run_first<K: Sink, L: Ledger>(
 ) -> Result<(), ScriptLineError>
     requires none { machine.old ≡ None }
     requires words { HasWords line.now }
-    ensures later { (K.told sink.old).faults ≤ (K.told sink.new).faults }
-    ensures write { IsErrOf result ScriptLineError.Write → RoseByOne (K.told sink.old).faults (K.told sink.new).faults }
-    ensures calm { result ≢ Err ScriptLineError.Write → (K.told sink.new).faults ≡ (K.told sink.old).faults }
+    ensures later { (K.history sink.old).faults ≤ (K.history sink.new).faults }
+    ensures write { IsErrOf result ScriptLineError.Write → RoseByOne (K.history sink.old).faults
+        (K.history sink.new).faults }
+    ensures no_faults { result ≢ Err ScriptLineError.Write → (K.history sink.new).faults ≡ (K.history sink.old).faults }
     ensures did { MatchResult result
-        (λ _. Runs None line.now (K.told sink.old).written (K.told sink.new).written machine.new)
-        (λ stop. Stopped stop None line.now (K.told sink.old).written (K.told sink.new).written) }
+        (λ _. Runs None line.now (K.history sink.old).written (K.history sink.new).written machine.new)
+        (λ stop. Stopped stop None line.now (K.history sink.old).written (K.history sink.new).written) }
 {
     match read_phrase(line, 0) {
         Some(ScriptLine::Boot { n, c }) => boot(alloc, machine, n, c, sink, steps),
@@ -114,12 +116,13 @@ fn boot<K: Sink, L: Ledger>(
     steps: &mut Steps<L>,
 ) -> Result<(), ScriptLineError>
     requires { IsProper 0 (ScriptLine.Boot n c) }
-    ensures later { (K.told sink.old).faults ≤ (K.told sink.new).faults }
-    ensures write { IsErrOf result ScriptLineError.Write → RoseByOne (K.told sink.old).faults (K.told sink.new).faults }
-    ensures calm { result ≢ Err ScriptLineError.Write → (K.told sink.new).faults ≡ (K.told sink.old).faults }
+    ensures later { (K.history sink.old).faults ≤ (K.history sink.new).faults }
+    ensures write { IsErrOf result ScriptLineError.Write → RoseByOne (K.history sink.old).faults
+        (K.history sink.new).faults }
+    ensures no_faults { result ≢ Err ScriptLineError.Write → (K.history sink.new).faults ≡ (K.history sink.old).faults }
     ensures did { (line : List ℕ) → line_meaning 0 line ≡ Some (ScriptLine.Boot n c) → MatchResult result
-        (λ _. Runs None line (K.told sink.old).written (K.told sink.new).written machine.new)
-        (λ stop. Stopped stop None line (K.told sink.old).written (K.told sink.new).written) }
+        (λ _. Runs None line (K.history sink.old).written (K.history sink.new).written machine.new)
+        (λ stop. Stopped stop None line (K.history sink.old).written (K.history sink.new).written) }
 {
     *machine = Some(new_machine(alloc, n, c, steps)?);
     write_said(sink, &Said::Booted { n, c })?;
@@ -135,12 +138,13 @@ fn run_event<P: Port, K: Sink, L: Ledger>(
     steps: &mut Steps<L>,
 ) -> Result<(), ScriptLineError>
     requires { HasWords line.now }
-    ensures later { (K.told sink.old).faults ≤ (K.told sink.new).faults }
-    ensures write { IsErrOf result ScriptLineError.Write → RoseByOne (K.told sink.old).faults (K.told sink.new).faults }
-    ensures calm { result ≢ Err ScriptLineError.Write → (K.told sink.new).faults ≡ (K.told sink.old).faults }
+    ensures later { (K.history sink.old).faults ≤ (K.history sink.new).faults }
+    ensures write { IsErrOf result ScriptLineError.Write → RoseByOne (K.history sink.old).faults
+        (K.history sink.new).faults }
+    ensures no_faults { result ≢ Err ScriptLineError.Write → (K.history sink.new).faults ≡ (K.history sink.old).faults }
     ensures did { (w : World) → P.stands port.old w → MatchResult result
-        (λ _. RunsIn w line.now (K.told sink.old).written (K.told sink.new).written (P.stands port.new))
-        (λ stop. Stopped stop (Some w) line.now (K.told sink.old).written (K.told sink.new).written) }
+        (λ _. RunsIn w line.now (K.history sink.old).written (K.history sink.new).written (P.stands port.new))
+        (λ stop. Stopped stop (Some w) line.now (K.history sink.old).written (K.history sink.new).written) }
 {
     match answer_line(port, line, steps) {
         None => Err(ScriptLineError::Bad),
@@ -155,7 +159,7 @@ fn run_event<P: Port, K: Sink, L: Ledger>(
 // and not at the end of a text first.
 #[inline(always)]
 fn write_said<K: Sink>(sink: &mut K, said: &Said) -> Result<(), Failed>
-    ensures { Writes K.told sink.old sink.new result (line_text (said_text said.now)) }
+    ensures { Writes K.history sink.old sink.new result (line_text (said_text said.now)) }
 {
     match *said {
         Said::Came(Outcome::Done) => write_all(sink, b"done\n"),
@@ -173,7 +177,7 @@ fn write_said<K: Sink>(sink: &mut K, said: &Said) -> Result<(), Failed>
 // Writes the line of a reply. Most have a status of one digit, and so a line of one length.
 #[inline(never)]
 fn write_reply<K: Sink>(sink: &mut K, status: Status, value: u32) -> Result<(), Failed>
-    ensures { Writes K.told sink.old sink.new result (line_text (outcome_text (Outcome.Reply status value))) }
+    ensures { Writes K.history sink.old sink.new result (line_text (outcome_text (Outcome.Reply status value))) }
 {
     let number = status.number();
     if number < 10 {
@@ -186,7 +190,7 @@ fn write_reply<K: Sink>(sink: &mut K, status: Status, value: u32) -> Result<(), 
 // Writes a line that is put together in a text.
 #[inline(never)]
 fn write_text<K: Sink>(sink: &mut K, said: &Said) -> Result<(), Failed>
-    ensures { Writes K.told sink.old sink.new result (line_text (said_text said.now)) }
+    ensures { Writes K.history sink.old sink.new result (line_text (said_text said.now)) }
 {
     let mut text = ArrayString::new();
     push_said(&mut text, said);

@@ -57,12 +57,13 @@ pub fn take_turn<S: Source, K: Sink, L: Ledger>(
     steps: &mut Steps<L>,
 ) -> Option<End>
     requires is_open { S.is_open joint.old.source.now }
-    requires paced { MayReadLine S.allows input.old (joined S.told K.told joint.old) }
+    requires paced { MayReadLine S.allows input.old (joined S.history K.history joint.old) }
     ensures same_source { joint.new.source.ghost_name ≡ joint.old.source.ghost_name }
     ensures same_sink { joint.new.sink.ghost_name ≡ joint.old.sink.ghost_name }
-    ensures does { TurnDoes result machine.old machine.new number input.old input.new (joined S.told K.told joint.old)
-        (joined S.told K.told joint.new) }
-    ensures none { IfSome result (λ end. end ≢ End.WriteFault → (K.told joint.new.sink.now).written.held ≡ []) }
+    ensures does { TurnDoes result machine.old machine.new number input.old input.new
+        (joined S.history K.history joint.old)
+        (joined S.history K.history joint.new) }
+    ensures none { IfSome result (λ end. end ≢ End.WriteFault → (K.history joint.new.sink.now).written.buffered ≡ []) }
     ensures is_open { result ≡ None → S.is_open joint.new.source.now }
 {
     match run_turn(alloc, number, input, joint, machine, steps) {
@@ -81,12 +82,13 @@ fn run_turn<S: Source, K: Sink, L: Ledger>(
     steps: &mut Steps<L>,
 ) -> Option<End>
     requires is_open { S.is_open joint.old.source.now }
-    requires paced { MayReadLine S.allows input.old (joined S.told K.told joint.old) }
+    requires paced { MayReadLine S.allows input.old (joined S.history K.history joint.old) }
     ensures same_source { joint.new.source.ghost_name ≡ joint.old.source.ghost_name }
     ensures same_sink { joint.new.sink.ghost_name ≡ joint.old.sink.ghost_name }
-    ensures does { TurnDoes result machine.old machine.new number input.old input.new (joined S.told K.told joint.old)
-        (joined S.told K.told joint.new) }
-    ensures none { result ≡ Some End.ReadFault → (K.told joint.new.sink.now).written.held ≡ [] }
+    ensures does { TurnDoes result machine.old machine.new number input.old input.new
+        (joined S.history K.history joint.old)
+        (joined S.history K.history joint.new) }
+    ensures none { result ≡ Some End.ReadFault → (K.history joint.new.sink.now).written.buffered ≡ [] }
     ensures is_open { result ≡ None → S.is_open joint.new.source.now }
 {
     match whole_line(alloc, number, input, joint, machine, steps) {
@@ -114,12 +116,13 @@ fn whole_line<S: Source, K: Sink, L: Ledger>(
     steps: &mut Steps<L>,
 ) -> Result<usize, End>
     requires is_open { S.is_open joint.old.source.now }
-    requires paced { MayReadLine S.allows input.old (joined S.told K.told joint.old) }
+    requires paced { MayReadLine S.allows input.old (joined S.history K.history joint.old) }
     ensures same_source { joint.new.source.ghost_name ≡ joint.old.source.ghost_name }
     ensures same_sink { joint.new.sink.ghost_name ≡ joint.old.sink.ghost_name }
-    ensures does { LineComes result machine.old machine.new number input.old input.new (joined S.told K.told joint.old)
-        (joined S.told K.told joint.new) }
-    ensures none { result ≡ Err End.ReadFault → (K.told joint.new.sink.now).written.held ≡ [] }
+    ensures does { LineComes result machine.old machine.new number input.old input.new
+        (joined S.history K.history joint.old)
+        (joined S.history K.history joint.new) }
+    ensures none { result ≡ Err End.ReadFault → (K.history joint.new.sink.now).written.buffered ≡ [] }
     ensures is_open { OnOk result (S.is_open joint.new.source.now) }
 {
     match input.line_ahead() {
@@ -142,12 +145,13 @@ fn other_line<S: Source, K: Sink, L: Ledger>(
     requires ahead { MatchOption ahead (HoldsPart (still input.old) input.old)
         (λ end. (left : Option (List ℕ)) → HoldsLine (still input.old) input.old left end) }
     requires is_open { S.is_open joint.old.source.now }
-    requires paced { MayReadLine S.allows input.old (joined S.told K.told joint.old) }
+    requires paced { MayReadLine S.allows input.old (joined S.history K.history joint.old) }
     ensures same_source { joint.new.source.ghost_name ≡ joint.old.source.ghost_name }
     ensures same_sink { joint.new.sink.ghost_name ≡ joint.old.sink.ghost_name }
-    ensures does { LineComes result machine.old machine.new number input.old input.new (joined S.told K.told joint.old)
-        (joined S.told K.told joint.new) }
-    ensures none { result ≡ Err End.ReadFault → (K.told joint.new.sink.now).written.held ≡ [] }
+    ensures does { LineComes result machine.old machine.new number input.old input.new
+        (joined S.history K.history joint.old)
+        (joined S.history K.history joint.new) }
+    ensures none { result ≡ Err End.ReadFault → (K.history joint.new.sink.now).written.buffered ≡ [] }
     ensures is_open { OnOk result (S.is_open joint.new.source.now) }
 {
     match next_line(ahead, input, joint) {
@@ -172,11 +176,11 @@ fn other_line<S: Source, K: Sink, L: Ledger>(
 // Writes what is held at an end, which is another one where that fails. Nothing more is tried after a failed read or
 // write.
 fn settle_end<K: Sink>(end: End, sink: &mut K) -> End
-    ensures { Settles end result (K.told sink.old) (K.told sink.new) }
+    ensures { Settles end result (K.history sink.old) (K.history sink.new) }
 {
     match end {
         End::ReadFault | End::WriteFault => end,
-        _ => match sink.settle() {
+        _ => match sink.flush() {
             Ok(()) => end,
             Err(_) => End::WriteFault,
         },
@@ -193,23 +197,24 @@ fn next_line<S: Source, K: Sink>(
     requires ahead { MatchOption ahead (HoldsPart (still input.old) input.old)
         (λ end. (left : Option (List ℕ)) → HoldsLine (still input.old) input.old left end) }
     requires is_open { S.is_open joint.old.source.now }
-    requires paced { MayReadLine S.allows input.old (joined S.told K.told joint.old) }
+    requires paced { MayReadLine S.allows input.old (joined S.history K.history joint.old) }
     ensures same_source { joint.new.source.ghost_name ≡ joint.old.source.ghost_name }
     ensures same_sink { joint.new.sink.ghost_name ≡ joint.old.sink.ghost_name }
-    ensures taken { Keeps (K.told joint.old.sink.now).written (K.told joint.new.sink.now).written }
-    ensures kept { IO.Keeps (prepend_known input.old.bytes (S.told joint.old.source.now).left)
-        (prepend_known input.new.bytes (S.told joint.new.source.now).left) }
+    ensures taken { Keeps (K.history joint.old.sink.now).written (K.history joint.new.sink.now).written }
+    ensures kept { IO.Keeps (prepend_known input.old.bytes (S.history joint.old.source.now).left)
+        (prepend_known input.new.bytes (S.history joint.new.source.now).left) }
     ensures line { MatchResult result
-        (λ end. HoldsLine (still input.old) input.new (S.told joint.new.source.now).left end
-        × ((S.told joint.new.source.now).faults ≡ (S.told joint.old.source.now).faults)
-        × ((K.told joint.new.sink.now).faults ≡ (K.told joint.old.sink.now).faults))
-        (λ end. HasNoLine end input.old input.new (joined S.told K.told joint.old) (joined S.told K.told joint.new)) }
+        (λ end. HoldsLine (still input.old) input.new (S.history joint.new.source.now).left end
+        × ((S.history joint.new.source.now).faults ≡ (S.history joint.old.source.now).faults)
+        × ((K.history joint.new.sink.now).faults ≡ (K.history joint.old.sink.now).faults))
+        (λ end. HasNoLine end input.old input.new (joined S.history K.history joint.old)
+        (joined S.history K.history joint.new)) }
     ensures is_open { (n : ℕ) → result ≡ Ok (LineEnd.Newline n) → S.is_open joint.new.source.now }
 {
     if let Some(end) = ahead {
         return Ok(end);
     }
-    if joint.sink.settle().is_err() {
+    if joint.sink.flush().is_err() {
         return Err(End::WriteFault);
     }
     match input.read_line(joint) {
@@ -220,9 +225,9 @@ fn next_line<S: Source, K: Sink>(
 
 // Names a line that is bad, and answers how the script ends.
 fn end_at<K: Sink>(number: u32, sink: &mut K, stop: ScriptLineError) -> End
-    ensures later { (K.told sink.old).faults ≤ (K.told sink.new).faults }
-    ensures calm { result ≢ End.WriteFault → (K.told sink.new).faults ≡ (K.told sink.old).faults }
-    ensures names { Names stop number result (K.told sink.old) (K.told sink.new) }
+    ensures later { (K.history sink.old).faults ≤ (K.history sink.new).faults }
+    ensures no_faults { result ≢ End.WriteFault → (K.history sink.new).faults ≡ (K.history sink.old).faults }
+    ensures names { Names stop number result (K.history sink.old) (K.history sink.new) }
 {
     match stop {
         ScriptLineError::Bad => match write_all(

@@ -19,13 +19,13 @@ returns-in_err-count-clause-reads g c =
     let was = c.loop-k.invariant in
     let n = length (g.M.Frames.memory c.args.mem.now) in
     let p = err_from_is_err_and c.from_residual.result c.from_residual.ensures.1 in
-    read_failed n (g.S.Source.told c.args.joint.now.source.now).faults
-    (g.S.Source.told c.next_line.new.joint.source.now).faults
+    read_failed n (g.S.Source.history c.args.joint.now.source.now).faults
+    (g.S.Source.history c.next_line.new.joint.source.now).faults
     _ _
     c.from_residual.result p.0 _ p.1 p.2
     (unread_at n c.loop-k.k (state_at c.loop-k.place (g.M.Frames.memory c.loop-k.mem)) (still c.loop-k.input)
     c.loop-k.input.bytes c.next_line.new.self _ _ _ was.at c.in_err-count.ensures.kept c.in_err-count.ensures.part)
-    (subst (λ k. RoseByOne k (g.S.Source.told c.next_line.new.joint.source.now).faults) was.calm
+    (subst (λ k. RoseByOne k (g.S.Source.history c.next_line.new.joint.source.now).faults) was.no_faults
     c.in_err-count.ensures.cause.failed)
 
 pub returns-in_err-next_line-in-Ends-clause-reads : goal.returns-in_err-next_line-in-Ends-clause-reads
@@ -37,16 +37,16 @@ returns-in_err-next_line-in-Ends-clause-reads g c =
     let s = state_at c.loop-k.place m in
     let p = err_from_is_err_and c.from_residual-in_err-next_line-in-Ends.result
     c.from_residual-in_err-next_line-in-Ends.ensures.1 in
-    read_failed n (g.S.Source.told c.args.joint.now.source.now).faults
-    (g.S.Source.told c.next_line-in-Ends.new.joint.source.now).faults _ _
+    read_failed n (g.S.Source.history c.args.joint.now.source.now).faults
+    (g.S.Source.history c.next_line-in-Ends.new.joint.source.now).faults _ _
     c.from_residual-in_err-next_line-in-Ends.result p.0 _ p.1 p.2
     (unread_after n c.loop-k.k u (still c.take.new.self) c.take.new.self.bytes c.next_line-in-Ends.new.self _ _ _
     (after_line n (length m) c.loop-k.k _ _ s (Ends u) c.next_line.new.self _ _ _ _ _ _ _ was.at
     c.in_ok-count.ensures.kept c.in-Newline.is c.in_ok-count.ensures.line was.count c.head.ensures
     c.take.ensures.bytes c.in-Ends.ensures.step)
     c.in_err-next_line-in-Ends.ensures.kept c.in_err-next_line-in-Ends.ensures.part)
-    (subst (λ k. RoseByOne k (g.S.Source.told c.next_line-in-Ends.new.joint.source.now).faults)
-    (c.in_ok-count.ensures.cause.calm ∙ was.calm) c.in_err-next_line-in-Ends.ensures.cause.failed)
+    (subst (λ k. RoseByOne k (g.S.Source.history c.next_line-in-Ends.new.joint.source.now).faults)
+    (c.in_ok-count.ensures.cause.no_faults ∙ was.no_faults) c.in_err-next_line-in-Ends.ensures.cause.failed)
 
 pub returns-in_default : goal.returns-in_default
 returns-in_default g c =
@@ -57,13 +57,14 @@ returns-in_default g c =
     record {
       reads = (
         bad_end n c.loop-k.k (state_at c.loop-k.place (g.M.Frames.memory c.loop-k.mem))
-            (g.S.Source.told c.args.joint.now.source.now).left (g.S.Source.told c.next_line.new.joint.source.now).left
+            (g.S.Source.history c.args.joint.now.source.now).left
+            (g.S.Source.history c.next_line.new.joint.source.now).left
             c.next_line.new.self
             (at_kept n c.loop-k.k _ c.loop-k.input.bytes c.next_line.new.self.bytes _ _ _ c.in_ok-count.ensures.kept
             was.at)
             (still c.loop-k.input) c.in_ok-count.field-0 (omega (arith, room, low)) c.in_ok-count.ensures.line
             c.in_default.not-Newline,
-        c.in_ok-count.ensures.cause.calm ∙ was.calm,
+        c.in_ok-count.ensures.cause.no_faults ∙ was.no_faults,
       );
       same_source = search rules;
       sink = search rules;
@@ -80,7 +81,7 @@ returns-in-Bad-clause-reads g c =
           (after_line n (length m) c.loop-k.k _ _ s Bad c.next_line.new.self _ _ _ _ _ _ _ was.at
           c.in_ok-count.ensures.kept c.in-Newline.is c.in_ok-count.ensures.line was.count c.head.ensures
           c.take.ensures.bytes c.in-Bad.ensures.step),
-      c.in_ok-count.ensures.cause.calm ∙ was.calm,
+      c.in_ok-count.ensures.cause.no_faults ∙ was.no_faults,
     )
 
 pub returns-in-End-clause-reads : goal.returns-in-End-clause-reads
@@ -99,7 +100,7 @@ returns-in-End-clause-reads g c =
           c.in_ok-count.ensures.kept c.in-Newline.is c.in_ok-count.ensures.line was.count c.head.ensures
           c.take.ensures.bytes c.in-Ends.ensures.step))
           (still c.take.new.self) end,
-      c.in_ok-next_line-in-Ends.ensures.cause.calm ∙ c.in_ok-count.ensures.cause.calm ∙ was.calm,
+      c.in_ok-next_line-in-Ends.ensures.cause.no_faults ∙ c.in_ok-count.ensures.cause.no_faults ∙ was.no_faults,
     )
 
 pub returns-in_default-2 : goal.returns-in_default-2
@@ -119,7 +120,7 @@ returns-in_default-2 g c =
             c.take.ensures.bytes c.in-Ends.ensures.step))
             (still c.take.new.self) c.in_ok-next_line-in-Ends.field-0 c.in_ok-next_line-in-Ends.ensures.line
             c.in_default-2.not-End,
-        c.in_ok-next_line-in-Ends.ensures.cause.calm ∙ c.in_ok-count.ensures.cause.calm ∙ was.calm,
+        c.in_ok-next_line-in-Ends.ensures.cause.no_faults ∙ c.in_ok-count.ensures.cause.no_faults ∙ was.no_faults,
       );
       same_source = search rules;
       sink = search rules;
@@ -150,7 +151,7 @@ loop-k-preserved g c =
       name = search rules;
       sink = search rules;
       is_open = c.in_ok-count.ensures.is_open c.in-Newline.count (ap Ok c.in-Newline.is);
-      calm = c.in_ok-count.ensures.cause.calm ∙ was.calm;
+      no_faults = c.in_ok-count.ensures.cause.no_faults ∙ was.no_faults;
     }
 
 pub next_line-requires-clause-paced : goal.next_line-requires-clause-paced
@@ -159,9 +160,9 @@ next_line-requires-clause-paced g c =
     let n = length (g.M.Frames.memory c.args.mem.now) in
     let s = state_at c.loop-k.place (g.M.Frames.memory c.loop-k.mem) in
     let paced = paced_after g.S.Source.allows (BeginsLines n) (IsLineless c.loop-k.input) _ _ _ _
-    (g.K.Sink.told c.args.joint.now.sink.now) (was.at.taken ++ c.loop-k.input.bytes) was.calm was.at.read
+    (g.K.Sink.history c.args.joint.now.sink.now) (was.at.taken ++ c.loop-k.input.bytes) was.no_faults was.at.read
     (lines_at n c.loop-k.k s c.loop-k.input _ _ was.at) c.requires.paced in
-    subst (λ s. MayRead g.S.Source.allows (IsLineless c.loop-k.input) (streams g.S.Source.told g.K.Sink.told
+    subst (λ s. MayRead g.S.Source.allows (IsLineless c.loop-k.input) (streams g.S.Source.history g.K.Sink.history
     c.loop-k.joint.source.now s.now)) (sym was.sink) paced
 
 pub next_line-requires-in-Ends-clause-paced : goal.next_line-requires-in-Ends-clause-paced
@@ -175,9 +176,9 @@ next_line-requires-in-Ends-clause-paced g c =
     c.in_ok-count.ensures.kept c.in-Newline.is c.in_ok-count.ensures.line was.count c.head.ensures
     c.take.ensures.bytes c.in-Ends.ensures.step in
     let paced = paced_after g.S.Source.allows (BeginsLines n) (IsLineless c.take.new.self) _ _ _ _
-    (g.K.Sink.told c.args.joint.now.sink.now)
-    (at.taken ++ c.take.new.self.bytes) (c.in_ok-count.ensures.cause.calm ∙ was.calm) at.read
+    (g.K.Sink.history c.args.joint.now.sink.now)
+    (at.taken ++ c.take.new.self.bytes) (c.in_ok-count.ensures.cause.no_faults ∙ was.no_faults) at.read
     (lines_after n c.loop-k.k u c.take.new.self _ _ at) c.requires.paced in
     subst (λ s. MayRead g.S.Source.allows (IsLineless c.take.new.self)
-    (streams g.S.Source.told g.K.Sink.told c.next_line.new.joint.source.now s.now))
+    (streams g.S.Source.history g.K.Sink.history c.next_line.new.joint.source.now s.now))
     (sym (c.in_ok-count.ensures.sink ∙ was.sink)) paced

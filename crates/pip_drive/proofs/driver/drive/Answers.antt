@@ -1,7 +1,7 @@
 use Rattle.std.proofs.Common.{rules, arith, ℕ, [], inl, inr, ap, length, length-append, length-drop}
 use Rattle.pip_io.proofs.Taken.{cut_sent, part_sent, Appends-nil}
 use Rattle.pip_drive.specs.Windows.{window_bytes}
-use Rattle.pip_drive.proofs.Driving.{last_failed, reads, settles, starts, takes, way_of, write_failed}
+use Rattle.pip_drive.proofs.Driving.{last_failed, reads, flushes, starts, takes, way_of, write_failed}
 use Rattle.pip_drive.proofs.driver.drive.Goals as goal
 
 pub loop-room-init : goal.loop-room-init
@@ -46,9 +46,9 @@ loop-room-preserved-in-Ok-eq0 g c =
       none = wants.none;
       out = λ _. out.none;
       loose = λ e. absurd (cc);
-      done = reads _ _ _ _ _ (settles _ _ _ _ _ was.done _ _ _ wants.leads out.kept out.cause.calm)
+      done = reads _ _ _ _ _ (flushes _ _ _ _ _ was.done _ _ _ wants.leads out.kept out.cause.no_faults)
           read.reads.more _ _ _
-          read.reads.read read.reads.bytes read.cause.calm;
+          read.reads.read read.reads.bytes read.cause.no_faults;
     }
 
 pub loop-room-preserved-in-Ok-read_on : goal.loop-room-preserved-in-Ok-read_on
@@ -72,9 +72,9 @@ loop-room-preserved-in-Ok-read_on g c =
       none = wants.none;
       out = λ _. out.none;
       loose = λ e. absurd (cc);
-      done = reads _ _ _ _ _ (settles _ _ _ _ _ was.done _ _ _ wants.leads out.kept out.cause.calm)
+      done = reads _ _ _ _ _ (flushes _ _ _ _ _ was.done _ _ _ wants.leads out.kept out.cause.no_faults)
           read.reads.more _ _ _
-          read.reads.read read.reads.bytes read.cause.calm;
+          read.reads.read read.reads.bytes read.cause.no_faults;
     }
 
 pub loop-room-preserved-in-Ok-write_pieces : goal.loop-room-preserved-in-Ok-write_pieces
@@ -96,7 +96,7 @@ loop-room-preserved-in-Ok-write_pieces g c =
       out = λ e. absurd (cc);
       loose = λ _. says.loose;
       done = takes _ _ _ _ _ was.done _ c.in-Say.count _ _ _ _ (rw c.as_slice.ensures at says.takes.leads)
-          c.take.ensures (wrote.whole) wrote.cause.calm;
+          c.take.ensures (wrote.whole) wrote.cause.no_faults;
     }
 
 pub returns-in-Err-write_pieces : goal.returns-in-Err-write_pieces
@@ -128,7 +128,7 @@ loop-room-preserved g c =
       out = λ _. wrote.none;
       loose = λ e. absurd (cc);
       done = takes _ _ _ _ _ was.done _ c.in-Write.count _ _ _ _ (rw c.as_slice.ensures at took.leads)
-          c.take-in-Ok-write_text.ensures (wrote.whole) wrote.cause.calm;
+          c.take-in-Ok-write_text.ensures (wrote.whole) wrote.cause.no_faults;
     }
 
 pub returns-in-Err-write_text : goal.returns-in-Err-write_text

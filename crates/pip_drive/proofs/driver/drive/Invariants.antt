@@ -8,13 +8,13 @@ use Rattle.pip_drive.proofs.driver.drive.Given as goal
 
 abbrev pub invariant-loop-room : goal.invariant-loop-room
 invariant-loop-room g l =
-    let all = streams g.S.Source.told g.K.Sink.told in
+    let all = streams g.S.Source.history g.K.Sink.history in
     record {
       is_open : l.ended ≡ false → g.S.Source.is_open l.source;
-      over : l.ended ≡ true → IsAtEnd (g.S.Source.told l.source).left;
+      over : l.ended ≡ true → IsAtEnd (g.S.Source.history l.source).left;
       room : length (window_bytes l.window) ≤ g.M.Transducer.room l.transducer;
       none : text_bytes l.text ≡ [];
-      out : l.held ≡ false → (g.K.Sink.told l.sink).written.held ≡ [];
+      out : l.held ≡ false → (g.K.Sink.history l.sink).written.buffered ≡ [];
       loose : l.held ≡ true → g.M.Transducer.is_loose ≡ true;
       done : Driving (g.M.Transducer.due l.fn.transducer) (g.M.Transducer.due l.transducer)
           (window_bytes l.window) (all l.fn.source l.fn.sink) (all l.source l.sink);

@@ -12,7 +12,7 @@ pub returns-in_err-mem-clause-loads : goal.returns-in_err-mem-clause-loads
 returns-in_err-mem-clause-loads g c =
     let head = c.in_ok-head.ensures in
     stops c.from_residual-in_err-mem.result _ _ c.in_err-mem.field-0.0 c.from_residual-in_err-mem.ensures.1
-    (weaker c.in_ok-head.head _ _ _ _ _ head.calm c.in_err-mem.field-0.0 (c.in_err-mem.ensures.loads _ head.reads))
+    (weaker c.in_ok-head.head _ _ _ _ _ head.no_faults c.in_err-mem.field-0.0 (c.in_err-mem.ensures.loads _ head.reads))
 
 pub returns-clause-loads : goal.returns-clause-loads
 returns-clause-loads g c = c.in_ok-mem.ensures.loads _ c.in_ok-head.ensures.reads
@@ -23,5 +23,5 @@ header-requires-clause-paced g c = λ bytes left taken is. c.requires.paced byte
 pub load_frames-requires-clause-paced : goal.load_frames-requires-clause-paced
 load_frames-requires-clause-paced g c =
     let head = c.in_ok-head.ensures in
-    pages_paced g.S.Source.allows g.K.Sink.told (ap (λ s. s.now) head.sink) head.calm head.reads
+    pages_paced g.S.Source.allows g.K.Sink.history (ap (λ s. s.now) head.sink) head.no_faults head.reads
     (λ bytes is. is) c.requires.paced

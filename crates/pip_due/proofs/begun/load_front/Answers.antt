@@ -18,7 +18,7 @@ pub returns-in_err-mem-clause-loads : goal.returns-in_err-mem-clause-loads
 returns-in_err-mem-clause-loads g c =
     let head = c.in_ok-head.ensures in
     stops c.from_residual-in_err-mem.result _ _ T.Memory c.from_residual-in_err-mem.ensures.1
-    ((lacks_memory c.in_ok-head.head c.header.new.self.place _ _ head.place head.plans head.reads).0, head.calm)
+    ((lacks_memory c.in_ok-head.head c.header.new.self.place _ _ head.place head.plans head.reads).0, head.no_faults)
 
 pub returns-in_err-mem-clause-inside : goal.returns-in_err-mem-clause-inside
 returns-in_err-mem-clause-inside g c =
@@ -28,7 +28,7 @@ pub returns-in_err-load_pages-clause-loads : goal.returns-in_err-load_pages-clau
 returns-in_err-load_pages-clause-loads g c =
     let head = c.in_ok-head.ensures in
     let fault = page_fault c.in_ok-head.head c.header.new.self.place _ _ head.place head.plans head.reads _ _ _ _ _ _
-    head.calm c.in_err-load_pages.ensures.loaded in
+    head.no_faults c.in_err-load_pages.ensures.loaded in
     stops c.from_residual-in_err-load_pages.result _ _ (T.Image c.in_err-load_pages.field-0.0)
     c.from_residual-in_err-load_pages.ensures.1 (_, fault.1)
 
@@ -57,7 +57,7 @@ header-requires-clause-paced g c = λ bytes left taken is. c.requires.paced byte
 pub load_pages-requires-clause-paced : goal.load_pages-requires-clause-paced
 load_pages-requires-clause-paced g c =
     let head = c.in_ok-head.ensures in
-    pages_paced g.S.Source.allows g.K.Sink.told (ap (λ s. s.now) head.sink) head.calm head.reads
+    pages_paced g.S.Source.allows g.K.Sink.history (ap (λ s. s.now) head.sink) head.no_faults head.reads
     (λ bytes is. is) c.requires.paced
 
 pub boot_zeros-requires : goal.boot_zeros-requires

@@ -11,7 +11,7 @@ returns-in_err-head-clause-loads g c =
 pub returns-clause-loads : goal.returns-clause-loads
 returns-clause-loads g c =
     let head = c.in_ok-head.ensures in
-    stopped_after c.load_after.result c.in_ok-head.head _ _ _ _ _ _ head.calm
+    stopped_after c.load_after.result c.in_ok-head.head _ _ _ _ _ _ head.no_faults
     (c.load_after.ensures.loads _ head.reads)
 
 pub header-requires-clause-paced : goal.header-requires-clause-paced
@@ -20,5 +20,5 @@ header-requires-clause-paced g c = λ bytes left taken is. c.requires.paced byte
 pub load_after-requires-clause-paced : goal.load_after-requires-clause-paced
 load_after-requires-clause-paced g c =
     let head = c.in_ok-head.ensures in
-    pages_paced g.S.Source.allows g.K.Sink.told (ap (λ s. s.now) head.sink) head.calm head.reads
+    pages_paced g.S.Source.allows g.K.Sink.history (ap (λ s. s.now) head.sink) head.no_faults head.reads
     (λ bytes is. is) c.requires.paced

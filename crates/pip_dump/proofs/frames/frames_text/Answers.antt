@@ -8,9 +8,9 @@ use Rattle.pip_dump.proofs.frames.frames_text.Goals as goal
 
 pub loop-f-init : goal.loop-f-init
 loop-f-init g c = record {
-  calm = refl;
+  no_faults = refl;
   left = λ t held. left_same _ _ _ _ _ (ap (λ n. flat_map (frame_text t) (numbers_from 0 n)) (omega arith))
-      (left_start (g.K.Sink.told c.args.sink.now).written _);
+      (left_start (g.K.Sink.history c.args.sink.now).written _);
 }
 
 pub returns-in_err-frame_text-clause-text : goal.returns-in_err-frame_text-clause-text
@@ -20,20 +20,20 @@ returns-in_err-frame_text-clause-text g c t held =
     let left = left_same _ _ _ _ _ (ap (flat_map (frame_text t))
     (numbers_step c.loop-f.f t.frames (omega (arith, inside, count)))) (c.loop-f.invariant.left t held) in
     wrote_err _ _ _ c.from_residual.result c.from_residual.ensures.0
-    (left_part _ _ _ _ _ _ left (subst (λ k. AppendsPart (g.K.Sink.told c.loop-f.sink).written
-    (g.K.Sink.told c.frame_text.new.sink).written (frame_text t k)) c.new.ensures (c.in_err-frame_text.ensures.text t
+    (left_part _ _ _ _ _ _ left (subst (λ k. AppendsPart (g.K.Sink.history c.loop-f.sink).written
+    (g.K.Sink.history c.frame_text.new.sink).written (frame_text t k)) c.new.ensures (c.in_err-frame_text.ensures.text t
     held)))
 
 pub loop-f-preserved : goal.loop-f-preserved
 loop-f-preserved g c = record {
-  calm = c.in_ok-frame_text.ensures.cause.calm ∙ c.loop-f.invariant.calm;
+  no_faults = c.in_ok-frame_text.ensures.cause.no_faults ∙ c.loop-f.invariant.no_faults;
   left = λ t held.
       let inside = c.loop-f-test.true in
       let count = c.count-f-end.ensures ∙ held.1.count in
       let left = left_same _ _ _ _ _ (ap (flat_map (frame_text t))
       (numbers_step c.loop-f.f t.frames (omega (arith, inside, count)))) (c.loop-f.invariant.left t held) in
       left_more _ _ _ _ _ _ left
-      (subst (λ k. Appends (g.K.Sink.told c.loop-f.sink).written (g.K.Sink.told c.frame_text.new.sink).written
+      (subst (λ k. Appends (g.K.Sink.history c.loop-f.sink).written (g.K.Sink.history c.frame_text.new.sink).written
       (frame_text t k)) c.new.ensures (c.in_ok-frame_text.ensures.text t held));
 }
 

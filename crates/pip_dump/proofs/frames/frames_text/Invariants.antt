@@ -9,7 +9,7 @@ use Rattle.pip_dump.proofs.frames.frames_text.Given as goal
 -- the lines of the frames from here on are left
 abbrev pub invariant-loop-f : goal.invariant-loop-f
 invariant-loop-f g l = record {
-  calm : (g.K.Sink.told l.sink).faults ≡ (g.K.Sink.told l.fn.sink).faults;
-  left : (t : Tree) → IsHeld t (g.M.Frames.memory l.mem) → IsLeft (g.K.Sink.told l.fn.sink).written
-      (g.K.Sink.told l.sink).written (flat_map (frame_text t) (numbers_from l.f (t.frames - l.f))) (frames_text t);
+  no_faults : (g.K.Sink.history l.sink).faults ≡ (g.K.Sink.history l.fn.sink).faults;
+  left : (t : Tree) → IsHeld t (g.M.Frames.memory l.mem) → IsLeft (g.K.Sink.history l.fn.sink).written
+      (g.K.Sink.history l.sink).written (flat_map (frame_text t) (numbers_from l.f (t.frames - l.f))) (frames_text t);
 }

@@ -7,9 +7,9 @@ use Rattle.pip_dump.proofs.frames.groups_text.Goals as goal
 pub loop-k-init : goal.loop-k-init
 loop-k-init g c = record {
   high = c.requires.most;
-  calm = refl;
+  no_faults = refl;
   left = left_same _ _ _ _ _ (lines_skipped c.args.words.now 0 c.args.first (omega arith) c.requires.most
-      c.requires.zeros) (left_start (g.K.Sink.told c.args.sink.now).written _);
+      c.requires.zeros) (left_start (g.K.Sink.history c.args.sink.now).written _);
 }
 
 pub next_group-requires : goal.next_group-requires
@@ -22,7 +22,7 @@ returns-in_err-write_all-clause-text g c =
     let piece = c.as_bytes.ensures.value ∙ (c.deref.ensures.0 ∙ c.group_line.ensures) in
     wrote_err _ _ _ c.from_residual.result c.from_residual.ensures.0
     (left_part _ _ _ _ _ _ (left_same _ _ _ _ _ lines c.loop-k.invariant.left)
-    (subst (AppendsPart (g.K.Sink.told c.loop-k.sink).written (g.K.Sink.told c.write_all.new.sink).written) piece
+    (subst (AppendsPart (g.K.Sink.history c.loop-k.sink).written (g.K.Sink.history c.write_all.new.sink).written) piece
     c.in_err-write_all.ensures.prefix))
 
 pub loop-k-smaller : goal.loop-k-smaller
@@ -35,9 +35,10 @@ loop-k-preserved g c =
     let piece = c.as_bytes.ensures.value ∙ (c.deref.ensures.0 ∙ c.group_line.ensures) in
     record {
       high = omega (arith, inside);
-      calm = c.in_ok-write_all.ensures.cause.calm ∙ c.loop-k.invariant.calm;
+      no_faults = c.in_ok-write_all.ensures.cause.no_faults ∙ c.loop-k.invariant.no_faults;
       left = left_more _ _ _ _ _ _ (left_same _ _ _ _ _ lines c.loop-k.invariant.left)
-          (subst (Appends (g.K.Sink.told c.loop-k.sink).written (g.K.Sink.told c.write_all.new.sink).written) piece
+          (subst (Appends (g.K.Sink.history c.loop-k.sink).written
+          (g.K.Sink.history c.write_all.new.sink).written) piece
           c.in_ok-write_all.ensures.whole);
     }
 

@@ -8,8 +8,8 @@ use Rattle.pip_dump.proofs.frames.groups_text.Given as goal
 abbrev pub invariant-loop-k : goal.invariant-loop-k
 invariant-loop-k g l = record {
   high : l.from ≤ 128;
-  calm : (g.K.Sink.told l.sink).faults ≡ (g.K.Sink.told l.fn.sink).faults;
-  left : IsLeft (g.K.Sink.told l.fn.sink).written (g.K.Sink.told l.sink).written
+  no_faults : (g.K.Sink.history l.sink).faults ≡ (g.K.Sink.history l.fn.sink).faults;
+  left : IsLeft (g.K.Sink.history l.fn.sink).written (g.K.Sink.history l.sink).written
       (flat_map (group_text (λ i. get_or l.words i 0))
       (numbers_from l.from (128 - l.from))) (flat_map (group_text (λ i. get_or l.words i 0)) (numbers_from 0 128));
 }

@@ -10,7 +10,8 @@ returns-in_err-write_all-clause-text g c t x s lays found deep =
     let piece : c.as_bytes.result.now ≡ head_text t x =
     c.as_bytes.ensures.value ∙ (c.deref.ensures.0 ∙ c.head_line.ensures t x s lays found deep) in
     let part = part_longer _ _ (head_text t x) (flat_map (row_text t x) x.rows)
-    (subst (λ text. AppendsPart (g.K.Sink.told c.args.sink.now).written (g.K.Sink.told c.write_all.new.sink).written
+    (subst (λ text. AppendsPart (g.K.Sink.history c.args.sink.now).written
+    (g.K.Sink.history c.write_all.new.sink).written
     text)
     piece c.in_err-write_all.ensures.prefix) in
     wrote_err _ _ _ c.from_residual.result c.from_residual.ensures.0 part
@@ -20,7 +21,8 @@ returns-clause-text g c t x s lays found deep =
     let piece : c.as_bytes.result.now ≡ head_text t x =
     c.as_bytes.ensures.value ∙ (c.deref.ensures.0 ∙ c.head_line.ensures t x s lays found deep) in
     wrote_after _ _ _ (head_text t x) (flat_map (row_text t x) x.rows) c.rows_text.result
-    (subst (λ text. Appends (g.K.Sink.told c.args.sink.now).written (g.K.Sink.told c.write_all.new.sink).written text)
+    (subst (λ text. Appends (g.K.Sink.history c.args.sink.now).written
+    (g.K.Sink.history c.write_all.new.sink).written text)
     piece
     c.in_ok-write_all.ensures.whole)
     (c.rows_text.ensures.text t x s lays found)

@@ -11,9 +11,9 @@ use Rattle.pip_dump.proofs.part.rows_text.Goals as goal
 pub loop-i-init : goal.loop-i-init
 loop-i-init g c = record {
   high = omega arith;
-  calm = refl;
+  no_faults = refl;
   left = λ t x s lays found. left_same _ _ _ _ _ (ap (flat_map (row_text t x)) (sym (all_rows t s c.args.part x found)))
-      (left_start (g.K.Sink.told c.args.sink.now).written _);
+      (left_start (g.K.Sink.history c.args.sink.now).written _);
 }
 
 pub next_tables-requires-clause-node : goal.next_tables-requires-clause-node
@@ -78,7 +78,7 @@ loop-i-preserved g c =
     let (tables, small, above) = has_next m c.args.part c.in-Some.i c.loop-i.from c.requires c.in-Some.ensures.next in
     record {
       high = omega (arith, small);
-      calm = c.in_ok-table_text.ensures.cause.calm ∙ c.loop-i.invariant.calm;
+      no_faults = c.in_ok-table_text.ensures.cause.no_faults ∙ c.loop-i.invariant.no_faults;
       left = λ t x s lays found.
           let next = c.in-Some.ensures.next x _ (cells_in t s m lays c.args.part x found)
           (name_is t s m lays c.args.part x found) in
@@ -89,8 +89,8 @@ loop-i-preserved g c =
           let left = left_same _ _ _ _ _ (ap (flat_map (row_text t x)) (rows_skip t s m lays c.args.part x found
           c.loop-i.from c.in-Some.i above next)) (c.loop-i.invariant.left t x s lays found) in
           let next_is : 1024 * c.in-Some.i + 1024 ≡ 1024 * (c.in-Some.i + 1) = omega arith in
-          subst (λ k. RowsLeft t x k (g.K.Sink.told c.args.sink.now).written
-          (g.K.Sink.told c.table_text.new.sink).written
+          subst (λ k. RowsLeft t x k (g.K.Sink.history c.args.sink.now).written
+          (g.K.Sink.history c.table_text.new.sink).written
           (flat_map (row_text t x) x.rows)) next_is (c.in_ok-table_text.ensures.text t x _ _ leaves given left);
     }
 

@@ -10,9 +10,9 @@ use Rattle.pip_dump.proofs.part.table_text.Goals as goal
 pub loop-j-init : goal.loop-j-init
 loop-j-init g c = record {
   high = omega arith;
-  calm = refl;
+  no_faults = refl;
   left = λ t x old whole a b left. let same : 1024 * c.args.i ≡ 1024 * c.args.i + 0 = omega arith in
-      subst (λ k. RowsLeft t x k old (g.K.Sink.told c.args.sink.now).written whole) same left;
+      subst (λ k. RowsLeft t x k old (g.K.Sink.history c.args.sink.now).written whole) same left;
 }
 
 pub first_index-requires : goal.first_index-requires
@@ -29,8 +29,8 @@ returns-in_err-write_all-clause-text g c t x old whole a b left =
     c.as_bytes.ensures.value ∙ (c.deref.ensures.0 ∙ (c.push_row.ensures t x q a.sound (c.new.ensures ∙ at) shows
     ∙ ap (λ l. l ++ row_text t x q) c.clear.ensures)) in
     match_err _ _ c.from_residual.result c.from_residual.ensures.0
-    (left_part _ _ _ _ _ _ now (subst (λ text. AppendsPart (g.K.Sink.told c.loop-j.sink).written
-    (g.K.Sink.told c.write_all.new.sink).written text) piece c.in_err-write_all.ensures.prefix))
+    (left_part _ _ _ _ _ _ now (subst (λ text. AppendsPart (g.K.Sink.history c.loop-j.sink).written
+    (g.K.Sink.history c.write_all.new.sink).written text) piece c.in_err-write_all.ensures.prefix))
 
 pub loop-j-smaller : goal.loop-j-smaller
 loop-j-smaller g c = let (inside, some, zeros, above) = c.in-Some.ensures in omega (arith, inside, above)
@@ -40,7 +40,7 @@ loop-j-preserved g c =
     let (inside, some, zeros, above) = c.in-Some.ensures in
     record {
       high = omega (arith, inside);
-      calm = c.in_ok-write_all.ensures.cause.calm ∙ c.loop-j.invariant.calm;
+      no_faults = c.in_ok-write_all.ensures.cause.no_faults ∙ c.loop-j.invariant.no_faults;
       left = λ t x old whole a b left.
           let (q, at, shows, rows) = row_told t x c.args.i c.args.leaves.now a c.args.given.now b c.loop-j.from
           c.in-Some.j inside some zeros above in
@@ -49,8 +49,8 @@ loop-j-preserved g c =
           let piece : c.as_bytes.result.now ≡ row_text t x q = c.as_bytes.ensures.value
           ∙ (c.deref.ensures.0 ∙ (c.push_row.ensures t x q a.sound (c.new.ensures ∙ at) shows
           ∙ ap (λ l. l ++ row_text t x q) c.clear.ensures)) in
-          left_more _ _ _ _ _ _ now (subst (λ text. Appends (g.K.Sink.told c.loop-j.sink).written
-          (g.K.Sink.told c.write_all.new.sink).written text) piece c.in_ok-write_all.ensures.whole);
+          left_more _ _ _ _ _ _ now (subst (λ text. Appends (g.K.Sink.history c.loop-j.sink).written
+          (g.K.Sink.history c.write_all.new.sink).written text) piece c.in_ok-write_all.ensures.whole);
     }
 
 pub returns-clause-text : goal.returns-clause-text

@@ -8,10 +8,10 @@ use Rattle.pip_dump.proofs.part.table_text.Given as goal
 abbrev pub invariant-loop-j : goal.invariant-loop-j
 invariant-loop-j g l = record {
   high : l.from ≤ 1024;
-  calm : (g.K.Sink.told l.sink).faults ≡ (g.K.Sink.told l.fn.sink).faults;
+  no_faults : (g.K.Sink.history l.sink).faults ≡ (g.K.Sink.history l.fn.sink).faults;
   left : (t : Tree) (x : Node) (old : Taken) (whole : List ℕ) → AreLeaves t x l.i l.leaves → AreGiven t x l.i l.given
-      → RowsLeft t x (1024 * l.i) old (g.K.Sink.told l.fn.sink).written whole
-      → RowsLeft t x (1024 * l.i + l.from) old (g.K.Sink.told l.sink).written whole;
+      → RowsLeft t x (1024 * l.i) old (g.K.Sink.history l.fn.sink).written whole
+      → RowsLeft t x (1024 * l.i + l.from) old (g.K.Sink.history l.sink).written whole;
 }
 
 abbrev pub decreases-loop-j : goal.decreases-loop-j

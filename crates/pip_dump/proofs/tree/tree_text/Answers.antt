@@ -6,7 +6,7 @@ use Rattle.pip_dump.proofs.tree.tree_text.Goals as goal
 
 pub loop-i-init : goal.loop-i-init
 loop-i-init g c = record {
-  calm = refl;
+  no_faults = refl;
   told = λ t held. told_first t held.0 c.first_place.result _ c.first_place.ensures.part c.first_place.ensures.depth;
 }
 
@@ -27,7 +27,7 @@ next_place-next-requires-clause-depth g c =
 
 pub loop-i-preserved : goal.loop-i-preserved
 loop-i-preserved g c = record {
-  calm = c.in_ok-part_text-in-Some.ensures.cause.calm ∙ c.loop-i.invariant.calm;
+  no_faults = c.in_ok-part_text-in-Some.ensures.cause.no_faults ∙ c.loop-i.invariant.no_faults;
   told = λ t held.
       let told =
       told_same t _ _ (Some c.in-Some.place) _ _ _ (sym c.in-Some.is) refl (c.loop-i.invariant.told t held) in

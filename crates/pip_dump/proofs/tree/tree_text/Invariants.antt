@@ -7,7 +7,7 @@ use Rattle.pip_dump.proofs.tree.tree_text.Given as goal
 -- the texts of that many partitions were written
 abbrev pub invariant-loop-i : goal.invariant-loop-i
 invariant-loop-i g l = record {
-  calm : (g.K.Sink.told l.sink).faults ≡ (g.K.Sink.told l.fn.sink).faults;
+  no_faults : (g.K.Sink.history l.sink).faults ≡ (g.K.Sink.history l.fn.sink).faults;
   told : (t : Tree) → IsHeld t (g.M.Frames.memory l.mem)
-      → IsWalkedTo t l._i l.next (g.K.Sink.told l.fn.sink).written (g.K.Sink.told l.sink).written;
+      → IsWalkedTo t l._i l.next (g.K.Sink.history l.fn.sink).written (g.K.Sink.history l.sink).written;
 }

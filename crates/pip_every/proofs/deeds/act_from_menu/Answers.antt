@@ -12,8 +12,8 @@ pub returns-in-Some : goal.returns-in-Some
 returns-in-Some g c = record {
   acts = λ w h. let f = c.poll-outcome.ensures.event w h in
       subst (λ d. MadeOrCut c.do_deed.result (g.P.Port.stands c.do_deed.new.port)
-      (g.K.Sink.told c.args.sink.now).written
-      (g.K.Sink.told c.do_deed.new.sink).written w (hostile_acts w c.args.cpu d)) (sym c.in-Some.is)
+      (g.K.Sink.history c.args.sink.now).written
+      (g.K.Sink.history c.do_deed.new.sink).written w (hostile_acts w c.args.cpu d)) (sym c.in-Some.is)
       (did _ _ _ _ w _ _ _ c.in_default.not-Switched f.0 (c.do_deed.ensures.acts _ f.1));
   count = search rules;
 }

@@ -24,12 +24,13 @@ loop-words-preserved g c =
       none = now.plans;
       frames = now.frames ∙ was.frames;
       is_open = now.is_open;
-      calm = now.calm ∙ was.calm;
+      no_faults = now.no_faults ∙ was.no_faults;
       count = c.load_page.ensures.count ∙ was.count;
       kept = c.load_page.ensures.count ∙ was.kept;
       done = subst (λ s. Loads c.args.head.now.frames (coming c.args.reader.now.place) (coming
           c.next_page.new.self.place)
-          (g.S.Source.told c.args.joint.now.source.now).left (g.S.Source.told c.next_page.new.joint.source.now).left s
+          (g.S.Source.history c.args.joint.now.source.now).left
+          (g.S.Source.history c.next_page.new.joint.source.now).left s
           (g.M.Frames.memory c.load_page.new.mem)) (sym next.seen)
           (loads_page c.args.head.now.frames (coming c.args.reader.now.place) (coming c.loop-words.reader.place) (coming
           c.next_page.new.self.place) _ _ _ c.loop-words.reader.place.seen.items (g.M.Frames.memory c.loop-words.mem)
@@ -43,16 +44,16 @@ pub returns-in-Err-clause-loaded : goal.returns-in-Err-clause-loaded
 returns-in-Err-clause-loaded g c =
     let was = c.loop-words.invariant in
     loads_refused c.args.head.now.frames (coming c.args.reader.now.place) (coming c.loop-words.reader.place) _ _ _
-    c.loop-words.reader.place.seen.items _ _ _ _ c.in-Err.error was.calm was.done c.in-Err.ensures.reads
+    c.loop-words.reader.place.seen.items _ _ _ _ c.in-Err.error was.no_faults was.done c.in-Err.ensures.reads
 
 pub next_page-requires-clause-paced : goal.next_page-requires-clause-paced
 next_page-requires-clause-paced g c =
     let was = c.loop-words.invariant in
     let took = was.done.took in
     let paced = paced_after g.S.Source.allows (IsFaultless (coming c.args.reader.now.place))
-    (IsPartless (coming c.loop-words.reader.place)) _ _ _ _ (g.K.Sink.told c.args.joint.now.sink.now) took.bytes
-    was.calm took.taken
+    (IsPartless (coming c.loop-words.reader.place)) _ _ _ _ (g.K.Sink.history c.args.joint.now.sink.now) took.bytes
+    was.no_faults took.taken
     (λ bytes is. faultless_after (coming c.args.reader.now.place) (coming c.loop-words.reader.place) _ _ _ took bytes
     is.1) c.requires.paced in
     subst (λ s. MayRead g.S.Source.allows (IsPartless (coming c.loop-words.reader.place))
-    (streams g.S.Source.told g.K.Sink.told c.loop-words.joint.source.now s.now)) (sym was.sink) paced
+    (streams g.S.Source.history g.K.Sink.history c.loop-words.joint.source.now s.now)) (sym was.sink) paced

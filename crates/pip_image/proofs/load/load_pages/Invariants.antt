@@ -10,12 +10,12 @@ invariant-loop-words g l = record {
   none : l.reader.place.plans ≡ 0;
   frames : l.reader.place.frames ≡ l.head.frames;
   is_open : g.S.Source.is_open l.joint.source.now;
-  calm : (g.S.Source.told l.joint.source.now).faults ≡ (g.S.Source.told l.fn.joint.source.now).faults;
+  no_faults : (g.S.Source.history l.joint.source.now).faults ≡ (g.S.Source.history l.fn.joint.source.now).faults;
   count : length (g.M.Frames.memory l.mem) ≡ l.head.frames;
   kept : length (g.M.Frames.memory l.mem) ≡ length (g.M.Frames.memory l.fn.mem);
   done : Loads l.head.frames (coming l.fn.reader.place) (coming l.reader.place)
-      (g.S.Source.told l.fn.joint.source.now).left
-      (g.S.Source.told l.joint.source.now).left l.reader.place.seen.items (g.M.Frames.memory l.mem);
+      (g.S.Source.history l.fn.joint.source.now).left
+      (g.S.Source.history l.joint.source.now).left l.reader.place.seen.items (g.M.Frames.memory l.mem);
 }
 
 abbrev pub decreases-loop-words : goal.decreases-loop-words

@@ -4,12 +4,12 @@ use Rattle.pip_input.proofs.whole.read_whole.Given as goal
 
 abbrev pub invariant-loop-count : goal.invariant-loop-count
 invariant-loop-count g l = record {
-  taken : TakesPart l.bytes.items (g.S.Source.told l.fn.joint.source.now).left
-      (g.S.Source.told l.joint.source.now).left;
+  taken : TakesPart l.bytes.items (g.S.Source.history l.fn.joint.source.now).left
+      (g.S.Source.history l.joint.source.now).left;
   name : l.joint.source.ghost_name ≡ l.fn.joint.source.ghost_name;
   sink : l.joint.sink ≡ l.fn.joint.sink;
   is_open : g.S.Source.is_open l.joint.source.now;
-  calm : (g.S.Source.told l.joint.source.now).faults ≡ (g.S.Source.told l.fn.joint.source.now).faults;
+  no_faults : (g.S.Source.history l.joint.source.now).faults ≡ (g.S.Source.history l.fn.joint.source.now).faults;
 }
 
 abbrev pub decreases-loop-count : goal.decreases-loop-count

@@ -22,5 +22,5 @@ loop-place-preserved g c =
         ← between_joined xs c.args.start place (place + taken) low (omega arith),
         ← between_front xs place c.args.end taken few,
       ) (Appends-trans _ _ _ _ _ loop.written c.in-Ok.ensures.bytes);
-      calm = c.in-Ok.ensures.cause.calm ∙ loop.calm;
+      no_faults = c.in-Ok.ensures.cause.no_faults ∙ loop.no_faults;
     }

@@ -7,8 +7,9 @@ abbrev pub invariant-loop-place : goal.invariant-loop-place
 invariant-loop-place g l = record {
   least : l.start ≤ l.place;
   most : l.place ≤ l.end;
-  written : Appends (g.K.Sink.told l.fn.sink).written (g.K.Sink.told l.sink).written (between l.bytes l.start l.place);
-  calm : (g.K.Sink.told l.sink).faults ≡ (g.K.Sink.told l.fn.sink).faults;
+  written : Appends (g.K.Sink.history l.fn.sink).written (g.K.Sink.history l.sink).written
+      (between l.bytes l.start l.place);
+  no_faults : (g.K.Sink.history l.sink).faults ≡ (g.K.Sink.history l.fn.sink).faults;
 }
 
 abbrev pub decreases-loop-place : goal.decreases-loop-place

@@ -8,7 +8,7 @@ loop-rest-preserved g c =
     let had = c.loop-rest.invariant.done in
     let wrote = c.in-Ok.ensures in
     record {
-      calm = wrote.cause.calm ∙ c.loop-rest.invariant.calm;
+      no_faults = wrote.cause.no_faults ∙ c.loop-rest.invariant.no_faults;
       done = (
         had.0 ++ take c.in-Ok.taken c.loop-rest.rest.now,
         Appends-trans _ _ _ _ _ had.1 wrote.bytes,

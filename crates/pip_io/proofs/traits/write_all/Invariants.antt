@@ -5,8 +5,8 @@ use Rattle.pip_io.proofs.traits.write_all.Given as goal
 
 abbrev pub invariant-loop-rest : goal.invariant-loop-rest
 invariant-loop-rest g l = record {
-  calm : (g.K.Sink.told l.sink).faults ≡ (g.K.Sink.told l.fn.sink).faults;
-  done : (front : List ℕ) × Appends (g.K.Sink.told l.fn.sink).written (g.K.Sink.told l.sink).written front
+  no_faults : (g.K.Sink.history l.sink).faults ≡ (g.K.Sink.history l.fn.sink).faults;
+  done : (front : List ℕ) × Appends (g.K.Sink.history l.fn.sink).written (g.K.Sink.history l.sink).written front
       × (front ++ l.rest ≡ l.text);
   empty : l.text ≡ [] → l.sink ≡ l.fn.sink;
 }

@@ -8,7 +8,7 @@ pub loop-i-init : goal.loop-i-init
 loop-i-init g c = record {
   count = search rules;
   cpus = c.requires.cpus;
-  calm = search rules;
+  no_faults = search rules;
   drawn = λ seed at. at;
   progress = λ seed at w h. begun _ _ w _ seed _ c.args.count h;
 }
@@ -24,7 +24,7 @@ pub loop-i-preserved : goal.loop-i-preserved
 loop-i-preserved g c = record {
   count = search rules;
   cpus = search rules;
-  calm = search rules;
+  no_faults = search rules;
   drawn = λ seed at. c.next.ensures.on seed c.loop-i.i (c.loop-i.invariant.drawn seed at);
   progress = λ seed at w h.
       run_on _ _ _ w _ _ seed _ c.args.count c.loop-i.i c.next.result c.loop-i-test.true (c.next.ensures.drawn seed

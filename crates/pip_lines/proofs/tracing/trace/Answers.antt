@@ -8,16 +8,16 @@ use Rattle.pip_lines.proofs.tracing.trace.Goals as goal
 pub returns-in_err-write_image-clause-acts : goal.returns-in_err-write_image-clause-acts
 returns-in_err-write_image-clause-acts g c = λ w h.
     MatchResult-from_err c.from_residual.result _ _ c.from_residual.ensures.0 (λ _.
-    let first = subst (λ n. AppendsPart (g.K.Sink.told c.args.sink.now).written
-    (g.K.Sink.told c.write_image.new.sink).written
+    let first = subst (λ n. AppendsPart (g.K.Sink.history c.args.sink.now).written
+    (g.K.Sink.history c.write_image.new.sink).written
     (trace_image_line c.args.frames n (length c.args.lines.now) c.args.pages)) c.cpus.ensures
     c.in_err-write_image.ensures.wrote in
     cut_line _ _ _ w _ _ h first)
 
 pub returns-clause-acts : goal.returns-clause-acts
 returns-clause-acts g c = λ w h.
-    let first = subst (λ n. Appends (g.K.Sink.told c.args.sink.now).written
-    (g.K.Sink.told c.write_image.new.sink).written
+    let first = subst (λ n. Appends (g.K.Sink.history c.args.sink.now).written
+    (g.K.Sink.history c.write_image.new.sink).written
     (trace_image_line c.args.frames n (length c.args.lines.now) c.args.pages)) c.cpus.ensures
     c.in_ok-write_image.ensures.wrote in
     after_line _ _ _ _ w c.write_end.result _ _ first
@@ -26,8 +26,8 @@ returns-clause-acts g c = λ w h.
 pub returns-in_err-run_lines-clause-acts : goal.returns-in_err-run_lines-clause-acts
 returns-in_err-run_lines-clause-acts g c = λ w h.
     MatchResult-from_err c.from_residual-in_err-run_lines.result _ _ c.from_residual-in_err-run_lines.ensures.0 (λ _.
-    let first = subst (λ n. Appends (g.K.Sink.told c.args.sink.now).written
-    (g.K.Sink.told c.write_image.new.sink).written
+    let first = subst (λ n. Appends (g.K.Sink.history c.args.sink.now).written
+    (g.K.Sink.history c.write_image.new.sink).written
     (trace_image_line c.args.frames n (length c.args.lines.now) c.args.pages)) c.cpus.ensures
     c.in_ok-write_image.ensures.wrote in
     cut_after_line _ _ _ _ w _ _ first (cut_before _ _ _ w _ _ (c.in_err-run_lines.ensures.acts w h)))

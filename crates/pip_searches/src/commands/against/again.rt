@@ -18,7 +18,7 @@ pub fn write_said<K: Sink>(
 ) -> Result<(), Failed>
     requires count { length said.now ≡ length labels.now }
     requires some { 1 ≤ cpus }
-    ensures { Writes K.told sink.old sink.new result (again_text cpus lines.now (label_bytes labels.now) said.now) }
+    ensures { Writes K.history sink.old sink.new result (again_text cpus lines.now (label_bytes labels.now) said.now) }
 {
     for k in 0..said.len() {
         write_one(sink, cpus, lines, labels[k].as_slice(), &said[k])?;
@@ -35,7 +35,7 @@ fn write_one<K: Sink>(
     said: &Again,
 ) -> Result<(), Failed>
     requires { 1 ≤ cpus }
-    ensures { Writes K.told sink.old sink.new result (said_line cpus lines.now label.now said.now) }
+    ensures { Writes K.history sink.old sink.new result (said_line cpus lines.now label.now said.now) }
 {
     write_all(sink, b"again ")?;
     write_all(sink, label)?;
@@ -45,7 +45,7 @@ fn write_one<K: Sink>(
 // Writes what is said of a label, after a colon.
 fn write_words<K: Sink>(sink: &mut K, cpus: u32, lines: &[u32], said: &Again) -> Result<(), Failed>
     requires { 1 ≤ cpus }
-    ensures { Writes K.told sink.old sink.new result (said_words cpus lines.now said.now) }
+    ensures { Writes K.history sink.old sink.new result (said_words cpus lines.now said.now) }
 {
     match said {
         Again::Can => write_all(sink, b": yes\n"),

@@ -58,15 +58,15 @@ const MAX_MENU_BYTES: u32 = 1 << 24;
 /// Reads a menu to the end of its source, or to its first bad line.
 pub fn read_menu<S: Source, K: Sink>(joint: &mut Joint<'_, S, K>) -> Result<ReadMenu, MenuStop>
     requires is_open { S.is_open joint.old.source.now }
-    requires settled { (K.told joint.old.sink.now).written.held ≡ [] }
-    requires paced { MayRead S.allows BeginsMenu (joined S.told K.told joint.old) }
+    requires flushed { (K.history joint.old.sink.now).written.buffered ≡ [] }
+    requires paced { MayRead S.allows BeginsMenu (joined S.history K.history joint.old) }
     ensures same_source { joint.new.source.ghost_name ≡ joint.old.source.ghost_name }
     ensures sink { joint.new.sink ≡ joint.old.sink }
     ensures reads { MatchResult result
-        (λ menu. TakesMenu (S.told joint.old.source.now).left (S.told joint.new.source.now).left (menu_said menu)
-        × ((S.told joint.new.source.now).faults ≡ (S.told joint.old.source.now).faults))
-        (StopsMenu (S.told joint.old.source.now).left (S.told joint.new.source.now).left
-        (S.told joint.old.source.now).faults (S.told joint.new.source.now).faults) }
+        (λ menu. TakesMenu (S.history joint.old.source.now).left (S.history joint.new.source.now).left (menu_said menu)
+        × ((S.history joint.new.source.now).faults ≡ (S.history joint.old.source.now).faults))
+        (StopsMenu (S.history joint.old.source.now).left (S.history joint.new.source.now).left
+        (S.history joint.old.source.now).faults (S.history joint.new.source.now).faults) }
 {
     let mut input = Input::with_room(MAX_MENU_BYTES);
     let mut menu = ReadMenu::new();

@@ -45,12 +45,12 @@ pub fn end_apart<K: Sink>(
     requires limits { IsHeader begun.head }
     requires some { 1 ≤ states }
     requires seed { 1 ≤ seed }
-    requires none { (K.told sink.old).written.held ≡ [] }
+    requires none { (K.history sink.old).written.buffered ≡ [] }
     ensures ends { (i : Image) → BeginsFrames i begun.head (⟦<RawFrames as Frames>⟧.memory begun.mem) → EndsWithFound
-        (IsFoundApart states count seed) i result.status (K.told sink.old) (K.told sink.new) }
-    ensures calm { result.status ≢ 4 → (K.told sink.new).faults ≡ (K.told sink.old).faults }
+        (IsFoundApart states count seed) i result.status (K.history sink.old) (K.history sink.new) }
+    ensures no_faults { result.status ≢ 4 → (K.history sink.new).faults ≡ (K.history sink.old).faults }
     ensures none { result.machine ≡ None }
-    ensures settled { result.status ≢ 4 → (K.told sink.new).written.held ≡ [] }
+    ensures flushed { result.status ≢ 4 → (K.history sink.new).written.buffered ≡ [] }
 {
     let Begun { head, mem } = begun;
     match find(alloc, &head, mem, states, count, seed) {
@@ -213,21 +213,21 @@ fn find_from<C: Callback, F: First, L: Ledger>(
 fn show<K: Sink>(head: &Header, known: &Knowledge, sink: &mut K) -> Result<(), Failed>
     requires { AllByRecursion CanBeShown known.now.guests.items }
     ensures wrote { MatchResult result
-        (λ _. Appends (K.told sink.old).written (K.told sink.new).written (knowledge_text head.now known.now))
-        (λ _. SendsPart (K.told sink.old).written (K.told sink.new).written (knowledge_text head.now known.now)) }
-    ensures none { OnOk result ((K.told sink.new).written.held ≡ []) }
-    ensures cause { HasCause (K.told sink.old).faults (K.told sink.new).faults result }
+        (λ _. Appends (K.history sink.old).written (K.history sink.new).written (knowledge_text head.now known.now))
+        (λ _. SendsPart (K.history sink.old).written (K.history sink.new).written (knowledge_text head.now known.now)) }
+    ensures none { OnOk result ((K.history sink.new).written.buffered ≡ []) }
+    ensures cause { HasCause (K.history sink.old).faults (K.history sink.new).faults result }
 {
     give(head, known, sink)?;
-    sink.settle()
+    sink.flush()
 }
 
 // Writes the text.
 fn give<K: Sink>(head: &Header, known: &Knowledge, sink: &mut K) -> Result<(), Failed>
     requires { AllByRecursion CanBeShown known.now.guests.items }
-    ensures wrote { Wrote result (K.told sink.old).written (K.told sink.new).written
+    ensures wrote { Wrote result (K.history sink.old).written (K.history sink.new).written
         (knowledge_text head.now known.now) }
-    ensures cause { HasCause (K.told sink.old).faults (K.told sink.new).faults result }
+    ensures cause { HasCause (K.history sink.old).faults (K.history sink.new).faults result }
 {
     let plans = head.plans.len() as u64;
     write_image(head.frames, head.cpus, plans, head.pages, sink)?;

@@ -62,13 +62,13 @@ pub fn end_search<K: Sink>(
     requires short { length may.now ≤ 1024 }
     requires some { 1 ≤ states }
     requires seed { 1 ≤ start.seed }
-    requires none { (K.told sink.old).written.held ≡ [] }
+    requires none { (K.history sink.old).written.buffered ≡ [] }
     ensures ends { (i : Image) → BeginsFrames i begun.head (⟦<RawFrames as Frames>⟧.memory begun.mem) → EndsWithFound
-        (IsSearchedAgainst (given_menu may.now labels.now) states from depth start) i result.status (K.told sink.old)
-        (K.told sink.new) }
-    ensures calm { result.status ≢ 4 → (K.told sink.new).faults ≡ (K.told sink.old).faults }
+        (IsSearchedAgainst (given_menu may.now labels.now) states from depth start) i result.status (K.history sink.old)
+        (K.history sink.new) }
+    ensures no_faults { result.status ≢ 4 → (K.history sink.new).faults ≡ (K.history sink.old).faults }
     ensures none { result.machine ≡ None }
-    ensures settled { result.status ≢ 4 → (K.told sink.new).written.held ≡ [] }
+    ensures flushed { result.status ≢ 4 → (K.history sink.new).written.buffered ≡ [] }
 {
     let Begun { head, mem } = begun;
     match find(alloc, &head, mem, may, labels, states, from, depth, start) {
@@ -298,15 +298,15 @@ fn show<K: Sink>(
     requires count { length told.now.said.items ≡ length labels.now }
     requires some { 1 ≤ head.now.cpus }
     ensures wrote { MatchResult result
-        (λ _. Appends (K.told sink.old).written (K.told sink.new).written
+        (λ _. Appends (K.history sink.old).written (K.history sink.new).written
         (told_text head.now told.now (label_bytes labels.now)))
-        (λ _. SendsPart (K.told sink.old).written (K.told sink.new).written
+        (λ _. SendsPart (K.history sink.old).written (K.history sink.new).written
         (told_text head.now told.now (label_bytes labels.now))) }
-    ensures none { OnOk result ((K.told sink.new).written.held ≡ []) }
-    ensures cause { HasCause (K.told sink.old).faults (K.told sink.new).faults result }
+    ensures none { OnOk result ((K.history sink.new).written.buffered ≡ []) }
+    ensures cause { HasCause (K.history sink.old).faults (K.history sink.new).faults result }
 {
     give(head, told, labels, sink)?;
-    sink.settle()
+    sink.flush()
 }
 
 // Writes the text.
@@ -319,9 +319,9 @@ fn give<K: Sink>(
     requires ways { HasWays told.now }
     requires count { length told.now.said.items ≡ length labels.now }
     requires some { 1 ≤ head.now.cpus }
-    ensures wrote { Wrote result (K.told sink.old).written (K.told sink.new).written
+    ensures wrote { Wrote result (K.history sink.old).written (K.history sink.new).written
         (told_text head.now told.now (label_bytes labels.now)) }
-    ensures cause { HasCause (K.told sink.old).faults (K.told sink.new).faults result }
+    ensures cause { HasCause (K.history sink.old).faults (K.history sink.new).faults result }
 {
     let lines = planned_lines(head.plans.as_slice());
     write_image(

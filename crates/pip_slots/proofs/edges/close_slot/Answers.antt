@@ -3,6 +3,6 @@ use Rattle.pip_slots.proofs.edges.close_slot.Goals as goal
 
 pub returns-clause-acts : goal.returns-clause-acts
 returns-clause-acts g c = λ w h. closed_taken w c.args.t c.args.here (c.requires.here w h)
-    (g.P.Port.stands c.poll-outcome.new.self) (g.K.Sink.told c.args.sink.now).written
-    (g.K.Sink.told c.write_moved.new.sink).written c.write_moved.result c.poll-outcome.result c.if-here.false
+    (g.P.Port.stands c.poll-outcome.new.self) (g.K.Sink.history c.args.sink.now).written
+    (g.K.Sink.history c.write_moved.new.sink).written c.write_moved.result c.poll-outcome.result c.if-here.false
     (c.poll-outcome.ensures.event _ (c.raise.ensures.event w h).1) c.write_moved.ensures.wrote

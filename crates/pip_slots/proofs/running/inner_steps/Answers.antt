@@ -9,8 +9,8 @@ use Rattle.pip_slots.proofs.running.inner_steps.Goals as goal
 pub loop-k-init : goal.loop-k-init
 loop-k-init g c = record {
   count = search rules;
-  calm = search rules;
-  progress = λ w h. inners_begun (StandsAs c.args.machine.now) (g.K.Sink.told c.args.sink.now).written w c.args.turns
+  no_faults = search rules;
+  progress = λ w h. inners_begun (StandsAs c.args.machine.now) (g.K.Sink.history c.args.sink.now).written w c.args.turns
       c.args.t h;
 }
 
@@ -23,7 +23,7 @@ returns-in_err-inner_once-clause-acts g c = λ w h.
 pub loop-k-preserved : goal.loop-k-preserved
 loop-k-preserved g c = record {
   count = search rules;
-  calm = search rules;
+  no_faults = search rules;
   progress = λ w h. inners_on _ _ _ w _ c.args.turns c.args.t c.loop-k.k c.loop-k-test.true _ _
       (c.loop-k.invariant.progress w h) c.in_ok-inner_once.ensures.acts;
 }
@@ -32,7 +32,7 @@ pub returns-clause-acts : goal.returns-clause-acts
 returns-clause-acts g c = λ w h.
     let past = c.loop-k-test.false in
     let e : c.args.turns - c.loop-k.k ≡ 0 = omega (arith, past) in
-    progress_end _ _ _ w _ (subst (λ n. Progress (StandsAs c.loop-k.machine) (g.K.Sink.told c.args.sink.now).written
-    (g.K.Sink.told c.loop-k.sink).written w (slot_turns w c.args.turns c.args.t) (λ v. slot_turns v n (c.args.t +
+    progress_end _ _ _ w _ (subst (λ n. Progress (StandsAs c.loop-k.machine) (g.K.Sink.history c.args.sink.now).written
+    (g.K.Sink.history c.loop-k.sink).written w (slot_turns w c.args.turns c.args.t) (λ v. slot_turns v n (c.args.t +
     c.loop-k.k))) e
     (c.loop-k.invariant.progress w h))

@@ -8,8 +8,8 @@ use Rattle.pip_slots.proofs.running.inner_steps.Given as goal
 abbrev pub invariant-loop-k : goal.invariant-loop-k
 invariant-loop-k g l = record {
   count : length l.machine.cpus ≡ length l.fn.machine.cpus;
-  calm : (g.K.Sink.told l.sink).faults ≡ (g.K.Sink.told l.fn.sink).faults;
+  no_faults : (g.K.Sink.history l.sink).faults ≡ (g.K.Sink.history l.fn.sink).faults;
   progress : (w : World) → StandsAs l.fn.machine w
-      → Progress (StandsAs l.machine) (g.K.Sink.told l.fn.sink).written (g.K.Sink.told l.sink).written w
+      → Progress (StandsAs l.machine) (g.K.Sink.history l.fn.sink).written (g.K.Sink.history l.sink).written w
       (slot_turns w l.turns l.t) (λ v. slot_turns v (l.turns - l.k) (l.t + l.k));
 }

@@ -8,9 +8,9 @@ use Rattle.pip_slots.proofs.running.run_rounds.Goals as goal
 pub loop-k-init : goal.loop-k-init
 loop-k-init g c = record {
   count = search rules;
-  calm = search rules;
+  no_faults = search rules;
   steps = omega arith;
-  progress = λ w h. rounds_begun (StandsAs c.args.machine.now) (g.K.Sink.told c.args.sink.now).written w
+  progress = λ w h. rounds_begun (StandsAs c.args.machine.now) (g.K.Sink.history c.args.sink.now).written w
       c.args.round.now
       c.args.count h;
 }
@@ -37,7 +37,7 @@ returns-in_err-t-clause-acts g c = λ w h.
 pub loop-k-preserved : goal.loop-k-preserved
 loop-k-preserved g c = record {
   count = search rules;
-  calm = search rules;
+  no_faults = search rules;
   steps =
       let t = c.loop-k.invariant.steps in
       let next = c.in_ok-t.ensures.next in

@@ -8,9 +8,9 @@ use Rattle.pip_slots.proofs.running.run_rounds.Given as goal
 abbrev pub invariant-loop-k : goal.invariant-loop-k
 invariant-loop-k g l = record {
   count : length l.machine.cpus ≡ length l.fn.machine.cpus;
-  calm : (g.K.Sink.told l.sink).faults ≡ (g.K.Sink.told l.fn.sink).faults;
+  no_faults : (g.K.Sink.history l.sink).faults ≡ (g.K.Sink.history l.fn.sink).faults;
   steps : l.t ≡ plan_steps l.round * l.k;
   progress : (w : World) → StandsAs l.fn.machine w
-      → Progress (StandsAs l.machine) (g.K.Sink.told l.fn.sink).written (g.K.Sink.told l.sink).written w
+      → Progress (StandsAs l.machine) (g.K.Sink.history l.fn.sink).written (g.K.Sink.history l.sink).written w
       (slot_run w (rounds l.round l.count) 0) (λ v. slot_run v (rounds l.round (l.count - l.k)) l.t);
 }

@@ -38,16 +38,17 @@ one_slot-requires-clause-small g c =
 pub loop-i-init : goal.loop-i-init
 loop-i-init g c = record {
   count = search rules;
-  calm = search rules;
+  no_faults = search rules;
   left = search rules;
-  progress = λ w h. slots_begun (StandsAs c.args.machine.now) (g.K.Sink.told c.args.sink.now).written w c.args.slots.now
+  progress = λ w h. slots_begun (StandsAs c.args.machine.now)
+      (g.K.Sink.history c.args.sink.now).written w c.args.slots.now
       c.args.first h;
 }
 
 pub loop-i-preserved : goal.loop-i-preserved
 loop-i-preserved g c = record {
   count = search rules;
-  calm = search rules;
+  no_faults = search rules;
   left =
       let t = c.loop-i.invariant.left in
       let ss = c.args.slots.now in

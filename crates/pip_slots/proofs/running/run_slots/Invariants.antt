@@ -8,9 +8,9 @@ use Rattle.pip_slots.proofs.running.run_slots.Given as goal
 abbrev pub invariant-loop-i : goal.invariant-loop-i
 invariant-loop-i g l = record {
   count : length l.machine.cpus ≡ length l.fn.machine.cpus;
-  calm : (g.K.Sink.told l.sink).faults ≡ (g.K.Sink.told l.fn.sink).faults;
+  no_faults : (g.K.Sink.history l.sink).faults ≡ (g.K.Sink.history l.fn.sink).faults;
   left : l.t + plan_steps (drop l.i l.slots) ≡ l.first + plan_steps l.slots;
   progress : (w : World) → StandsAs l.fn.machine w
-      → Progress (StandsAs l.machine) (g.K.Sink.told l.fn.sink).written (g.K.Sink.told l.sink).written w
+      → Progress (StandsAs l.machine) (g.K.Sink.history l.fn.sink).written (g.K.Sink.history l.sink).written w
       (slot_run w l.slots l.first) (λ v. slot_run v (drop l.i l.slots) l.t);
 }

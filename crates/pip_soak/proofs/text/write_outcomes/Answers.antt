@@ -25,7 +25,7 @@ returns-clause-text g c =
     let switch = counted_text (codes "switch") n.switched in
     let park = counted_text (codes "park") n.parked in
     let idle = counted_text (codes "idle") n.idle in
-    subst (Wrote c.write_three-2.result (g.K.Sink.told c.args.sink.now).written
-    (g.K.Sink.told c.write_three-2.new.sink).written) (regrouped first switch park idle)
+    subst (Wrote c.write_three-2.result (g.K.Sink.history c.args.sink.now).written
+    (g.K.Sink.history c.write_three-2.new.sink).written) (regrouped first switch park idle)
     (wrote_after _ _ _ first (switch ++ park ++ idle) c.write_three-2.result c.in_ok-write_three.ensures.text
     c.write_three-2.ensures.text)

@@ -9,11 +9,11 @@ abbrev line : List ℕ → ℕ → List ℕ
 line replies s = counted_text (codes "reply " ++ decimal s) (get_or replies s 0)
 
 pub loop-s-init : goal.loop-s-init
-loop-s-init g c = record { calm = refl; left = left_start (g.K.Sink.told c.args.sink.now).written _ }
+loop-s-init g c = record { no_faults = refl; left = left_start (g.K.Sink.history c.args.sink.now).written _ }
 
 pub loop-s-preserved : goal.loop-s-preserved
 loop-s-preserved g c = record {
-  calm = c.in_ok-write_reply.ensures.cause.calm ∙ c.loop-s.invariant.calm;
+  no_faults = c.in_ok-write_reply.ensures.cause.no_faults ∙ c.loop-s.invariant.no_faults;
   left = left_more _ _ _ _ _ _ (left_same _ _ _ _ _ (ap (flat_map (line c.args.replies.now))
       (numbers_step c.loop-s.s 19 c.loop-s-test.true)) c.loop-s.invariant.left) c.in_ok-write_reply.ensures.text;
 }

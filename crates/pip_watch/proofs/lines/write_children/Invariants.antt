@@ -5,6 +5,7 @@ use Rattle.pip_watch.proofs.lines.write_children.Given as goal
 
 abbrev pub invariant-loop-i : goal.invariant-loop-i
 invariant-loop-i g l = record {
-  wrote : Appends (g.K.Sink.told l.fn.sink).written (g.K.Sink.told l.sink).written (built_from 0 (take l.i l.children));
-  calm : (g.K.Sink.told l.sink).faults ≡ (g.K.Sink.told l.fn.sink).faults;
+  wrote : Appends (g.K.Sink.history l.fn.sink).written (g.K.Sink.history l.sink).written
+      (built_from 0 (take l.i l.children));
+  no_faults : (g.K.Sink.history l.sink).faults ≡ (g.K.Sink.history l.fn.sink).faults;
 }

@@ -21,13 +21,13 @@ returns-in_err-write_label g c = record {
       omega (arith, c.loop-k-test.true, c.len-k-end.ensures) in
       let vs = c.args.search.now.visits.items in
       let fs = c.args.search.now.found.items in
-      subst (AppendsPart (g.K.Sink.told c.args.sink.now).written (g.K.Sink.told c.write_label.new.sink).written)
+      subst (AppendsPart (g.K.Sink.history c.args.sink.now).written (g.K.Sink.history c.write_label.new.sink).written)
       (found_lines c.args.cpus c.args.lines.now c.args.verdict vs fs)
       (cut_here (found_line c.args.cpus c.args.lines.now c.args.verdict vs) _ _ _ fs c.loop-k.k
       c.index-found.result.now
       (found_at (λ way. way.items) vs fs c.args.ways.now c.requires.ways c.loop-k.k less c.index-found.result.now
       c.index-found.ensures c.index-ways-k.result c.index-ways-k.is) c.loop-k.invariant.wrote
-      (subst (AppendsPart (g.K.Sink.told c.loop-k.sink).written (g.K.Sink.told c.write_label.new.sink).written)
+      (subst (AppendsPart (g.K.Sink.history c.loop-k.sink).written (g.K.Sink.history c.write_label.new.sink).written)
       (line_here (λ way. way.items) vs fs c.args.ways.now c.requires.ways c.loop-k.k less c.index-found.result.now
       c.index-found.ensures c.index-ways-k.result c.index-ways-k.is c.args.verdict c.if-not-covers.ensures
       c.requires.traced c.args.cpus c.args.lines.now c.deref.result.now c.deref-in-loop-k.result.now
@@ -46,13 +46,13 @@ loop-k-preserved g c =
           (found_at (λ way. way.items) vs fs c.args.ways.now c.requires.ways c.loop-k.k less
           c.index-found.result.now c.index-found.ensures c.index-ways-k.result c.index-ways-k.is)
           c.loop-k.invariant.wrote
-          (subst (Appends (g.K.Sink.told c.loop-k.sink).written (g.K.Sink.told c.write_label.new.sink).written)
+          (subst (Appends (g.K.Sink.history c.loop-k.sink).written (g.K.Sink.history c.write_label.new.sink).written)
           (line_here (λ way. way.items) vs fs c.args.ways.now c.requires.ways c.loop-k.k less
           c.index-found.result.now c.index-found.ensures c.index-ways-k.result c.index-ways-k.is c.args.verdict
           c.if-not-covers.ensures c.requires.traced c.args.cpus c.args.lines.now c.deref.result.now
           c.deref-in-loop-k.result.now c.deref.ensures.value c.deref-in-loop-k.ensures.value)
           c.in_ok-write_label.ensures.wrote);
-      calm = c.in_ok-write_label.ensures.cause.calm ∙ c.loop-k.invariant.calm;
+      no_faults = c.in_ok-write_label.ensures.cause.no_faults ∙ c.loop-k.invariant.no_faults;
     }
 
 pub returns : goal.returns
@@ -61,7 +61,7 @@ returns g c = record {
       omega (arith, c.loop-k-test.false, c.len-k-end.ensures) in
       let vs = c.args.search.now.visits.items in
       let fs = c.args.search.now.found.items in
-      subst (Appends (g.K.Sink.told c.args.sink.now).written (g.K.Sink.told c.loop-k.sink).written)
+      subst (Appends (g.K.Sink.history c.args.sink.now).written (g.K.Sink.history c.loop-k.sink).written)
       (ap (flat_map (found_line c.args.cpus c.args.lines.now c.args.verdict vs)) (all_taken fs c.loop-k.k most)
       ∙ found_lines c.args.cpus c.args.lines.now c.args.verdict vs fs) c.loop-k.invariant.wrote;
   cause = search rules;

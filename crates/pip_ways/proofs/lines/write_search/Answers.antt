@@ -9,8 +9,8 @@ pub returns : goal.returns
 returns g c = record {
   wrote = let count : c.len.result ≡ length c.args.search.now.visits.items = omega (arith, c.len.ensures) in
       wrote_of _ _ _ _ _ c.write_verdict.result c.in_ok-write_labels.ensures.wrote
-      (subst (λ n. Wrote c.write_verdict.result (g.K.Sink.told c.write_labels.new.sink).written
-      (g.K.Sink.told c.write_verdict.new.sink).written (verdict_line n c.args.verdict)) count
+      (subst (λ n. Wrote c.write_verdict.result (g.K.Sink.history c.write_labels.new.sink).written
+      (g.K.Sink.history c.write_verdict.new.sink).written (verdict_line n c.args.verdict)) count
       c.write_verdict.ensures.wrote);
   cause = search rules;
 }

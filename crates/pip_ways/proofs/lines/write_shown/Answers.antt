@@ -17,7 +17,8 @@ pub returns : goal.returns
 returns g c = record {
   wrote = wrote_after _ _ _ _ _ c.write_all-2.result
       (Appends-trans _ _ _ _ _ c.in_ok-write_number.ensures.wrote
-      (subst (Appends (g.K.Sink.told c.write_number.new.sink).written (g.K.Sink.told c.write_all.new.sink).written)
+      (subst (Appends (g.K.Sink.history c.write_number.new.sink).written
+      (g.K.Sink.history c.write_all.new.sink).written)
       c.inner.ensures c.in_ok-write_all.ensures.whole))
       c.write_all-2.ensures.whole c.write_all-2.ensures.prefix;
   cause = search rules;
@@ -28,7 +29,8 @@ returns-in_err-write_all g c = record {
   wrote = MatchResult-from_err c.from_residual-in_err-write_all.result _ _
       c.from_residual-in_err-write_all.ensures.0 (λ _.
       part_longer _ _ _ _ (part_after _ _ _ _ _ c.in_ok-write_number.ensures.wrote
-      (subst (AppendsPart (g.K.Sink.told c.write_number.new.sink).written (g.K.Sink.told c.write_all.new.sink).written)
+      (subst (AppendsPart (g.K.Sink.history c.write_number.new.sink).written
+      (g.K.Sink.history c.write_all.new.sink).written)
       c.inner.ensures c.in_err-write_all.ensures.prefix)));
   cause = search rules;
 }

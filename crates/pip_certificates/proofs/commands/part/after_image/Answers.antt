@@ -13,12 +13,12 @@ returns-in-Ok-clause-ends g c = λ left l.
     let end = c.end_checked.ensures in
     let said : part_said c.limits_of-limits.result c.size_of-size.result ≡ header_said c.args.begun.head =
     ap₂ part_said c.limits_of-limits.ensures c.size_of-size.ensures.size in
-    ends_same g.K.Sink.told (ap (λ s. s.now) c.in-Ok.ensures.sink) c.requires.none (λ none.
-    part_checked c.args.from _ _ _ _ end.settled end.none none l (part_seen c.in-Ok.read)
-    (subst (λ f. EndsText f (g.S.Source.told c.args.joint.now.source.now).left
-    (g.S.Source.told c.read_part.new.joint.source.now).left (part_seen c.in-Ok.read)) said reads.0) (record {
+    ends_same g.K.Sink.history (ap (λ s. s.now) c.in-Ok.ensures.sink) c.requires.none (λ none.
+    part_checked c.args.from _ _ _ _ end.flushed end.none none l (part_seen c.in-Ok.read)
+    (subst (λ f. EndsText f (g.S.Source.history c.args.joint.now.source.now).left
+    (g.S.Source.history c.read_part.new.joint.source.now).left (part_seen c.in-Ok.read)) said reads.0) (record {
       reads = λ not. reads.1;
-      writes = end.calm;
+      writes = end.no_faults;
     })
     (end.ends l.parsed l.begins))
 
@@ -27,12 +27,12 @@ returns-in-Err-Bad-clause-ends g c = λ left l.
     let end = c.end_with.ensures in
     let said : part_said c.limits_of-limits.result c.size_of-size.result ≡ header_said c.args.begun.head =
     ap₂ part_said c.limits_of-limits.ensures c.size_of-size.ensures.size in
-    ends_same g.K.Sink.told (ap (λ s. s.now) c.in-Err-Bad.ensures.sink) c.requires.none (λ none.
-    part_bad c.args.from _ _ _ _ end.settled end.none none l c.in-Err-Bad.fault c.in-Err-Bad.field-0-is refl
-    (subst (λ f. StopsText f (g.S.Source.told c.args.joint.now.source.now).left
-    (g.S.Source.told c.read_part.new.joint.source.now).left (g.S.Source.told c.args.joint.now.source.now).faults
-    (g.S.Source.told c.read_part.new.joint.source.now).faults c.in-Err-Bad.field-0) said c.in-Err-Bad.ensures.reads)
-    end.calm
+    ends_same g.K.Sink.history (ap (λ s. s.now) c.in-Err-Bad.ensures.sink) c.requires.none (λ none.
+    part_bad c.args.from _ _ _ _ end.flushed end.none none l c.in-Err-Bad.fault c.in-Err-Bad.field-0-is refl
+    (subst (λ f. StopsText f (g.S.Source.history c.args.joint.now.source.now).left
+    (g.S.Source.history c.read_part.new.joint.source.now).left (g.S.Source.history c.args.joint.now.source.now).faults
+    (g.S.Source.history c.read_part.new.joint.source.now).faults c.in-Err-Bad.field-0) said c.in-Err-Bad.ensures.reads)
+    end.no_faults
     (c.as_bytes.ensures.value ∙ (c.as_str.ensures.value ∙ (c.bad_part.ensures
     ∙ ap bad_part_line c.in-Err-Bad.fault-is))) end.wrote)
 
@@ -41,12 +41,12 @@ returns-in-Err-Unread-clause-ends g c = λ left l.
     let end = c.with_status.ensures in
     let said : part_said c.limits_of-limits.result c.size_of-size.result ≡ header_said c.args.begun.head =
     ap₂ part_said c.limits_of-limits.ensures c.size_of-size.ensures.size in
-    ends_same g.K.Sink.told (ap (λ s. s.now) c.in-Err-Unread.ensures.sink) c.requires.none (λ none.
+    ends_same g.K.Sink.history (ap (λ s. s.now) c.in-Err-Unread.ensures.sink) c.requires.none (λ none.
     part_unread c.args.from _ _ _ _ (λ not. none) (ap (λ e. e.machine) end) none l (ap (λ e. e.status) end)
     c.in-Err-Unread.field-0-is refl
-    (subst (λ f. StopsText f (g.S.Source.told c.args.joint.now.source.now).left
-    (g.S.Source.told c.read_part.new.joint.source.now).left (g.S.Source.told c.args.joint.now.source.now).faults
-    (g.S.Source.told c.read_part.new.joint.source.now).faults c.in-Err-Unread.field-0) said
+    (subst (λ f. StopsText f (g.S.Source.history c.args.joint.now.source.now).left
+    (g.S.Source.history c.read_part.new.joint.source.now).left (g.S.Source.history c.args.joint.now.source.now).faults
+    (g.S.Source.history c.read_part.new.joint.source.now).faults c.in-Err-Unread.field-0) said
     c.in-Err-Unread.ensures.reads)
     (Keeps-refl _) refl)
 
@@ -55,11 +55,11 @@ returns-clause-ends g c = λ left l.
     let end = c.with_status-in-Err-Memory.ensures in
     let said : part_said c.limits_of-limits.result c.size_of-size.result ≡ header_said c.args.begun.head =
     ap₂ part_said c.limits_of-limits.ensures c.size_of-size.ensures.size in
-    ends_same g.K.Sink.told (ap (λ s. s.now) c.in-Err-Memory.ensures.sink) c.requires.none (λ none.
+    ends_same g.K.Sink.history (ap (λ s. s.now) c.in-Err-Memory.ensures.sink) c.requires.none (λ none.
     part_unheld c.args.from _ _ _ _ (λ not. none) (ap (λ e. e.machine) end) none l (ap (λ e. e.status) end)
     c.in-Err-Memory.field-0-is refl
-    (subst (λ f. StopsText f (g.S.Source.told c.args.joint.now.source.now).left
-    (g.S.Source.told c.read_part.new.joint.source.now).left (g.S.Source.told c.args.joint.now.source.now).faults
-    (g.S.Source.told c.read_part.new.joint.source.now).faults c.in-Err-Memory.field-0) said
+    (subst (λ f. StopsText f (g.S.Source.history c.args.joint.now.source.now).left
+    (g.S.Source.history c.read_part.new.joint.source.now).left (g.S.Source.history c.args.joint.now.source.now).faults
+    (g.S.Source.history c.read_part.new.joint.source.now).faults c.in-Err-Memory.field-0) said
     c.in-Err-Memory.ensures.reads)
     (Keeps-refl _) refl)

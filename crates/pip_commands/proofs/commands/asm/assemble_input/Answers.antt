@@ -9,8 +9,12 @@ pub returns-in-Ok-clause-ends : goal.returns-in-Ok-clause-ends
 returns-in-Ok-clause-ends g c =
     let same : c.as_slice.result.now ≡ c.in-Ok.text.items = search rules in
     let end = c.write_assembly.ensures in
-    ends_same g.K.Sink.told (ap (λ s. s.now) c.read_whole.ensures.sink) c.requires.paced.none (λ none.
-    asm_written _ _ _ _ end.none (record { reads = λ n. c.in-Ok.ensures.calm (λ e. cc); writes = end.calm }) end.settled
+    ends_same g.K.Sink.history (ap (λ s. s.now) c.read_whole.ensures.sink) c.requires.paced.none (λ none.
+    asm_written _ _ _ _ end.none (record {
+      reads = λ n. c.in-Ok.ensures.no_faults
+          (λ e. cc);
+      writes = end.no_faults;
+    }) end.flushed
     none c.in-Ok.text.items c.in-Ok.ensures.read c.as_slice.result.now same end.wrote)
 
 pub read_whole-requires-clause-paced : goal.read_whole-requires-clause-paced

@@ -32,18 +32,20 @@ returns-in-Ok-read_core_from_joint-clause-ends g c =
     let m = c.read_core_from_joint.new.mem.block.frames in
     let end = c.judge.ensures in
     let count = ap length c.in-Ok.ensures.zeros ∙ length-replicate c.args.frames (zeros 1024) in
-    ends_same g.K.Sink.told (ap (λ s. s.now) c.read_core_from_joint.ensures.sink) c.requires.paced.none (λ none.
-    ends_judged c.args.frames _ _ _ _ end.machine (record { reads = λ not. reads.1; writes = end.calm }) end.none none m
-    (subst (λ n. IsText n (g.S.Source.told c.args.joint.now.source.now).left
-    (g.S.Source.told c.read_core_from_joint.new.joint.source.now).left m) count reads.0) end.wrote)
+    ends_same g.K.Sink.history (ap (λ s. s.now) c.read_core_from_joint.ensures.sink) c.requires.paced.none (λ none.
+    ends_judged c.args.frames _ _ _ _ end.machine
+    (record { reads = λ not. reads.1; writes = end.no_faults }) end.none none m
+    (subst (λ n. IsText n (g.S.Source.history c.args.joint.now.source.now).left
+    (g.S.Source.history c.read_core_from_joint.new.joint.source.now).left m) count reads.0) end.wrote)
 
 pub returns-in-Err-Line-clause-ends : goal.returns-in-Err-Line-clause-ends
 returns-in-Err-Line-clause-ends g c =
     let end = c.end_with.ensures in
     let count = ap length c.in-Ok.ensures.zeros ∙ length-replicate c.args.frames (zeros 1024) in
     let refused = refused_as _ _ _ _ count c.in-Err-Line.field-0-is c.in-Err-Line.ensures.reads in
-    ends_same g.K.Sink.told (ap (λ s. s.now) c.read_core_from_joint.ensures.sink) c.requires.paced.none (λ none.
-    ends_bad c.args.frames _ _ _ _ end.none (record { reads = λ not. refused.1; writes = end.calm }) end.settled none
+    ends_same g.K.Sink.history (ap (λ s. s.now) c.read_core_from_joint.ensures.sink) c.requires.paced.none (λ none.
+    ends_bad c.args.frames _ _ _ _ end.none (record { reads = λ not. refused.1; writes = end.no_faults })
+    end.flushed none
     c.in-Err-Line.number refused.0 (c.as_bytes.ensures.value ∙ c.as_str.ensures.value ∙ c.bad_line.ensures) end.wrote)
 
 pub returns-clause-ends : goal.returns-clause-ends
@@ -52,7 +54,7 @@ returns-clause-ends g c =
     let is = ap (λ e. e.status) end in
     let count = ap length c.in-Ok.ensures.zeros ∙ length-replicate c.args.frames (zeros 1024) in
     let refused = refused_as _ _ _ _ count c.in-Err-Read.field-0-is c.in-Err-Read.ensures.reads in
-    ends_same g.K.Sink.told (ap (λ s. s.now) c.read_core_from_joint.ensures.sink) c.requires.paced.none (λ none.
+    ends_same g.K.Sink.history (ap (λ s. s.now) c.read_core_from_joint.ensures.sink) c.requires.paced.none (λ none.
     ends_unread c.args.frames _ _ _ _ (ap (λ e. e.machine) end)
     (record { reads = λ not. absurd (not is); writes = λ not. refl }) (λ not. none) is refused.0 (Keeps-refl _)
     refused.1)

@@ -15,8 +15,9 @@ returns-in-Err-clause-wrote g c =
     let none =
     told_none c.no_line.result _ _ c.in_default.not-Some (c.no_line.ensures (finding m) c.requires.verdict) in
     answers_cut m c.requires.shape c.requires.words none c.with_status.result.status
-    (g.K.Sink.told c.args.sink.now).written (g.K.Sink.told c.tree_text.new.sink).written
-    c.tree_text.result (g.K.Sink.told c.args.sink.now).faults (g.K.Sink.told c.tree_text.new.sink).faults (search rules)
+    (g.K.Sink.history c.args.sink.now).written (g.K.Sink.history c.tree_text.new.sink).written
+    c.tree_text.result (g.K.Sink.history c.args.sink.now).faults (g.K.Sink.history c.tree_text.new.sink).faults
+    (search rules)
     (ap (λ e. e.status) c.with_status.ensures) c.tree_text.ensures.text c.in-Err.ensures.cause.failed
 
 pub returns-in-Ok-clause-wrote : goal.returns-in-Ok-clause-wrote
@@ -25,7 +26,7 @@ returns-in-Ok-clause-wrote g c =
     let none =
     told_none c.no_line.result _ _ c.in_default.not-Some (c.no_line.ensures (finding m) c.requires.verdict) in
     answers_yes m c.requires.shape c.requires.words none c.end_with-in-Ok.result.status
-    (g.K.Sink.told c.args.sink.now).written (g.K.Sink.told c.end_with-in-Ok.new.sink).written
-    (g.K.Sink.told c.tree_text.new.sink).written (g.K.Sink.told c.args.sink.now).faults
-    (g.K.Sink.told c.tree_text.new.sink).faults (g.K.Sink.told c.end_with-in-Ok.new.sink).faults
-    c.in-Ok.ensures.cause.calm c.in-Ok.ensures.text c.end_with-in-Ok.ensures.wrote
+    (g.K.Sink.history c.args.sink.now).written (g.K.Sink.history c.end_with-in-Ok.new.sink).written
+    (g.K.Sink.history c.tree_text.new.sink).written (g.K.Sink.history c.args.sink.now).faults
+    (g.K.Sink.history c.tree_text.new.sink).faults (g.K.Sink.history c.end_with-in-Ok.new.sink).faults
+    c.in-Ok.ensures.cause.no_faults c.in-Ok.ensures.text c.end_with-in-Ok.ensures.wrote

@@ -14,7 +14,7 @@ drive-requires-clause-is_open g c = c.requires.paced.is_open (dis_waits _ c.requ
 
 pub returns-in-Ok-None : goal.returns-in-Ok-None
 returns-in-Ok-None g c =
-    let seen = streams g.S.Source.told g.K.Sink.told in
+    let seen = streams g.S.Source.history g.K.Sink.history in
     let e : EndsWith (parts_due image_parts) (seen c.args.source.now c.args.sink.now)
     (seen c.drive.new.source c.drive.new.sink) None = rw (c.new.ensures, c.in-Ok-None.field-0-is) at
     c.in-Ok-None.ensures in
@@ -25,7 +25,7 @@ returns-in-Ok-None g c =
 
 pub returns-in-Ok-Some : goal.returns-in-Ok-Some
 returns-in-Ok-Some g c =
-    let seen = streams g.S.Source.told g.K.Sink.told in
+    let seen = streams g.S.Source.history g.K.Sink.history in
     let fault = c.in-Ok-Some.fault in
     let e : EndsWith (parts_due image_parts) (seen c.args.source.now c.args.sink.now)
     (seen c.drive.new.source c.drive.new.sink) (Some fault) = rw (c.new.ensures, c.in-Ok-Some.field-0-is) at
@@ -34,12 +34,13 @@ returns-in-Ok-Some g c =
     let end = c.end_at_image.ensures in
     record {
       ends = driven_line _ _ _ dis_serves _ _ (Some fault) e e.answer.is.none 2 line (inl (omega arith))
-          (fault_due _ _ _ _ fault line named e.answer) _ _ end.none _ _ end.settled end.calm (rw named at end.wrote);
+          (fault_due _ _ _ _ fault line named e.answer) _ _ end.none _ _ end.flushed end.no_faults
+          (rw named at end.wrote);
     }
 
 pub returns-in-Err-Write : goal.returns-in-Err-Write
 returns-in-Err-Write g c =
-    let seen = streams g.S.Source.told g.K.Sink.told in
+    let seen = streams g.S.Source.history g.K.Sink.history in
     let cut = subst (λ why. Ends (parts_due (told c.new.result.reader)) false (Err why)
     (seen c.args.source.now c.args.sink.now) (seen c.drive.new.source c.drive.new.sink)) c.in-Err-Write.field-0-is
     c.in-Err-Write.ensures in

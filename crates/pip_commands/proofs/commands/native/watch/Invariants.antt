@@ -8,9 +8,9 @@ use Rattle.pip_commands.proofs.commands.native.watch.Given as goal
 abbrev pub invariant-loop-i : goal.invariant-loop-i
 invariant-loop-i g l = record {
   count : length l.machine.cpus ≡ length l.fn.machine.cpus;
-  calm : (g.K.Sink.told l.sink).faults ≡ (g.K.Sink.told l.fn.sink).faults;
+  no_faults : (g.K.Sink.history l.sink).faults ≡ (g.K.Sink.history l.fn.sink).faults;
   progress : (w : World) → StandsAs l.fn.machine w
-      → Progress (StandsAs l.machine) (g.K.Sink.told l.fn.sink).written (g.K.Sink.told l.sink).written w
+      → Progress (StandsAs l.machine) (g.K.Sink.history l.fn.sink).written (g.K.Sink.history l.sink).written w
       (watched_steps w l.lines l.fn.monitor l.count 0)
       (λ v. watched_steps v l.lines l.monitor (l.count - l.i) l.i);
 }

@@ -11,31 +11,31 @@ returns-in-Err-clause-ends g c =
     let load = c.in-Ok.ensures.loads in
     let show = c.in-Err.ensures in
     let is = ap (λ e. e.status) c.with_status.ensures in
-    ends_same g.K.Sink.told (ap (λ s. s.now) c.in-Ok.ensures.sink) c.requires.paced.none (λ none.
+    ends_same g.K.Sink.history (ap (λ s. s.now) c.in-Ok.ensures.sink) c.requires.paced.none (λ none.
     run_cut c.args.report c.args.count c.args.seed _ _ _ _ (λ not. absurd (not is))
     (ap (λ e. e.machine) c.with_status.ensures) none is load (show.shows load.parsed load.begins) show.cause.failed
-    c.in-Ok.ensures.calm)
+    c.in-Ok.ensures.no_faults)
 
 pub returns-in-Err-Image-clause-ends : goal.returns-in-Err-Image-clause-ends
 returns-in-Err-Image-clause-ends g c =
     let end = c.end_at_image.ensures in
-    ends_same g.K.Sink.told (ap (λ s. s.now) c.in-Err-Image.ensures.sink) c.requires.paced.none (λ none.
-    run_faulted c.args.report c.args.count c.args.seed _ _ _ _ end.settled end.none none
-    c.in-Err-Image.field-0-is c.in-Err-Image.ensures.loads end.calm c.in-Err-Image.fault-is end.wrote)
+    ends_same g.K.Sink.history (ap (λ s. s.now) c.in-Err-Image.ensures.sink) c.requires.paced.none (λ none.
+    run_faulted c.args.report c.args.count c.args.seed _ _ _ _ end.flushed end.none none
+    c.in-Err-Image.field-0-is c.in-Err-Image.ensures.loads end.no_faults c.in-Err-Image.fault-is end.wrote)
 
 pub returns-in-Ok-show-clause-ends : goal.returns-in-Ok-show-clause-ends
 returns-in-Ok-show-clause-ends g c =
     let load = c.in-Ok.ensures.loads in
     let show = c.in-Ok-show.ensures in
-    ends_same g.K.Sink.told (ap (λ s. s.now) c.in-Ok.ensures.sink) c.requires.paced.none (λ none.
+    ends_same g.K.Sink.history (ap (λ s. s.now) c.in-Ok.ensures.sink) c.requires.paced.none (λ none.
     run_shown c.args.report c.args.count c.args.seed _ _ _ _ (λ not. show.none) c.show.new.loaded.machine
     refl refl load (show.shows load.parsed load.begins)
-    (record { reads = λ not. c.in-Ok.ensures.calm; writes = λ not. show.cause.calm }))
+    (record { reads = λ not. c.in-Ok.ensures.no_faults; writes = λ not. show.cause.no_faults }))
 
 pub returns-in-Err-Memory-clause-ends : goal.returns-in-Err-Memory-clause-ends
 returns-in-Err-Memory-clause-ends g c =
     let end = c.with_status-in-Err-Memory.ensures in
-    ends_same g.K.Sink.told (ap (λ s. s.now) c.in-Err-Memory.ensures.sink) c.requires.paced.none (λ none.
+    ends_same g.K.Sink.history (ap (λ s. s.now) c.in-Err-Memory.ensures.sink) c.requires.paced.none (λ none.
     run_lacks c.args.report c.args.count c.args.seed _ _ _ _ (λ not. none) (ap (λ e. e.machine) end)
     (ap (λ e. e.status) end) c.in-Err-Memory.field-0-is c.in-Err-Memory.ensures.loads (Keeps-refl _) refl)
 

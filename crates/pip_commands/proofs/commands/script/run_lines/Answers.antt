@@ -11,11 +11,12 @@ use Rattle.pip_commands.proofs.commands.script.run_lines.Goals as goal
 
 pub loop-number-init : goal.loop-number-init
 loop-number-init g c = record {
-  run = begins_run c.new-input.result (joined g.S.Source.told g.K.Sink.told c.args.joint.now) c.new-input.ensures.bytes
+  run = begins_run c.new-input.result (joined g.S.Source.history g.K.Sink.history c.args.joint.now)
+      c.new-input.ensures.bytes
       c.new-input.ensures.room;
   name = refl;
   sink_name = refl;
-  is_open = c.requires.paced.is_open (script_waits (joined g.S.Source.told g.K.Sink.told c.args.joint.now)
+  is_open = c.requires.paced.is_open (script_waits (joined g.S.Source.history g.K.Sink.history c.args.joint.now)
       c.requires.paced.none);
 }
 
@@ -29,9 +30,9 @@ loop-number-preserved g c = record {
 
 pub returns-in-Some-Finished-clause-ends : goal.returns-in-Some-Finished-clause-ends
 returns-in-Some-Finished-clause-ends g c =
-    let a = joined g.S.Source.told g.K.Sink.told c.args.joint.now in
-    let b = joined g.S.Source.told g.K.Sink.told c.loop-number.joint in
-    let d = joined g.S.Source.told g.K.Sink.told c.take_turn.new.joint in
+    let a = joined g.S.Source.history g.K.Sink.history c.args.joint.now in
+    let b = joined g.S.Source.history g.K.Sink.history c.loop-number.joint in
+    let d = joined g.S.Source.history g.K.Sink.history c.take_turn.new.joint in
     let turn = subst (λ e. TurnDoes (Some e) c.loop-number.machine c.take_turn.new.machine c.loop-number.number
     c.loop-number.input c.take_turn.new.input b d) c.in-Some-Finished.field-0-is c.in-Some-Finished.ensures.does in
     script_finished a b d c.loop-number.input c.take_turn.new.input c.loop-number.machine c.take_turn.new.machine
@@ -40,9 +41,9 @@ returns-in-Some-Finished-clause-ends g c =
 
 pub returns-in-Some-clause-ends : goal.returns-in-Some-clause-ends
 returns-in-Some-clause-ends g c =
-    let a = joined g.S.Source.told g.K.Sink.told c.args.joint.now in
-    let b = joined g.S.Source.told g.K.Sink.told c.loop-number.joint in
-    let d = joined g.S.Source.told g.K.Sink.told c.take_turn.new.joint in
+    let a = joined g.S.Source.history g.K.Sink.history c.args.joint.now in
+    let b = joined g.S.Source.history g.K.Sink.history c.loop-number.joint in
+    let d = joined g.S.Source.history g.K.Sink.history c.take_turn.new.joint in
     let other : c.in-Some.end ≢ Finished = search rules in
     subst (λ m. EndsBy script_due c.with_status.result.status m a d) (sym (ap (λ e. e.machine) c.with_status.ensures))
     (script_ends c.in-Some.end a b d c.loop-number.input c.take_turn.new.input c.loop-number.machine
@@ -53,8 +54,8 @@ returns-in-Some-clause-ends g c =
 
 pub take_turn-requires-clause-paced : goal.take_turn-requires-clause-paced
 take_turn-requires-clause-paced g c = λ out kept none bytes left taken is.
-    let a = joined g.S.Source.told g.K.Sink.told c.args.joint.now in
-    let b = joined g.S.Source.told g.K.Sink.told c.loop-number.joint in
+    let a = joined g.S.Source.history g.K.Sink.history c.args.joint.now in
+    let b = joined g.S.Source.history g.K.Sink.history c.loop-number.joint in
     let now : Streams = record { left = left; written = out; reads = b.reads; writes = b.writes } in
     c.requires.paced.allows now (lines_wait a b now c.loop-number.input c.loop-number.machine c.loop-number.number
     c.loop-number.invariant.run none kept (record { reads = refl; writes = refl }) bytes taken is)

@@ -16,8 +16,8 @@ totals-totals-requires g c =
 
 pub returns-in_default : goal.returns-in_default
 returns-in_default g c =
-    let written = (g.K.Sink.told c.args.sink.now).written in
-    let faults = (g.K.Sink.told c.args.sink.now).faults in
+    let written = (g.K.Sink.history c.args.sink.now).written in
+    let faults = (g.K.Sink.history c.args.sink.now).faults in
     record {
       ends = λ left reads. load_lacks c.args.count c.args.seed c.with_status.result.status
           c.with_status.result.machine written
@@ -33,12 +33,13 @@ returns-in-Ok-write_load g c =
     let text = text_of c.soak_load-counts.new.port c.args.count c.args.seed stands c.soak_load-counts.result counts _
     c.mem.ensures c.totals-totals.result c.totals-totals.ensures in
     record {
-      ends = λ left reads. load_done c.args.count c.args.seed 0 _ (g.K.Sink.told c.args.sink.now).written
-          (g.K.Sink.told c.write_load.new.sink).written
-          (g.K.Sink.told c.args.sink.now).faults (g.K.Sink.told c.write_load.new.sink).faults c.requires.none
+      ends = λ left reads. load_done c.args.count c.args.seed 0 _ (g.K.Sink.history c.args.sink.now).written
+          (g.K.Sink.history c.write_load.new.sink).written
+          (g.K.Sink.history c.args.sink.now).faults (g.K.Sink.history c.write_load.new.sink).faults c.requires.none
           (λ not. c.in-Ok-write_load.ensures.none) left reads refl
-          (subst (Appends (g.K.Sink.told c.args.sink.now).written (g.K.Sink.told c.write_load.new.sink).written) text
-          c.in-Ok-write_load.ensures.whole) stands c.in-Ok-write_load.ensures.cause.calm;
+          (subst (Appends (g.K.Sink.history c.args.sink.now).written
+          (g.K.Sink.history c.write_load.new.sink).written) text
+          c.in-Ok-write_load.ensures.whole) stands c.in-Ok-write_load.ensures.cause.no_faults;
     }
 
 pub returns : goal.returns
@@ -50,10 +51,11 @@ returns g c =
     record {
       ends = λ left reads.
           load_cut c.args.count c.args.seed c.with_status-in-Err.result.status c.with_status-in-Err.result.machine
-          (g.K.Sink.told c.args.sink.now).written (g.K.Sink.told c.write_load.new.sink).written
-          (g.K.Sink.told c.args.sink.now).faults (g.K.Sink.told c.write_load.new.sink).faults c.requires.none
+          (g.K.Sink.history c.args.sink.now).written (g.K.Sink.history c.write_load.new.sink).written
+          (g.K.Sink.history c.args.sink.now).faults (g.K.Sink.history c.write_load.new.sink).faults c.requires.none
           (λ not. absurd (not (ap (λ e. e.status) c.with_status-in-Err.ensures))) left reads
           (ap (λ e. e.machine) c.with_status-in-Err.ensures) (ap (λ e. e.status) c.with_status-in-Err.ensures)
-          (subst (SendsPart (g.K.Sink.told c.args.sink.now).written (g.K.Sink.told c.write_load.new.sink).written) text
+          (subst (SendsPart (g.K.Sink.history c.args.sink.now).written
+          (g.K.Sink.history c.write_load.new.sink).written) text
           c.in-Err.ensures.part) c.in-Err.ensures.cause.failed;
     }

@@ -11,8 +11,8 @@ returns-in-Ok-clause-reads g c =
     fields_taken c.pass_fields.new.self _ _ _ _ _ _ _ _ c.fill-filled.ensures.filled (search (rules, arith))
     c.in-Ok.ensures.same e.at e.frames e.plans e.line e.pages e.seen
 
-pub returns-in-Ok-clause-calm : goal.returns-in-Ok-clause-calm
-returns-in-Ok-clause-calm g c =
+pub returns-in-Ok-clause-no_faults : goal.returns-in-Ok-clause-no_faults
+returns-in-Ok-clause-no_faults g c =
     filled_calm 24 _ _ _ _ _ _ fields_of _ _ fields_goes c.fill-filled.ensures.filled (search (rules, arith))
     c.in-Ok.ensures.same
 

@@ -17,11 +17,11 @@ pub returns-in_err-plan-clause-reads : goal.returns-in_err-plan-clause-reads
 returns-in_err-plan-clause-reads g c =
     let was = c.loop-self.invariant in
     let count = was.count in
-    let h : RefusesHeader image_parts (g.S.Source.told c.args.joint.now.source.now).left
-    (g.S.Source.told c.plan.new.joint.source.now).left (g.S.Source.told c.args.joint.now.source.now).faults
-    (g.S.Source.told c.plan.new.joint.source.now).faults c.in_err-plan.field-0.0 = (
+    let h : RefusesHeader image_parts (g.S.Source.history c.args.joint.now.source.now).left
+    (g.S.Source.history c.plan.new.joint.source.now).left (g.S.Source.history c.args.joint.now.source.now).faults
+    (g.S.Source.history c.plan.new.joint.source.now).faults c.in_err-plan.field-0.0 = (
       _,
-      takes_refused image_parts (coming c.loop-self.self.place) _ [] _ _ _ _ _ _ _ was.calm was.taken
+      takes_refused image_parts (coming c.loop-self.self.place) _ [] _ _ _ _ _ _ _ was.no_faults was.taken
           c.in_err-plan.ensures.reads,
       fewer_lines c.loop-self.plans.items c.loop-self.self.place.plans _ count (search rules),
     ) in
@@ -36,10 +36,11 @@ loop-self-preserved g c =
       name = now.same_source ∙ was.name;
       sink = now.sink ∙ was.sink;
       is_open = now.is_open;
-      calm = now.calm ∙ was.calm;
+      no_faults = now.no_faults ∙ was.no_faults;
       taken = subst (λ ps. TakesParts image_parts (coming c.plan.new.self.place)
           (Head (fields_seen c.in_ok-fields.fields)
-          ∷ ps) (g.S.Source.told c.args.joint.now.source.now).left (g.S.Source.told c.plan.new.joint.source.now).left)
+          ∷ ps) (g.S.Source.history c.args.joint.now.source.now).left
+          (g.S.Source.history c.plan.new.joint.source.now).left)
           (sym (ap (map Line) pushed ∙ map-append Line c.loop-self.plans.items (c.in_ok-plan.plan ∷ [])))
           (takes_then image_parts (coming c.loop-self.self.place) (coming c.plan.new.self.place) _ _ _ _ _ was.taken
           now.reads);
@@ -78,12 +79,12 @@ plan-requires-clause-paced g c =
     let few : LacksHeader (parts ++ []) =
     fewer_lines c.loop-self.plans.items c.loop-self.self.place.plans _ count (search rules) in
     let paced = paced_after g.S.Source.allows IsHeaderless (IsPartless (coming c.loop-self.self.place)) _ _ _ _
-    (g.K.Sink.told c.args.joint.now.sink.now) was.taken.bytes
-    was.calm was.taken.taken
+    (g.K.Sink.history c.args.joint.now.sink.now) was.taken.bytes
+    was.no_faults was.taken.taken
     (λ bytes is. (
       subst LacksHeader (sym (ap (λ t. t.parts) (was.taken.is bytes) ∙ after_parts parts
           (coming c.loop-self.self.place bytes))) (subst (λ ps. LacksHeader (parts ++ ps)) (sym is.0) few),
       faultless_after image_parts (coming c.loop-self.self.place) parts _ _ was.taken bytes is.1,
     )) c.requires.paced in
     subst (λ s. MayRead g.S.Source.allows (IsPartless (coming c.loop-self.self.place))
-    (streams g.S.Source.told g.K.Sink.told c.loop-self.joint.source.now s.now)) (sym was.sink) paced
+    (streams g.S.Source.history g.K.Sink.history c.loop-self.joint.source.now s.now)) (sym was.sink) paced

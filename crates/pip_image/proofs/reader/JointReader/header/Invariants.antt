@@ -10,9 +10,9 @@ invariant-loop-self g l = record {
   name : l.joint.source.ghost_name ≡ l.fn.joint.source.ghost_name;
   sink : l.joint.sink ≡ l.fn.joint.sink;
   is_open : g.S.Source.is_open l.joint.source.now;
-  calm : (g.S.Source.told l.joint.source.now).faults ≡ (g.S.Source.told l.fn.joint.source.now).faults;
+  no_faults : (g.S.Source.history l.joint.source.now).faults ≡ (g.S.Source.history l.fn.joint.source.now).faults;
   taken : TakesParts image_parts (coming l.self.place) (Head (fields_seen l.fields) ∷ map Line l.plans.items)
-      (g.S.Source.told l.fn.joint.source.now).left (g.S.Source.told l.joint.source.now).left;
+      (g.S.Source.history l.fn.joint.source.now).left (g.S.Source.history l.joint.source.now).left;
   count : length l.plans.items + l.self.place.plans ≡ l.fields.plans;
   within : HasFieldsWithin l.fields;
   frames : l.self.place.frames ≡ l.fields.frames;

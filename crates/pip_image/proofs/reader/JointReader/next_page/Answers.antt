@@ -15,8 +15,8 @@ returns-in-Ok-clause-reads g c =
     (page_same _ _ _ _ _ _ c.deref-2.ensures.0 c.in-Ok.ensures.same) c.requires.plans e.at e.frames e.plans e.pages
     e.seen
 
-pub returns-in-Ok-clause-calm : goal.returns-in-Ok-clause-calm
-returns-in-Ok-clause-calm g c =
+pub returns-in-Ok-clause-no_faults : goal.returns-in-Ok-clause-no_faults
+returns-in-Ok-clause-no_faults g c =
     let place = c.args.self.now.place in
     filled_calm 4100 _ _ _ _ _ _ (front_page place.frames place.seen.items place.at) _ _
     (page_goes place.frames place.seen.items place.at)

@@ -11,8 +11,8 @@ returns-in-Ok-clause-reads g c =
     plan_taken c.args.self.now.place c.pass_plan.new.self _ _ _ _ _ _ _ _ c.fill-filled.ensures.filled
     (search (rules, arith)) c.in-Ok.ensures.same e.at e.frames e.plans e.line e.pages e.seen
 
-pub returns-in-Ok-clause-calm : goal.returns-in-Ok-clause-calm
-returns-in-Ok-clause-calm g c =
+pub returns-in-Ok-clause-no_faults : goal.returns-in-Ok-clause-no_faults
+returns-in-Ok-clause-no_faults g c =
     let place = c.args.self.now.place in
     filled_calm 12 _ _ _ _ _ _ (plan_at place.at place.line) _ _ (plan_goes place.at place.line)
     c.fill-filled.ensures.filled (search (rules, arith)) c.in-Ok.ensures.same

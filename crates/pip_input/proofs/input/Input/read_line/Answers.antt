@@ -12,7 +12,7 @@ returns-then-is_over-clause-line g c =
 
 pub returns-in-Some-clause-line : goal.returns-in-Some-clause-line
 returns-in-Some-clause-line g c =
-    let left = (g.S.Source.told c.read_on.new.joint.source.now).left in
+    let left = (g.S.Source.history c.read_on.new.joint.source.now).left in
     let same = still_same c.in_ok-count.count c.loop-count.self c.read_on.new.self _ left
     (λ none. absurd (c.if-is_over.false (ap (λ v. v.room) c.self.view_is ∙ none))) c.in_ok-count.ensures.more in
     subst (λ count. HoldsLine count c.read_on.new.self left c.in-Some.end)

@@ -6,15 +6,15 @@ use Rattle.pip_input.proofs.input.Input.read_line.Given as goal
 
 abbrev pub invariant-loop-count : goal.invariant-loop-count
 invariant-loop-count g l = record {
-  kept : Keeps (prepend_known l.fn.self.bytes (g.S.Source.told l.fn.joint.source.now).left)
-      (prepend_known l.self.bytes (g.S.Source.told l.joint.source.now).left);
+  kept : Keeps (prepend_known l.fn.self.bytes (g.S.Source.history l.fn.joint.source.now).left)
+      (prepend_known l.self.bytes (g.S.Source.history l.joint.source.now).left);
   part : HoldsPart (still l.fn.self) l.self;
-  since : ReadSince l.fn.self l.self (g.S.Source.told l.fn.joint.source.now).left
-      (g.S.Source.told l.joint.source.now).left;
+  since : ReadSince l.fn.self l.self (g.S.Source.history l.fn.joint.source.now).left
+      (g.S.Source.history l.joint.source.now).left;
   name : l.joint.source.ghost_name ≡ l.fn.joint.source.ghost_name;
   sink : l.joint.sink ≡ l.fn.joint.sink;
   is_open : g.S.Source.is_open l.joint.source.now;
-  calm : (g.S.Source.told l.joint.source.now).faults ≡ (g.S.Source.told l.fn.joint.source.now).faults;
+  no_faults : (g.S.Source.history l.joint.source.now).faults ≡ (g.S.Source.history l.fn.joint.source.now).faults;
 }
 
 abbrev pub decreases-loop-count : goal.decreases-loop-count

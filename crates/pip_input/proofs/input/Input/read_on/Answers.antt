@@ -7,8 +7,8 @@ use Rattle.pip_input.proofs.input.Input.read_on.Goals as goal
 pub returns-clause-kept : goal.returns-clause-kept
 returns-clause-kept g c =
     let fits : c.self.inside.end ≤ length c.self.inside.bytes = search rules in
-    subst (λ held. Keeps (prepend_known c.args.self.now.bytes (g.S.Source.told c.args.joint.now.source.now).left)
-    (prepend_known held (g.S.Source.told c.read.new.self.source.now).left))
+    subst (λ held. Keeps (prepend_known c.args.self.now.bytes (g.S.Source.history c.args.joint.now.source.now).left)
+    (prepend_known held (g.S.Source.history c.read.new.self.source.now).left))
     (sym (read_ahead c.self.inside.start c.self.inside.end c.self.inside.bytes c.self.invariant.0 fits
     c.in_ok-count.count c.min-most.result c.copy_within.new.self c.read.new.buf _ c.copy_within.ensures.after
     c.in_ok-count.ensures.bound.0 (ap (λ v. v.bytes) c.self.view_is)))

@@ -4,8 +4,8 @@ use Rattle.pip_io.specs.Gathering.{between}
 use Rattle.pip_io.proofs.Gathered.{between_joined, between_same, put_front, put_part}
 use Rattle.pip_io.proofs.gather.Gatherer.hold.Goals as goal
 
-pub returns-clause-held : goal.returns-clause-held
-returns-clause-held g c =
+pub returns-clause-buffered : goal.returns-clause-buffered
+returns-clause-buffered g c =
     let self = c.args.self.now in
     let piece = c.args.piece.now in
     let now = c.copy_from_slice.new.self in

@@ -10,8 +10,8 @@ use Rattle.pip_certificates.proofs.commands.merge.answers.write_front.Goals as g
 pub returns-in_err-write_about : goal.returns-in_err-write_about
 returns-in_err-write_about g c =
     let m = merging_of c.args.merger.now in
-    let a = (g.K.Sink.told c.args.sink.now).written in
-    let b = (g.K.Sink.told c.write_about.new.sink).written in
+    let a = (g.K.Sink.history c.args.sink.now).written in
+    let b = (g.K.Sink.history c.write_about.new.sink).written in
     record {
       wrote = MatchResult-from_err c.from_residual.result _ _ c.from_residual.ensures.0 (λ _.
           part_longer _ _ (about_line m.parts.about) _ (subst (λ t. AppendsPart a b (about_line t)) c.about.ensures
@@ -22,9 +22,9 @@ returns-in_err-write_about g c =
 pub returns : goal.returns
 returns g c =
     let m = merging_of c.args.merger.now in
-    let a = (g.K.Sink.told c.args.sink.now).written in
-    let b = (g.K.Sink.told c.write_about.new.sink).written in
-    let d = (g.K.Sink.told c.write_labels.new.sink).written in
+    let a = (g.K.Sink.history c.args.sink.now).written in
+    let b = (g.K.Sink.history c.write_about.new.sink).written in
+    let d = (g.K.Sink.history c.write_labels.new.sink).written in
     record {
       wrote = wrote_of _ _ _ (about_line m.parts.about) _ c.write_labels.result
           (subst (λ t. Appends a b (about_line t)) c.about.ensures c.in_ok-write_about.ensures.wrote)

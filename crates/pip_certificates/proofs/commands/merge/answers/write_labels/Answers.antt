@@ -35,7 +35,7 @@ loop-k-preserved g c =
     record {
       wrote = one_more label_line _ _ _ (label_texts labels) k c.as_slice.result.now label c.loop-k.invariant.wrote
           c.in_ok-write_label.ensures.wrote;
-      calm = c.in_ok-write_label.ensures.cause.calm ∙ c.loop-k.invariant.calm;
+      no_faults = c.in_ok-write_label.ensures.cause.no_faults ∙ c.loop-k.invariant.no_faults;
     }
 
 pub returns : goal.returns
@@ -44,7 +44,7 @@ returns g c =
     let size : length (label_texts labels) ≡ length labels = length-map labels (λ l. l.items) in
     let done : length labels ≤ c.loop-k.k = search (rules, arith) in
     record {
-      wrote = subst (Appends (g.K.Sink.told c.args.sink.now).written (g.K.Sink.told c.loop-k.sink).written)
+      wrote = subst (Appends (g.K.Sink.history c.args.sink.now).written (g.K.Sink.history c.loop-k.sink).written)
           (ap (flat_map label_line) (take_all c.loop-k.k (label_texts labels) (omega (arith, size, done))))
           c.loop-k.invariant.wrote;
       cause = search rules;

@@ -6,7 +6,7 @@ use Rattle.pip_commands.proofs.commands.script.turn.next_line.Goals as goal
 pub returns-in-Some-clause-line : goal.returns-in-Some-clause-line
 returns-in-Some-clause-line g c =
     let i = c.args.input.now in
-    let left = (g.S.Source.told c.args.joint.now.source.now).left in (
+    let left = (g.S.Source.history c.args.joint.now.source.now).left in (
       subst (λ o. MatchOption o (HoldsPart (still i) i)
           (λ end. (left : Option (List ℕ)) → HoldsLine (still i) i left end)) c.in-Some.is c.requires.ahead left,
       refl,

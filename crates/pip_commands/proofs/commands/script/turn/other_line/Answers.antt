@@ -13,11 +13,11 @@ returns-in-Ok-Newline-clause-does g c =
     let line = c.in-Ok-Newline.ensures.line in
     record {
       holds = subst (HoldsLine (still c.args.input.now) c.next_line.new.input
-          (g.S.Source.told c.next_line.new.joint.source.now).left)
+          (g.S.Source.history c.next_line.new.joint.source.now).left)
           c.in-Ok-Newline.field-0-is line.0;
       kept = c.next_line.ensures.kept;
       taken = c.next_line.ensures.taken;
-      calm = record { reads = line.1; writes = line.2 };
+      no_faults = record { reads = line.1; writes = line.2 };
       same = refl;
     }
 
@@ -32,7 +32,7 @@ returns-in-Err-clause-none g c = λ is. no_line_none c.in-Err.end _ _ _ _ c.in-E
 pub returns-in-Ok-clause-does : goal.returns-in-Ok-clause-does
 returns-in-Ok-clause-does g c =
     ends_settled _ _ _ _ _ Finished c.in-Ok-Last.field-0-is c.in-Ok-Last.ensures.line c.next_line.ensures.taken
-    (λ not. c.in-Ok.ensures.calm (λ e. cc))
+    (λ not. c.in-Ok.ensures.no_faults (λ e. cc))
     (λ holds v stands. has_finished v _ _ _ _ _ _ c.in-Ok-Last.count c.head.result.now c.head.ensures
     c.next_line.ensures.kept holds (c.in-Ok.ensures.did v stands))
 
@@ -42,9 +42,9 @@ returns-in-Err-run_line-clause-does g c =
     let names = c.end_at.ensures.names in
     ends_settled _ _ _ _ _ c.end_at.result c.in-Ok-Last.field-0-is c.in-Ok-Last.ensures.line c.next_line.ensures.taken
     (ended_calm run.stop c.end_at.result c.args.number _ _ _ names
-    (λ not. run.ensures.calm (λ is. not (err_same is))) c.end_at.ensures.calm)
+    (λ not. run.ensures.no_faults (λ is. not (err_same is))) c.end_at.ensures.no_faults)
     (λ holds v stands. ends_last v _ _ _ _ _ _ c.in-Ok-Last.count c.head.result.now c.head.ensures
-    c.next_line.ensures.kept _ _ run.stop c.end_at.result (λ not. run.ensures.calm (λ is. not (err_same is)))
+    c.next_line.ensures.kept _ _ run.stop c.end_at.result (λ not. run.ensures.no_faults (λ is. not (err_same is)))
     (λ is. run.ensures.write (ap Err is)) (run.ensures.did v stands) names holds)
 
 pub returns-in-Err-run_line-clause-none : goal.returns-in-Err-run_line-clause-none
@@ -61,7 +61,7 @@ returns-in-Ok-TooLong-clause-does g c =
     let names = c.end_at-in-Ok-TooLong.ensures.names in
     ends_settled _ _ _ _ _ c.end_at-in-Ok-TooLong.result c.in-Ok-TooLong.field-0-is c.in-Ok-TooLong.ensures.line
     c.next_line.ensures.taken (ended_calm Bad c.end_at-in-Ok-TooLong.result c.args.number _ _ _
-    names (λ not. refl) c.end_at-in-Ok-TooLong.ensures.calm)
+    names (λ not. refl) c.end_at-in-Ok-TooLong.ensures.no_faults)
     (λ holds v stands. ends_long v _ _ _ _ _ _ c.end_at-in-Ok-TooLong.result c.next_line.ensures.kept holds names)
 
 pub returns-in-Ok-TooLong-clause-none : goal.returns-in-Ok-TooLong-clause-none

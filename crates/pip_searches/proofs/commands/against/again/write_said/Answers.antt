@@ -50,12 +50,12 @@ loop-k-preserved g c =
           (c.as_slice.result.now, c.index-said-k.result)
           (zip_at (label_bytes labels) said k c.as_slice.result.now c.index-said-k.result label own)
           c.loop-k.invariant.wrote c.in_ok-write_one.ensures.wrote;
-      calm = c.in_ok-write_one.ensures.cause.calm ∙ c.loop-k.invariant.calm;
+      no_faults = c.in_ok-write_one.ensures.cause.no_faults ∙ c.loop-k.invariant.no_faults;
     }
 
 pub returns : goal.returns
 returns g c = record {
-  wrote = subst (Appends (g.K.Sink.told c.args.sink.now).written (g.K.Sink.told c.loop-k.sink).written)
+  wrote = subst (Appends (g.K.Sink.history c.args.sink.now).written (g.K.Sink.history c.loop-k.sink).written)
       (ap (flat_map (λ p. said_line c.args.cpus c.args.lines.now p.0 p.1))
       (all_beside (label_bytes c.args.labels.now) c.args.said.now c.loop-k.k (search (rules, arith))))
       c.loop-k.invariant.wrote;

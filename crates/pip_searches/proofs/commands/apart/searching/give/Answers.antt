@@ -13,7 +13,8 @@ returns-in_err-write_image-clause-wrote g c =
     let h = c.args.head.now in
     part_longer _ _ (trace_image_line h.frames h.cpus (length h.plans.items) h.pages)
     (known_text (known_of c.args.known.now))
-    (subst (λ n. AppendsPart (g.K.Sink.told c.args.sink.now).written (g.K.Sink.told c.write_image.new.sink).written
+    (subst (λ n. AppendsPart (g.K.Sink.history c.args.sink.now).written
+    (g.K.Sink.history c.write_image.new.sink).written
     (trace_image_line h.frames h.cpus n h.pages)) c.len-plans.ensures.value c.in_err-write_image.ensures.wrote))
 
 pub returns-clause-wrote : goal.returns-clause-wrote
@@ -21,6 +22,6 @@ returns-clause-wrote g c =
     let h = c.args.head.now in
     wrote_of _ _ _ (trace_image_line h.frames h.cpus (length h.plans.items) h.pages)
     (known_text (known_of c.args.known.now)) c.write_known.result
-    (subst (λ n. Appends (g.K.Sink.told c.args.sink.now).written (g.K.Sink.told c.write_image.new.sink).written
+    (subst (λ n. Appends (g.K.Sink.history c.args.sink.now).written (g.K.Sink.history c.write_image.new.sink).written
     (trace_image_line h.frames h.cpus n h.pages)) c.len-plans.ensures.value c.in_ok-write_image.ensures.wrote)
     c.write_known.ensures.wrote

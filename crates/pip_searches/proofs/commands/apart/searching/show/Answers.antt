@@ -5,12 +5,13 @@ use Rattle.pip_searches.proofs.commands.apart.searching.show.Goals as goal
 
 pub returns-in_err-give-clause-wrote : goal.returns-in_err-give-clause-wrote
 returns-in_err-give-clause-wrote g c =
-    show_cut c.from_residual.result (g.K.Sink.told c.args.sink.now).written (g.K.Sink.told c.give.new.sink).written
+    show_cut c.from_residual.result (g.K.Sink.history c.args.sink.now).written
+    (g.K.Sink.history c.give.new.sink).written
     (knowledge_text c.args.head.now c.args.known.now) (search rules) c.in_err-give.ensures.wrote
 
 pub returns-clause-wrote : goal.returns-clause-wrote
 returns-clause-wrote g c =
-    show_settled c.settle.result (g.K.Sink.told c.args.sink.now).written (g.K.Sink.told c.give.new.sink).written
-    (g.K.Sink.told c.settle.new.self).written (knowledge_text c.args.head.now c.args.known.now)
+    show_settled c.flush.result (g.K.Sink.history c.args.sink.now).written (g.K.Sink.history c.give.new.sink).written
+    (g.K.Sink.history c.flush.new.self).written (knowledge_text c.args.head.now c.args.known.now)
     c.in_ok-give.ensures.wrote
-    c.settle.ensures.kept c.settle.ensures.some
+    c.flush.ensures.kept c.flush.ensures.some

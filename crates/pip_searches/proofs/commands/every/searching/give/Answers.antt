@@ -15,7 +15,8 @@ returns-in_err-write_image-clause-wrote g c =
     MatchResult-from_err c.from_residual.result _ _ c.from_residual.ensures.0 (λ _.
     let h = c.args.head.now in
     part_longer _ _ _ _ (part_longer _ _ (trace_image_line h.frames h.cpus (length h.plans.items) h.pages) _
-    (subst (λ n. AppendsPart (g.K.Sink.told c.args.sink.now).written (g.K.Sink.told c.write_image.new.sink).written
+    (subst (λ n. AppendsPart (g.K.Sink.history c.args.sink.now).written
+    (g.K.Sink.history c.write_image.new.sink).written
     (trace_image_line h.frames h.cpus n h.pages)) c.len.ensures.value c.in_err-write_image.ensures.wrote)))
 
 pub returns-in_err-write_search-clause-wrote : goal.returns-in_err-write_search-clause-wrote
@@ -28,10 +29,10 @@ returns-in_err-write_search-clause-wrote g c =
     let lines = c.as_slice-2.ensures.value ∙ (c.planned_lines-lines.ensures ∙ ap lines_planned c.as_slice.ensures.value)
     in
     part_longer _ _ _ _ (part_after _ _ _ (trace_image_line h.frames h.cpus (length h.plans.items) h.pages) _
-    (subst (λ n. Appends (g.K.Sink.told c.args.sink.now).written (g.K.Sink.told c.write_image.new.sink).written
+    (subst (λ n. Appends (g.K.Sink.history c.args.sink.now).written (g.K.Sink.history c.write_image.new.sink).written
     (trace_image_line h.frames h.cpus n h.pages)) c.len.ensures.value c.in_ok-write_image.ensures.wrote)
-    (subst (λ ls. AppendsPart (g.K.Sink.told c.write_image.new.sink).written
-    (g.K.Sink.told c.write_search.new.sink).written
+    (subst (λ ls. AppendsPart (g.K.Sink.history c.write_image.new.sink).written
+    (g.K.Sink.history c.write_search.new.sink).written
     (search_text h.cpus ls ws (length t.search.visits.items) t.verdict)) lines c.in_err-write_search.ensures.wrote)))
 
 pub returns-clause-wrote : goal.returns-clause-wrote
@@ -46,13 +47,14 @@ returns-clause-wrote g c =
     wrote_of _ _ _ _ (again_text h.cpus (lines_planned h.plans.items) (label_bytes c.args.labels.now) t.said.items)
     c.write_said.result
     (Appends-trans _ _ _ (trace_image_line h.frames h.cpus (length h.plans.items) h.pages) _
-    (subst (λ n. Appends (g.K.Sink.told c.args.sink.now).written (g.K.Sink.told c.write_image.new.sink).written
+    (subst (λ n. Appends (g.K.Sink.history c.args.sink.now).written (g.K.Sink.history c.write_image.new.sink).written
     (trace_image_line h.frames h.cpus n h.pages)) c.len.ensures.value c.in_ok-write_image.ensures.wrote)
-    (subst (λ ls. Appends (g.K.Sink.told c.write_image.new.sink).written (g.K.Sink.told c.write_search.new.sink).written
+    (subst (λ ls. Appends (g.K.Sink.history c.write_image.new.sink).written
+    (g.K.Sink.history c.write_search.new.sink).written
     (search_text h.cpus ls ws (length t.search.visits.items) t.verdict)) lines c.in_ok-write_search.ensures.wrote))
-    (subst (λ r. Wrote c.write_said.result (g.K.Sink.told c.write_search.new.sink).written
-    (g.K.Sink.told c.write_said.new.sink).written (again_text h.cpus (lines_planned h.plans.items)
+    (subst (λ r. Wrote c.write_said.result (g.K.Sink.history c.write_search.new.sink).written
+    (g.K.Sink.history c.write_said.new.sink).written (again_text h.cpus (lines_planned h.plans.items)
     (label_bytes c.args.labels.now) r)) c.as_slice-5.ensures.value
-    (subst (λ ls. Wrote c.write_said.result (g.K.Sink.told c.write_search.new.sink).written
-    (g.K.Sink.told c.write_said.new.sink).written (again_text h.cpus ls (label_bytes c.args.labels.now)
+    (subst (λ ls. Wrote c.write_said.result (g.K.Sink.history c.write_search.new.sink).written
+    (g.K.Sink.history c.write_said.new.sink).written (again_text h.cpus ls (label_bytes c.args.labels.now)
     c.as_slice-5.result.now)) again c.write_said.ensures.wrote))

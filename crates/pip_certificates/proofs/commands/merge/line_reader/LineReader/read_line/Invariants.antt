@@ -6,12 +6,13 @@ use Rattle.pip_certificates.proofs.commands.merge.line_reader.LineReader.read_li
 abbrev pub invariant-loop-line : goal.invariant-loop-line
 invariant-loop-line g l = record {
   none : l.self ≡ [];
-  reading : IsReading l.fn.self (g.S.Source.told l.fn.joint.source.now).left (g.S.Source.told l.joint.source.now).left
+  reading : IsReading l.fn.self (g.S.Source.history l.fn.joint.source.now).left
+      (g.S.Source.history l.joint.source.now).left
       l.line.items;
   name : l.joint.source.ghost_name ≡ l.fn.joint.source.ghost_name;
   sink : l.joint.sink ≡ l.fn.joint.sink;
   is_open : g.S.Source.is_open l.joint.source.now;
-  calm : (g.S.Source.told l.joint.source.now).faults ≡ (g.S.Source.told l.fn.joint.source.now).faults;
+  no_faults : (g.S.Source.history l.joint.source.now).faults ≡ (g.S.Source.history l.fn.joint.source.now).faults;
 }
 
 abbrev pub decreases-loop-line : goal.decreases-loop-line

@@ -9,8 +9,8 @@ use Rattle.pip_commands.proofs.commands.run.report.Report.give.Goals as goal
 pub returns-in-Trace-clause-shows : goal.returns-in-Trace-clause-shows
 returns-in-Trace-clause-shows g c = λ i b.
     let l = c.args.loaded.now in
-    subst (λ r. ShowsReport c.trace.result r i c.args.count c.args.seed (g.K.Sink.told c.args.sink.now).written
-    (g.K.Sink.told c.trace.new.sink).written c.trace.new.port) (sym c.in-Trace.is)
+    subst (λ r. ShowsReport c.trace.result r i c.args.count c.args.seed (g.K.Sink.history c.args.sink.now).written
+    (g.K.Sink.history c.trace.new.sink).written c.trace.new.port) (sym c.in-Trace.is)
     (trace_shows i l.frames l.pages c.as_slice-lines.result.now l.machine c.trace.new.port c.args.count c.args.seed
     (subst (λ ls. Begins i l.frames l.pages ls l.machine) (sym c.as_slice-lines.ensures.value) b) c.trace.result _ _
     (c.trace.ensures.acts _ b.stands))
@@ -27,8 +27,8 @@ write_tree-requires g c =
 pub returns-in-Tree-clause-shows : goal.returns-in-Tree-clause-shows
 returns-in-Tree-clause-shows g c = λ i b.
     let l = c.args.loaded.now in
-    subst (λ r. ShowsReport c.write_tree.result r i c.args.count c.args.seed (g.K.Sink.told c.args.sink.now).written
-    (g.K.Sink.told c.write_tree.new.sink).written c.pass.new.machine) (sym c.in-Tree.is)
+    subst (λ r. ShowsReport c.write_tree.result r i c.args.count c.args.seed (g.K.Sink.history c.args.sink.now).written
+    (g.K.Sink.history c.write_tree.new.sink).written c.pass.new.machine) (sym c.in-Tree.is)
     (tree_shows i c.pass.new.machine c.args.count c.args.seed
     (passed i l.frames l.pages c.as_slice-lines.result.now l.machine c.pass.new.machine c.args.count c.args.seed
     (subst (λ ls. Begins i l.frames l.pages ls l.machine) (sym c.as_slice-lines.ensures.value) b) c.pass.ensures.stands)
@@ -38,8 +38,9 @@ returns-in-Tree-clause-shows g c = λ i b.
 pub returns-in-Frames-clause-shows : goal.returns-in-Frames-clause-shows
 returns-in-Frames-clause-shows g c = λ i b.
     let l = c.args.loaded.now in
-    subst (λ r. ShowsReport c.write_frames.result r i c.args.count c.args.seed (g.K.Sink.told c.args.sink.now).written
-    (g.K.Sink.told c.write_frames.new.sink).written c.pass-in-Frames.new.machine) (sym c.in-Frames.is)
+    subst (λ r. ShowsReport c.write_frames.result r i c.args.count c.args.seed
+    (g.K.Sink.history c.args.sink.now).written
+    (g.K.Sink.history c.write_frames.new.sink).written c.pass-in-Frames.new.machine) (sym c.in-Frames.is)
     (frames_shows i c.pass-in-Frames.new.machine c.args.count c.args.seed
     (passed i l.frames l.pages c.as_slice-lines.result.now l.machine c.pass-in-Frames.new.machine c.args.count
     c.args.seed

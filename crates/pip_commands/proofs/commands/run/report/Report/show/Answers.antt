@@ -4,13 +4,13 @@ use Rattle.pip_commands.proofs.commands.run.report.Report.show.Goals as goal
 
 pub returns-in_err-give-clause-shows : goal.returns-in_err-give-clause-shows
 returns-in_err-give-clause-shows g c = λ i b.
-    shows_cut c.give.result _ c.args.self i c.args.count c.args.seed (g.K.Sink.told c.args.sink.now).written
-    (g.K.Sink.told c.give.new.sink).written c.give.new.loaded.machine (search rules) (search rules)
+    shows_cut c.give.result _ c.args.self i c.args.count c.args.seed (g.K.Sink.history c.args.sink.now).written
+    (g.K.Sink.history c.give.new.sink).written c.give.new.loaded.machine (search rules) (search rules)
     (c.give.ensures.shows i b)
 
 pub returns-clause-shows : goal.returns-clause-shows
 returns-clause-shows g c = λ i b.
-    shows_settled c.give.result _ c.args.self i c.args.count c.args.seed (g.K.Sink.told c.args.sink.now).written
-    (g.K.Sink.told c.give.new.sink).written (g.K.Sink.told c.settle.new.self).written c.give.new.loaded.machine
+    shows_settled c.give.result _ c.args.self i c.args.count c.args.seed (g.K.Sink.history c.args.sink.now).written
+    (g.K.Sink.history c.give.new.sink).written (g.K.Sink.history c.flush.new.self).written c.give.new.loaded.machine
     (search rules) (c.give.ensures.shows i b)
-    c.settle.ensures.kept c.settle.ensures.some
+    c.flush.ensures.kept c.flush.ensures.some
