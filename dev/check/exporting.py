@@ -19,7 +19,7 @@ SECONDS = 900            # cargo builds everything
 CASES = 200              # of each command
 CASES_OF_REGISTRY = 20
 FIRST_SEED = 500_000     # those of the comparison with the reference begin with 1
-EDITION_KNOWN = (1, 85)  # the first cargo that knows the edition of the export
+EDITION_KNOWN = (1, 87)  # the first cargo whose Rust has all that the export uses
 WARNINGS = {"RUSTFLAGS": "-Dwarnings"}
 OWN = '[package]\nname = "own"\nedition = "2024"\n\n[workspace]\n\n'
 
@@ -103,7 +103,7 @@ def need_cargo(tool: str = "") -> None:
     told = subprocess.run(["cargo", "--version"], stdout=subprocess.PIPE, stderr=subprocess.DEVNULL).stdout.decode()
     version = re.match(r"cargo (\d+)\.(\d+)", told)
     if not version or tuple(map(int, version.groups())) < EDITION_KNOWN:
-        raise Skipped("no cargo of 1.85 or later")
+        raise Skipped("no cargo of 1.87 or later")
     if tool and subprocess.run(["cargo", tool, "--version"], stdout=subprocess.DEVNULL,
                                stderr=subprocess.DEVNULL).returncode:
         raise Skipped(f"no cargo {tool}")

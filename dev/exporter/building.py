@@ -77,7 +77,7 @@ class Program:
     def build(self) -> None:
         if not shutil.which("cargo"):
             raise Failed(f"{self.what} is a program that cargo builds, and there is no cargo here: "
-                         f"install Rust 1.85 or later{self.without_cargo}")
+                         f"install Rust 1.87 or later{self.without_cargo}")
         print(f"building {self.what} by cargo; this takes about half a minute, once", file=sys.stderr)
         self.write(self.folder)
         words = ["cargo", "build", "--release", "--quiet", "--offline",

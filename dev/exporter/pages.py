@@ -57,7 +57,7 @@ class Names:
         elif rest and first in self.bounds and first not in self.found:
             found = self.known.members.get((self.bounds[first], rest), "")
         else:
-            found = self.found.get(first) or self.found.get(name, "")
+            found = self.found.get(first, "") or self.found.get(name, "")
         return self.seen(found)
 
     def without(self, others: Iterable[str]) -> Names:
