@@ -114,6 +114,15 @@ class Session(unittest.TestCase):
         self.assertEqual([(one["start"]["line"], one["start"]["character"], one["end"]["character"]) for one in found],
                          [(3, 11, 15), (4, 6, 11), (5, 2, 5)])
 
+    def test_warnings_and_rules(self) -> None:
+        text = ".frames 16\n.cpus 1\n.page 0x400000\nx: nop\n.never [y] == 1\n.page 0xfffff000\n.handler 32 x\n"
+        found = self.client.opened("/nowhere/w.asmx", text)
+        self.assertEqual([(one["severity"], one["message"]) for one in found], [(1, "no line defines the name y")])
+        found = self.client.opened("/nowhere/w.asmx", text.replace("[y]", "[x]"))
+        self.assertEqual([(one["severity"], one["range"]["start"]) for one in found],
+                         [(2, {"line": 6, "character": 9})])
+        self.assertIn("begins at an instruction", found[0]["message"])
+
     def test_asmx_with_an_included_text(self) -> None:
         """The text of the editor counts, and that of a file that is included and open, too."""
         client = self.client

@@ -183,8 +183,7 @@ class Running:
         except Failed as failed:
             self.need_no_process(failed)
         with calling.running(program):
-            self.program = subprocess.Popen([direct, *asked.words()], stdin=given, stdout=told,
-                                            start_new_session=True)
+            self.program = subprocess.Popen([direct, *asked.words()], stdin=given, stdout=told)
 
     def need_no_process(self, failed: Failed) -> None:
         if self.asked.until or self.asked.rules:
@@ -224,6 +223,7 @@ class Running:
 
     def found(self) -> Search:
         status, speaking = self.program.poll(), self.speaking
+        status = None if status is not None and status < 0 else status           # a signal ended it
         self.told.seek(0)
         lines = self.told.read().decode("ascii", "replace").splitlines()
         if speaking and (self.is_found() or status is None or status == NO_MEMORY) and any(speaking.at):

@@ -13,6 +13,7 @@ mod searching;
 mod speaking;
 mod values;
 
+use std::io::Write;
 use std::process::ExitCode;
 
 /// What ends the program: a status, and a line for the standard error or output.
@@ -53,7 +54,7 @@ fn main() -> ExitCode {
     match run(&words) {
         Ok(()) => ExitCode::SUCCESS,
         Err(stop) => {
-            println!("{}", stop.line);
+            _ = writeln!(std::io::stdout(), "{}", stop.line);
             ExitCode::from(stop.status)
         }
     }
