@@ -32,6 +32,6 @@ given_cut (Err e) a b t bad part = part_sent a b t part
 
 -- all was given, and then what is held was written, or not
 pub given_settled : {T E : Type 0} (r : Result T E) (a b c : Taken) (t : List ℕ) → Appends a b t → Keeps b c
-    → OnErr r (c.held ≢ []) → MatchResult r (λ _. Appends a c t) (λ _. SendsPart a c t)
+    → OnErr r (c.buffered ≢ []) → MatchResult r (λ _. Appends a c t) (λ _. SendsPart a c t)
 given_settled (Ok v) a b c t all kept some = Appends-kept a b c t all kept
 given_settled (Err e) a b c t all kept some = cut_sent a b c t all kept some

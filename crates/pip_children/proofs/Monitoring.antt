@@ -126,7 +126,7 @@ children_unsettled (Err e) (Err f) s i n old new q err err' h = part_sent _ _ _ 
 -- it was
 pub children_settled : {T E A B : Type 0} (r : Result T E) (r' : Result A B) (s : Schedule) (i : Image) (n : ℕ)
     (old mid new : Taken) (q : State) → IsOk r → ShowsChildren r s i n old mid q → Keeps mid new
-    → OnErr r' (new.held ≢ []) → ShowsChildrenOut r' s i n old new q
+    → OnErr r' (new.buffered ≢ []) → ShowsChildrenOut r' s i n old new q
 children_settled (Ok v) (Ok w) s i n old mid new q ok h kept some = (Appends-kept old mid new _ h.0 kept, h.1)
 children_settled (Ok v) (Err f) s i n old mid new q ok h kept some = cut_sent old mid new _ h.0 kept some
 children_settled (Err e) r' s i n old mid new q ok h kept some = absurd (cc)

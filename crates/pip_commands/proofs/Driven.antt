@@ -87,7 +87,7 @@ module _ {V : Type 0} (D : CommandDue) (d : DueOf V) (loose : Bool) (s : Serves 
     -- and a line is written then, by which the sink comes from b to w
     pub driven_line : (status : ℕ) (line : List ℕ) → IsOfAnswer status
         → IsAnswered D e.bytes (naming status e.front line) b.left → (code : ℕ) (p : Option State) → p ≡ None
-        → (w : Taken) (k : ℕ) → (code ≢ 4 → w.held ≡ []) → (code ≢ 4 → k ≡ b.writes)
+        → (w : Taken) (k : ℕ) → (code ≢ 4 → w.buffered ≡ []) → (code ≢ 4 → k ≡ b.writes)
         → EndsLine status line code (writing b.written b.writes) (writing w k)
         → EndsBy D code p a (record b { written = w; writes = k })
     driven_line status line o due code p none w k flushed quiet (inl (is, whole)) =

@@ -111,7 +111,7 @@ shows_cut (Err e) (Err f) x i count seed old new q err err' h = part_sent _ _ _ 
 -- it was
 pub shows_settled : {T E A B : Type 0} (r : Result T E) (r' : Result A B)
     (x : Report) (i : Image) (count seed : ℕ) (old mid new : Taken) (q : State) → IsOk r
-    → ShowsReport r x i count seed old mid q → Keeps mid new → OnErr r' (new.held ≢ [])
+    → ShowsReport r x i count seed old mid q → Keeps mid new → OnErr r' (new.buffered ≢ [])
     → ShowsOut r' x i count seed old new q
 shows_settled (Ok v) (Ok w) x i count seed old mid new q ok h kept some = (Appends-kept old mid new _ h.0 kept, h.1)
 shows_settled (Ok v) (Err f) x i count seed old mid new q ok h kept some = cut_sent old mid new _ h.0 kept some

@@ -266,7 +266,7 @@ module _ (a c : Streams) (w : Taken) (m : ℕ) (v : Option World) (n : ℕ) (i :
         }
 
     -- a part of it was
-    module _ (some : w.held ≢ []) (rose : RoseByOne a.writes m) where
+    module _ (some : w.buffered ≢ []) (rose : RoseByOne a.writes m) where
       nothing_cut : (beyond : List ℕ) → Consumes (bytes_coming i a) c.left beyond → Keeps a.written c.written
           → IsUnwritten v n i a flushed_last
       nothing_cut beyond read wrote = record {
@@ -360,7 +360,7 @@ held_none e e' before after s not = elim s.1 [
 pub none_held : (e e' : End) (before after : Writing)
     → (◌≡◌ {A = Option End} (Some e) (Some ReadFault) → before.written.buffered ≡ []) → Settles e e' before after
     → e' ≢ WriteFault → after.written.buffered ≡ []
-none_held ReadFault e' before after none s not = ap (λ w. w.held) s.1 ∙ none refl
+none_held ReadFault e' before after none s not = ap (λ w. w.buffered) s.1 ∙ none refl
 none_held WriteFault e' before after none s not = absurd (not s.0)
 none_held Finished e' before after none s not = held_none Finished e' before after s not
 none_held BadLine e' before after none s not = held_none BadLine e' before after s not

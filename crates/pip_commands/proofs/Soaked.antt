@@ -38,8 +38,9 @@ module _ (p : State) where
 -- ---- how a load ends
 
 -- what is told of the sink goes from `before` and `writes` on; what is told of the source stays
-module _ (count seed code : ℕ) (p : Option State) (before after : Taken) (writes writes' : ℕ) (start : before.held ≡ [])
-    (flushed : code ≢ 4 → after.held ≡ []) (left : Option (List ℕ)) (reads : ℕ) where
+module _ (count seed code : ℕ) (p : Option State) (before after : Taken) (writes writes' : ℕ)
+  (start : before.buffered ≡ [])
+    (flushed : code ≢ 4 → after.buffered ≡ []) (left : Option (List ℕ)) (reads : ℕ) where
   abbrev due : Due
   due = soak_due count seed
 

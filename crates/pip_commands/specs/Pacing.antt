@@ -10,5 +10,5 @@ use Rattle.pip_due.specs.Streams.{Streams, beside}
 -- while no line of a script stands in what is held, more may be read, once all that was given to be written is out
 abbrev pub MayReadLine : (Streams → Type 0) → Held → Streams → Type 0
 MayReadLine allows i a =
-    (out : Taken) → Keeps a.written out → out.held ≡ []
+    (out : Taken) → Keeps a.written out → out.buffered ≡ []
     → MayRead allows (IsLineless i) (beside a.left a.reads (writing out a.writes))

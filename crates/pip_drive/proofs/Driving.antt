@@ -57,8 +57,8 @@ starts d a none = record {
 }
 
 -- where nothing was held, nothing is what was out before
-past_nothing : (a b : Taken) (text : List ℕ) → a.held ≡ [] → SendsPart a b text → SendsPast a b []
-past_nothing a b text none part = record { grows = go a.out b.out a.held none part.grows }
+past_nothing : (a b : Taken) (text : List ℕ) → a.buffered ≡ [] → SendsPart a b text → SendsPast a b []
+past_nothing a b text none part = record { grows = go a.out b.out a.buffered none part.grows }
   where
     go : (o o' : Option (List ℕ)) (held : List ℕ) → held ≡ [] → GrowsInPart o o' (held ++ text)
         → GrowsPast o o' (held ++ [])
@@ -209,7 +209,7 @@ module _ {V : Type 0} (d e : DueOf V) (front : List ℕ) (a b : Streams) (x : Dr
 
   -- the last text was written
   pub ends : (t : List ℕ) (v : V) → e.answer front [] t v → e.enough front v ⊎ IsAtEnd b.left → (w : Taken) (k : ℕ)
-      → Appends b.written w t → w.held ≡ [] → k ≡ b.writes → EndsWith d a (record b { written = w; writes = k }) v
+      → Appends b.written w t → w.buffered ≡ [] → k ≡ b.writes → EndsWith d a (record b { written = w; writes = k }) v
   ends t v is decided w k wrote out same = record {
     bytes = x.bytes ++ front;
     front = x.text ++ [];

@@ -33,12 +33,12 @@ pub fn drive<M: Transducer, S: Source, K: Sink>(
     let mut window = Window::new();
     let mut text = Text::new();
     let mut ended = false;
-    let mut held = false;
+    let mut buffered = false;
     loop {
         match transducer.step(window.as_slice(), ended, &mut text) {
             Step::Read(room) => {
-                match flush_buffered(sink, held) {
-                    Ok(()) => held = false,
+                match flush_buffered(sink, buffered) {
+                    Ok(()) => buffered = false,
                     Err(_) => return Err(FailedStream::Write),
                 }
                 match window.read_on(source, sink, room) {
@@ -50,20 +50,20 @@ pub fn drive<M: Transducer, S: Source, K: Sink>(
             Step::Say(count) => match write_pieces(sink, &text) {
                 Ok(()) => {
                     text.clear();
-                    held = true;
+                    buffered = true;
                     window.take(count);
                 }
                 Err(_) => return Err(FailedStream::Write),
             },
-            Step::Write(count) => match write_text(sink, &text, held) {
+            Step::Write(count) => match write_text(sink, &text, buffered) {
                 Ok(()) => {
                     text.clear();
-                    held = false;
+                    buffered = false;
                     window.take(count);
                 }
                 Err(_) => return Err(FailedStream::Write),
             },
-            Step::End(last) => return match write_text(sink, &text, held) {
+            Step::End(last) => return match write_text(sink, &text, buffered) {
                 Ok(()) => Ok(last),
                 Err(_) => Err(FailedStream::Write),
             },
@@ -72,14 +72,14 @@ pub fn drive<M: Transducer, S: Source, K: Sink>(
 }
 
 // Writes what the sink holds, where it may hold something.
-fn flush_buffered<K: Sink>(sink: &mut K, held: bool) -> Result<(), Failed>
-    requires { held ≡ false → (K.history sink.old).written.buffered ≡ [] }
+fn flush_buffered<K: Sink>(sink: &mut K, buffered: bool) -> Result<(), Failed>
+    requires { buffered ≡ false → (K.history sink.old).written.buffered ≡ [] }
     ensures kept { Keeps (K.history sink.old).written (K.history sink.new).written }
     ensures none { OnOk result ((K.history sink.new).written.buffered ≡ []) }
-    ensures some { OnErr result ((held ≡ true) × ((K.history sink.new).written.buffered ≢ [])) }
+    ensures some { OnErr result ((buffered ≡ true) × ((K.history sink.new).written.buffered ≢ [])) }
     ensures cause { HasCause (K.history sink.old).faults (K.history sink.new).faults result }
 {
-    if held { sink.flush() } else { Ok(()) }
+    if buffered { sink.flush() } else { Ok(()) }
 }
 
 // Writes a text, no piece of it by more than one `write_all`.
@@ -96,17 +96,17 @@ fn write_pieces<K: Sink>(sink: &mut K, text: &Text) -> Result<(), Failed>
 }
 
 // Writes a text and all that the sink holds, where there is something.
-fn write_text<K: Sink>(sink: &mut K, text: &Text, held: bool) -> Result<(), Failed>
-    requires { held ≡ false → (K.history sink.old).written.buffered ≡ [] }
+fn write_text<K: Sink>(sink: &mut K, text: &Text, buffered: bool) -> Result<(), Failed>
+    requires { buffered ≡ false → (K.history sink.old).written.buffered ≡ [] }
     ensures whole { OnOk result (Appends (K.history sink.old).written (K.history sink.new).written
         (text_bytes text.now)) }
     ensures part { OnErr result (SendsPart (K.history sink.old).written (K.history sink.new).written
         (text_bytes text.now)) }
     ensures none { OnOk result ((K.history sink.new).written.buffered ≡ []) }
-    ensures some { OnErr result ((text_bytes text.now ≢ []) ⊎ (held ≡ true)) }
+    ensures some { OnErr result ((text_bytes text.now ≢ []) ⊎ (buffered ≡ true)) }
     ensures cause { HasCause (K.history sink.old).faults (K.history sink.new).faults result }
 {
-    if !held && text.as_slice().is_empty() {
+    if !buffered && text.as_slice().is_empty() {
         return Ok(());
     }
     write_pieces(sink, text)?;

@@ -30,8 +30,8 @@ pub takes_none : (l l' : Option (List ℕ)) → l' ≡ l → Consumes l l' []
 takes_none l l' e = subst (λ k. Consumes l k []) (sym e) (Consumes-nil l)
 
 -- where nothing was held, nothing is what was out before
-pub past_nothing : (a b : Taken) (text : List ℕ) → a.held ≡ [] → SendsPart a b text → SendsPast a b []
-past_nothing a b text none part = record { grows = go a.out b.out a.held none part.grows }
+pub past_nothing : (a b : Taken) (text : List ℕ) → a.buffered ≡ [] → SendsPart a b text → SendsPast a b []
+past_nothing a b text none part = record { grows = go a.out b.out a.buffered none part.grows }
   where
     go : (o o' : Option (List ℕ)) (held : List ℕ) → held ≡ [] → GrowsInPart o o' (held ++ text)
         → GrowsPast o o' (held ++ [])

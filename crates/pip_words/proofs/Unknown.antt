@@ -12,7 +12,7 @@ use Rattle.pip_words.specs.Usage.{unknown_due}
 -- the line was written, or a part of it
 pub usage_ends : (usage : List ℕ) (code : ℕ) (p : Option State) (left : Option (List ℕ)) (reads : ℕ)
     (before after : Taken) (writes writes' : ℕ)
-    → before.held ≡ [] → p ≡ None → (code ≢ 4 → writes' ≡ writes) → (code ≢ 4 → after.held ≡ [])
+    → before.buffered ≡ [] → p ≡ None → (code ≢ 4 → writes' ≡ writes) → (code ≢ 4 → after.buffered ≡ [])
     → EndsLine 1 usage code (writing before writes) (writing after writes')
     → EndsBy (unknown_due usage) code p (beside left reads (writing before writes))
     (beside left reads (writing after writes'))

@@ -105,7 +105,7 @@ returns-in-Err-write_pieces g c =
     let failed = c.in-Err-write_pieces.ensures in
     write_failed _ _ _ _ _ was.done _ _ _ (part_sent _ _ _ failed.prefix)
     failed.cause.failed _ (g.met.M.Transducer.loose c.args.transducer.now)
-    (way_of _ _ c.loop-room.held was.out was.loose) (inr c.in-Say.ensures.loose)
+    (way_of _ _ c.loop-room.buffered was.out was.loose) (inr c.in-Say.ensures.loose)
     (rw c.as_slice.ensures at c.in-Say.ensures.takes.midway)
 
 pub loop-room-preserved : goal.loop-room-preserved
@@ -137,10 +137,10 @@ returns-in-Err-write_text g c =
     let failed = c.in-Err-write_text.ensures in
     write_failed _ _ _ _ _ was.done _ _ _ failed.part failed.cause.failed
     _ (g.met.M.Transducer.loose c.args.transducer.now)
-    (way_of _ _ c.loop-room.held was.out was.loose)
+    (way_of _ _ c.loop-room.buffered was.out was.loose)
     (elim failed.some [
       | inl some ↦ inl some
-      | inr held ↦ inr (was.loose held)
+      | inr buffered ↦ inr (was.loose buffered)
     ])
     (rw c.as_slice.ensures at c.in-Write.ensures.midway)
 
@@ -150,9 +150,10 @@ returns-in-Err-write_text-2 g c =
     let failed = c.in-Err-write_text-2.ensures in
     let is = c.in-End.ensures in
     last_failed _ _ _ _ _ was.done _ _ _ failed.part failed.cause.failed _
-    (g.met.M.Transducer.loose c.args.transducer.now) (way_of _ _ c.loop-room.held was.out was.loose) (elim failed.some [
+    (g.met.M.Transducer.loose c.args.transducer.now) (way_of _ _ c.loop-room.buffered was.out was.loose)
+      (elim failed.some [
       | inl some ↦ inl some
-      | inr held ↦ inr (was.loose held)
+      | inr buffered ↦ inr (was.loose buffered)
     ]) c.in-End.last (rw c.as_slice.ensures at is.is) (elim is.decided [
       | inl enough ↦ inl (rw c.as_slice.ensures at enough)
       | inr over ↦ inr (was.over over)

@@ -14,8 +14,8 @@ invariant-loop-room g l =
       over : l.ended ≡ true → IsAtEnd (g.S.Source.history l.source).left;
       room : length (window_bytes l.window) ≤ g.M.Transducer.room l.transducer;
       none : text_bytes l.text ≡ [];
-      out : l.held ≡ false → (g.K.Sink.history l.sink).written.buffered ≡ [];
-      loose : l.held ≡ true → g.M.Transducer.is_loose ≡ true;
+      out : l.buffered ≡ false → (g.K.Sink.history l.sink).written.buffered ≡ [];
+      loose : l.buffered ≡ true → g.M.Transducer.is_loose ≡ true;
       done : Driving (g.M.Transducer.due l.fn.transducer) (g.M.Transducer.due l.transducer)
           (window_bytes l.window) (all l.fn.source l.fn.sink) (all l.source l.sink);
     }
