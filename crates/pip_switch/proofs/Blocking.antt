@@ -361,9 +361,9 @@ module _ (t : Tree) (p k : ℕ) (access : Access) (low : k < 256) (r : Result (�
 
     by_load : access ≢ Fetch → CanRead (node t p) → reach t p (0xfffff000 + 4 * k) Load Word ≡ Place y.0 y.1
     unfolding there
-    by_load no_faults reads =
+    by_load calm reads =
         let begins = table_begins k low in
-        go access no_faults (sym (aligned_reach t p (0xfffff000 + 4 * k) access begins.aligned) ∙ there)
+        go access calm (sym (aligned_reach t p (0xfffff000 + 4 * k) access begins.aligned) ∙ there)
       where
         go : (z : Access) → z ≢ Fetch → reach t p (0xfffff000 + 4 * k) z Word ≡ Place y.0 y.1
             → reach t p (0xfffff000 + 4 * k) Load Word ≡ Place y.0 y.1
@@ -376,11 +376,11 @@ module _ (t : Tree) (p k : ℕ) (access : Access) (low : k < 256) (r : Result (�
         → a ≡ word_at m y.0 y.1
         → Ok a ≡ load_answer t (0xfffff000 + 4 * k) Word (reach t p (0xfffff000 + 4 * k) Load Word)
     unfolding by_load
-    entry_word m x a s lays found no_faults word =
+    entry_word m x a s lays found calm word =
         let begins = table_begins k low in
         let room = (place_room t m p (0xfffff000 + 4 * k) access x s lays found begins (block_at_word y)
         (found_there t p (0xfffff000 + 4 * k) access begins r is y e)).room in
-        let q = by_load no_faults (s.readable (node t p) (node_in t p)) in
+        let q = by_load calm (s.readable (node t p) (node_in t p)) in
         let (w, page) = reached_page t s p (0xfffff000 + 4 * k) y.0 y.1 x Load Word found q in
         ap Ok (word ∙ laid_words t s m lays y.0 y.1 w page (omega (arith, room)) ∙ sym (ap (λ o. word_of o y.1) page))
         ∙ sym (ap (load_answer t (0xfffff000 + 4 * k) Word) q)
