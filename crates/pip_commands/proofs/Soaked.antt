@@ -39,7 +39,7 @@ module _ (p : State) where
 
 -- what is told of the sink goes from `before` and `writes` on; what is told of the source stays
 module _ (count seed code : ℕ) (p : Option State) (before after : Taken) (writes writes' : ℕ)
-  (start : before.buffered ≡ [])
+    (start : before.buffered ≡ [])
     (flushed : code ≢ 4 → after.buffered ≡ []) (left : Option (List ℕ)) (reads : ℕ) where
   abbrev due : Due
   due = soak_due count seed

@@ -53,8 +53,16 @@ static ROWS: [(&str, u8, &str); 19] = [
         "apart labels\n",
     ),
     ("", 9, "no start\n"),
-    ("line 0 out 0x00000001\n0a + 00000000\n", 2, "bad line 2 order\n"),
-    ("0a + 00000000\n0a ? 00000002\n0a ? 00000001\n", 2, "bad line 3 order\n"),
+    (
+        "line 0 out 0x00000001\n0a + 00000000\n",
+        2,
+        "bad line 2 order\n",
+    ),
+    (
+        "0a + 00000000\n0a ? 00000002\n0a ? 00000001\n",
+        2,
+        "bad line 3 order\n",
+    ),
     ("\n", 2, "bad line 1 form\n"),
     ("0a + 00000000\n0A + 00000000\n", 2, "bad line 2 form\n"),
     ("0b + 00000000\n0a + 00000000\nx", 2, "bad line 2 order\n"),

@@ -35,11 +35,7 @@ fn is_told(line: &[u8], what: &[u8], of: PartNumbers) -> bool {
 
 #[test]
 fn each_form_of_a_line_is_read(rt: HostRuntime) {
-    holds(
-        &rt,
-        is_own(b"018148 + 000003fa", b"018148", 0x3fa),
-        "a key",
-    );
+    holds(&rt, is_own(b"018148 + 000003fa", b"018148", 0x3fa), "a key");
     holds(
         &rt,
         is_asked(b"018148 ? 000003fa", b"018148", 0x3fa),

@@ -82,26 +82,17 @@ static FAULTS: [(&[&[u8]], MergeFault); 18] = [
     (&[FIRST, ASKED, b"00 ? 00000001"], MergeFault::Order),
     (&[FIRST, SECOND, ASKED], MergeFault::Order),
     (
-        &[
-            PART,
-            b"part x 00000001 00000002 00000003 00000004 00000004",
-        ],
+        &[PART, b"part x 00000001 00000002 00000003 00000004 00000004"],
         MergeFault::Order,
     ),
     (&[ASKED], MergeFault::Open),
     (&[FIRST, b"0001 ? 00000002"], MergeFault::Open),
     (&[SECOND, b"0001 ? 00000002"], MergeFault::Open),
-    (
-        &[SECOND, b"0001 ? 00000003", FIRST],
-        MergeFault::Order,
-    ),
+    (&[SECOND, b"0001 ? 00000003", FIRST], MergeFault::Order),
     (&[FIRST, b"00 + 00000001"], MergeFault::Twice),
     (&[FIRST, ASKED, b"00 + 00000003"], MergeFault::Twice),
     (
-        &[
-            PART,
-            b"part y 00000001 00000002 00000003 00000004 00000005",
-        ],
+        &[PART, b"part y 00000001 00000002 00000003 00000004 00000005"],
         MergeFault::Apart,
     ),
 ];

@@ -151,7 +151,7 @@ returns-in-Err-write_text-2 g c =
     let is = c.in-End.ensures in
     last_failed _ _ _ _ _ was.done _ _ _ failed.part failed.cause.failed _
     (g.met.M.Transducer.loose c.args.transducer.now) (way_of _ _ c.loop-room.buffered was.out was.loose)
-      (elim failed.some [
+    (elim failed.some [
       | inl some ↦ inl some
       | inr buffered ↦ inr (was.loose buffered)
     ]) c.in-End.last (rw c.as_slice.ensures at is.is) (elim is.decided [
