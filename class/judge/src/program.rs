@@ -105,7 +105,9 @@ impl Image {
             [*word, constant, half(constant.wrapping_neg())]
         });
         let whole = words.windows(2).filter_map(|pair| match (decode(pair[0])?, decode(pair[1])?) {
-            (Instr::Li { value, .. }, Instr::LiHigh { value: high, .. }) => Some(u32::from(high) << 16 | u32::from(value)),
+            (Instr::Li { value: low, .. }, Instr::LiHigh { value, .. }) => {
+                Some(u32::from(value) << 16 | u32::from(low))
+            }
             _ => None,
         });
         alone.chain(whole).flat_map(|number| [number.wrapping_sub(1), number, number.wrapping_add(1)]).collect()

@@ -30,8 +30,8 @@ const FIRST: [u32; 2] = [400, 700];
 /// Numbers of a program's own text that are tried: drawn, where there are more.
 const CONSTANTS: usize = 300;
 
-/// All numbers up to this one are tried, the largest, powers of two with their neighbours, those of the text, and of each
-/// that many others one that is drawn.
+/// All numbers up to this one are tried, the largest, powers of two with their neighbours, those of the text, and of
+/// each that many others one that is drawn.
 const MOST: u32 = 300;
 const LARGEST: u32 = 5000;
 const APART: u32 = 25;
@@ -310,7 +310,8 @@ pub fn monitor(v: &Values, image: &Image, secret: u64, verdict: &mut Verdict) ->
 // A child that shows words with an upper half, whatever its registers have.
 fn showing(half: u32, meant: &[u16], random: &mut Random) -> Vec<u32> {
     let out = |low: u16| vec![li(1, low), lih(1, half as u16), Instr::Out { a: Register::new(1) }];
-    let acts: Vec<Vec<Instr>> = [0, u16::MAX].into_iter().chain((0..4).map(|_| random.word() as u16)).map(out).collect();
+    let drawn = (0..4).map(|_| random.word() as u16);
+    let acts: Vec<Vec<Instr>> = [0, u16::MAX].into_iter().chain(drawn).map(out).collect();
     restless(random, &acts, meant, (0, 40))
 }
 

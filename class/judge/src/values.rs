@@ -27,8 +27,8 @@ impl Values {
         self.0.iter().find(|(known, ..)| *known == name).map_or(0, |(_, number, ..)| *number)
     }
 
-    /// By a seed; without one the usual ones. By a seed all differ from the usual ones, and from each other. Two seeds are
-    /// the same one if only case differs, and what stands between their words: spaces, `_`, `-` and `.`.
+    /// By a seed; without one the usual ones. By a seed all differ from the usual ones, and from each other. Two seeds
+    /// are the same one if only case differs, and what stands between their words: spaces, `_`, `-` and `.`.
     pub fn drawn(exercise: &str, seed: &str) -> Values {
         let seed = &plain(seed);
         let mut found = Values(Vec::new());
