@@ -4,7 +4,7 @@ use Rattle.std.proofs.Common.{arith}
 use Rattle.std.specs.Prelude.{Result, Ok, Err, IsErr, IsOk, OnErr}
 use Rattle.pip_base.specs.declared.types.Plan.{Plan}
 use Rattle.pip_cpu.specs.Made.{Cut, Made}
-use Rattle.pip_dis.proofs.Written.{part_after, part_of_more}
+use Rattle.pip_children.proofs.Cuts.{part_after, part_of_more}
 use Rattle.pip_io.specs.Taken.{Taken, Appends, AppendsPart, Keeps, Wrote}
 use Rattle.pip_io.proofs.Taken.{Appends-trans, Appends-kept, cut_sent, part_sent}
 use Rattle.pip_model.specs.Acts.{Act, text_of}

@@ -9,7 +9,7 @@ use Rattle.pip_core_text.specs.Core.{Whole, core_text}
 use Rattle.pip_core_text.specs.CoreRead.{BeginsText, IsBadLineOf, IsBadText, IsText, RefusesText}
 use Rattle.pip_core_text.specs.declared.text.CoreError.{CoreError}
 use Rattle.pip_core_text.proofs.CanonicalRun.{only_texts}
-use Rattle.pip_dis.proofs.Written.{part_of_more}
+use Rattle.pip_children.proofs.Cuts.{part_of_more}
 use Rattle.pip_io.specs.Causes.{RoseByOne}
 use Rattle.pip_io.specs.Taken.{Taken, Appends, Keeps, SendsPart, Wrote}
 use Rattle.pip_io.specs.Histories.{writing}

@@ -1,12 +1,11 @@
 -- The numbers in the words of the command line are within their bounds.
-use Rattle.std.proofs.Common.{◌≡◌, ℕ, ◌≤◌, ◌&&◌, true, List, [], ◌∷◌, Option, None, Some}
+use Rattle.std.proofs.Common.{ℕ, ◌≤◌, ◌&&◌, List, [], ◌∷◌, Option, None, Some}
 use Rattle.std.specs.Prelude.{codes, nat_le}
 use Rattle.std.specs.Str.{bytes_eq}
 use Rattle.std.proofs.lemmas.Bool.{leb-true}
 use Rattle.pip_model.specs.Grammar.{number_of}
 use Rattle.pip_words.proofs.Within.{AreWithin, both, first_or, tested}
 use Rattle.pip_commands.specs.Words.{audit_words, command_of, counted_command, native_words, single_word, three_words}
-use Rattle.pip_commands.specs.Words.{two_words}
 use Rattle.pip_commands.specs.declared.words.Command.{Command}
 use Rattle.pip_commands.specs.declared.words.Command.TheVariants as C
 

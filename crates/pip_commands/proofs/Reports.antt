@@ -1,13 +1,12 @@
 -- What a report shows, from how it was written.
-use Rattle.std.proofs.Common.{◌≡◌, ℕ, List, ◌∷◌, ◌++◌, length, sym, ap, ◌∙◌, subst, append_assoc}
+use Rattle.std.proofs.Common.{◌≡◌, ℕ, List, ◌++◌, length, ap, ◌∙◌, subst}
 use Rattle.std.specs.Prelude.{◌≢◌, [], Result, Ok, Err, IsErr, IsOk, OnErr}
 use Rattle.pip_io.proofs.Taken.{Appends-trans, cut_sent, part_sent, Appends-kept}
 use Rattle.pip_base.specs.declared.types.Plan.{Plan}
-use Rattle.pip_cpu.specs.Made.{Cut, MadeOrCut}
-use Rattle.pip_dis.proofs.Written.{part_after}
-use Rattle.pip_io.specs.Taken.{Taken, Appends, AppendsPart, Keeps, Wrote}
-use Rattle.pip_io.proofs.Pieces.{left_more}
-use Rattle.pip_model.specs.Acts.{Act, Writes, after_acts, text_of}
+use Rattle.pip_cpu.specs.Made.{MadeOrCut}
+use Rattle.pip_children.proofs.Cuts.{part_after}
+use Rattle.pip_io.specs.Taken.{Taken, Appends, Keeps, Wrote}
+use Rattle.pip_model.specs.Acts.{after_acts}
 use Rattle.pip_model.specs.Dump.{frames_text, tree_text}
 use Rattle.pip_model.specs.Images.{Image}
 use Rattle.pip_model.specs.Partitions.{HasPartition, IsHeld}
@@ -15,7 +14,6 @@ use Rattle.pip_model.specs.Run.{end_line, trace_image_line, image_world, run, st
 use Rattle.pip_model.specs.RunTexts.{stepped_world}
 use Rattle.pip_model.specs.Tree.{Tree}
 use Rattle.pip_model.specs.Worlds.{World}
-use Rattle.pip_model.proofs.OnLists.Acts.{text-append}
 use Rattle.pip_switch.specs.Standing.{StandsAs, State}
 use Rattle.pip_switch.proofs.Running.{root_held}
 use Rattle.pip_children.proofs.Cuts.{cut_part}

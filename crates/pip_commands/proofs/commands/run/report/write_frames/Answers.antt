@@ -1,5 +1,5 @@
 use Rattle.std.proofs.lemmas.Result.{MatchResult-from_err}
-use Rattle.pip_dis.proofs.Written.{part_of_more}
+use Rattle.pip_children.proofs.Cuts.{part_of_more}
 use Rattle.pip_commands.proofs.Reports.{ended_text}
 use Rattle.pip_commands.proofs.commands.run.report.write_frames.Goals as goal
 
