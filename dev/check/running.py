@@ -119,7 +119,7 @@ def finished(what: str, words: Sequence[str], seconds: float | None = None, **se
     return told
 
 
-WITHOUT_PROGRAM = ("exercise", "grade", "certify")
+WITHOUT_PROGRAM = ("exercise", "grade")
 
 
 def folders_of(place: str) -> list[str]:
