@@ -37,7 +37,9 @@ class Counted:
     def copied(self, path: str, name: str) -> str:
         if not os.access(path, os.X_OK):
             raise Failed(f"there is no program at {path}: build it by ./{name}, or name one by --program")
-        return shutil.copy(path, os.path.join(self.folder.name, name))
+        copy = os.path.join(self.folder.name, name)
+        shutil.copy(path, copy)
+        return copy
 
     def called(self, words: Sequence[str]) -> list[str]:
         """The words that call the copy that has a command."""
