@@ -22,8 +22,8 @@ ENVIRONMENT = {"GLIBC_TUNABLES": f"glibc.cpu.x86_rep_stosb_threshold={NEVER}:gli
 
 
 class Counted:
-    """Programs whose instructions are counted, pip and the lab's, or one with the commands of both: copies of them, in a
-    folder of their own."""
+    """Programs whose instructions are counted, pip and the lab's, or one with the commands of both: copies of them, in
+    a folder of their own."""
 
     def __init__(self, path: str = PROGRAM, is_both: bool = False) -> None:
         valgrind = shutil.which("valgrind")

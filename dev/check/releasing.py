@@ -1,7 +1,9 @@
 """A release of these sources works where there is neither kit nor cargo."""
 
 import os
+import re
 import shutil
+import subprocess
 import sys
 import tarfile
 import tempfile
@@ -53,7 +55,7 @@ def copied(checkout: str, program: str, tools: str) -> None:
 def used(program: str, place: str, tools: str) -> None:
     """Runs a release with what any machine has, and with no kit and no cargo in the PATH."""
     os.mkdir(tools)
-    for name in ("sh", "cat", "awk", "find", "head", "readlink", "dirname", "grep", "sha256sum"):
+    for name in ("sh", "cat", "awk", "find", "head", "readlink", "dirname", "grep", "sed", "sha256sum"):
         os.symlink(needed(name), os.path.join(tools, name))
     os.symlink(sys.executable, os.path.join(tools, "python3"))
     os.symlink("/usr/bin/env", os.path.join(tools, "env"))
@@ -62,6 +64,9 @@ def used(program: str, place: str, tools: str) -> None:
     expect("./pip of a release", run(["sh", "-c", "./pip script < examples/first.pip"], **settings), (due, 0))
     expect("./lab of a release", run(["sh", "-c", "./lab merge < /dev/null"], **settings),
            run([calling.lab(program), "merge"]))
+    told, _ = run(["sh", "-c", "./pip --version"], stderr=subprocess.DEVNULL, **settings)
+    if not re.search(rb"^commit [0-9a-f]{40}\n", told, re.M) or not told.endswith(b"\nproved\n"):
+        raise Differs(f"./pip --version of a release says {told!r}")
     told, status = run(["sh", "-c", "class/exercise store examples/solutions/store.pip"], **settings)
     if status:
         raise Differs(f"class/exercise of a release ends with {status}: {told!r}")

@@ -110,8 +110,8 @@ def heed_interrupts() -> None:
 
 
 def stand_ins(place: str, text: str, program: str) -> str:
-    """Writes stand-ins of pip and of the lab's program beside it, in whose text {program} is the one they stand for, and
-    answers the path of pip's."""
+    """Writes stand-ins of pip and of the lab's program beside it, in whose text {program} is the one they stand for,
+    and answers the path of pip's."""
     write_program(text.format(program=calling.lab(program)), place, "pip_lab")
     return write_program(text.format(program=program), place, "pip")
 
@@ -247,7 +247,7 @@ def generated(first: int, count: int) -> Iterator[Case]:
 
 
 def agree(what: str, other: Callable[[Sequence[str]], list[str]], program: str, cases: Iterable[Case]) -> None:
-    """Refuses another program, by the words that call it of the words of a command, that doesn't answer each case as the
+    """Refuses another program, by the words that call it for those of a command, that doesn't answer each case as the
     program does."""
     def judge(case: Case) -> None:
         told, words, text = case

@@ -35,8 +35,8 @@ def main() -> None:
     parser.add_argument("--gate", action="store_true",
                         help="run .ci/run --all, and keep a record of it in out/; its status is the gate's")
     parser.add_argument("--unproved", action="store_true",
-                        help="without a gate, of the programs that ./pip --unproved has built: the folder, PROOF, ./pip "
-                             "and ./lab say so")
+                        help="without a gate, of the programs that ./pip --unproved has built: the folder, PROOF, "
+                             "./pip and ./lab say so")
     parser.add_argument("--to", type=Path, metavar="FOLDER",
                         help="where the folder and the tarball go, outside the checkout; without it pip-release beside "
                              "it")
