@@ -1,11 +1,13 @@
-"""Counts the instructions of the built program over an input, as callgrind counts them."""
+"""Counts the instructions of the built programs over an input, as callgrind counts them."""
 
 import os
 import re
 import shutil
 import subprocess
 import tempfile
+from collections.abc import Sequence
 
+from common import calling
 from common.calling import REPOSITORY, Failed
 
 PROGRAM = os.path.join(REPOSITORY, "crates", "pip", "out", "pip")
@@ -20,25 +22,38 @@ ENVIRONMENT = {"GLIBC_TUNABLES": f"glibc.cpu.x86_rep_stosb_threshold={NEVER}:gli
 
 
 class Counted:
-    """A program whose instructions are counted: a copy of it, in a folder of its own."""
+    """Programs whose instructions are counted, pip and the lab's, or one with the commands of both: copies of them, in
+    a folder of their own."""
 
-    def __init__(self, path: str = PROGRAM) -> None:
-        if not os.access(path, os.X_OK):
-            raise Failed(f"there is no program at {path}: build it by ./pip, or name one by --program")
+    def __init__(self, path: str = PROGRAM, is_both: bool = False) -> None:
         valgrind = shutil.which("valgrind")
         if valgrind is None:
             raise Failed("valgrind is needed: its callgrind counts the instructions")
         self.folder = tempfile.TemporaryDirectory()
-        self.path = shutil.copy(path, os.path.join(self.folder.name, "pip"))
-        self.command = [valgrind, "--tool=callgrind", "--callgrind-out-file=/dev/null", "./pip"]
+        self.path = self.copied(path, "pip")
+        self.lab = self.copied(path if is_both else calling.lab(path), "lab")
+        self.command = [valgrind, "--tool=callgrind", "--callgrind-out-file=/dev/null"]
+
+    def copied(self, path: str, name: str) -> str:
+        if not os.access(path, os.X_OK):
+            raise Failed(f"there is no program at {path}: build it by ./{name}, or name one by --program")
+        copy = os.path.join(self.folder.name, name)
+        shutil.copy(path, copy)
+        return copy
+
+    def called(self, words: Sequence[str]) -> list[str]:
+        """The words that call the copy that has a command."""
+        return [self.lab if words[0] in calling.LAB else self.path, *words]
 
     def instructions(self, text: bytes, *words: str) -> int:
         """The instructions with these words, or with `script`, over an input."""
         with tempfile.TemporaryFile() as file:       # a pipe would give the input in pieces, now these and now those
             file.write(text)
             file.seek(0)
-            done = subprocess.run([*self.command, *(words or ["script"])], stdin=file, cwd=self.folder.name,
-                                  env=ENVIRONMENT, stdout=subprocess.DEVNULL, stderr=subprocess.PIPE)
+            path, *given = self.called(words or ["script"])
+            done = subprocess.run([*self.command, f"./{os.path.basename(path)}", *given], stdin=file,
+                                  cwd=self.folder.name, env=ENVIRONMENT, stdout=subprocess.DEVNULL,
+                                  stderr=subprocess.PIPE)
         if done.returncode:
             raise Failed(f"the program ends with status {done.returncode}")
         found = COLLECTED.search(done.stderr)
@@ -48,4 +63,4 @@ class Counted:
 
     def written(self, text: bytes, *words: str) -> bytes:
         """What the program writes."""
-        return subprocess.run([self.path, *words], input=text, stdout=subprocess.PIPE, check=True).stdout
+        return subprocess.run(self.called(words), input=text, stdout=subprocess.PIPE, check=True).stdout

@@ -3,11 +3,12 @@
     dev/bench/run [--program PATH] [--plain | --beside PATH] [--tables | --growth]
 
 They are of its start, of a line of each kind, of partitions that are made and deleted, of events that switch, of
-assembly texts, of the steps of runs, of texts of frames, and of a generated load. The program is the built one, unless
-PATH is given: build it first, by ./pip. --plain builds the plain program of dev/bench/plain by cargo, and puts its
-figures beside; --beside does so for any program of the same commands. --tables prints the rows of the tables of
-docs/PERFORMANCE.md, with times and worst inputs, too; it takes half an hour. --growth writes the figures of deletions
-that dev/bench/growth.gp draws."""
+assembly texts, of the steps of runs, of texts of frames, and of a generated load. The programs are the built ones:
+build them first, by ./pip and ./lab. --program names another pip, with the lab's program beside it or in the
+environment's LAB. --plain builds the plain program of dev/bench/plain by cargo, and puts its figures beside; --beside
+does so for any program that has the commands of both. --tables prints the rows of the tables of docs/PERFORMANCE.md,
+with times and worst inputs, too; it takes half an hour. --growth writes the figures of deletions that
+dev/bench/growth.gp draws."""
 
 from __future__ import annotations
 
@@ -52,10 +53,10 @@ def show(given: argparse.Namespace) -> None:
     if given.tables:
         if path is None:
             raise Failed("the tables have two programs: add --plain or --beside PATH")
-        tables(program, Counted(path))
+        tables(program, Counted(path, is_both=True))
         return
     print(f"{'instructions of':90} {'ours':>10}" + ("" if path is None else f" {'beside':>10} {'times':>6}"))
-    others = None if path is None else Figures(Counted(path)).figures()
+    others = None if path is None else Figures(Counted(path, is_both=True)).figures()
     for what, ours in Figures(program).figures():
         print(shown(what, ours, None if others is None else next(others)[1]), flush=True)
 
@@ -94,7 +95,7 @@ def growth(figures: Figures) -> None:
 def main() -> None:
     parser = argparse.ArgumentParser(description=__doc__, usage=argparse.SUPPRESS,
                                      formatter_class=argparse.RawDescriptionHelpFormatter)
-    parser.add_argument("--program", default=PROGRAM, metavar="PATH", help="the program that is counted")
+    parser.add_argument("--program", default=PROGRAM, metavar="PATH", help="the program pip that is counted")
     other = parser.add_mutually_exclusive_group()
     other.add_argument("--plain", action="store_true", help="beside the plain program")
     other.add_argument("--beside", metavar="PATH", help="beside this program")

@@ -161,7 +161,7 @@ def used(program: Counted, text: bytes, words: str) -> float:
     with tempfile.TemporaryFile() as file:
         file.write(text)
         file.seek(0)
-        process = subprocess.Popen([program.path, *words.split()], stdin=file, stdout=subprocess.DEVNULL)
+        process = subprocess.Popen(program.called(words.split()), stdin=file, stdout=subprocess.DEVNULL)
         _, status, usage = os.wait4(process.pid, 0)
         process.returncode = os.waitstatus_to_exitcode(status)
     if process.returncode not in (0, 9):

@@ -6,8 +6,8 @@ from unittest import mock
 
 from authors import why
 from reference import commands as reference, generate
-from .running import (REPOSITORY, Differs, contents, needed, number_of, paths, run, same, says, session, write,
-                      write_program)
+from .running import (REPOSITORY, Differs, contents, needed, number_of, paths, run, same, says, session, stand_ins,
+                      write)
 
 CASES = 300
 
@@ -19,7 +19,7 @@ def built_of(program: str, source: str, *parts: str) -> str:
 
 def liar(program: str, place: str, change: str) -> str:
     """The path of a program whose output is another's with a change by sed."""
-    return write_program(f'#!/bin/sh\n"{program}" "$@" | sed "{change}"\n', place, "liar")
+    return stand_ins(os.path.join(place, "liar"), f'#!/bin/sh\n"{{program}}" "$@" | sed "{change}"\n', program)
 
 
 def programs() -> list[str]:
@@ -119,7 +119,8 @@ def searches_that_speak(program: str, race: str, place: str) -> None:
     says(program, ("every", race, "1650"), 0, " stopped    #", "their number falls since depth 62, where it was 131\n",
          "# most values: ")
     says(liar(program, place, "s/0x51 raise0/0x50 raise0/"), ("every", race, "10000"), 1, "differs from the program")
-    counted = write_program(f'#!/bin/sh\necho "$1" >> "{place}/calls"\nexec "{program}" "$@"\n', place, "counted")
+    counted = stand_ins(os.path.join(place, "counted"),
+                        f'#!/bin/sh\necho "$1" >> "{place}/calls"\nexec "{{program}}" "$@"\n', program)
     for words in ((), ("--trace", "5"), ("--script", "5")):
         says(counted, ("every", race, "10000", *words))
     same("how often a search is made for its ways", contents(place, "calls").split().count(b"every"), 1)

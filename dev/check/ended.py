@@ -8,8 +8,9 @@ import sys
 import tempfile
 import time
 
-from .running import (SECONDS, Differs, called, copied, expect, finished, folders_of, heed_interrupts, tool,
-                      write_program)
+from common import calling
+from .running import (SECONDS, Differs, called, copied, expect, finished, folders_of, heed_interrupts,
+                      stand_ins, tool, write_program)
 
 MAP = "examples/solutions/map.pip"
 TREE = b"part 1 depth 0 up 1 born 0x00000000 tables 0 rows 0\n"      # for those that read
@@ -31,7 +32,7 @@ def full_devices(program: str) -> None:
 def interrupted(program: str) -> None:
     """Ctrl-C ends a tool that waits for its input, and checks with the programs for which they wait."""
     with tempfile.TemporaryDirectory() as place:
-        waits = write_program(f"#!/bin/sh\nexec sleep {SECONDS}\n", place, "pip")
+        waits = stand_ins(place, f"#!/bin/sh\nexec sleep {SECONDS}\n", program)
         stop("asmx", ("--check", "-"), program)
         if "choices or fewer" not in stop("every", ("examples/two_guests.s", "100000000"), program):
             raise Differs("every at Ctrl-C doesn't say what it covers")
@@ -64,7 +65,7 @@ NEEDING = (("asmx", "examples/monitor.s", "--image", "/dev/null"), ("asmx", "--c
            ("every", "-", "10"), ("shell", "examples/first.pip"),
            ("debug", "examples/monitor.s"), ("step/step", "examples/first.pip"),
            ("check/run.py", "--only", "endings"))
-README = "from check import documents; documents.readme_sessions({program!r})"
+README = "from check import documents; documents.sessions_give({program!r}, 'README.md')"
 RT = "#!/bin/sh\necho begun >> \"$PROOFS\"\nexit 1\n"
 
 
@@ -86,5 +87,6 @@ def nothing_is_proved(program: str) -> None:
                                   f"{messages}")
         finished("the sessions of README.md with a program, where nothing is built",
                  [sys.executable, "-B", "-c", README.format(program=os.path.abspath(program))], cwd=place,
-                 env={**environment, "PYTHONPATH": os.pathsep.join(folders_of(place))})
+                 env={**environment, "LAB": os.path.abspath(calling.lab(program)),
+                      "PYTHONPATH": os.pathsep.join(folders_of(place))})
         expect("proofs that were begun", (None, len(os.listdir(path))), (None, 1))

@@ -8,9 +8,10 @@ import os
 import re
 import subprocess
 import tempfile
-from collections.abc import Callable
+from collections.abc import Callable, Sequence
 from pathlib import Path
 
+from common import calling
 from exporter import export
 from .running import (REPOSITORY, Differs, Skipped, agree, called, contents, copied, expect, finished, generated,
                       needed, part, run, text_of, write)
@@ -54,7 +55,7 @@ def by_cargo(program: str) -> None:
     built = programs(place)
     check_example(built)
     check_own_crate(place)
-    agree("the exported program", built("pip"), program, generated(FIRST_SEED, CASES))
+    agree("the exported program", calls_of(built), program, generated(FIRST_SEED, CASES))
 
 
 def of_registry(program: str) -> None:
@@ -65,7 +66,7 @@ def of_registry(program: str) -> None:
             raise Skipped("no public crates for cargo")
         built = programs(place)
         check_example(built)
-        agree("the exported program", built("pip"), program, generated(FIRST_SEED, CASES_OF_REGISTRY))
+        agree("the exported program", calls_of(built), program, generated(FIRST_SEED, CASES_OF_REGISTRY))
 
 
 def unproved(program: str) -> None:
@@ -143,6 +144,11 @@ def programs(place: str) -> Callable[[str], str]:
     """Builds the programs, with tests of requirements and overflows, and answers their paths by their names."""
     cargo(place, "build", "--quiet", "-p", "pip", "-p", "pip_lab", "-p", "pip_example", **WARNINGS)
     return lambda name: os.path.join(place, "target", "debug", name)
+
+
+def calls_of(built: Callable[[str], str]) -> Callable[[Sequence[str]], list[str]]:
+    """How a command of these programs is called, whichever lab the environment names."""
+    return lambda words: [built("pip_lab" if words[0] in calling.LAB else "pip"), *words]
 
 
 def check_example(built: Callable[[str], str]) -> None:

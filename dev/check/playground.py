@@ -36,7 +36,8 @@ def module(program: str) -> None:
     """The examples, and generated cases of each command."""
     needed("node")
     examples = ((told_path(path), ["script"], contents(path)) for path in scripts())
-    agree("the module", asked("run", made()), program, [*examples, *generated(FIRST_SEED, CASES)])
+    path = made()
+    agree("the module", lambda words: asked("run", path, *words), program, [*examples, *generated(FIRST_SEED, CASES)])
 
 
 def asked(name: str, *words: str) -> list[str]:

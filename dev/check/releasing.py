@@ -1,17 +1,20 @@
 """A release of these sources works where there is neither kit nor cargo."""
 
 import os
+import re
 import shutil
+import subprocess
 import sys
 import tarfile
 import tempfile
 from typing import Any
 
+from common import calling
 from .exporting import SECONDS
 from .running import REPOSITORY, Differs, contents, expect, finished, needed, run, text_of, write, write_program
 
 VERSION = text_of("VERSION").strip()
-GATE = "#!/bin/sh\ncp {program} crates/pip/out/pip\necho '1 passed, 0 failed'\n"
+GATE = "#!/bin/sh\ncp {program} crates/pip/out/pip\ncp {lab} crates/pip_lab/out/pip_lab\necho '1 passed, 0 failed'\n"
 # Stands in for the kit, which prints its line, and for the page's module
 RT = "#!/bin/sh\necho a kit\n"
 MODULE = b"\0asm"
@@ -32,14 +35,16 @@ def works(program: str) -> None:
         with tarfile.open(os.path.join(to, f"pip-{VERSION}.tar.gz")) as archive:
             archive.extractall(os.path.join(place, "reader"))
         shutil.rmtree(checkout)
-        used(os.path.join(place, "reader", f"pip-{VERSION}"), os.path.join(place, "plain"))
+        used(program, os.path.join(place, "reader", f"pip-{VERSION}"), os.path.join(place, "plain"))
 
 
 def copied(checkout: str, program: str, tools: str) -> None:
     """A commit of what is checked out here, beside stand-ins."""
     shutil.copytree(REPOSITORY, checkout, ignore=LEFT_OUT, symlinks=True)
-    os.makedirs(os.path.join(checkout, "crates", "pip", "out"))
-    for path, text in ((os.path.join(checkout, ".ci", "run"), GATE.format(program=program)),
+    for name in ("pip", "pip_lab"):
+        os.makedirs(os.path.join(checkout, "crates", name, "out"))
+    gate = GATE.format(program=program, lab=os.path.abspath(calling.lab(program)))
+    for path, text in ((os.path.join(checkout, ".ci", "run"), gate),
                        (os.path.join(tools, "rt"), RT)):
         write_program(text, path)
     write(MODULE, os.path.dirname(checkout), "module")
@@ -47,16 +52,21 @@ def copied(checkout: str, program: str, tools: str) -> None:
         finished("git", ["git", *words], SECONDS, cwd=checkout)
 
 
-def used(place: str, tools: str) -> None:
+def used(program: str, place: str, tools: str) -> None:
     """Runs a release with what any machine has, and with no kit and no cargo in the PATH."""
     os.mkdir(tools)
-    for name in ("sh", "cat", "awk", "find", "head", "readlink", "dirname", "grep", "sha256sum"):
+    for name in ("sh", "cat", "awk", "find", "head", "readlink", "dirname", "grep", "sed", "sha256sum"):
         os.symlink(needed(name), os.path.join(tools, name))
     os.symlink(sys.executable, os.path.join(tools, "python3"))
     os.symlink("/usr/bin/env", os.path.join(tools, "env"))
     settings: dict[str, Any] = {"cwd": place, "env": {"PATH": tools}}
     due = contents(place, "examples", "first.out")
     expect("./pip of a release", run(["sh", "-c", "./pip script < examples/first.pip"], **settings), (due, 0))
+    expect("./lab of a release", run(["sh", "-c", "./lab merge < /dev/null"], **settings),
+           run([calling.lab(program), "merge"]))
+    told, _ = run(["sh", "-c", "./pip --version"], stderr=subprocess.DEVNULL, **settings)
+    if not re.search(rb"^commit [0-9a-f]{40}\n", told, re.M) or not told.endswith(b"\nproved\n"):
+        raise Differs(f"./pip --version of a release says {told!r}")
     told, status = run(["sh", "-c", "class/exercise store examples/solutions/store.pip"], **settings)
     if status:
         raise Differs(f"class/exercise of a release ends with {status}: {told!r}")

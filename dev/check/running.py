@@ -109,6 +109,13 @@ def heed_interrupts() -> None:
     signal.signal(signal.SIGINT, signal.SIG_DFL)
 
 
+def stand_ins(place: str, text: str, program: str) -> str:
+    """Writes stand-ins of pip and of the lab's program beside it, in whose text {program} is the one they stand for,
+    and answers the path of pip's."""
+    write_program(text.format(program=calling.lab(program)), place, "pip_lab")
+    return write_program(text.format(program=program), place, "pip")
+
+
 def finished(what: str, words: Sequence[str], seconds: float | None = None, **settings: Any) -> str:
     """What a command writes that has to end well."""
     done = subprocess.run(words, stdin=subprocess.DEVNULL, stdout=subprocess.PIPE, stderr=subprocess.STDOUT,
@@ -239,13 +246,13 @@ def generated(first: int, count: int) -> Iterator[Case]:
             yield f"{command} with the case of seed {seed}", *generate.case(command, seed)
 
 
-def agree(what: str, other: str, program: str, cases: Iterable[Case], is_both: bool = False) -> None:
-    """Refuses another program that doesn't answer each case as the program does. The other one is pip, with the lab's
-    beside it, or both in one."""
+def agree(what: str, other: Callable[[Sequence[str]], list[str]], program: str, cases: Iterable[Case]) -> None:
+    """Refuses another program, by the words that call it for those of a command, that doesn't answer each case as the
+    program does."""
     def judge(case: Case) -> None:
         told, words, text = case
-        call = [other, *words] if is_both else calling.called(other, words)
-        expect(f"{what}, {told}", run(call, text, stderr=subprocess.DEVNULL), run(calling.called(program, words), text))
+        expect(f"{what}, {told}", run(other(words), text, stderr=subprocess.DEVNULL),
+               run(calling.called(program, words), text))
 
     each(judge, cases)
 

@@ -11,6 +11,7 @@ import subprocess
 import sys
 import tempfile
 import time
+from collections.abc import Sequence
 from typing import Any, IO
 
 from common import calling
@@ -26,7 +27,8 @@ SOURCES = ("crates/pip/src/main.rt", "crates/pip_base/specs/Words.antt", "crates
 FOLDERS = ("bin", "crates/pip/src", "crates/pip_lab/src", "crates/pip_base/specs", "crates/pip_base/proofs",
            "dev/exporter", "dev/reference", "tools/common")
 # The wrappers, and the script that serves both.
-WRAPPERS = ("pip", "lab", "VERSION", "tools/common/program.sh", "tools/common/pip.txt", "tools/common/lab.txt")
+WRAPPERS = ("pip", "lab", "VERSION",
+            *(f"tools/common/{name}" for name in ("program.sh", "progress.awk", "pip.txt", "lab.txt")))
 
 
 class Checkout:

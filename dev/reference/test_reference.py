@@ -75,8 +75,10 @@ class Texts(unittest.TestCase):
             self.assertEqual(script.run(text), due)
 
     def test_words_that_are_no_form_and_words_that_are_one(self) -> None:
-        for line in ("--help", *forms.WRONG):
-            self.assertEqual(commands.pip(forms.words(line), b""), (commands.USAGE, 1), line)
-        for line in forms.RIGHT:
-            if not line.startswith("soak"):
-                self.assertNotEqual(commands.pip(forms.words(line), b"PIPIMG1\n")[1], 1, line)
+        for program, usage, right, wrong in ((commands.pip, commands.USAGE, forms.RIGHT, forms.WRONG),
+                                             (commands.lab, commands.LAB_USAGE, forms.LAB_RIGHT, forms.LAB_WRONG)):
+            for line in ("--help", *wrong):
+                self.assertEqual(program(forms.words(line), b""), (usage, 1), line)
+            for line in right:
+                if not line.startswith("soak"):
+                    self.assertNotEqual(program(forms.words(line), b"PIPIMG1\n")[1], 1, line)

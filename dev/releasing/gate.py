@@ -21,7 +21,7 @@ RUN_IT = "say dev/release --gate first, which runs .ci/run --all"
 
 @dataclass(frozen=True)
 class Record:
-    """A run of the gate. `program` is the SHA-256 of what it built, or nothing where that isn't there."""
+    """A run of the gate. `programs` are the SHA-256 of what it built, by the paths of those that are there."""
 
     commit: str
     tree: str
@@ -30,7 +30,7 @@ class Record:
     ended: str
     status: int
     closing: list[str]
-    program: str | None
+    programs: dict[str, str]
 
 
 def run(found: Checkout, no_page: bool = False) -> int:
@@ -45,8 +45,7 @@ def run(found: Checkout, no_page: bool = False) -> int:
     found.need_clean()
     if found.tree() != tree:
         raise Failed("another commit was checked out while the gate ran: that run counts for nothing")
-    built = repository.sum_of(found.program) if found.program.is_file() else None
-    told = Record(commit, tree, repository.kit(), begun, now(), status, closing(lines), built)
+    told = Record(commit, tree, repository.kit(), begun, now(), status, closing(lines), found.sums())
     found.record.write_text(json.dumps(asdict(told), indent=1) + "\n", encoding="utf-8")
     return status
 
@@ -75,7 +74,7 @@ def now() -> str:
 
 
 def passed(found: Checkout) -> Record:
-    """The record of a gate that passed on what is checked out and built the program, or a reason to refuse."""
+    """The record of a gate that passed on what is checked out and built the programs, or a reason to refuse."""
     record = read(found)
     if record.tree != found.tree():
         raise Failed(f"the gate ran on commit {record.commit[:12]}, which has other files: {RUN_IT}")
@@ -84,8 +83,12 @@ def passed(found: Checkout) -> Record:
                      f"{record.closing[-1] if record.closing else 'it said nothing'}")
     if record.kit is None or repository.kit() not in (None, record.kit):
         raise Failed(f"the gate ran with the kit {record.kit}, and {repository.kit()} is here: {RUN_IT}")
-    if repository.sum_of(found.need_program()) != record.program:
-        raise Failed(f"{found.program} isn't the program that the gate built: {RUN_IT}")
+    sums = found.sums()
+    for path in repository.PROVED:
+        if path not in sums:
+            raise Failed(f"there is no program at {found.place / path}")
+        if sums[path] != record.programs.get(path):
+            raise Failed(f"{found.place / path} isn't the program that the gate built: {RUN_IT}")
     return record
 
 

@@ -1,4 +1,4 @@
-"""The text of PROOF: what was proved of the program of a release, by what, and what a reader may compare."""
+"""The text of PROOF: what was proved of the programs of a release, by what, and what a reader may compare."""
 
 from __future__ import annotations
 
@@ -9,24 +9,24 @@ from .gate import Record
 from .repository import Checkout
 
 PAGE = "pip.html"
-PROGRAM = "crates/pip/out/pip"
-MARK = "UNPROVED"            # a file by which ./pip sees that a release is unproved
+MARK = "UNPROVED"            # a file by which ./pip and ./lab see that a release is unproved
 TEXTS = blocks("proof.txt", __file__)
 
 
 def text(version: str, record: Record | None, found: Checkout, page_sum: str | None) -> str:
     """That of a release, for which no gate was run where there is no record of one, and which has no page where there
     is no sum of it."""
-    program = PROGRAM if record else repository.UNPROVED
+    programs = repository.PROVED if record else repository.UNPROVED
     told = {"version": version, "commit": found.commit(), "tree": found.tree(),
             "copies": TEXTS["with page" if page_sum else "no page"].rstrip("\n").format(page=PAGE)}
     if record:
         told.update(vars(record), closing="\n".join(f"          {line}" for line in record.closing),
                     trusted=trusted(found))
-    sums = [(repository.sum_of(found.place / program), program), *([(page_sum, PAGE)] if page_sum else [])]
-    sums += [(repository.sum_of(found.place / name), name) for name in found.files()]
-    return (TEXTS["proved" if record else "unproved"].format_map({**told, "program": program}) + "\n"
-            + TEXTS["sums"].format(sums="\n".join(f"{total}  {name}" for total, name in sums)))
+    sums = {name: repository.sum_of(found.place / name) for name in (*programs, *found.files())}
+    lines = [f"{total}  {name}" for name, total in sums.items()]
+    lines[len(programs):len(programs)] = [f"{page_sum}  {PAGE}"] if page_sum else []
+    return (TEXTS["proved" if record else "unproved"].format_map({**told, "programs": " and ".join(programs)}) + "\n"
+            + TEXTS["sums"].format(sums="\n".join(lines)))
 
 
 def trusted(found: Checkout) -> str:

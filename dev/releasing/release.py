@@ -1,4 +1,4 @@
-"""Makes a release: what is committed, with the program that the gate built, the page, the documents as HTML, the
+"""Makes a release: what is committed, with the programs that the gate built, the page, the documents as HTML, the
 export, and PROOF."""
 
 from __future__ import annotations
@@ -19,8 +19,9 @@ from . import gate, markdown, proof, repository
 from .repository import Checkout
 
 VERSION = re.compile(r"\d+(\.\d+)*(-[a-z0-9]+)?")
-MARK = "crates/pip/out/sources-seen"       # by which ./pip sees that the program is as new as the sources
-UNPROVED_MARK = "out/sources-seen"         # the same of what cargo built
+# By which ./pip and ./lab see that a program is as new as the sources; one mark for what cargo built
+MARKS = tuple(f"{os.path.dirname(path)}/sources-seen" for path in repository.PROVED)
+UNPROVED_MARKS = ("out/sources-seen",)
 EXPORT = "rust"
 NO_COMPILER = "no compiler here has the target wasm32: --debian names a folder with one"
 BESIDE = "pip-release"                     # beside the checkout
@@ -34,8 +35,8 @@ def main() -> None:
     parser.add_argument("--gate", action="store_true",
                         help="run .ci/run --all, and keep a record of it in out/; its status is the gate's")
     parser.add_argument("--unproved", action="store_true",
-                        help="without a gate, of the program that ./pip --unproved has built: the folder, PROOF and "
-                             "./pip say so")
+                        help="without a gate, of the programs that ./pip --unproved has built: the folder, PROOF, "
+                             "./pip and ./lab say so")
     parser.add_argument("--to", type=Path, metavar="FOLDER",
                         help="where the folder and the tarball go, outside the checkout; without it pip-release beside "
                              "it")
@@ -77,12 +78,13 @@ def made(given: argparse.Namespace, found: Checkout, to: Path) -> Path:
         if path.exists():
             raise Failed(f"{path} is there already: a version is made once")
     found.need_clean()
+    if given.unproved:
+        found.need_unproved()
     record = None if given.unproved else gate.passed(found)
-    program = found.need_unproved() if record is None else found.program
     to.mkdir(parents=True, exist_ok=True)
     with tempfile.TemporaryDirectory(dir=to) as place:
         top = Path(place) / name
-        copied(found, top, program)
+        copied(found, top, given.unproved)
         page_sum = make_page(given, found, top / proof.PAGE)
         documents(top)
         export(found, top / EXPORT)
@@ -97,21 +99,20 @@ def made(given: argparse.Namespace, found: Checkout, to: Path) -> Path:
 
 # The parts
 
-def copied(found: Checkout, top: Path, program: Path) -> None:
-    """What is committed, and the program with its mark, so that ./pip runs it, or says that it is unproved."""
-    for name in found.files():
+def copied(found: Checkout, top: Path, is_unproved: bool) -> None:
+    """What is committed, and the programs with their marks, so that ./pip and ./lab run them, or say that they are
+    unproved."""
+    programs = repository.UNPROVED if is_unproved else repository.PROVED
+    for name in (*found.files(), *programs):
         target = top / name
         target.parent.mkdir(parents=True, exist_ok=True)
-        shutil.copy(found.place / name, target, follow_symlinks=False)
-    target = top / program.relative_to(found.place)
-    target.parent.mkdir(parents=True, exist_ok=True)
-    shutil.copy(program, target)
-    target.chmod(0o755)
-    if program == found.unproved:
-        (top / UNPROVED_MARK).touch()
-        (top / proof.MARK).write_text("Nothing is proved of the program of this release: see PROOF.\n")
-    else:
-        (top / MARK).touch()
+        shutil.copy(found.place / name, target, follow_symlinks=name in programs)
+    for name in programs:
+        (top / name).chmod(0o755)
+    for mark in UNPROVED_MARKS if is_unproved else MARKS:
+        (top / mark).touch()
+    if is_unproved:
+        (top / proof.MARK).write_text("Nothing is proved of the programs of this release: see PROOF.\n")
 
 
 def make_page(given: argparse.Namespace, found: Checkout, path: Path) -> str | None:

@@ -1,4 +1,4 @@
-"""A checkout of the repository: its commit, whether it is clean, and the program that was built in it."""
+"""A checkout of the repository: its commit, whether it is clean, and the programs that were built in it."""
 
 from __future__ import annotations
 
@@ -11,7 +11,9 @@ from pathlib import Path
 from common import calling
 from common.calling import Failed
 
-UNPROVED = "out/rust/target/release/pip"
+WRAPPERS = {"pip": "pip", "lab": "pip_lab"}                 # and the program of each
+PROVED = tuple(f"crates/{name}/out/{name}" for name in WRAPPERS.values())
+UNPROVED = tuple(f"out/rust/target/release/{name}" for name in WRAPPERS.values())
 MOST_NAMED = 5           # files that aren't committed
 
 
@@ -23,15 +25,6 @@ def sum_of(path: Path) -> str:
 @dataclass(frozen=True)
 class Checkout:
     place: Path
-
-    @property
-    def program(self) -> Path:
-        return self.place / "crates" / "pip" / "out" / "pip"
-
-    @property
-    def unproved(self) -> Path:
-        """What `./pip --unproved` builds by cargo."""
-        return self.place / UNPROVED
 
     @property
     def record(self) -> Path:
@@ -69,17 +62,16 @@ class Checkout:
             more = f" and {len(told) - MOST_NAMED} more" if len(told) > MOST_NAMED else ""
             raise Failed(f"{self.place} isn't clean: {', '.join(told[:MOST_NAMED])}{more}")
 
-    def need_program(self) -> Path:
-        if not self.program.is_file():
-            raise Failed(f"there is no program at {self.program}")
-        return self.program
+    def sums(self) -> dict[str, str]:
+        """Those of the proved programs that are there, by their paths."""
+        return {path: sum_of(self.place / path) for path in PROVED if (self.place / path).is_file()}
 
-    def need_unproved(self) -> Path:
-        """The program that cargo built of what is checked out, as ./pip says."""
-        if calling.built(str(self.place / "pip")).get(calling.UNPROVED) != str(self.unproved):
-            raise Failed(f"there is no program at {self.unproved} that is as new as the sources: "
-                         "say ./pip --unproved script < examples/first.pip first")
-        return self.unproved
+    def need_unproved(self) -> None:
+        """Refuses a checkout without the programs that cargo built of what is checked out, as ./pip and ./lab say."""
+        for wrapper, path in zip(WRAPPERS, UNPROVED):
+            if calling.built(str(self.place / wrapper)).get(calling.UNPROVED) != str(self.place / path):
+                raise Failed(f"there is no program at {self.place / path} that is as new as the sources: "
+                             "say ./pip --unproved script < examples/first.pip first")
 
 
 def kit() -> str | None:

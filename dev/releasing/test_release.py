@@ -6,6 +6,7 @@ import argparse
 import contextlib
 import io
 import os
+import re
 import shutil
 import subprocess
 import tempfile
@@ -36,7 +37,7 @@ class Releases(unittest.TestCase):
         self.found = Checkout(self.place / "here")
         for path, text in FILES.items():
             self.write(path, text)
-        for path in (".ci/run", "pip"):
+        for path in (".ci/run", "pip", "lab"):
             (self.found.place / path).chmod(0o755)
         self.found.git("init", "-q")
         self.commit()
@@ -91,9 +92,13 @@ class Releases(unittest.TestCase):
         self.assertEqual(self.pass_gate(), 0)
         made, beside = self.made(), self.made(to=None)
         self.assertEqual(self.parts(made), {
-            *FILES, "README.html", "docs/PROVED.html", "pip.html", "PROOF", "rust/Cargo.toml", release.MARK,
-            "crates/pip/out/pip", "class/judge/pip_judge"})
+            *FILES, "README.html", "docs/PROVED.html", "pip.html", "PROOF", "rust/Cargo.toml", "class/judge/pip_judge",
+            "crates/pip/out/pip", "crates/pip/out/sources-seen", "crates/pip_lab/out/pip_lab",
+            "crates/pip_lab/out/sources-seen"})
+        self.assertEqual((made / "crates/pip_lab/out/pip_lab").read_text(), "the lab, built\n")
         told = (made / "PROOF").read_text()
+        self.assertEqual([line.split("  ")[1] for line in told.splitlines() if re.match("[0-9a-f]{64}  ", line)],
+                         ["crates/pip/out/pip", "crates/pip_lab/out/pip_lab", "pip.html", *self.found.files()])
         for part in ("pip 1.2\n", self.found.commit(), KIT, "3 passed, 0 failed", "check: 2 of 2 checks pass",
                      "- The kit."):
             self.assertIn(part, told)
@@ -115,14 +120,16 @@ class Releases(unittest.TestCase):
 
     def test_an_unproved_one_needs_no_gate_and_says_so(self) -> None:
         self.refused("say ./pip --unproved script", unproved=True)
-        self.found.unproved.parent.mkdir(parents=True)
-        self.found.unproved.write_text("by cargo\n")
+        programs = "out/rust/target/release/pip", "out/rust/target/release/pip_lab"
+        self.write(programs[0], "by cargo\n")
+        self.refused("no program at .*/release/pip_lab that is as new", unproved=True)
+        self.write(programs[1], "the lab, by cargo\n")
         made = self.made(unproved=True)
         parts, told = self.parts(made), (made / "PROOF").read_text()
-        self.assertLess({"UNPROVED", "PROOF", "out/rust/target/release/pip", "out/sources-seen"}, parts)
-        self.assertNotIn("crates/pip/out/pip", parts)
-        self.assertTrue(told.startswith("pip 1.2, unproved\n\nNothing is proved of the program "
-                                        "out/rust/target/release/pip"), told)
+        self.assertLess({"UNPROVED", "PROOF", "out/sources-seen", *programs}, parts)
+        self.assertFalse({path for path in parts if path.startswith("crates/")})
+        self.assertTrue(told.startswith("pip 1.2, unproved\n\nNothing is proved of the programs "
+                                        f"{' and '.join(programs)}: "), told)
         self.assertNotIn("passed", told)
 
     def test_a_gate_that_never_ends_leaves_no_record(self) -> None:
@@ -167,8 +174,11 @@ FAULTS: dict[str, Callable[[Releases], object]] = {
     "isn't clean: new.txt": lambda test: test.write("new.txt", "new\n"),
     "no run of the gate is recorded": lambda test: test.found.record.unlink(),
     "is no record of a gate": lambda test: test.found.record.write_text('{"status": 0}'),
-    "isn't the program that the gate built": lambda test: test.found.program.write_text("another\n"),
-    "there is no program": lambda test: test.found.program.unlink(),
+    "pip/out/pip isn't the program that the gate built": lambda test: test.write("crates/pip/out/pip", "another\n"),
+    "pip_lab isn't the program that the gate built": lambda test: test.write("crates/pip_lab/out/pip_lab", "another\n"),
+    "there is no program at .*/crates/pip/": lambda test: (test.found.place / "crates/pip/out/pip").unlink(),
+    "there is no program at .*/crates/pip_lab/":
+        lambda test: (test.found.place / "crates/pip_lab/out/pip_lab").unlink(),
     "with the kit kit-1, and kit-2 is here": lambda test: test.use_kit("kit-2"),
     "with the kit None": no_kit,
     "has other files": other_files,

@@ -18,7 +18,8 @@ PROVED, UNPROVED = "proved", "unproved"      # programs by what ./pip and ./lab 
 LAB = ("slots", "every", "against", "apart", "part", "merge")        # the commands of the lab
 # Where the lab's program is, seen from the folder of pip's: beside it, and at the same place of its own crate.
 BESIDE = {"pip": ("pip_lab", os.path.join(os.pardir, os.pardir, "pip_lab", "out", "pip_lab")),
-          "program.py": ("lab.py",)}
+          "program.py": ("lab.py",),
+          "pip-plain": ("pip-plain",)}       # the plain program has the commands of both
 MOST = 1 << 24           # bytes of a script or of an assembly text
 
 

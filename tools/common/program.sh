@@ -1,8 +1,8 @@
 #!/bin/sh
-# Runs a program of this checkout, pip or the lab, which is the first word, with the other words. Where it isn't built yet, or
-# a source is newer than it, it is proved and built first; what the prover says goes into a file that is named then. After
-# the word --unproved it is what cargo builds of the export, or the reference: at once, and nothing is proved of it. Where
-# it can't be built the status is 11, which it never answers. Which words are a form of it the program says, by status 1.
+# Runs a program of this checkout, pip or the lab, which is the first word, with the other words. Where it isn't built
+# yet, or a source is newer, it is proved and built first; what the prover says goes into a file that is named then.
+# After the word --unproved it is what cargo builds of the export, or the reference: at once, and nothing is proved of
+# it. Where it can't be built the status is 11, which it never answers. Which words are its forms it says by status 1.
 name=$1
 shift
 here=$(dirname "$(dirname "$(dirname "$(readlink -f "$0")")")") || exit 11
@@ -15,74 +15,37 @@ out=$here/crates/$crate/out
 unproved=$here/out
 exported=$unproved/rust/target/release/$crate
 
-say() {
-    echo "$*" >&2
-}
+say() { echo "$*" >&2; }
+fail() { say "$name can't be built: $*"; exit 11; }
+has() { command -v "$1" >/dev/null; }
 
-# is_new PROGRAM MARK SOURCE ..: whether the program is there, and no source, and no folder out of which one was taken, is
-# newer than the mark, which is as old as the beginning of the last build that ended well
+# is_new PROGRAM MARK SOURCE ..: whether the program is there, and neither a body, crates.txt, one of these sources, nor
+# a folder out of which one was taken, is newer than the mark, which is as old as the beginning of the last good build
 is_new() {
     [ -x "$1" ] && [ -e "$2" ] || return 1
     mark=$2
     shift 2
-    newer=$(find "$@" -newer "$mark" -print 2>/dev/null | head -n 1)
-    [ -z "$newer" ]
+    [ -z "$(find "$here/crates.txt" "$here"/crates/*/src "$@" -newer "$mark" -print 2>/dev/null | head -n 1)" ]
 }
 
-is_proved() {
-    is_new "$out/$crate" "$out/sources-seen" "$here/crates.txt" "$here"/crates/*/src "$here"/crates/*/specs "$here"/crates/*/proofs
-}
-
-is_exported() {
-    is_new "$exported" "$unproved/sources-seen" "$here/crates.txt" "$here"/crates/*/src "$here/dev/export" "$here/dev/exporter"
-}
-
-# say_built: which programs are there, as new as the sources, a line each; the tools ask so, and nothing is built
-say_built() {
-    ! is_proved || echo "proved $out/$crate"
-    ! is_exported || echo "unproved $exported"
-}
+is_proved() { is_new "$out/$crate" "$out/sources-seen" "$here"/crates/*/specs "$here"/crates/*/proofs; }
+is_exported() { is_new "$exported" "$unproved/sources-seen" "$here/dev/export" "$here/dev/exporter"; }
 
 # version: which text this is, and what is built of it
 version() {
     echo "$name $(cat "$here/VERSION")"
-    echo "commit $(git -C "$here" describe --always --dirty 2>/dev/null || sed -n 's/^commit: *//p' "$here/PROOF" 2>/dev/null)"
+    echo "commit $(git -C "$here" describe --always --dirty 2>/dev/null || sed -n 's/^commit  *//p' "$here/PROOF" 2>/dev/null)"
     rt version 2>/dev/null || echo "no kit: rt isn't in the PATH"
     if is_proved; then echo "proved"; elif is_exported; then echo "not proved: built by cargo"; else echo "not built"; fi
 }
 
-forms() {
-    cat "$here/tools/common/$name.txt"
-}
-
-# progress: the crate that the prover has come to by its log, its place among those that make the program, and how far it
-# is there. A crate comes after those it uses, in the order in which its line of crates.txt names them
-progress() {
-    now=$(awk '/^rt: chose .* for [a-z_]*$/ { name = $NF; more = "" }
-        /^rt: [a-z_]*: begins with what a check kept/ { name = substr($2, 1, length($2) - 1); more = ", which begins with what a check kept" }
-        /^checked [a-z_]*::/ { split($2, part, "::"); if (part[1] != name) more = ""; name = part[1] }
-        /^so far: [0-9]+ of [0-9]+ / { more = ", " $3 " of " $5 " functions" }
-        END { if (name) print name more }' "$log" 2>/dev/null)
-    at=$(awk -v crate="$crate" -v name="${now%%,*}" -F : '
-        function visit(crate, uses, n, i) {
-            if (!(crate in uses_of) || crate in at) return
-            at[crate] = 0
-            n = split(uses_of[crate], uses, " ")
-            for (i = 1; i <= n; i++) visit(uses[i])
-            at[crate] = ++count
-        }
-        /^[a-z]/ { split($1, words, " "); uses_of[words[1]] = $2 }
-        END { visit(crate); if (name in at) print at[name] " of " count }' "$here/crates.txt")
-    [ -z "$at" ] || echo "crate $at: $now"
-}
-
-# show_progress: a line for each crate, for how far it is every 10 seconds, and as a sign of life each minute, until the
-# build's mark is gone
+# show_progress: what progress.awk says: a line for each crate, for how far it is every 10 seconds, and as a sign of
+# life each minute, until the build's mark is gone
 show_progress() {
-    last=
+    last=''
     quiet=0
     while [ -e "$begun" ] && kill -0 $$ 2>/dev/null; do
-        now=$(progress)
+        now=$(awk -v crate="$crate" -f "$here/tools/common/progress.awk" "$log" "$here/crates.txt" 2>/dev/null)
         if [ "$now" != "$last" ] && { [ "${now%%,*}" != "${last%%,*}" ] || [ "$quiet" -ge 10 ]; } || [ "$quiet" -ge 60 ]; then
             say "${now:-the prover has come to no crate yet}"
             last=$now
@@ -93,12 +56,12 @@ show_progress() {
     done
 }
 
-# build LOG MARK TARGET REPORT COMMAND ..: runs a command that builds, and answers whether it ended well. What it says goes
-# into the log. The mark is as old as its beginning; until it ended it has another name, with this process in it
+# build LOG MARK TARGET REPORT COMMAND ..: runs a command that builds, and answers whether it ended well. What it says
+# goes into the log. The mark is as old as its beginning; until it ended its name is another, with this process in it
 build() {
-    log=$1 kept=$2 target=$3 report=$4 begun=$here/build-begun.$$.log reporter= builder=
+    log=$1 kept=$2 target=$3 report=$4 begun=$here/build-begun.$$.log reporter='' builder=''
     shift 4
-    (: > "$begun") 2>/dev/null || { say "$name can't be built: the folder $here can't be written"; exit 11; }
+    (: > "$begun") 2>/dev/null || fail "the folder $here can't be written"
     trap 'kill $reporter $builder 2>/dev/null; wait; rm -f "$begun"' EXIT
     trap 'say; say "stopped; what was done is kept, and the next ./$name goes on there"; exit 130' INT
     trap 'exit 129' HUP
@@ -123,9 +86,7 @@ build() {
     return $ended
 }
 
-rt_run() {
-    cd "$here/crates/$crate" && exec rt run -- "$first"
-}
+rt_run() { cd "$here/crates/$crate" && exec rt run -- "$first"; }
 
 prove() {
     say "proving and building $name; this takes a quarter of an hour or more, and what the prover says goes into $here/build.log"
@@ -143,11 +104,10 @@ export_and_build() {
     build "$unproved/build.log" "$unproved/sources-seen" "$exported" : cargo_build
 }
 
-# in_turn FOLDER IS_DONE BUILD: one build at a time in a folder; a call that had to wait looks again whether there is anything to do
+# in_turn FOLDER IS_DONE BUILD: one build at a time in a folder; a call that had to wait looks again what there is to do
 in_turn() {
-    mkdir -p "$1" 2>/dev/null && (: >> "$1/lock") 2>/dev/null ||
-        { say "$name can't be built: the folder $1 can't be written"; exit 11; }
-    if command -v flock >/dev/null; then
+    { mkdir -p "$1" && (: >> "$1/lock"); } 2>/dev/null || fail "the folder $1 can't be written"
+    if has flock; then
         exec 9>>"$1/lock"
         flock -n 9 || { say "another ./$name builds here; waiting for it"; flock 9; }
     fi
@@ -157,40 +117,35 @@ in_turn() {
     return $ended
 }
 
-run_exported() {
-    say "unproved: cargo built this program of the same text, and nothing is proved of it"
-    exec "$exported" "$@"
-}
-
-# run_unproved WORD ..: the program of the export, or the reference where cargo can't build it
-run_unproved() {
-    ! is_exported || run_exported "$@"
-    command -v python3 >/dev/null ||
-        { say "$name --unproved needs Python 3.9 or later: python3 isn't in the PATH"; exit 11; }
-    if ! command -v cargo >/dev/null; then
-        say "cargo isn't in the PATH"
-    elif in_turn "$unproved" is_exported export_and_build; then
-        run_exported "$@"
-    fi
+run_reference() {
     say "unproved: the reference answers, a second telling of the model in Python, and nothing is proved of it"
     exec python3 -B "$here/dev/reference/$reference" "$@"
 }
 
+# run_unproved WORD ..: the program of the export, or the reference where cargo can't build it
+run_unproved() {
+    if ! is_exported; then
+        has python3 || { say "$name --unproved needs Python 3.9 or later: python3 isn't in the PATH"; exit 11; }
+        has cargo || { say "cargo isn't in the PATH"; run_reference "$@"; }
+        in_turn "$unproved" is_exported export_and_build || run_reference "$@"
+    fi
+    say "unproved: cargo built this program of the same text, and nothing is proved of it"
+    exec "$exported" "$@"
+}
+
 case ${1-}:$# in
-    -h:1 | --help:1) forms; exit ;;
+    -h:1 | --help:1) exec cat "$here/tools/common/$name.txt" ;;
     --version:1) version; exit ;;
-    --built:1) say_built; exit 0 ;;
+    --built:1) # which programs are there, as new as the sources, a line each; the tools ask so
+        ! is_proved || echo "proved $out/$crate"
+        ! is_exported || echo "unproved $exported"
+        exit 0 ;;
 esac
-if [ "${1-}" = --unproved ]; then
-    shift
-    run_unproved "$@"
-elif is_proved; then
-    exec "$out/$crate" "$@"
-elif [ -e "$here/UNPROVED" ]; then
-    # A release for which no gate was run
-    run_unproved "$@"
-fi
-command -v rt >/dev/null || {
+if [ "${1-}" = --unproved ]; then shift; run_unproved "$@"; fi
+if is_proved; then exec "$out/$crate" "$@"; fi
+# A release for which no gate was run
+if [ -e "$here/UNPROVED" ]; then run_unproved "$@"; fi
+has rt || {
     say "$name can't be built: rt, the command of the Rattle kit, isn't in the PATH"
     say "put it there, or say ./$name --unproved $*: at once, by cargo or Python, and nothing is proved of it"
     exit 11
