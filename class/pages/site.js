@@ -2,6 +2,7 @@
 "use strict";
 {
 const SAID = "the same text, not the same proof", SLOW = 700, MOST_SHOWN = 2000;
+const LEAST = 16, MARGIN = 5;                      // columns of a text, and those between it and its answers
 const SYNTAX = /* syntax */;
 const escaped = text => text.replace(/[&<>]/g, sign => "&#" + sign.charCodeAt(0) + ";");
 const linesIn = text => text.replace(/\n$/, "").split("\n");
@@ -29,12 +30,17 @@ class Editor {
     this.field.addEventListener("input", () => { this.draw(); changed(); });
     ["keyup", "click", "focus"].forEach(name => this.field.addEventListener(name, moved));
     this.element = make("div.edit", make("div.paper", this.under, this.field));
+    this.desk = make("div.desk", this.element);
     this.draw();
   }
   get text() { return this.field.value; }
   set text(text) { this.field.value = text; this.draw(); }
   get line() { return this.text.slice(0, this.field.selectionStart).split("\n").length; }
-  draw() { this.under.innerHTML = coloured(this.text); }
+  draw() {
+    this.under.innerHTML = coloured(this.text);
+    const widest = Math.max(LEAST, ...this.text.split("\n").filter(line => line[0] !== "#").map(line => line.length));
+    this.desk.style.setProperty("--code", widest + MARGIN + "ch");
+  }
 }
 
 // The buttons of a block, and what is said of its run
@@ -88,8 +94,8 @@ function sourceOf(told) {
 
 // A row of an answer or of a trace, with its meaning
 function row(line, answer, kind) {
-  const said = answer && facts ? means(line, answer) : "", made = make("span.row." + kind, make("b", answer), make("i", said));
-  made.title = said;
+  const made = make("span.row." + (answer ? kind : "none"), make("b", answer), make("i", answer && facts ? means(line, answer, true) : ""));
+  made.title = answer && facts ? means(line, answer) : "";
   return made;
 }
 
@@ -107,7 +113,8 @@ class Script {
     this.edit = new Editor(more.text === undefined ? this.text : more.text, "Script", () => this.edited(), () => this.explain());
     this.bar = new Bar(div, {...more.acts, ...(more.isPart ? {} : {Run: () => this.run(), Views: () => looking.open(this)}),
       Playground: () => toPlayground("script", this.whole()), Reset: () => this.reset()}, more.fields);
-    fillIn(div, make("div.desk", this.edit.element, this.answers), this.bar.element, this.note, ...sourceOf(told));
+    this.edit.desk.append(this.answers);
+    fillIn(div, this.edit.desk, this.bar.element, this.note, ...sourceOf(told));
     whenEntered(this.edit.field, more.entered || (() => this.run()));
     this.show(this.printed, "printed");
   }
@@ -185,7 +192,7 @@ class Assembled {
     [this.steps, this.seed] = [field("steps", told.steps), field("seed", told.seed)];
     this.bar = new Bar(div, {...more.acts, Run: () => this.run(), Views: () => looking.open(this), Playground: () => toPlayground("assembly", this.whole()), Reset: () => this.reset()},
       [make("label", "steps ", this.steps), make("label", "seed ", this.seed), ...(more.fields || [])]);
-    fillIn(div, make("div.desk", this.edit.element), this.bar.element, this.note, this.trace, ...sourceOf(told));
+    fillIn(div, this.edit.desk, this.bar.element, this.note, this.trace, ...sourceOf(told));
     this.trace.hidden = true;
     whenEntered(this.edit.field, more.entered || (() => this.run()));
   }

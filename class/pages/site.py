@@ -33,7 +33,8 @@ HERE = Path(__file__).resolve().parent
 ORDER = ["README.md", *(f"docs/{name}.md" for name in (
     "TUTORIAL", "EXERCISES", "MODEL", "FORMATS", "GUARANTEES", "PROVED", "LAYERS", "GLOSSARY", "CERTIFICATES", "EXPORT",
     "LIBRARY", "PERFORMANCE", "TEACHING", "DECISIONS")), "CONTRIBUTING.md", "tools/README.md", "class/README.md"]
-TUTORIAL, EXERCISES = "docs/TUTORIAL.md", "docs/EXERCISES.md"
+TUTORIAL, EXERCISES, GLOSSARY = "docs/TUTORIAL.md", "docs/EXERCISES.md", "docs/GLOSSARY.md"
+TERM = re.compile(r"<tr>\n<td>(.*?)</td>\n<td>(.*?)</td>")
 NO_DOCUMENTS = ("out/", "dev/exporter/")          # what is built, and what goes into an export
 PICTURES = (".svg", ".png")
 # The scripts of the pages, each made of these
@@ -243,7 +244,16 @@ class Chapter:
 
     def page(self) -> Page:
         made = rendering.rendered(self.document.text, self.block, lambda link: self.site.led(self.path, link), self.after)
+        if self.path == GLOSSARY:
+            made.body = TERM.sub(lambda found: self.term(made, found), made.body)
         return Page(self.site.names[self.path], made.title, made.body, short(self.path), made.headings, made.sections)
+
+    def term(self, made: Rendered, found: re.Match[str]) -> str:
+        """A row of the glossary, which the search finds by its term."""
+        term, meaning = (html.unescape(re.sub("<[^>]*>", "", cell)) for cell in found.groups())
+        name = f"term-{rendering.anchor(term)}"
+        made.sections.append((name, term, meaning))
+        return f'<tr id="{PREFIX}{name}">{found[0][len("<tr>"):]}'
 
     def block(self, found: Rendered, line: int, text: str) -> str:
         at = self.places.get(line)
@@ -315,7 +325,7 @@ def example_page(path: str) -> str:
 def short(path: str) -> str:
     """A document's name in the list."""
     name, folder = os.path.basename(path)[:-3], os.path.dirname(path)
-    return (folder or "pip") if name == "README" else name.capitalize()
+    return (folder or "pip").capitalize() if name == "README" else name.capitalize()
 
 
 def lines_of(text: str) -> list[str]:

@@ -17,7 +17,7 @@ import time
 from common import calling
 from . import (authors, beside, certificates, cheats, corners, counters, documents, ended, endings, examples,
                exercises, exporting, grading, guests, house, links, meanings, pages, playground, playing,
-               public_calls, releasing, shells, sources, tools, wrapper)
+               public_calls, releasing, shells, sites, sources, tools, wrapper)
 from .running import Check, Differs, Skipped
 
 # A name, and its parts: functions that are given the program's path and raise Differs if something is wrong, or Skipped
@@ -57,6 +57,7 @@ CHECKS: dict[str, Check | tuple[Check, ...]] = {
     "export-miri": exporting.miri,
     "playground": (playground.module, playground.states, playground.runs, playground.reasons, playground.judge),
     "playground-browser": playing.in_browser,
+    "site": (sites.in_node, sites.in_browser),
     "release": releasing.works,
     "commands": (corners.corners, *(tools.compared(command, cases) for command, cases in tools.CASES.items())),
     "audits": (corners.round_trips, corners.each_word),
