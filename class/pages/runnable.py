@@ -108,7 +108,7 @@ def raw(lines: Sequence[str]) -> Iterator[tuple[int, list[str], str, str, str]]:
 
 def inside(above: str, before: str) -> int:
     """How far the lines of a block are indented that may begin here; 0 where none can."""
-    if before.strip() and not MARK.fullmatch(before.strip()):
+    if before.strip() and not before.lstrip().startswith("<!--"):
         return 0
     item = ITEM.match(above)
     return INDENT + (item.end() if item else len(above) - len(above.lstrip(" ")))

@@ -89,6 +89,13 @@ def make(to: Path, made: Path | None, debian: Path | None) -> None:
           f"{len(files['engine.js'])}; the same text, not the same proof")
 
 
+def documents() -> list[str]:
+    """The documents of the checkout in their order."""
+    found = sorted(path.relative_to(TOP).as_posix() for path in TOP.rglob("*.md"))
+    found = [path for path in found if not path.startswith(NO_DOCUMENTS) and "/out/" not in path]
+    return [path for path in ORDER if path in found] + [path for path in found if path not in ORDER]
+
+
 @dataclass
 class Page:
     name: str
@@ -101,9 +108,7 @@ class Page:
 
 class Site:
     def __init__(self) -> None:
-        found = sorted(path.relative_to(TOP).as_posix() for path in TOP.rglob("*.md"))
-        found = [path for path in found if not path.startswith(NO_DOCUMENTS) and "/out/" not in path]
-        self.documents = [path for path in ORDER if path in found] + [path for path in found if path not in ORDER]
+        self.documents = documents()
         self.examples = {path.relative_to(TOP).as_posix(): path.read_text(encoding="utf-8")
                          for path in sorted((TOP / "examples").rglob("*"))
                          if path.is_file() and "solutions" not in path.parts}

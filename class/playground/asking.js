@@ -26,15 +26,15 @@ async function askNext() {
     if (sent && sent.is === is && sent.text === told.text) delete told.text; else sent = {is, text: told.text};
   }
   setTimeout(() => { if (pending.asked === asked) say(WAIT); }, BUSY);
-  const last = await program.ask(told, inner => { if (pending.asked === asked) take(inner, asked, "first"); });
+  const last = await program.ask(told, inner => { if (pending.asked === asked) heard(inner, asked, "first"); });
   if (pending.asked !== asked) return;
   pending.asked = null;
-  take(last, asked, "shown");
+  heard(last, asked, "shown");
   document.body.dataset.answered = asked.number;
   askNext();
 }
 
-function take(told, asked, name) {
+function heard(told, asked, name) {
   parts[told.part](told, asked);
   document.body.dataset[name] = (performance.now() - pending.since).toFixed(1);
 }

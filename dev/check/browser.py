@@ -19,7 +19,7 @@ from common.blocks import escaped
 NAMES = ("chromium", "chromium-browser", "google-chrome", "google-chrome-stable")
 CODES = {"ArrowRight": 39, "ArrowLeft": 37, "ArrowDown": 40, "ArrowUp": 38, "Home": 36, "End": 35, "PageDown": 34,
          "PageUp": 33, "Tab": 9, "Enter": 13}
-SECONDS, PAUSE = 6, 0.02        # for an answer, and between two looks
+SECONDS, PAUSE = 60, 0.02        # for an answer, and between two looks
 LEAST_CONTRAST = 4.5
 ANSWERED = "document.body.dataset.answered && !pending.asked && true"
 HELPERS = """const at = id => document.getElementById(id), $ = selector => document.querySelector(selector).textContent,

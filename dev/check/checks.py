@@ -26,7 +26,7 @@ CHECKS: dict[str, Check | tuple[Check, ...]] = {
     "endings": endings.endings,
     "refused-memory": endings.refused_memory,
     "answering": (endings.typed_script, endings.gathered_answers),
-    "documents": (documents.readme_sessions, documents.examples_with_arrows, documents.tutorial_blocks, links.links,
+    "documents": (documents.blocks_are_told, documents.blocks_that_run, documents.tutorial_blocks, links.links,
                   meanings.same),
     "step-counters": counters.step_counters,
     "house": (house.house, sources.ghost_imports),

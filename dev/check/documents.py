@@ -1,76 +1,106 @@
-"""The sessions and examples of the documents are what the program gives, and docs/TUTORIAL.md shows the files of
+"""Each block of the documents is told, and what runs of them gives what it shows; docs/TUTORIAL.md shows the files of
 examples/tutorial/ as they are."""
 
+import contextlib
 import os
 import re
 import sys
 import tempfile
+from collections.abc import Iterator, Sequence
 from pathlib import Path
 
-from exporter import crates
 from common.machine import script
+from exporter import crates
+from pages import runnable, site
 from .examples import script_gives
-from .running import REPOSITORY, Differs, commands_of, expect, part, paths, run, text_of, told_path, write_program
+from .running import (REPOSITORY, Differs, commands_of, expect, part, paths, run, text_of, told_path, write,
+                      write_program)
 
 MARK = b"-- the next command --\n"
+LEAST = 20               # blocks that run: a rule that tells none would pass
 
 
-def readme_sessions(program: str) -> None:
-    """Each session of README.md gives what it shows; and a build names as many crates as the page has it."""
-    with tempfile.TemporaryDirectory() as place:
-        os.symlink(os.path.join(REPOSITORY, "examples"), os.path.join(place, "examples"))
-        os.symlink(os.path.abspath(program), os.path.join(place, "pip"))
-        for session in sessions(text_of("README.md")):
-            commands = [command for command, _ in session]
-            shown = b"".join(output + MARK for _, output in session)
-            told = "; ".join(f"{{ {command}\n}}; s=$?; printf '%s' '{MARK.decode()}'; (exit $s)"
-                             for command in commands)
-            output, status = run(["sh", "-c", told], cwd=place)
-            expect(f"README.md, the session from '$ {commands[0]}' on", (output, status), (shown, 0))
+def blocks_are_told(program: str) -> None:
+    """Of each block of each document the site and the checks know what it is; a planted one isn't told. And a build
+    names as many crates as README.md has it."""
+    for path, document in documents():
+        if unknown := [block for block in document.blocks if block.kind is None]:
+            raise Differs(f"{path}:{unknown[0].line}: nothing tells what this block is: class/pages/runnable.py says how "
+                          "one is marked")
+    if runnable.blocks("a.md", "So:\n\n    what is this\n")[0].kind is not None:
+        raise Differs("a planted block that nothing tells isn't found")
     named = part(r"`crate \d+ of (\d+)`", text_of("README.md"))
     count = len(crates.chosen(crates.crates_of(Path(REPOSITORY)), ["pip"]))
     if named != str(count):
         raise Differs(f"README.md has a build of {named} crates, where {count} make the program")
 
 
-def sessions(text: str) -> list[list[tuple[str, bytes]]]:
-    """The sessions of a text, each a list of a command and the output shown below it."""
-    blocks = re.findall(r"(?:^    .*\n)+", text, re.M)
-    found = [commands for block in blocks if (commands := commands_of(re.sub("^    ", "", block, flags=re.M)))]
-    if not found:
-        raise Differs("README.md has no session")
-    return found
+def documents() -> Iterator[tuple[str, runnable.Document]]:
+    for path in site.documents():
+        yield path, runnable.Document(Path(REPOSITORY), path)
 
 
-def examples_with_arrows(program: str) -> None:
-    """Each session of the documents' blocks whose lines have their answer after an arrow, by program and reference."""
-    sessions_shown = arrow_sessions(text_of("docs/FORMATS.md"))
-    if not sessions_shown:
-        raise Differs("docs/FORMATS.md has no session")
-    for lines, answers in sessions_shown:
-        text = "".join(line + "\n" for line in lines).encode()
-        shown = "".join(answer + "\n" for answer in answers).encode()
-        status = 2 if answers[-1].startswith("bad line") else 0
-        what = f"docs/FORMATS.md, the session from '{lines[0]}' on"
-        expect(what + ", by the reference", script.run(text), (shown, status))
-        expect(what, run([program, "script"], text), (shown, status))
+def blocks_that_run(program: str) -> None:
+    """Each script and each session that is in a document alone gives what it shows, by program and reference."""
+    count = 0
+    with tempfile.TemporaryDirectory() as place:
+        programs = (reference_in(place), ", by the reference"), (program, "")
+        for path, document in documents():
+            for block, runs in document.running():
+                what = f"{path}, the block from line {block.line} on"
+                if isinstance(runs, runnable.Script):
+                    script_shows(what, runs, program)
+                elif isinstance(runs, runnable.Session) and not block.source:
+                    for pip, by in programs:
+                        session_shows(what + by, runs, pip)
+                count += 1
+    if count < LEAST:
+        raise Differs(f"the documents have only {count} blocks that run")
 
 
-def arrow_sessions(text: str) -> list[tuple[list[str], list[str]]]:
-    """The lines and the answers of each session. A block without a boot line goes on with the session before it."""
-    found: list[tuple[list[str], list[str]]] = []
-    for block in text.split("```")[1::2]:
-        lines = block.strip("\n").split("\n")
-        if not any("→" in line for line in lines):
-            continue
-        if any(line.startswith("boot") for line in lines):
-            found.append(([], []))
-        for line in lines:
-            told, arrow, answer = line.partition("→")
-            found[-1][0].append(told.rstrip())
-            if arrow:
-                found[-1][1].append(answer.strip())
-    return found
+def script_shows(what: str, runs: runnable.Script, program: str) -> None:
+    """The answers of a script whose lines have them beside them, where they have one."""
+    text = runs.before + "".join(f"{line}\n" for line, _ in runs.lines)
+    shown = [answer for _, answer in runs.lines if answer is not None]
+    status = 2 if shown[-1:] and shown[-1].startswith("bad line") else 0
+    for by, (output, got) in ((", by the reference", script.run(text.encode())),
+                              ("", run([program, "script"], text.encode()))):
+        answers = (output or b"").decode().splitlines()
+        expect(what + by, (joined(answers[len(answers) - len(shown):]), got), (joined(shown), status))
+
+
+def session_shows(what: str, runs: runnable.Session, program: str) -> None:
+    """What the commands of a session write, where it is shown, in a folder of its own."""
+    with folder_of(program) as place:
+        for name, text in runs.files.items():
+            write(text, place, name)
+        told = "; ".join(f"{{ {command}\n}}; s=$?; printf '%s' '{MARK.decode()}'; (exit $s)"
+                         for command in [*runs.before, *(command for command, _ in runs.commands)])
+        output, status = run(["sh", "-c", told], cwd=place)
+        outputs = (output or b"").split(MARK)[len(runs.before):]
+        for (command, due), got in zip(runs.commands, outputs):
+            if due is not None:
+                expect(f"{what}, '$ {command}'", (got, status), (joined(due), 0))
+
+
+def joined(lines: Sequence[str]) -> bytes:
+    return "".join(line + "\n" for line in lines).encode()
+
+
+@contextlib.contextmanager
+def folder_of(program: str) -> Iterator[str]:
+    """A folder with examples/, the folders of tools and ./pip."""
+    with tempfile.TemporaryDirectory() as place:
+        for folder in ("examples", "tools", "class", "dev"):
+            os.symlink(os.path.join(REPOSITORY, folder), os.path.join(place, folder))
+        os.symlink(os.path.abspath(program), os.path.join(place, "pip"))
+        yield place
+
+
+def reference_in(place: str) -> str:
+    """The reference as a program."""
+    told = os.path.join(REPOSITORY, "dev", "reference", "program.py")
+    return write_program(f'#!/bin/sh\nexec "{sys.executable}" -B "{told}" "$@"\n', place, "reference")
 
 
 # The tutorial
@@ -87,19 +117,14 @@ def tutorial_sessions(program: str) -> None:
     for name in files(".pip"):
         script_gives(program, os.path.join(REPOSITORY, name))
     with tempfile.TemporaryDirectory() as place:
-        told = os.path.join(REPOSITORY, "dev", "reference", "program.py")
-        reference = write_program(f'#!/bin/sh\nexec "{sys.executable}" -B "{told}" "$@"\n', place, "reference")
         for name in files(".session"):
-            for pip, by in (reference, ", by the reference"), (program, ""):
+            for pip, by in (reference_in(place), ", by the reference"), (program, ""):
                 commands_give(name, pip, by)
 
 
 def commands_give(name: str, pip: str, by: str) -> None:
-    """Runs the commands of a session in a folder of its own, with examples/, the folders of tools and ./pip."""
-    with tempfile.TemporaryDirectory() as place:
-        for folder in ("examples", "tools", "class", "dev"):
-            os.symlink(os.path.join(REPOSITORY, folder), os.path.join(place, folder))
-        os.symlink(pip, os.path.join(place, "pip"))
+    """Runs the commands of a session in a folder of its own."""
+    with folder_of(pip) as place:
         text = text_of(name)
         if not text.startswith("$ "):
             raise Differs(f"{name} doesn't begin with a command")

@@ -7,6 +7,7 @@ import tarfile
 import tempfile
 from typing import Any
 
+from . import sites
 from .exporting import SECONDS
 from .running import REPOSITORY, Differs, contents, expect, finished, needed, run, write, write_program
 
@@ -20,7 +21,7 @@ LEFT_OUT = shutil.ignore_patterns("out", ".git", "__pycache__", "*.log")
 def works(program: str) -> None:
     """Makes a release of a copy of the checkout, whose gate is a stand-in, and uses it elsewhere as a reader would."""
     needed("git")
-    needed("cmark-gfm")
+    sites.need_packages()
     with tempfile.TemporaryDirectory() as place:
         checkout, tools = os.path.join(place, "checkout"), os.path.join(place, "bin")
         copied(checkout, program, tools)
@@ -61,6 +62,6 @@ def used(place: str, tools: str) -> None:
         raise Differs(f"class/exercise of a release ends with {status}: {told!r}")
     expect("the checksums of a release",
            run(["sh", "-c", "grep -E '^[0-9a-f]{64}  ' PROOF | sha256sum --check --quiet"], **settings), (b"", 0))
-    for name in ("README.html", "docs/TUTORIAL.html", "pip.html", "rust/Cargo.toml", "rust/crates/pip/src/main.rs"):
+    for name in ("site/index.html", "site/TUTORIAL.html", "site/engine.js", "rust/Cargo.toml", "rust/crates/pip/src/main.rs"):
         if not os.path.isfile(os.path.join(place, name)):
             raise Differs(f"a release has no {name}")

@@ -5,6 +5,7 @@ from __future__ import annotations
 
 import functools
 import html
+import importlib.util
 import json
 import os
 import re
@@ -26,14 +27,18 @@ Told = dict[str, Any]
 @functools.lru_cache(maxsize=None)
 def made() -> str:
     """The folder of the site, made once for all checks, over the module that they share."""
-    try:
-        __import__("markdown_it"), __import__("pygments")
-    except ImportError as missing:
-        raise Skipped(f"no {missing.name} for Python") from None
+    need_packages()
     module = playground.made()
     to = os.path.join(os.path.dirname(module), "site")
     finished("class/site", called("site", "--to", to, "--module", module))
     return to
+
+
+def need_packages() -> None:
+    """What class/site needs beside Python."""
+    for name in ("markdown_it", "pygments"):
+        if not importlib.util.find_spec(name):
+            raise Skipped(f"no {name} for Python")
 
 
 def blocks(page: str) -> list[Told]:

@@ -1,5 +1,4 @@
-"""Makes a release: what is committed, with the program that the gate built, the page, the documents as HTML, the
-export, and PROOF."""
+"""Makes a release: what is committed, with the program that the gate built, the site, the export, and PROOF."""
 
 import argparse
 import os
@@ -13,7 +12,7 @@ from common import calling
 from common.calling import Failed
 from exporter import building
 from playground import module
-from . import gate, markdown, proof, repository
+from . import gate, proof, repository
 from .repository import Checkout
 
 VERSION = re.compile(r"\d+(\.\d+)*(-[a-z0-9]+)?")
@@ -75,11 +74,10 @@ def made(given: argparse.Namespace, found: Checkout, to: Path) -> Path:
     with tempfile.TemporaryDirectory(dir=to) as place:
         top = Path(place) / name
         copied(found, top, program)
-        make_page(given, found, top / proof.PAGE)
-        documents(top)
+        make_site(given, found, top / proof.SITE)
         export(found, top / EXPORT)
         run("the judge", found, "class/judge/make_judge", "--to", str(top / "class" / "judge" / "pip_judge"))
-        told = proof.text(given.version, record, found, repository.sum_of(top / proof.PAGE))
+        told = proof.text(given.version, record, found, top / proof.SITE)
         (top / "PROOF").write_text(told, encoding="utf-8")
         packed(top, Path(place) / tarball.name, found.seconds())
         os.rename(top, folder)
@@ -106,23 +104,16 @@ def copied(found: Checkout, top: Path, program: Path) -> None:
         (top / MARK).touch()
 
 
-def make_page(given: argparse.Namespace, found: Checkout, path: Path) -> None:
+def make_site(given: argparse.Namespace, found: Checkout, path: Path) -> None:
     parts = {"--module": given.module, "--debian": None if given.module else given.debian}
     words = [word for option, path in parts.items() if path for word in (option, str(path.resolve()))]
-    run("the page", found, "class/playground/make_page", "--to", str(path), *words)
-    if not path.is_file():
-        raise Failed(f"the page isn't there: class/playground/make_page made no {path.name}")
+    run("the site", found, "class/site", "--to", str(path), *words)
+    if not (path / "index.html").is_file():
+        raise Failed("the site isn't there: class/site made no index.html")
 
 
 def export(found: Checkout, path: Path) -> None:
     run("the export", found, "dev/export", "--to", str(path), "--deps", "shims")
-
-
-def documents(top: Path) -> None:
-    """Beside each document the same as HTML."""
-    for path in sorted(top.rglob("*.md")):
-        depth = len(path.relative_to(top).parts) - 1
-        path.with_suffix(".html").write_text(markdown.page(path.read_text(encoding="utf-8"), depth), encoding="utf-8")
 
 
 def run(what: str, found: Checkout, tool: str, *words: str) -> None:

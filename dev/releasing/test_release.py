@@ -6,7 +6,6 @@ import argparse
 import contextlib
 import io
 import os
-import shutil
 import subprocess
 import tempfile
 import unittest
@@ -25,7 +24,6 @@ GATE = FILES[".ci/run"]
 FILES[".ci/run"] = GATE.format(more="", status=0)
 
 
-@unittest.skipUnless(shutil.which("cmark-gfm"), "no cmark-gfm")
 class Releases(unittest.TestCase):
     def setUp(self) -> None:
         place = tempfile.TemporaryDirectory()
@@ -90,13 +88,12 @@ class Releases(unittest.TestCase):
         self.assertEqual(self.pass_gate(), 0)
         made, beside = self.made(), self.made(to=None)
         self.assertEqual(self.parts(made), {
-            *FILES, "README.html", "docs/PROVED.html", "pip.html", "PROOF", "rust/Cargo.toml", release.MARK,
+            *FILES, "site/index.html", "PROOF", "rust/Cargo.toml", release.MARK,
             "crates/pip/out/pip", "class/judge/pip_judge"})
         told = (made / "PROOF").read_text()
         for part in ("pip 1.2\n", self.found.commit(), KIT, "3 passed, 0 failed", "check: 2 of 2 checks pass",
                      "- The kit."):
             self.assertIn(part, told)
-        self.assertIn('<a href="docs/PROVED.html#trusted">', (made / "README.html").read_text())
         one, two = (path.with_name(path.name + ".tar.gz").read_bytes() for path in (made, beside))
         self.assertEqual(one, two)
 
@@ -159,9 +156,9 @@ FAULTS: dict[str, Callable[[Releases], object]] = {
     "with the kit None": no_kit,
     "has other files": other_files,
     "ended with status 1: check: 2 of 2": lambda test: test.gate_of(".ci/run", GATE.format(more="", status=1)),
-    "the page can't be made: no compiler":
-        lambda test: test.gate_of("class/playground/make_page", "import sys\nsys.exit('no compiler')\n"),
-    "the page isn't there": lambda test: test.gate_of("class/playground/make_page", "pass\n"),
+    "the site can't be made: no compiler":
+        lambda test: test.gate_of("class/site", "import sys\nsys.exit('no compiler')\n"),
+    "the site isn't there": lambda test: test.gate_of("class/site", "pass\n"),
     "the export can't be made: it differs":
         lambda test: test.gate_of("dev/export", "import sys\nsys.exit('it differs')\n"),
 }
