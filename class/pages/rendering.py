@@ -17,11 +17,11 @@ from common.calling import REPOSITORY, Failed
 
 EDITORS = Path(REPOSITORY) / "tools" / "editors"
 # Of what a grammar names the classes of Pygments, by which the pages' colours go
-CLASSES = {"comment": "c", "entity": "nl", "keyword.operator": "o", "keyword": "k", "support": "nf", "variable.language": "nb",
-           "constant": "m", "variable": "nv", "string": "s"}
+CLASSES = {"comment": "c", "entity": "nl", "keyword.operator": "o", "keyword": "k", "support": "nf",
+           "variable.language": "nb", "constant": "m", "variable": "nv", "string": "s"}
 PREFIX = "h-"                  # of the anchors of headings: other parts of a page have names of their own
-MARKS = (("<table>", '<div class="wide" tabindex="0"><table>'), ("</table>", "</table></div>"), ("<th></th>", "<td></td>"),
-         ("<th>", '<th scope="col">'))
+MARKS = (("<table>", '<div class="wide" tabindex="0"><table>'), ("</table>", "</table></div>"),
+         ("<th></th>", "<td></td>"), ("<th>", '<th scope="col">'))
 
 
 def needed(module: str, package: str) -> Any:
@@ -131,7 +131,8 @@ def lexer(language: str) -> Any:
         rules = [(pattern, kinds[kind]) for pattern, kind in syntax(language)]
         rest = needed("pygments.token", "python3-pygments").Text
         base = needed("pygments.lexer", "python3-pygments").RegexLexer
-        return type("OfGrammar", (base,), {"flags": re.MULTILINE, "tokens": {"root": [*rules, (r"(?s:.)", rest)]}})(stripnl=False)
+        told = {"flags": re.MULTILINE, "tokens": {"root": [*rules, (r"(?s:.)", rest)]}}
+        return type("OfGrammar", (base,), told)(stripnl=False)
     try:
         return of.get_lexer_by_name(language, stripnl=False) if language else None
     except needed("pygments.util", "python3-pygments").ClassNotFound:

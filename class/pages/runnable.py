@@ -1,8 +1,8 @@
 """What each block of code in a document is, and what runs of it. The site and the check `documents` have this one rule.
 
 A block is told by its text and by the line above it, `[FILE](..):` or `From [FILE](..):`. A mark, a comment of its own
-above the block, tells one that is none of these: `<!-- output of COMMAND -->` is what that command writes of the program
-above, with the menu above it; `<!-- menu -->`, `<!-- grammar -->` and `<!-- text -->` don't run."""
+above the block, tells one that is none of these: `<!-- output of COMMAND -->` is what that command writes of the
+program above, with the menu above it; `<!-- menu -->`, `<!-- grammar -->` and `<!-- text -->` don't run."""
 
 from __future__ import annotations
 
@@ -233,7 +233,7 @@ class Document:
         return Program(before, block.text, after, *self.steps(at, block.source))
 
     def steps(self, at: int, source: str) -> tuple[str, str, list[str] | None]:
-        """STEPS and SEED with the trace: those of the session that follows the program, or of the file .run beside it."""
+        """STEPS and SEED with the trace: of the session that follows the program, or of the file .run beside it."""
         for block in self.blocks[at + 1:at + 4]:
             if block.kind is Kind.SESSION and block.source:
                 for command, out in commands(self.contents(block.source).split("\n")[:-1]):

@@ -132,7 +132,8 @@ class Site:
         syntax = json.dumps(rendering.syntax("pip"))
         made.update((name, script(name).replace("/* syntax */", syntax)) for name in SCRIPTS if name != "worker")
         made.update((name, concatenated(parts)) for name, parts in STYLES.items())
-        made["index.js"] = f"window.index = {searching.index([(p.name, p.title, p.sections) for p in chapters], PREFIX)};\n"
+        found = searching.index([(page.name, page.title, page.sections) for page in chapters], PREFIX)
+        made["index.js"] = f"window.index = {found};\n"
         made["engine.js"] = self.engine(binary)
         if len(made["engine.js"]) > MOST_PACKED:
             raise Failed(f"engine.js has {len(made['engine.js'])} bytes, and at most {MOST_PACKED} are wanted")
@@ -225,17 +226,17 @@ class Site:
         others = [*chapters, Page("examples.html", "Examples", "", "Examples")]
         current = ' aria-current="page"'
         at = next((k for k, chapter in enumerate(chapters) if chapter is page), None)
-        around = []
-        if at:
-            around.append(f'<a rel="prev" href="{chapters[at - 1].name}">&larr; {html.escape(chapters[at - 1].title)}</a>')
-        if at is not None and at + 1 < len(chapters):
-            around.append(f'<a rel="next" href="{chapters[at + 1].name}">{html.escape(chapters[at + 1].title)} &rarr;</a>')
+        around = "" if at is None else (
+            "".join(f'<a rel="prev" href="{other.name}">&larr; {html.escape(other.title)}</a>'
+                    for other in chapters[max(0, at - 1):at])
+            + "".join(f'<a rel="next" href="{other.name}">{html.escape(other.title)} &rarr;</a>'
+                      for other in chapters[at + 1:at + 2]))
         inside = "".join(f'<li class="h{level}"><a href="#{PREFIX}{name}">{html.escape(title)}</a></li>'
                          for level, title, name in page.headings if level in (2, 3))
         documents = "".join(f'<li><a href="{other.name}"{current if other.name == page.name else ""}>'
                             f"{html.escape(other.short)}</a></li>" for other in others)
         return filled("page.html", {"title": html.escape(page.title), "body": page.body, "inside": inside,
-                                    "documents": documents, "around": "".join(around)})
+                                    "documents": documents, "around": around})
 
 
 class Chapter:
@@ -248,10 +249,13 @@ class Chapter:
         self.source = ""                           # the script or program that was shown last
 
     def page(self) -> Page:
-        made = rendering.rendered(self.document.text, self.block, lambda link: self.site.led(self.path, link), self.after)
+        made = rendering.rendered(self.document.text, self.block, self.led, self.after)
         if self.path == GLOSSARY:
             made.body = TERM.sub(lambda found: self.term(made, found), made.body)
         return Page(self.site.names[self.path], made.title, made.body, short(self.path), made.headings, made.sections)
+
+    def led(self, link: str) -> str:
+        return self.site.led(self.path, link)
 
     def term(self, made: Rendered, found: re.Match[str]) -> str:
         """A row of the glossary, which the search finds by its term."""

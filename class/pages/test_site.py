@@ -95,8 +95,8 @@ class Blocks(unittest.TestCase):
         for mark, kind in (("output of ./pip every 100", Kind.OUTPUT), ("menu", Kind.MENU), ("grammar", Kind.PLAIN),
                            ("text", Kind.PLAIN), ("other", None)):
             self.assertEqual(self.told("So", "", f"<!-- {mark} -->", "    what is this"), [(4, kind)], mark)
-        self.assertEqual(self.told("```", "a → b", "```", "", "- item", "", "  no block", "", "      ./pip run 1 1 < a"),
-                         [(1, Kind.SCRIPT), (9, Kind.SESSION)])
+        self.assertEqual(self.told("```", "a → b", "```", "- item", "", "  no block", "", "      ./pip run 1 1 < a"),
+                         [(1, Kind.SCRIPT), (8, Kind.SESSION)])
 
     def test_what_is_no_part_of_its_file_is_refused(self) -> None:
         document = runnable.Document(Path(REPOSITORY), "docs/TUTORIAL.md")

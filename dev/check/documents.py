@@ -25,8 +25,8 @@ def blocks_are_told(program: str) -> None:
     names as many crates as README.md has it."""
     for path, document in documents():
         if unknown := [block for block in document.blocks if block.kind is None]:
-            raise Differs(f"{path}:{unknown[0].line}: nothing tells what this block is: class/pages/runnable.py says how "
-                          "one is marked")
+            raise Differs(f"{path}:{unknown[0].line}: nothing tells what this block is; class/pages/runnable.py says "
+                          "how one is marked")
     if runnable.blocks("a.md", "So:\n\n    what is this\n")[0].kind is not None:
         raise Differs("a planted block that nothing tells isn't found")
     named = part(r"`crate \d+ of (\d+)`", text_of("README.md"))

@@ -194,8 +194,8 @@ def same_run(program: str, source: str, seed: int) -> None:
     with tempfile.TemporaryDirectory() as place:
         image = write(run([program, "asm"], text)[0], place, "image")
         for first in windows(program, image, seed):
-            page, messages, status = step_pages.stepped(program, image, str(first + STEPS), str(seed), "--source", source,
-                                                   "--from", str(first), "--jobs", "1")
+            page, messages, status = step_pages.stepped(program, image, str(first + STEPS), str(seed), "--source",
+                                                        source, "--from", str(first), "--jobs", "1")
             if status:
                 raise Differs(f"class/step {source}: {messages}")
             same_window(f"the page of {told_path(source)}, seed {seed}", text, seed, first, step_pages.data_of(page))

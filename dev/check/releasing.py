@@ -62,6 +62,7 @@ def used(place: str, tools: str) -> None:
         raise Differs(f"class/exercise of a release ends with {status}: {told!r}")
     expect("the checksums of a release",
            run(["sh", "-c", "grep -E '^[0-9a-f]{64}  ' PROOF | sha256sum --check --quiet"], **settings), (b"", 0))
-    for name in ("site/index.html", "site/TUTORIAL.html", "site/engine.js", "rust/Cargo.toml", "rust/crates/pip/src/main.rs"):
+    for name in ("site/index.html", "site/TUTORIAL.html", "site/engine.js", "rust/Cargo.toml",
+                 "rust/crates/pip/src/main.rs"):
         if not os.path.isfile(os.path.join(place, name)):
             raise Differs(f"a release has no {name}")

@@ -104,8 +104,10 @@ def wrong(told: Told, given: Sequence[Sequence[str]]) -> str:
     """How that differs from what the document prints; empty where it doesn't."""
     if told["kind"] == "script":
         due = [answer for _, answer in told["lines"]]
-        pairs = [(line, got, answer) for (line, answer), got in zip(told["lines"], given[0]) if answer not in (None, got)]
-        return f"{pairs[0]}" if pairs else "" if len(given[0]) >= len(due) else "lines have no answer"
+        rows = zip(told["lines"], given[0])
+        others = [f"'{line}' gives '{got}', where '{answer}' is printed" for (line, answer), got in rows
+                  if answer not in (None, got)]
+        return others[0] if others else "" if len(given[0]) >= len(due) else "lines have no answer"
     if told["kind"] == "program":
         return "" if told["due"] is None or has_part(given[0], told["due"]) else "its trace isn't the printed one"
     for (command, due), lines in zip(told["commands"], given):
@@ -166,8 +168,8 @@ def in_browser(program: str) -> None:
 
 
 # All blocks of a page are run: those of which nothing is shown are done, too
-RUN_ALL = """do [...document.querySelectorAll(".bar button")].filter(b => b.textContent === "Run").forEach(b => b.click())
-[...document.querySelectorAll(".run")].every(div => div.dataset.kind === "exercise" || ["same", "ran"].includes(div.dataset.result)) is true"""
+RUN_ALL = """do [...document.querySelectorAll(".bar button")].filter(x => x.textContent === "Run").forEach(x => x.click())
+[...document.querySelectorAll(".run:not([data-kind=exercise])")].every(x => /same|ran/.test(x.dataset.result)) is true"""
 # What a block shows, and how to make it forget that
 SHOWN = """({script: div => [[...div.querySelectorAll(".answers .row b")].map(x => x.textContent)],
   program: div => [[...div.querySelectorAll(".trace .row b")].map(x => x.textContent)],

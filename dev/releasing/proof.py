@@ -23,7 +23,8 @@ def text(version: str, record: Record | None, found: Checkout, site: Path) -> st
     if record:
         told.update(vars(record), closing="\n".join(f"          {line}" for line in record.closing),
                     trusted=trusted(found))
-    sums = [(repository.sum_of(found.place / program), program), *((repository.sum_of(path), f"{SITE}/{path.name}") for path in sorted(site.iterdir()))]
+    sums = [(repository.sum_of(found.place / program), program)]
+    sums += [(repository.sum_of(path), f"{SITE}/{path.name}") for path in sorted(site.iterdir())]
     sums += [(repository.sum_of(found.place / name), name) for name in found.files()]
     return (TEXTS["proved" if record else "unproved"].format_map({**told, "program": program}) + "\n"
             + TEXTS["sums"].format(sums="\n".join(f"{total}  {name}" for total, name in sums)))
