@@ -63,17 +63,12 @@ class Bar {
   async ask(what, inner) {
     this.say("..", "busy");
     const slow = setTimeout(() => { this.say("busy ..", "busy"); this.out.append(" ", button("Stop", () => program.stop())); }, SLOW);
-    try {
-      await program.load();
-      data = data || {...called(), steps: []};
-      const last = await program.ask(what, inner);
-      if (!["failed", "stopped"].includes(last.part)) return last;
-      this.say(last.why, "failed");
-    } catch (error) {
-      this.say("engine.js, which belongs beside this page, can't be read", "failed");
-    } finally {
-      clearTimeout(slow);
-    }
+    const isLoaded = await program.load().then(() => true, () => false);
+    if (isLoaded) data = data || {...called(), steps: []};
+    const last = isLoaded ? await program.ask(what, inner) : {part: "failed", why: NO_ENGINE};
+    clearTimeout(slow);
+    if (!["failed", "stopped"].includes(last.part)) return last;
+    this.say(last.why, "failed");
     return null;
   }
 }
@@ -182,8 +177,7 @@ class Script {
 class Assembled {
   constructor(div, told, more = {}) {
     Object.assign(this, {div, told, changed: more.changed || (() => {}), count: 0, text: told.text.replace(/\n$/, ""), skip: countOf(told.before)});
-    this.trace = make("div.trace");
-    this.trace.hidden = this.trace.tabIndex = 0;
+    this.trace = Object.assign(make("div.trace"), {hidden: true, tabIndex: 0});
     this.trace.addEventListener("click", event => this.clicked(event.target.closest(".row")));
     this.note = make("div.note");
     this.note.setAttribute("role", "status");
@@ -193,7 +187,6 @@ class Assembled {
     this.bar = new Bar(div, {...more.acts, Run: () => this.run(), Views: () => looking.open(this), Playground: () => toPlayground("assembly", this.whole()), Reset: () => this.reset()},
       [make("label", "steps ", this.steps), make("label", "seed ", this.seed), ...(more.fields || [])]);
     fillIn(div, this.edit.desk, this.bar.element, this.note, this.trace, ...sourceOf(told));
-    this.trace.hidden = true;
     whenEntered(this.edit.field, more.entered || (() => this.run()));
   }
 

@@ -135,7 +135,7 @@ function chosen() {
 
 async function begin() {
   document.querySelectorAll("#views .of-run").forEach(part => part.remove());
-  await program.load();
+  if (!await program.load().then(() => true, () => false)) { say(NO_ENGINE, true); return; }
   data = {...called(), steps: []};
   examples = facts.texts.map(withText);
   fillChoice();

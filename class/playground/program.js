@@ -2,6 +2,7 @@
 // made, holds the module, the worker's text, the files of examples/, and what the documents say.
 "use strict";
 const INNER = ["progress", "answers", "run"];      // the parts of what the worker says that are followed by another one
+const NO_ENGINE = "engine.js, which belongs beside this page, can't be read";
 let facts = null, files = null, compiled = null;   // once it is loaded
 
 const loaded = name => new Promise((good, bad) => document.head.append(Object.assign(document.createElement("script"), {src: name, onload: good, onerror: bad})));
