@@ -36,6 +36,7 @@ ORDER = ["README.md", *(f"docs/{name}.md" for name in (
 TUTORIAL, EXERCISES, GLOSSARY = "docs/TUTORIAL.md", "docs/EXERCISES.md", "docs/GLOSSARY.md"
 TERM = re.compile(r"<tr>\n<td>(.*?)</td>\n<td>(.*?)</td>")
 NO_DOCUMENTS = ("out/", "dev/exporter/")          # what is built, and what goes into an export
+NO_TEXTS = (".img", ".log")                       # what commands have left among the examples
 PICTURES = (".svg", ".png")
 # The scripts of the pages, each made of these
 SCRIPTS = {
@@ -111,7 +112,7 @@ class Site:
         self.documents = documents()
         self.examples = {path.relative_to(TOP).as_posix(): path.read_text(encoding="utf-8")
                          for path in sorted((TOP / "examples").rglob("*"))
-                         if path.is_file() and "solutions" not in path.parts}
+                         if path.is_file() and "solutions" not in path.parts and path.suffix not in NO_TEXTS}
         self.names = {path: page_of(path) for path in self.documents}
         self.names.update((path, example_page(path)) for path in self.examples)
         self.exercises = {told["exercise"]: told for told in known.exercises()}
