@@ -85,7 +85,7 @@ fn by_class(alloc: Global, classes: &[u32], columns: u32) -> Result<Vec<u32>, Al
     let mut choices = vec![in alloc; 0u32; columns as usize]?;
     for choice in 0..classes.len() {
         let class = classes[choice];
-        put(&mut choices, class as usize, (choice % 0x100000000) as u32);
+        put(&mut choices, class as usize, (choice as u64 % 0x100000000) as u32);
     }
     Ok(choices)
 }
@@ -97,7 +97,7 @@ impl Walk {
             stack: Vec::new(alloc),
             frames: Vec::new(alloc),
             index: 1,
-            component: (count % 0x100000000) as u32,
+            component: (count as u64 % 0x100000000) as u32,
             inside: vec![in alloc; 0u32; columns as usize]?,
             orders: vec![in alloc; 0u32; count]?,
             helpers: vec![in alloc; 0u32; count]?,
@@ -423,7 +423,7 @@ fn go_on(
             if to != SHOWN && word_at(marks, to as usize) == component {
                 let hop = Hop {
                     place: to,
-                    from: (at % 0x100000000) as u32,
+                    from: (at as u64 % 0x100000000) as u32,
                     choice,
                 };
                 if to == end || (class > 0 && word_at(classes, choice as usize) == class) {
@@ -503,7 +503,7 @@ pub(crate) fn rank(
             width,
             classes,
             columns,
-            (place % 0x100000000) as u32,
+            (place as u64 % 0x100000000) as u32,
         )?;
     }
     let choices = if walk.place == SHOWN {
