@@ -113,6 +113,9 @@ class Site:
         self.examples = {path.relative_to(TOP).as_posix(): path.read_text(encoding="utf-8")
                          for path in sorted((TOP / "examples").rglob("*"))
                          if path.is_file() and "solutions" not in path.parts and path.suffix not in NO_TEXTS}
+        self.assembled = {path: asmx.text_of(asmx.processed(str(TOP / path))[0]).decode()
+                          for path, text in self.examples.items()
+                          if path.endswith(".asmx") and re.search(r"(?m)^\.(frames|include) ", text)}
         self.names = {path: page_of(path) for path in self.documents}
         self.names.update((path, example_page(path)) for path in self.examples)
         self.exercises = {told["exercise"]: told for told in known.exercises()}
@@ -149,10 +152,7 @@ class Site:
 
     def readable(self) -> dict[str, str]:
         """The files of examples/, and what tools/asmx makes of those that are whole programs."""
-        whole = [path for path, text in self.examples.items()
-                 if path.endswith(".asmx") and re.search(r"(?m)^\.(frames|include) ", text)]
-        made = {f"asmx:{path}": asmx.text_of(asmx.processed(str(TOP / path))[0]).decode() for path in whole}
-        return {**self.examples, **made}
+        return {**self.examples, **{f"asmx:{path}": text for path, text in self.assembled.items()}}
 
     # Pages of examples
 
@@ -169,6 +169,10 @@ class Site:
         elif path.endswith(".session") and all(runs_here(command) for command, _ in commands(lines_of(text))):
             runs = Session([], [(command, out) for command, out in commands(lines_of(text))])
         body = run(path, block, runs) if runs else rendering.block(text, "asmx" if path.endswith(".asmx") else "")
+        if path in self.assembled:
+            made = self.assembled[path]
+            body += "<h2>As tools/asmx assembles it</h2>" + run(path, Block(1, made, None), Program(
+                "", made, "", *steps_beside(TOP, path)))
         shown = "".join(f'<li><a href="{address}">{html.escape(title)}</a></li>'
                         for address, title in self.used.get(path, []))
         stem = os.path.splitext(path)[0]
