@@ -15,7 +15,7 @@ from .runnable import Kind
 
 HAS_PACKAGES = all(importlib.util.find_spec(name) for name in ("markdown_it", "pygments"))
 # of a document's text
-NOT_SHOWN = re.compile(r"!\[[^\]]*\]\([^)]*\)|\]\([^)\s]*\)|^\s*\d+\. |^```.*$|<!--.*?-->", re.MULTILINE)
+NOT_SHOWN = re.compile(r"!\[[^\]]*\]\([^)]*\)|\]\([^)\s]*\)|^\s*\d+\. |^```.*$|^<!--.*-->$", re.MULTILINE)
 
 
 class Reader(HTMLParser):
