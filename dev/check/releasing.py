@@ -27,8 +27,8 @@ def works(program: str) -> None:
         copied(checkout, program, tools)
         to, environment = os.path.join(place, "to"), dict(os.environ, PATH=tools + os.pathsep + os.environ["PATH"])
         for words in (["--gate"], ["1.0", "--to", to, "--module", os.path.join(place, "module")]):
-            finished("dev/release", [os.path.join(checkout, "dev", "release"), *words], SECONDS, cwd=checkout,
-                     env=environment)
+            finished("dev/release", [sys.executable, "-B", os.path.join(checkout, "dev", "release"), *words], SECONDS,
+                     cwd=checkout, env=environment)
         with tarfile.open(os.path.join(to, "pip-1.0.tar.gz")) as archive:
             archive.extractall(os.path.join(place, "reader"))
         shutil.rmtree(checkout)

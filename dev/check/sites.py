@@ -168,8 +168,9 @@ def in_browser(program: str) -> None:
 
 
 # All blocks of a page are run: those of which nothing is shown are done, too
-RUN_ALL = """do [...document.querySelectorAll(".bar button")].filter(x => x.textContent === "Run").forEach(x => x.click())
-[...document.querySelectorAll(".run:not([data-kind=exercise])")].every(x => /same|ran/.test(x.dataset.result)) is true"""
+EACH = '[...document.querySelectorAll(".run:not([data-kind=exercise])")]'
+RUN_ALL = (f"do {EACH}.forEach(x => [...x.querySelectorAll('.bar button')].find(y => y.textContent === 'Run').click())\n"
+           f"{EACH}.every(x => ['same', 'ran'].includes(x.dataset.result)) is true")
 # What a block shows, and how to make it forget that
 SHOWN = """({script: div => [[...div.querySelectorAll(".answers .row b")].map(x => x.textContent)],
   program: div => [[...div.querySelectorAll(".trace .row b")].map(x => x.textContent)],
