@@ -145,14 +145,12 @@ class Site:
         return {**{name: text.encode() for name, text in made.items()}, **pictures}
 
     def engine(self, binary: bytes) -> str:
-        """What runs: the module, the worker around it, what it knows, and the files that commands read."""
+        """What runs: the module, the worker around it, what it knows, and the files that commands read, also what
+        tools/asmx makes of some."""
+        files = {**self.examples, **{f"asmx:{path}": text for path, text in self.assembled.items()}}
         parts = {"module": binary, "worker": script("worker").encode(), "facts": json.dumps(known.facts()).encode(),
-                 "files": json.dumps(self.readable(), ensure_ascii=False).encode()}
+                 "files": json.dumps(files, ensure_ascii=False).encode()}
         return f"window.engine = {json.dumps({name: packed(content) for name, content in parts.items()})};\n"
-
-    def readable(self) -> dict[str, str]:
-        """The files of examples/, and what tools/asmx makes of those that are whole programs."""
-        return {**self.examples, **{f"asmx:{path}": text for path, text in self.assembled.items()}}
 
     # Pages of examples
 
