@@ -56,6 +56,7 @@ POLICY = (f"default-src 'none'; script-src {OWN} 'wasm-unsafe-eval'; style-src {
           "worker-src blob:")
 MOST_PACKED = 500_000          # bytes of engine.js, which is loaded once
 EXERCISE = "**Exercise.**"
+MOST_TOLD = 4                  # wrong links
 
 
 def main() -> None:
@@ -129,8 +130,9 @@ class Site:
         pages = [*chapters, *(self.example(path) for path in self.examples), self.listing()]
         pages.append(self.outside())
         self.check_links(pages)
-        if self.wrong:
-            raise Failed("; ".join(self.wrong))
+        if wrong := list(dict.fromkeys(self.wrong)):
+            more = [f"and {len(wrong) - MOST_TOLD} more"] if len(wrong) > MOST_TOLD else []
+            raise Failed("; ".join(wrong[:MOST_TOLD] + more))
         made = {page.name: self.whole(page, chapters) for page in pages}
         made["playground.html"] = filled("playground.html", {})
         syntax = json.dumps(rendering.syntax("pip"))
