@@ -29,8 +29,8 @@ OF_IMAGES = (["dis"], ["run", "3000", "7"], ["tree", "1500", "1"], ["core", "150
 def plain(program: str) -> None:
     """On the scripts, programs and certificates of examples/, and on some generated cases of each command."""
     need_cargo()
-    agree("the plain program", plain_program(), program,
-          [*examples(program), *certified(program), *generated(FIRST_SEED, CASES)], is_both=True)
+    agree("the plain program", [plain_program()], program,
+          [*examples(program), *certified(program), *generated(FIRST_SEED, CASES)])
 
 
 def examples(program: str) -> Iterator[Case]:

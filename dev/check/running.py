@@ -239,12 +239,12 @@ def generated(first: int, count: int) -> Iterator[Case]:
             yield f"{command} with the case of seed {seed}", *generate.case(command, seed)
 
 
-def agree(what: str, other: str, program: str, cases: Iterable[Case], is_both: bool = False) -> None:
+def agree(what: str, other: str | Sequence[str], program: str, cases: Iterable[Case]) -> None:
     """Refuses another program that doesn't answer each case as the program does. The other one is pip, with the lab's
-    beside it, or both in one."""
+    beside it, or the words of a call of both in one."""
     def judge(case: Case) -> None:
         told, words, text = case
-        call = [other, *words] if is_both else calling.called(other, words)
+        call = calling.called(other, words) if isinstance(other, str) else [*other, *words]
         expect(f"{what}, {told}", run(call, text, stderr=subprocess.DEVNULL), run(calling.called(program, words), text))
 
     each(judge, cases)
