@@ -31,7 +31,8 @@ ITEM = re.compile(r" *(?:[-*]|\d+\.) +")
 INDENT = 4
 # What begins a line of a shell: a program of the top of a checkout, a tool of it, or one of these
 COMMAND = re.compile(r"(?:\$ )?(?:[A-Z_]+=\S+ +)*(?:\./\w+|\.ci/run|(?:tools|class|dev)/[\w./]+|"
-                     r"(?:apt-get|cargo|cat|cp|echo|for|git|mkdir|node|parallel|printf|python3|rt|sed|seq|sort|tar) )")
+                     r"(?:apt-get|cargo|cat|cp|echo|for|git|grep|head|mkdir|node|"
+                     r"parallel|printf|python3|rt|sed|seq|sort|tail|tar|wc) )")
 BARE = re.compile(r"\./\w+ (?!--)(?!.*  )")         # a command of a program alone, without a remark beside it
 PROGRAM = re.compile(r"\./\w+")
 ASMX = "tools/asmx"
@@ -73,8 +74,6 @@ class Session:
     commands: list[tuple[str, list[str] | None]]    # each with the lines that are shown below it
     is_piece: bool = False         # of what the one command writes
     files: dict[str, str] = field(default_factory=dict)
-
-
 
 
 Runs = Union[Script, Program, Session]
@@ -142,11 +141,12 @@ def of_mark(word: str) -> Kind:
 def kind_of(lines: list[str], source: str | None) -> Kind | None:
     if any("→" in line for line in lines):
         return Kind.SCRIPT
-    if source and source.endswith(".s") or any(line.startswith(".frames ") for line in lines):
+    is_session = lines[0].startswith("$ ")             # which may show a program
+    if source and source.endswith(".s") or not is_session and any(line.startswith(".frames ") for line in lines):
         return Kind.PROGRAM
     if source and source.endswith(".session") and not any(line.startswith("$ ") for line in lines):
         return Kind.SESSION
-    told = [command for command, _ in commands(lines)] if lines[0].startswith("$ ") else lines
+    told = [command for command, _ in commands(lines)] if is_session else lines
     if all(COMMAND.match(command) for command in told):
         is_bare = told is not lines or all(BARE.match(command) for command in told)
         return Kind.SESSION if is_bare and all(map(runs_here, told)) else Kind.COMMANDS

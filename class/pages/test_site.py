@@ -94,7 +94,7 @@ class Blocks(unittest.TestCase):
                              (Kind.COMMANDS, "$ tools/every a.s 10", "yes"), (Kind.COMMANDS, "git clone . a"),
                              (None, "what is this")):
             self.assertEqual(self.told("So", "", *(f"    {line}" for line in lines)), [(3, kind)], lines)
-        for mark, kind in (("output of ./pip every 100", Kind.OUTPUT), ("menu", Kind.MENU), ("grammar", Kind.PLAIN),
+        for mark, kind in (("output of ./lab every 100", Kind.OUTPUT), ("menu", Kind.MENU), ("grammar", Kind.PLAIN),
                            ("text", Kind.PLAIN), ("other", None)):
             self.assertEqual(self.told("So", "", f"<!-- {mark} -->", "    what is this"), [(4, kind)], mark)
         self.assertEqual(self.told("```", "a → b", "```", "- item", "", "  no block", "", "      ./pip run 1 1 < a"),

@@ -23,11 +23,11 @@ const linesIn = bytes => decoder.decode(bytes).replace(/\n$/, "").split("\n").sl
 const linesOut = lines => encoder.encode(lines.map(line => line + "\n").join(""));
 
 const programs = {
-  cat: (words, input, shell) => words.length ? joined(words.map(name => shell.read(name))) : input,
+  cat: (words, input, shell) => words.length ? joined(words.map(name => name === "-" ? input : shell.read(name))) : input,
   echo: (words, _, shell) => encoder.encode(words.map(word => word.replace("$?", shell.status)).join(" ") + "\n"),
   printf: ([form]) => encoder.encode(form.replace(/\\n/g, "\n")),
-  tail: (words, input) => linesOut(linesIn(input).slice(-countOf(words))),
-  head: (words, input) => linesOut(linesIn(input).slice(0, countOf(words))),
+  tail: (words, input, shell) => linesOut(linesGiven(words, input, shell).slice(-countOf(words))),
+  head: (words, input, shell) => linesOut(linesGiven(words, input, shell).slice(0, countOf(words))),
   grep(words, input, shell) {
     const patterns = [], options = [];
     let after = 0;
@@ -56,7 +56,12 @@ const programs = {
     return encoder.encode(shell.files["asmx:" + name]);
   },
 };
-const countOf = words => Number((words.find(word => /^-\d+$/.test(word)) || "-10").slice(1));
+// How many lines head and tail show, `-n 3` or `-3`, and of what
+const countOf = words => Number((/(?:^| )-(?:n ?)?(\d+)/.exec(words.join(" ")) || [0, "10"])[1]);
+function linesGiven(words, input, shell) {
+  const name = words.find((word, at) => !word.startsWith("-") && words[at - 1] !== "-n");
+  return linesIn(name === undefined ? input : shell.read(name));
+}
 const joined = parts => { const written = new Written(); parts.forEach(part => written.take(part)); return written.bytes(); };
 
 class Shell {

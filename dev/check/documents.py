@@ -19,6 +19,7 @@ from .running import (REPOSITORY, Differs, commands_of, expect, part, paths, run
 
 MARK = b"-- the next command --\n"
 LEAST = 20               # blocks that run: a rule that tells none would pass
+WITH_SESSIONS = ("README.md", "docs/FORMATS.md")      # documents in which each session runs
 
 
 def blocks_are_told(program: str) -> None:
@@ -28,9 +29,14 @@ def blocks_are_told(program: str) -> None:
         if unknown := [block for block in document.blocks if block.kind is None]:
             raise Differs(f"{path}:{unknown[0].line}: nothing tells what this block is; class/pages/runnable.py says "
                           "how one is marked")
+        shown = [block for block in document.blocks if block.text.startswith("$ ")] if path in WITH_SESSIONS else []
+        if path in WITH_SESSIONS and not shown:
+            raise Differs(f"{path} has no session")
+        if still := [block for block in shown if block.kind is not runnable.Kind.SESSION]:
+            raise Differs(f"{path}:{still[0].line}: this session doesn't run: class/pages/runnable.py says what can")
     if runnable.blocks("a.md", "So:\n\n    what is this\n")[0].kind is not None:
         raise Differs("a planted block that nothing tells isn't found")
-    named = part(r"`crate \d+ of (\d+)`", text_of("README.md"))
+    named = part(r"`crate \d+\s+of\s+(\d+)`", text_of("README.md"))
     count = len(crates.chosen(crates.crates_of(Path(REPOSITORY)), ["pip"]))
     if named != str(count):
         raise Differs(f"README.md has a build of {named} crates, where {count} make the program")
