@@ -168,7 +168,8 @@ def in_browser(program: str) -> None:
 
 # All blocks of a page are run: those of which nothing is shown are done, too
 EACH = '[...document.querySelectorAll(".run:not([data-kind=exercise])")]'
-RUN_ALL = (f"do {EACH}.forEach(x => [...x.querySelectorAll('.bar button')].find(y => y.textContent === 'Run').click())\n"
+RUN_ALL = (f"do {EACH}.forEach(x => [...x.querySelectorAll('.bar button')]"
+           ".find(y => y.textContent === 'Run').click())\n"
            f"{EACH}.every(x => ['same', 'ran'].includes(x.dataset.result)) is true")
 # What a block shows, and how to make it forget that
 SHOWN = """({script: div => [[...div.querySelectorAll(".answers .row b")].map(x => x.textContent)],
