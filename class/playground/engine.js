@@ -1,7 +1,8 @@
-// The program's module: a run with all its input, and one whose input is given line by line by what its answers say.
+// The module of both programs: a run with all its input, and one whose input is given line by line by what its answers say.
 "use strict";
 const TRAP = 99;                                   // the status of a run that ended by a trap
 const FRAME_BYTES = 4096;
+const LAB = ["slots", "every", "against", "apart", "part", "merge"];       // the commands of the lab's program
 const encoder = new TextEncoder(), decoder = new TextDecoder("utf-8", {ignoreBOM: true});
 
 // An instance of a module, for one run after the other: what was given in a run before is taken back.
@@ -26,12 +27,13 @@ class Engine {
     return at;
   }
 
-  // A run of `words`, which reads by `read(buffer)` and writes by `write(bytes)`: its status.
-  command(words, read, write) {
+  // A run of `words`, which reads by `read(buffer)` and writes by `write(bytes)`: its status. Pip's program is `run`, the lab's `lab`; without
+  // one it is that of the command
+  command(words, read, write, program = LAB.includes(words.split(" ")[0]) ? "lab" : "run") {
     Object.assign(this, {read, write});
     const made = this.instance(), head = encoder.encode(words);
     try {
-      return made.run(this.put(made, head), head.length);
+      return made[program](this.put(made, head), head.length);
     } catch (failed) {
       this.made = null;
       if (!(failed instanceof WebAssembly.RuntimeError)) throw failed;
@@ -92,9 +94,9 @@ class Written {
 }
 
 // A run with all its input: the status, and the bytes that were written.
-function run(engine, words, input, told = () => {}) {
+function run(engine, words, input, told = () => {}, program) {
   const written = new Written();
-  const status = engine.command(words, given(input, told), bytes => written.take(bytes));
+  const status = engine.command(words, given(input, told), bytes => written.take(bytes), program);
   return {status, bytes: written.bytes()};
 }
 

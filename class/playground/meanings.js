@@ -14,9 +14,9 @@ function vectorText(vector) {
   return "vector " + vector + (TOLD_VECTORS.includes(vector) ? ": " + facts.vectors[vector] : "");
 }
 
-// What an answer means, with the call of its line; in short without the call's arguments
+// What an answer means, with the call of its line, which is null for a line of a run; in short without the call's arguments
 function means(line, answer, isShort = false) {
-  const words = answer.split(" "), asked = line.split(" "), at = words.indexOf("call");
+  const words = answer.split(" "), asked = line === null ? [""] : line.split(" "), at = words.indexOf("call");
   const call = asked[0] === "call" ? Number(asked[2]) : at < 0 ? null : Number(words[at + 1]);
   const given = asked[0] === "call" && !isShort ? asked.slice(3).map(Number) : null;
   const made = call === null ? "" : (data.calls[call] ? callWith(call, given) : "call " + call) + ": ";
@@ -27,7 +27,7 @@ function means(line, answer, isShort = false) {
     return made + "from " + (from ? "partition " + from : "an idle processor") + " to partition " + to + ", " + vectorText(vector);
   }
   if (words.includes("park")) return vectorText(Number(words[words.length - 1])) + "; nobody takes it, and nothing runs there any more";
-  return shown.run ? ofTrace(words) : ofLine(asked, words);
+  return line === null ? ofTrace(words) : ofLine(asked, words);
 }
 
 const decimal = word => Number(word) > 9 ? ", " + Number(word) : "";

@@ -14,12 +14,12 @@ from exporter.building import Program, run
 from judge.building import JUDGE
 
 HERE = Path(__file__).resolve().parent
-MODULE = Program("pip_module", "the module", HERE / "module", ("pip_commands", *JUDGE.uses))
+MODULE = Program("pip_module", "the module", HERE / "module", ("pip_commands", "pip_lab_commands", *JUDGE.uses))
 
 
 def main() -> None:
     parser = argparse.ArgumentParser(
-        description="The program as a module of WebAssembly: the same text, not the same proof.")
+        description="Both programs as a module of WebAssembly: the same text, not the same proof.")
     parser.add_argument("--to", type=Path, required=True, metavar="FILE", help="the module")
     take_debian(parser)
     calling.started(parser, lambda given: make(given.to, given.debian))

@@ -1,6 +1,6 @@
 // The page: a text, its answers or its run beside it, and the views of the state at the cursor or after the chosen step.
 "use strict";
-data = {calls: facts.calls, statuses: facts.statuses.map(([name]) => name), steps: []};
+const ASSEMBLY = "assembly";
 
 // What the worker says
 const parts = {
@@ -51,28 +51,10 @@ function drawText(status, more = "") {
 function drawState(state) {
   by("views").hidden = by("source").hidden = !state;
   if (!state) { mark(null); return; }
-  const frames = data.frames;
-  data = {...state, calls: data.calls, statuses: data.statuses};
-  step = data.steps.length - 1;
-  if (frames !== data.frames) makeGrid();
-  if (chosenFrame !== null && chosenFrame >= data.frames) chosenFrame = null;
-  drawViews();
+  takeState(state);
   drawRows(false);
   markState();
   drawSteps();
-  lookAgain();
-}
-
-// The words of the chosen frame are asked for where they weren't looked at
-function lookAgain() {
-  const frame = shownFrame();
-  if (data.looked.includes(frame)) return;
-  fill("words", "..");
-  act();
-}
-
-function draw() {
-  drawViews();
   lookAgain();
 }
 
@@ -89,8 +71,7 @@ function act() {
 }
 
 const keys = {
-  n: () => nextPartition(1), p: () => nextPartition(-1), j: () => nextPage(1), k: () => nextPage(-1),
-  ".": () => chooseFrame(shownFrame() + 1), ",": () => chooseFrame(shownFrame() - 1),
+  ...keysOfViews,
   ArrowRight: () => stepBy(1), ArrowLeft: () => stepBy(-1),
 };
 // Elsewhere these keys scroll the page
@@ -152,18 +133,12 @@ function chosen() {
   chooseText(name);
 }
 
-// What is in the page zipped and in the letters of base64
-async function unzipped(id) {
-  const bytes = Uint8Array.from(atob(by(id).textContent), letter => letter.charCodeAt(0));
-  return new Response(new Blob([bytes]).stream().pipeThrough(new DecompressionStream("gzip"))).arrayBuffer();
-}
-
 async function begin() {
   document.querySelectorAll("#views .of-run").forEach(part => part.remove());
-  examples = JSON.parse(new TextDecoder().decode(await unzipped("examples")));
+  if (!await program.load().then(() => true, () => false)) { say(NO_ENGINE, true); return; }
+  data = {...called(), steps: []};
+  examples = facts.texts.map(withText);
   fillChoice();
-  compiled = await WebAssembly.compile(await unzipped("module"));
-  startWorker();
   listen();
   fromAddress();
 }

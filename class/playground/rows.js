@@ -1,6 +1,6 @@
 // What is said of the text, and the rows beside it: the answers to the lines of a script, or the lines of a run.
 "use strict";
-const STATUSES = facts.ends, NEAR = 5, MORE = 10;       // rows above those in view, and more than are in view
+const NEAR = 5, MORE = 10;       // rows above those in view, and more than are in view
 const NOTHING = {lines: [], answers: [], answered: [], why: null, run: null};   // `answered` are the lines that have an answer
 const USAGE = 1, COUNTS = "a run has 0 to 10000000 steps, and a seed from 1 to 4294967295";
 let shown = NOTHING;
@@ -12,7 +12,7 @@ function say(text, isRefused = false) {
   by("status").classList.toggle("refused", isRefused);
 }
 function sayStatus(status, more = "") {
-  ended = [status === USAGE ? COUNTS : "status " + status + ": " + STATUSES[status] + more, status !== 0];
+  ended = [status === USAGE ? COUNTS : "status " + status + ": " + facts.ends[status] + more, status !== 0];
   if (isPart()) ended = ["the judge runs these lines, on a machine of its own", false];
   else if (isHalfTyped()) ended = ["line " + typed + " isn't whole yet: " + shown.why.here, false];
   say(...ended);
@@ -21,16 +21,7 @@ function sayStatus(status, more = "") {
 // Whether the bad line is the one that is being typed: nothing is red until the cursor leaves it
 const isHalfTyped = (why = shown.why) => why !== null && why.place === typed && cursorLine() === typed;
 
-function explain() {
-  const why = isHalfTyped() ? null : shown.why;
-  if (!why) { fill("why"); return; }
-  const place = "line " + why.place + (why.column === null ? "" : ", column " + why.column);
-  const told = [["", place + ": " + why.here], ["rule: ", why.rule], ["what to do: ", why.act]];
-  fill("why", ...told.filter(([, text]) => text).map(([head, text]) => make("p", head, ...withCode(text))));
-}
-
-// A text of the documents, in which a backquote begins and ends what is code
-const withCode = text => text.split("`").map((part, k) => k % 2 ? make("code", part) : part);
+function explain() { fill("why", ...(shown.why && !isHalfTyped() ? whyOf(shown.why) : [])); }
 
 const rowHeight = () => parseFloat(getComputedStyle(by("text")).lineHeight);
 const cursorLine = () => by("text").value.slice(0, by("text").selectionStart).split("\n").length;
@@ -51,7 +42,7 @@ function rowHere() {
 }
 
 function rowOf(k, here) {
-  const line = shown.run ? "" : shown.lines[k] || "", answer = shown.run ? shown.run[k] : shown.answers[k] || "";
+  const line = shown.run ? null : shown.lines[k] || "", answer = shown.run ? shown.run[k] : shown.answers[k] || "";
   const isBad = !shown.run && shown.why !== null && shown.why.place === k + 1 && !isHalfTyped(), text = isBad ? "bad line " + (k + 1) : answer;
   const said = answer ? means(line, answer) : "", brief = k === here ? said : answer ? means(line, answer, true) : "";
   const made = make("div.row", make("span.at", !shown.run && text ? (k + 1) + ": " : ""), make("b", text), make("span.means", brief ? "   " + brief : ""));

@@ -1,4 +1,4 @@
-// node run.mjs MODULE WORD ..  runs the module as the program: standard input, standard output, status. 99 says that it ended by a trap.
+// node run.mjs MODULE WORD ..  runs the module as the program of that command: standard input, standard output, status. 99 says that it ended by a trap.
 import fs from "node:fs";
 import vm from "node:vm";
 

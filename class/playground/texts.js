@@ -1,7 +1,17 @@
 // Where a text comes from and goes to: the examples, files, the address of the page, and what the browser keeps.
 "use strict";
-const KEPT = "the texts of the page of pip", OWN = "", CHANGED = "changed ", FOR = "&exercise=";
+const OWN = "", CHANGED = "changed ", FOR = "&exercise=";
 let examples = [];                                 // what there is to choose from
+
+// An example with its text, and what is beside that: the answers, or the words of a command and what it writes
+function withText(told) {
+  if (!told.path) return told;
+  const made = {...told, text: files[told.path]}, beside = files[told.beside];
+  if (beside === undefined) return made;
+  const end = told.kind === ASSEMBLY ? beside.indexOf("\n") : -1;
+  return {...made, words: end < 0 ? "script" : beside.slice(0, end), out: beside.slice(end + 1)};
+}
+
 let large = null;                                  // the bytes of a file that is too long to be edited
 let taken = "";                                    // the text as it was taken, before something was typed
 let isKept = false;                                // whether what is shown is what the browser keeps
@@ -45,15 +55,10 @@ function chooseOwn(name) {
 }
 const ownOption = name => new Option(name === OWN ? "your own" : name.slice(CHANGED.length) + ", changed", name);
 
-function works() {
-  try { return JSON.parse(localStorage.getItem(KEPT)) || {}; } catch (error) { return {}; }
-}
-
 function keep(more = {}) {
   if (large) return;
   const place = placeOfChosen(), work = {text: by("text").value, kind: by("kind").value, steps: by("steps").value, seed: by("seed").value};
-  const all = {...works(), last: place, student: by("student").value, ["of " + place]: {...work, at: by("text").selectionStart, ...more}};
-  try { localStorage.setItem(KEPT, JSON.stringify(all)); } catch (error) { notice("this browser keeps no texts: save yours"); }
+  if (!keepWork(place, {...work, at: by("text").selectionStart, ...more}, {last: place, student: by("student").value})) notice("this browser keeps no texts: save yours");
 }
 
 // Whether another text may take the place of the one that is kept there, and that is none of these; asks where it would be lost
@@ -141,17 +146,6 @@ function save() {
   if (isKept) keep({isSaved: true});
 }
 function saveImage() { if (shown.image) download(shown.image, "program.img"); }
-
-// A text in an address: its kind, and its bytes in the letters of base64 that an address may have
-
-function packed(text) {
-  const bytes = Array.from(new TextEncoder().encode(text), byte => String.fromCharCode(byte)).join("");
-  return btoa(bytes).replaceAll("+", "-").replaceAll("/", "_").replace(/=+$/, "");
-}
-function unpacked(packed) {
-  const bytes = atob(packed.replaceAll("-", "+").replaceAll("_", "/"));
-  return new TextDecoder("utf-8", {fatal: true}).decode(Uint8Array.from(bytes, letter => letter.charCodeAt(0)));
-}
 
 function link() {
   if (large) { say("the text is too long for a link", true); return; }

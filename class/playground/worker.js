@@ -4,11 +4,12 @@ const MOST_SHOWN = 1 << 18;                        // bytes of a text whose line
 const MOST_LINES = 50000;                          // of a run
 const PIECE = 1 << 20;                             // bytes after which it says how far it is
 const known = {}, knownOfRun = {};                 // the state before the line at the cursor, or before the step
-let engine = null, facts = null, kept = null, made = null;
+const MOST_OUT = 1 << 19;                          // bytes of what one command of a session writes
+let engine = null, facts = null, files = null, kept = null, made = null;
 
 const tell = (id, told) => postMessage({id, ...told});
 
-function script({id, text, line, frame}) {
+function script({id, text, line, frame, isBrief}) {
   let next = PIECE;
   const input = typeof text === "string" ? encoder.encode(text) : text;
   if (text !== undefined) {
@@ -20,6 +21,7 @@ function script({id, text, line, frame}) {
     kept = input.length > MOST_SHOWN ? {large: done} : {beside: answersBeside(input, done)};
     if (kept.beside) tell(id, {part: "answers", ...shownOf(kept.beside)});
   }
+  if (isBrief) return {part: "done"};
   return kept.large ? largeOf(kept.large) : {part: "state", ...stateOf(kept.beside, line, frame)};
 }
 
@@ -38,12 +40,13 @@ function stateOf(beside, line, frame) {
 }
 
 // A text that is assembled and run, and the state after `count` of its steps, or after all
-function assembly({id, text, steps, seed, count, frame}) {
+function assembly({id, text, steps, seed, count, frame, isBrief}) {
   if (text !== undefined) {
     made = {text, seed, ...assembled(text, steps, seed)};
     const {image, status, lines, why} = made;
     tell(id, {part: "run", image, status, why, count: made.count, lines: lines.slice(0, MOST_LINES), more: Math.max(0, lines.length - MOST_LINES)});
   }
+  if (isBrief) return {part: "done"};
   const ran = made.status === 0 && made.image;
   return {part: "state", state: ran ? stateOfRun(engine, made.text, made.image, count === null ? made.count : count, Number(seed), frame, knownOfRun) : null};
 }
@@ -81,11 +84,26 @@ function judgeWork({name, text, seed}) {
 
 const retell = ({name, text, seed}) => ({part: "retell", name, text: retold(engine, name, text, seed)});
 
-const acts = {script, assembly, reach, check, judge: judgeWork, retell};
+// What each command writes, after those before it, and why one can't run here
+function session({files: own, before, commands}) {
+  const shell = new Shell({...files, ...own}), found = before.map(command => written(shell, command)).find(({failed}) => failed);
+  return {part: "session", outs: commands.map(command => found || written(shell, command))};
+}
+
+function written(shell, command) {
+  try {
+    return {lines: linesIn(shell.command(command).subarray(0, MOST_OUT)), failed: ""};
+  } catch (failed) {
+    if (!(failed instanceof CannotRun)) throw failed;
+    return {lines: [], failed: failed.message};
+  }
+}
+
+const acts = {script, assembly, session, reach, check, judge: judgeWork, retell};
 onmessage = ({data}) => {
   if (data.act === "begin") {
     engine = new Engine(data.module);
-    facts = data.facts;
+    [facts, files] = [data.facts, data.files];
     return;
   }
   try {

@@ -164,12 +164,12 @@ class Browser:
         self.due(ANSWERED)
 
     def begin(self, address: str) -> None:
-        """Opens the page that runs."""
+        """Opens the playground."""
         self.open("about:blank")
         self.open(address)
         self.due(ANSWERED)
 
-    def fits(self, widths: Sequence[int], acts: Sequence[str]) -> None:
+    def fits(self, widths: Sequence[int], acts: Sequence[str], not_printed: str = ".controls button") -> None:
         """At each width, light and dark, after each act nothing passes the right edge, and texts can be read. Paper has
         no buttons."""
         pale = Path(__file__).with_name("pale_texts.js").read_text(encoding="utf-8")
@@ -180,7 +180,7 @@ class Browser:
             self.due("document.documentElement.scrollWidth <= innerWidth")
             self.due(f"({pale})({LEAST_CONTRAST})", "")
         self.media("print")
-        self.due("getComputedStyle(document.querySelector('.controls button')).display", "none")
+        self.due(f"[...document.querySelectorAll({json.dumps(not_printed)})].some(x => x.checkVisibility())", False)
 
     def size(self, width: int, height: int) -> None:
         self.send("Emulation.setDeviceMetricsOverride", width=width, height=height, deviceScaleFactor=1, mobile=False)

@@ -1,46 +1,105 @@
-"""The sessions and examples of the documents are what the program gives, and docs/TUTORIAL.md shows the files of
+"""Each block of the documents is told, and what runs of them gives what it shows; docs/TUTORIAL.md shows the files of
 examples/tutorial/ as they are."""
 
+import contextlib
 import os
 import re
 import sys
 import tempfile
+from collections.abc import Iterator, Sequence
 from pathlib import Path
 
 from common import calling
 from common.machine import script
 from exporter import crates
+from pages import runnable, site
 from .examples import script_gives
-from .running import REPOSITORY, Differs, commands_of, expect, part, paths, run, text_of, told_path, write_program
+from .running import (REPOSITORY, Differs, commands_of, expect, part, paths, run, text_of, told_path, write,
+                      write_program)
 
 MARK = b"-- the next command --\n"
+LEAST = 20               # blocks that run: a rule that tells none would pass
+WITH_SESSIONS = ("README.md", "docs/FORMATS.md")      # documents in which each session runs
 
 
-# Documents with sessions: blocks that are indented and begin with a command after `$ `
-WITH_SESSIONS = ("README.md", "docs/FORMATS.md")
-
-
-def shown_sessions(program: str) -> None:
-    """Each session of these documents gives what it shows; and a build names as many crates as README.md has it."""
-    for name in WITH_SESSIONS:
-        sessions_give(program, name)
-    named = part(r"`crate \d+ of (\d+)`", text_of("README.md"))
+def blocks_are_told(program: str) -> None:
+    """Of each block of each document the site and the checks know what it is; a planted one isn't told. And a build
+    names as many crates as README.md has it."""
+    for path, document in documents():
+        if unknown := [block for block in document.blocks if block.kind is None]:
+            raise Differs(f"{path}:{unknown[0].line}: nothing tells what this block is; class/pages/runnable.py says "
+                          "how one is marked")
+        shown = [block for block in document.blocks if block.text.startswith("$ ")] if path in WITH_SESSIONS else []
+        if path in WITH_SESSIONS and not shown:
+            raise Differs(f"{path} has no session")
+        if still := [block for block in shown if block.kind is not runnable.Kind.SESSION]:
+            raise Differs(f"{path}:{still[0].line}: this session doesn't run: class/pages/runnable.py says what can")
+    if runnable.blocks("a.md", "So:\n\n    what is this\n")[0].kind is not None:
+        raise Differs("a planted block that nothing tells isn't found")
+    named = part(r"`crate \d+\s+of\s+(\d+)`", text_of("README.md"))
     count = len(crates.chosen(crates.crates_of(Path(REPOSITORY)), ["pip"]))
     if named != str(count):
         raise Differs(f"README.md has a build of {named} crates, where {count} make the program")
 
 
-def sessions_give(program: str, name: str) -> None:
-    """Runs the sessions of a document, each in a folder of its own."""
-    for session in sessions(name):
-        with tempfile.TemporaryDirectory() as place:
-            beside(place, both(program))
-            commands = [command for command, _ in session]
-            shown = b"".join(output + MARK for _, output in session)
-            told = "; ".join(f"{{ {command}\n}}; s=$?; printf '%s' '{MARK.decode()}'; (exit $s)"
-                             for command in commands)
-            output, status = run(["sh", "-c", told], cwd=place)
-            expect(f"{name}, the session from '$ {commands[0]}' on", (output, status), (shown, 0))
+def documents() -> Iterator[tuple[str, runnable.Document]]:
+    for path in site.documents():
+        yield path, runnable.Document(Path(REPOSITORY), path)
+
+
+def blocks_that_run(program: str) -> None:
+    """Each script and each session that is in a document alone gives what it shows, by program and reference."""
+    count = 0
+    with tempfile.TemporaryDirectory() as place:
+        programs = both_programs(program, place)
+        for path, document in documents():
+            for block, runs in document.running():
+                what = f"{path}, the block from line {block.line} on"
+                if isinstance(runs, runnable.Script):
+                    script_shows(what, runs, program)
+                elif isinstance(runs, runnable.Session) and not block.source:
+                    for by, pair in programs.items():
+                        session_shows(what + by, runs, pair)
+                count += 1
+    if count < LEAST:
+        raise Differs(f"the documents have only {count} blocks that run")
+
+
+def script_shows(what: str, runs: runnable.Script, program: str) -> None:
+    """The answers of a script whose lines have them beside them, where they have one."""
+    text = runs.before + "".join(f"{line}\n" for line, _ in runs.lines)
+    shown = [answer for _, answer in runs.lines if answer is not None]
+    status = 2 if shown[-1:] and shown[-1].startswith("bad line") else 0
+    for by, (output, got) in ((", by the reference", script.run(text.encode())),
+                              ("", run([program, "script"], text.encode()))):
+        answers = (output or b"").decode().splitlines()
+        expect(what + by, (joined(answers[len(answers) - len(shown):]), got), (joined(shown), status))
+
+
+def session_shows(what: str, runs: runnable.Session, programs: dict[str, str]) -> None:
+    """What the commands of a session write, where it is shown, in a folder of its own."""
+    with folder_of(programs) as place:
+        for name, text in runs.files.items():
+            write(text, place, name)
+        told = "; ".join(f"{{ {command}\n}}; s=$?; printf '%s' '{MARK.decode()}'; (exit $s)"
+                         for command in [*runs.before, *(command for command, _ in runs.commands)])
+        output, status = run(["sh", "-c", told], cwd=place)
+        outputs = (output or b"").split(MARK)[len(runs.before):]
+        for (command, due), got in zip(runs.commands, outputs):
+            if due is not None:
+                expect(f"{what}, '$ {command}'", (got, status), (joined(due), 0))
+
+
+def joined(lines: Sequence[str]) -> bytes:
+    return "".join(line + "\n" for line in lines).encode()
+
+
+@contextlib.contextmanager
+def folder_of(programs: dict[str, str]) -> Iterator[str]:
+    """A folder with what the commands of a session name."""
+    with tempfile.TemporaryDirectory() as place:
+        beside(place, programs)
+        yield place
 
 
 def beside(place: str, programs: dict[str, str]) -> None:
@@ -51,49 +110,17 @@ def beside(place: str, programs: dict[str, str]) -> None:
         os.symlink(os.path.abspath(program), os.path.join(place, wrapper))
 
 
-def both(program: str) -> dict[str, str]:
-    """The programs by what a session calls them."""
-    return {"pip": program, "lab": calling.lab(program)}
+def both_programs(program: str, place: str) -> dict[str, dict[str, str]]:
+    """By the reference and by the programs: each pair by what a session calls them."""
+    return {", by the reference": {name: by_reference(script, place)
+                                   for name, script in (("pip", "program.py"), ("lab", "lab.py"))},
+            "": {"pip": program, "lab": calling.lab(program)}}
 
 
-def sessions(name: str) -> list[list[tuple[str, bytes]]]:
-    """The sessions of a document, each a list of a command and the output shown below it."""
-    blocks = re.findall(r"(?:^    .*\n)+", text_of(name), re.M)
-    found = [commands for block in blocks if (commands := commands_of(re.sub("^    ", "", block, flags=re.M)))]
-    if not found:
-        raise Differs(f"{name} has no session")
-    return found
-
-
-def examples_with_arrows(program: str) -> None:
-    """Each session of the documents' blocks whose lines have their answer after an arrow, by program and reference."""
-    sessions_shown = arrow_sessions(text_of("docs/FORMATS.md"))
-    if not sessions_shown:
-        raise Differs("docs/FORMATS.md has no session")
-    for lines, answers in sessions_shown:
-        text = "".join(line + "\n" for line in lines).encode()
-        shown = "".join(answer + "\n" for answer in answers).encode()
-        status = 2 if answers[-1].startswith("bad line") else 0
-        what = f"docs/FORMATS.md, the session from '{lines[0]}' on"
-        expect(what + ", by the reference", script.run(text), (shown, status))
-        expect(what, run([program, "script"], text), (shown, status))
-
-
-def arrow_sessions(text: str) -> list[tuple[list[str], list[str]]]:
-    """The lines and the answers of each session. A block without a boot line goes on with the session before it."""
-    found: list[tuple[list[str], list[str]]] = []
-    for block in text.split("```")[1::2]:
-        lines = block.strip("\n").split("\n")
-        if not any("→" in line for line in lines):
-            continue
-        if any(line.startswith("boot") for line in lines):
-            found.append(([], []))
-        for line in lines:
-            told, arrow, answer = line.partition("→")
-            found[-1][0].append(told.rstrip())
-            if arrow:
-                found[-1][1].append(answer.strip())
-    return found
+def by_reference(script: str, place: str) -> str:
+    """The path of a program that is a script of the reference."""
+    path = os.path.join(REPOSITORY, "dev", "reference", script)
+    return write_program(f'#!/bin/sh\nexec "{sys.executable}" -B "{path}" "$@"\n', place, script)
 
 
 # The tutorial
@@ -110,22 +137,15 @@ def tutorial_sessions(program: str) -> None:
     for name in files(".pip"):
         script_gives(program, os.path.join(REPOSITORY, name))
     with tempfile.TemporaryDirectory() as place:
-        reference = {name: by_reference(script, place) for name, script in (("pip", "program.py"), ("lab", "lab.py"))}
+        programs = both_programs(program, place)
         for name in files(".session"):
-            commands_give(name, reference, ", by the reference")
-            commands_give(name, both(program), "")
-
-
-def by_reference(script: str, place: str) -> str:
-    """The path of a program that is a script of the reference."""
-    path = os.path.join(REPOSITORY, "dev", "reference", script)
-    return write_program(f'#!/bin/sh\nexec "{sys.executable}" -B "{path}" "$@"\n', place, script)
+            for by, pair in programs.items():
+                commands_give(name, pair, by)
 
 
 def commands_give(name: str, programs: dict[str, str], by: str) -> None:
-    """Runs the commands of a session in a folder of its own, with examples/, the folders of tools, ./pip and ./lab."""
-    with tempfile.TemporaryDirectory() as place:
-        beside(place, programs)
+    """Runs the commands of a session in a folder of its own."""
+    with folder_of(programs) as place:
         text = text_of(name)
         if not text.startswith("$ "):
             raise Differs(f"{name} doesn't begin with a command")

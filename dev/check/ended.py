@@ -65,7 +65,7 @@ NEEDING = (("asmx", "examples/monitor.s", "--image", "/dev/null"), ("asmx", "--c
            ("every", "-", "10"), ("shell", "examples/first.pip"),
            ("debug", "examples/monitor.s"), ("step/step", "examples/first.pip"),
            ("check/run.py", "--only", "endings"))
-README = "from check import documents; documents.sessions_give({program!r}, 'README.md')"
+SESSIONS = "from check import documents; documents.blocks_that_run({program!r})"
 RT = "#!/bin/sh\necho begun >> \"$PROOFS\"\nexit 1\n"
 
 
@@ -85,8 +85,8 @@ def nothing_is_proved(program: str) -> None:
                 if status != 2 or messages.count("\n") != 1 or due not in messages:
                     raise Differs(f"{name} {' '.join(words)}, where nothing is built: status {status}, "
                                   f"{messages}")
-        finished("the sessions of README.md with a program, where nothing is built",
-                 [sys.executable, "-B", "-c", README.format(program=os.path.abspath(program))], cwd=place,
+        finished("the sessions of the documents with a program, where nothing is built",
+                 [sys.executable, "-B", "-c", SESSIONS.format(program=os.path.abspath(program))], cwd=place,
                  env={**environment, "LAB": os.path.abspath(calling.lab(program)),
                       "PYTHONPATH": os.pathsep.join(folders_of(place))})
         expect("proofs that were begun", (None, len(os.listdir(path))), (None, 1))

@@ -5,6 +5,7 @@ import os
 import re
 from collections.abc import Iterator
 
+from pages.rendering import anchor
 from .running import REPOSITORY, Differs, text_of, told_path
 from .sources import sources
 
@@ -80,6 +81,6 @@ def without_code(path: str) -> str:
 
 
 def headings(path: str) -> set[str]:
-    """The anchors of a document's headings: lower case, without marks, with hyphens for spaces."""
+    """The anchors of a document's headings."""
     titles = re.findall("^#+ (.*)$", without_code(path), re.MULTILINE)
-    return {re.sub(r"[^\w\- ]", "", title.lower()).replace(" ", "-") for title in titles}
+    return set(map(anchor, titles))

@@ -100,7 +100,7 @@ def causes(text: str) -> dict[str, list[str]]:
     told = {name: [row for row in bad if row[0].startswith(begins)] for name, begins in OF_LINES.items()}
     told.update({name: [row for row in kinds if row[0] == f"`{kind}`" and row[1].startswith(begins)]
                  for name, (kind, begins) in OF_TEXTS.items()})
-    menus = rows(text, "## against")
+    menus = rows(text, "### against")
     told.update({"menu " + kind: [row for row in menus if row[0] == f"`{kind}`"] for kind in OF_MENUS})
     lacks = [name for name, row in told.items() if len(row) != 1]
     if lacks:

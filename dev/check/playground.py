@@ -1,4 +1,4 @@
-"""The program as a module of WebAssembly answers as the program does, and the page over it shows what the other tools
+"""The program as a module of WebAssembly answers as the program does, and the pages over it show what the other tools
 show."""
 
 import atexit
@@ -14,8 +14,10 @@ from typing import Any
 from authors import why
 from exercises import exercise, judging
 from judge import building
+from pages import known
 from reference import generate
-from . import cheats, corners, pages
+from . import cheats, corners
+from . import pages as step_pages
 from .exporting import SECONDS, need_cargo
 from .running import (REPOSITORY, Differs, Skipped, agree, called, contents, each, finished, generated, needed, part,
                       paths, run, same, text_of, told_path, write)
@@ -23,7 +25,6 @@ from .running import (REPOSITORY, Differs, Skipped, agree, called, contents, eac
 PLAYGROUND = os.path.join(REPOSITORY, "class", "playground")
 CASES = 20               # of each command
 CASES_OF_REASONS = 300
-MOST_BYTES = 460_000     # of the page
 FIRST_SEED = 900_000     # no other check has these
 # A sum that wraps and a broken requirement end a run: a usize has 32 bits in a module.
 CHECKED = {"CARGO_PROFILE_RELEASE_OVERFLOW_CHECKS": "true", "CARGO_PROFILE_RELEASE_DEBUG_ASSERTIONS": "true"}
@@ -52,20 +53,13 @@ def lines_of(command: list[str], text: bytes = b"") -> list[bytes]:
 
 @functools.lru_cache(maxsize=None)
 def made() -> str:
-    """The path of a module, made once for all checks; pip.html beside it is the page over it."""
+    """The path of a module, made once for all checks."""
     need_cargo()
     place = tempfile.mkdtemp()
     atexit.register(shutil.rmtree, place, ignore_errors=True)
     path = os.path.join(place, "pip.wasm")
     make(path)
-    finished("make_page", called("playground/make_page", "--module", path, "--to", page_of(path)))
-    if (size := os.path.getsize(page_of(path))) > MOST_BYTES:
-        raise Differs(f"the page has {size} bytes, and at most {MOST_BYTES} are wanted")
     return path
-
-
-def page_of(path: str) -> str:
-    return os.path.join(os.path.dirname(path), "pip.html")
 
 
 def make(path: str) -> None:
@@ -102,11 +96,11 @@ def answers_of(script: str) -> bool:
 
 def same_states(program: str, script: str) -> None:
     name = told_path(script)
-    page, messages, status = pages.stepped(program, script, "--to", str(pages.MOST_LINES))
+    page, messages, status = step_pages.stepped(program, script, "--to", str(step_pages.MOST_LINES))
     # The solution of break-in goes on where the exercise's script ends: there is no machine in it.
     if status and "step: bad line" not in messages:
         raise Differs(f"class/step {name}: {messages}")
-    due = {"steps": []} if status else pages.data_of(page)
+    due = {"steps": []} if status else step_pages.data_of(page)
     count = sum(1 for step in due["steps"] if not step["answer"].startswith("bad line"))
     told = lines_of(asked("states", made(), str(max(count, 1))), contents(script))
     same(f"the states that the page of {name} has", len(told), count)
@@ -156,8 +150,7 @@ def refused_as(program: str, kind: str, texts: list[bytes], least: int) -> None:
 @functools.lru_cache(maxsize=None)
 def facts() -> str:
     """The path of what the page knows."""
-    known = part('id="documents">(.*?)</script>', text_of(page_of(made())))
-    return write(known, os.path.dirname(made()), "facts")
+    return write(json.dumps(known.facts()), os.path.dirname(made()), "facts")
 
 
 def generated_texts(command: str) -> Iterator[bytes]:
@@ -205,11 +198,11 @@ def same_run(program: str, source: str, seed: int) -> None:
     with tempfile.TemporaryDirectory() as place:
         image = write(run([program, "asm"], text)[0], place, "image")
         for first in windows(program, image, seed):
-            page, messages, status = pages.stepped(program, image, str(first + STEPS), str(seed), "--source", source,
-                                                   "--from", str(first), "--jobs", "1")
+            page, messages, status = step_pages.stepped(program, image, str(first + STEPS), str(seed), "--source",
+                                                        source, "--from", str(first), "--jobs", "1")
             if status:
                 raise Differs(f"class/step {source}: {messages}")
-            same_window(f"the page of {told_path(source)}, seed {seed}", text, seed, first, pages.data_of(page))
+            same_window(f"the page of {told_path(source)}, seed {seed}", text, seed, first, step_pages.data_of(page))
 
 
 def windows(program: str, image: str, seed: int) -> list[int]:

@@ -1,4 +1,4 @@
-"""The page of class/step and the page that runs, in a headless Chromium: what data/playing.txt does and tests there,
+"""The page of class/step and the playground, in a headless Chromium: what data/playing.txt does and tests there,
 that a long file doesn't hold the second up, sizes and colours."""
 
 import json
@@ -11,7 +11,7 @@ from collections.abc import Iterator
 from common import meanings
 from common.blocks import blocks
 from exercises import judging
-from . import pages, playground
+from . import pages, playground, sites
 from .authors import built_of
 from .browser import PAUSE, Browser, Failed, found
 from .running import REPOSITORY, Differs, Skipped, paths, text_of, write
@@ -22,7 +22,8 @@ ARGUMENTS = re.compile(r"(?<=[A-Za-z])\([^)]*\):")     # those of a call
 ACTS = blocks("data/playing.txt", __file__)
 NAMES = dict(line.split(" ", 1) for line in ACTS.pop("names").splitlines())
 OF_STEPS = [title for title in ACTS if title.startswith("step:")]
-OF_RUNS = [title for title in ACTS if not title.startswith("step")]
+OF_SITES = [title for title in ACTS if title.startswith("site")]
+OF_RUNS = [title for title in ACTS if not title.startswith(("step", "site"))]
 
 
 def of_steps(program: str) -> None:
@@ -60,7 +61,7 @@ def acted(shown: Browser, title: str, names: dict[str, str]) -> None:
 def in_browser(program: str) -> None:
     if not found():
         raise Skipped("no Chromium")
-    path = playground.page_of(playground.made())
+    path = os.path.join(sites.made(), "playground.html")
     answered = [script for script in playground.scripts() if playground.answers_of(script)]
     checked = len(answered) + len(paths("examples/*.run"))
     names = {**NAMES, "COUNT": str(checked), "NO_TABLE": meanings.of_status(9),

@@ -10,6 +10,7 @@ import tempfile
 from typing import Any
 
 from common import calling
+from . import sites
 from .exporting import SECONDS
 from .running import REPOSITORY, Differs, contents, expect, finished, needed, run, text_of, write, write_program
 
@@ -24,14 +25,14 @@ LEFT_OUT = shutil.ignore_patterns("out", ".git", "__pycache__", "*.log")
 def works(program: str) -> None:
     """Makes a release of a copy of the checkout, whose gate is a stand-in, and uses it elsewhere as a reader would."""
     needed("git")
-    needed("cmark-gfm")
+    sites.need_packages()
     with tempfile.TemporaryDirectory() as place:
         checkout, tools = os.path.join(place, "checkout"), os.path.join(place, "bin")
         copied(checkout, program, tools)
         to, environment = os.path.join(place, "to"), dict(os.environ, PATH=tools + os.pathsep + os.environ["PATH"])
         for words in (["--gate"], [VERSION, "--to", to, "--module", os.path.join(place, "module")]):
-            finished("dev/release", [os.path.join(checkout, "dev", "release"), *words], SECONDS, cwd=checkout,
-                     env=environment)
+            finished("dev/release", [sys.executable, "-B", os.path.join(checkout, "dev", "release"), *words], SECONDS,
+                     cwd=checkout, env=environment)
         with tarfile.open(os.path.join(to, f"pip-{VERSION}.tar.gz")) as archive:
             archive.extractall(os.path.join(place, "reader"))
         shutil.rmtree(checkout)
@@ -72,6 +73,7 @@ def used(program: str, place: str, tools: str) -> None:
         raise Differs(f"class/exercise of a release ends with {status}: {told!r}")
     expect("the checksums of a release",
            run(["sh", "-c", "grep -E '^[0-9a-f]{64}  ' PROOF | sha256sum --check --quiet"], **settings), (b"", 0))
-    for name in ("README.html", "docs/TUTORIAL.html", "pip.html", "rust/Cargo.toml", "rust/crates/pip/src/main.rs"):
+    for name in ("site/index.html", "site/TUTORIAL.html", "site/engine.js", "rust/Cargo.toml",
+                 "rust/crates/pip/src/main.rs"):
         if not os.path.isfile(os.path.join(place, name)):
             raise Differs(f"a release has no {name}")

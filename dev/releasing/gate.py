@@ -15,7 +15,7 @@ from . import repository
 from .repository import Checkout
 
 CLOSING = re.compile(r"\d+ passed, \d+ failed|check: ")     # the last line of `rt ci`, and those that sum up the checks
-OF_PAGE = ("playground", "playground-browser")               # checks that need its module
+OF_PAGE = ("playground", "playground-browser", "site")       # checks that need the site's module
 RUN_IT = "say dev/release --gate first, which runs .ci/run --all"
 
 
@@ -34,7 +34,7 @@ class Record:
 
 
 def run(found: Checkout, no_page: bool = False) -> int:
-    """Runs .ci/run --all over a clean checkout, without the checks of the page if none is wanted, shows what it says,
+    """Runs .ci/run --all over a clean checkout, without the checks of the site if none is wanted, shows what it says,
     keeps a record, and answers the gate's status."""
     found.need_clean()
     found.record.parent.mkdir(parents=True, exist_ok=True)

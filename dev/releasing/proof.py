@@ -2,31 +2,33 @@
 
 from __future__ import annotations
 
+from pathlib import Path
+
 from common.blocks import blocks
 from common.calling import Failed
 from . import repository
 from .gate import Record
 from .repository import Checkout
 
-PAGE = "pip.html"
+SITE = "site"                # a folder
 MARK = "UNPROVED"            # a file by which ./pip and ./lab see that a release is unproved
 TEXTS = blocks("proof.txt", __file__)
 
 
-def text(version: str, record: Record | None, found: Checkout, page_sum: str | None) -> str:
-    """That of a release, for which no gate was run where there is no record of one, and which has no page where there
-    is no sum of it."""
+def text(version: str, record: Record | None, found: Checkout, site: Path | None) -> str:
+    """That of a release, for which no gate was run where there is no record of one, and which has no site where none is
+    given."""
     programs = repository.PROVED if record else repository.UNPROVED
     told = {"version": version, "commit": found.commit(), "tree": found.tree(),
-            "copies": TEXTS["with page" if page_sum else "no page"].rstrip("\n").format(page=PAGE)}
+            "copies": TEXTS["with site" if site else "no site"].rstrip("\n").format(site=SITE)}
     if record:
         told.update(vars(record), closing="\n".join(f"          {line}" for line in record.closing),
                     trusted=trusted(found))
-    sums = {name: repository.sum_of(found.place / name) for name in (*programs, *found.files())}
-    lines = [f"{total}  {name}" for name, total in sums.items()]
-    lines[len(programs):len(programs)] = [f"{page_sum}  {PAGE}"] if page_sum else []
+    sums = [(repository.sum_of(found.place / name), name) for name in programs]
+    sums += [(repository.sum_of(path), f"{SITE}/{path.name}") for path in sorted(site.iterdir())] if site else []
+    sums += [(repository.sum_of(found.place / name), name) for name in found.files()]
     return (TEXTS["proved" if record else "unproved"].format_map({**told, "programs": " and ".join(programs)}) + "\n"
-            + TEXTS["sums"].format(sums="\n".join(lines)))
+            + TEXTS["sums"].format(sums="\n".join(f"{total}  {name}" for total, name in sums)))
 
 
 def trusted(found: Checkout) -> str:

@@ -1,5 +1,4 @@
-"""Makes a release: what is committed, with the programs that the gate built, the page, the documents as HTML, the
-export, and PROOF."""
+"""Makes a release: what is committed, with the programs that the gate built, the site, the export, and PROOF."""
 
 from __future__ import annotations
 
@@ -14,8 +13,9 @@ from pathlib import Path
 from common import calling
 from common.calling import Failed
 from exporter import building
+from pages import rendering
 from playground import module
-from . import gate, markdown, proof, repository
+from . import gate, proof, repository
 from .repository import Checkout
 
 VERSION = re.compile(r"\d+(\.\d+)*(-[a-z0-9]+)?")
@@ -41,8 +41,9 @@ def main() -> None:
                         help="where the folder and the tarball go, outside the checkout; without it pip-release beside "
                              "it")
     parser.add_argument("--no-page", action="store_true",
-                        help="without pip.html, which needs a compiler with the target wasm32; PROOF says so. It is so "
-                             "where there is no such compiler, too. With --gate: without the checks of the page")
+                        help="without the site, which needs a compiler with the target wasm32 and two packages of "
+                             "Python; PROOF says so. It is so where one of these isn't here, too. With --gate: without "
+                             "the checks of the site")
     module.take_module(parser)
     calling.started(parser, lambda given: work(given, Checkout(Path(calling.REPOSITORY))))
 
@@ -85,11 +86,10 @@ def made(given: argparse.Namespace, found: Checkout, to: Path) -> Path:
     with tempfile.TemporaryDirectory(dir=to) as place:
         top = Path(place) / name
         copied(found, top, given.unproved)
-        page_sum = make_page(given, found, top / proof.PAGE)
-        documents(top)
+        site = make_site(given, found, top / proof.SITE)
         export(found, top / EXPORT)
         run("the judge", found, "class/judge/make_judge", "--to", str(top / "class" / "judge" / "pip_judge"))
-        told = proof.text(given.version, record, found, page_sum)
+        told = proof.text(given.version, record, found, site)
         (top / "PROOF").write_text(told, encoding="utf-8")
         packed(top, Path(place) / tarball.name, found.seconds())
         os.rename(top, folder)
@@ -115,28 +115,28 @@ def copied(found: Checkout, top: Path, is_unproved: bool) -> None:
         (top / proof.MARK).write_text("Nothing is proved of the programs of this release: see PROOF.\n")
 
 
-def make_page(given: argparse.Namespace, found: Checkout, path: Path) -> str | None:
-    """Makes the page and answers its sum; None where it isn't wanted, or nothing here can make its module."""
-    if given.no_page or not given.module and module.compiler_of(given.debian) is None:
-        sys.stderr.write(f"release: without {path.name}{'' if given.no_page else ', since ' + NO_COMPILER}\n")
+def make_site(given: argparse.Namespace, found: Checkout, path: Path) -> Path | None:
+    """Makes the site and answers its folder; None where it isn't wanted, or something that makes it isn't here."""
+    if given.no_page or (why := lacking(given)):
+        sys.stderr.write(f"release: without {path.name}/{'' if given.no_page else ', since ' + why}\n")
         return None
     parts = {"--module": given.module, "--debian": None if given.module else given.debian}
     words = [word for option, path in parts.items() if path for word in (option, str(path.resolve()))]
-    run("the page", found, "class/playground/make_page", "--to", str(path), *words)
-    if not path.is_file():
-        raise Failed(f"the page isn't there: class/playground/make_page made no {path.name}")
-    return repository.sum_of(path)
+    run("the site", found, "class/site", "--to", str(path), *words)
+    if not (path / "index.html").is_file():
+        raise Failed("the site isn't there: class/site made no index.html")
+    return path
+
+
+def lacking(given: argparse.Namespace) -> str:
+    """What a site needs and isn't here; empty where all is."""
+    if missing := rendering.missing():
+        return missing
+    return NO_COMPILER if not given.module and module.compiler_of(given.debian) is None else ""
 
 
 def export(found: Checkout, path: Path) -> None:
     run("the export", found, "dev/export", "--to", str(path), "--deps", "shims")
-
-
-def documents(top: Path) -> None:
-    """Beside each document the same as HTML."""
-    for path in sorted(top.rglob("*.md")):
-        depth = len(path.relative_to(top).parts) - 1
-        path.with_suffix(".html").write_text(markdown.page(path.read_text(encoding="utf-8"), depth), encoding="utf-8")
 
 
 def run(what: str, found: Checkout, tool: str, *words: str) -> None:

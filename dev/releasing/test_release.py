@@ -7,7 +7,6 @@ import contextlib
 import io
 import os
 import re
-import shutil
 import subprocess
 import tempfile
 import unittest
@@ -17,6 +16,7 @@ from typing import Any
 
 from common.blocks import blocks
 from common.calling import Failed
+from pages import rendering
 from . import gate, release, repository
 from .repository import Checkout
 
@@ -26,13 +26,14 @@ GATE = FILES[".ci/run"]
 FILES[".ci/run"] = GATE.format(more="", status=0)
 
 
-@unittest.skipUnless(shutil.which("cmark-gfm"), "no cmark-gfm")
 class Releases(unittest.TestCase):
     def setUp(self) -> None:
         place = tempfile.TemporaryDirectory()
         self.addCleanup(place.cleanup)
         self.addCleanup(setattr, repository, "kit", repository.kit)
         self.use_kit(KIT)
+        self.addCleanup(setattr, rendering, "missing", rendering.missing)
+        rendering.missing = lambda: ""              # the site is made by a stand-in
         self.place = Path(place.name)
         self.found = Checkout(self.place / "here")
         for path, text in FILES.items():
@@ -67,7 +68,7 @@ class Releases(unittest.TestCase):
             return gate.run(self.found)
 
     def made(self, version: str = "1.2", to: str | None = "to", unproved: bool = False, no_page: bool = False) -> Path:
-        """Makes a release, and answers its folder; where `to` is None it goes beside the checkout. Its page is made of
+        """Makes a release, and answers its folder; where `to` is None it goes beside the checkout. Its site is made of
         a module that is there."""
         given = argparse.Namespace(version=version, gate=False, unproved=unproved, no_page=no_page, debian=None,
                                    module=self.place / "module", to=None if to is None else self.place / to)
@@ -92,31 +93,30 @@ class Releases(unittest.TestCase):
         self.assertEqual(self.pass_gate(), 0)
         made, beside = self.made(), self.made(to=None)
         self.assertEqual(self.parts(made), {
-            *FILES, "README.html", "docs/PROVED.html", "pip.html", "PROOF", "rust/Cargo.toml", "class/judge/pip_judge",
+            *FILES, "site/index.html", "PROOF", "rust/Cargo.toml", "class/judge/pip_judge",
             "crates/pip/out/pip", "crates/pip/out/sources-seen", "crates/pip_lab/out/pip_lab",
             "crates/pip_lab/out/sources-seen"})
         self.assertEqual((made / "crates/pip_lab/out/pip_lab").read_text(), "the lab, built\n")
         told = (made / "PROOF").read_text()
         self.assertEqual([line.split("  ")[1] for line in told.splitlines() if re.match("[0-9a-f]{64}  ", line)],
-                         ["crates/pip/out/pip", "crates/pip_lab/out/pip_lab", "pip.html", *self.found.files()])
+                         ["crates/pip/out/pip", "crates/pip_lab/out/pip_lab", "site/index.html", *self.found.files()])
         for part in ("pip 1.2\n", self.found.commit(), KIT, "3 passed, 0 failed", "check: 2 of 2 checks pass",
                      "- The kit."):
             self.assertIn(part, told)
-        self.assertNotIn("has no pip.html", told)
-        self.assertIn('<a href="docs/PROVED.html#trusted">', (made / "README.html").read_text())
+        self.assertNotIn("has no site", told)
         one, two = (path.with_name(path.name + ".tar.gz").read_bytes() for path in (made, beside))
         self.assertEqual(one, two)
 
-    def test_without_a_page_proof_says_so(self) -> None:
+    def test_without_a_site_proof_says_so(self) -> None:
         self.pass_gate()
         made = self.made(no_page=True)
-        self.assertNotIn("pip.html", self.parts(made))
-        self.assertIn("This release has no pip.html", (made / "PROOF").read_text())
+        self.assertNotIn("site/index.html", self.parts(made))
+        self.assertIn("This release has no site/", (made / "PROOF").read_text())
         log = self.found.record.with_suffix(".log")
         self.assertIn("words: --all\n", log.read_text())
         with contextlib.redirect_stdout(io.TextIOWrapper(io.BytesIO())):
             gate.run(self.found, no_page=True)
-        self.assertIn("words: --all --but playground playground-browser\n", log.read_text())
+        self.assertIn("words: --all --but playground playground-browser site\n", log.read_text())
 
     def test_an_unproved_one_needs_no_gate_and_says_so(self) -> None:
         self.refused("say ./pip --unproved script", unproved=True)
@@ -183,9 +183,9 @@ FAULTS: dict[str, Callable[[Releases], object]] = {
     "with the kit None": no_kit,
     "has other files": other_files,
     "ended with status 1: check: 2 of 2": lambda test: test.gate_of(".ci/run", GATE.format(more="", status=1)),
-    "the page can't be made: no compiler":
-        lambda test: test.gate_of("class/playground/make_page", "import sys\nsys.exit('no compiler')\n"),
-    "the page isn't there": lambda test: test.gate_of("class/playground/make_page", "pass\n"),
+    "the site can't be made: no compiler":
+        lambda test: test.gate_of("class/site", "import sys\nsys.exit('no compiler')\n"),
+    "the site isn't there": lambda test: test.gate_of("class/site", "pass\n"),
     "the export can't be made: it differs":
         lambda test: test.gate_of("dev/export", "import sys\nsys.exit('it differs')\n"),
 }

@@ -1,6 +1,6 @@
-//! The program as a module of WebAssembly: the same text, not the same proof. A host puts the words of a command into
-//! memory that `room` gives, and `run` answers as the program does, by a source and a sink that are the host's. Before
-//! each run the host takes back all memory by `afresh`; after a trap it makes a new instance.
+//! The programs as a module of WebAssembly: the same text, not the same proof. A host puts the words of a command into
+//! memory that `room` gives, and `run` answers as pip does, `lab` as the lab's program, by a source and a sink that are
+//! the host's. Before each run the host takes back all memory by `afresh`; after a trap it makes a new instance.
 #![no_std]
 
 extern crate rattle_std;
@@ -15,8 +15,10 @@ use core::ptr::null_mut;
 use core::slice;
 use pip_base::Steps;
 use pip_commands::pip;
+use pip_due::Ended;
 use pip_frames::RawFrames;
 use pip_io::{Failed, Gatherer, Sink, Source};
+use pip_lab_commands::lab as lab_of;
 use pip_model::Port;
 use pip_switch::Machine;
 use rattle_std::alloc::{AllocError, Allocator, Global};
@@ -63,7 +65,7 @@ pub unsafe extern "C" fn afresh() {
     PILE.gone.iter().for_each(|cell| cell.set((0, 0)));
 }
 
-/// Runs a command: the host gives its input as it is read, and takes its output as it is written. Its words are the
+/// Runs a command of pip: the host gives its input as it is read, and takes its output as it is written. Its words are the
 /// `count` bytes from `at` on, parted by spaces. It answers the status, which docs/FORMATS.md explains: "Statuses of
 /// the program".
 ///
@@ -73,9 +75,25 @@ pub unsafe extern "C" fn afresh() {
 pub unsafe extern "C" fn run(at: *const u8, count: usize) -> u32 {
     // SAFETY: by what the host sees to, and `room` wrote each byte.
     let words = unsafe { slice::from_raw_parts(at, count) };
+    status_of(words, |words| pip(Global, words, &mut Host, &mut Gatherer::new(Host)))
+}
+
+/// Runs a command of the lab's program in the same way.
+///
+/// # Safety
+/// As for `run`.
+#[unsafe(no_mangle)]
+pub unsafe extern "C" fn lab(at: *const u8, count: usize) -> u32 {
+    // SAFETY: as above.
+    let words = unsafe { slice::from_raw_parts(at, count) };
+    status_of(words, |words| lab_of(Global, words, &mut Host, &mut Gatherer::new(Host)))
+}
+
+// The status of a run, whose machine is kept.
+fn status_of(words: &[u8], run: impl FnOnce(&[String]) -> Ended) -> u32 {
     u32::from(match split(words) {
         Ok(words) => {
-            let ended = pip(Global, &words, &mut Host, &mut Gatherer::new(Host));
+            let ended = run(&words);
             forget(LAST.put(ended.machine));
             ended.status
         }

@@ -26,14 +26,30 @@ impl<T: AllocGlobal + ?Sized> AllocGlobal for &T {
     }
 }
 
+/// What has the words of the command line.
+#[cfg(feature = "alloc")]
+pub trait Env {
+    /// The words, the program's name first. One that isn't UTF-8 is an error, as is the want of memory.
+    fn words(&self) -> crate::io::Result<crate::vec::Vec<crate::string::String>>;
+}
+
+#[cfg(feature = "alloc")]
+impl<T: Env + ?Sized> Env for &T {
+    fn words(&self) -> crate::io::Result<crate::vec::Vec<crate::string::String>> {
+        (**self).words()
+    }
+}
+
 #[cfg(feature = "host")]
 pub use host::*;
 
 #[cfg(feature = "host")]
 mod host {
-    use super::{AllocGlobal, Print};
+    use super::{AllocGlobal, Env, Print};
     use crate::alloc::Global;
     use crate::io::{Error, Read, Result, Write};
+    use crate::string::String;
+    use crate::vec::Vec;
     use rust_std::fs::File;
     use rust_std::io::{Read as _, Write as _};
     use rust_std::mem::ManuallyDrop;
@@ -46,12 +62,25 @@ mod host {
         HostRuntime(())
     }
 
-    /// What has the words of the command line.
-    pub trait Env {}
+    impl Env for HostRuntime {
+        fn words(&self) -> Result<Vec<String>> {
+            let mut all = Vec::new(Global);
+            #[cfg(unix)]
+            for word in crate::process::words() {
+                push(&mut all, word.to_str().map_err(|_| Error(None))?)?;
+            }
+            #[cfg(not(unix))]
+            for word in rust_std::env::args_os() {
+                push(&mut all, word.to_str().ok_or(Error(None))?)?;
+            }
+            Ok(all)
+        }
+    }
 
-    impl Env for HostRuntime {}
-
-    impl<T: Env + ?Sized> Env for &T {}
+    fn push(all: &mut Vec<String>, word: &str) -> Result<()> {
+        let word = String::from_str(Global, word).map_err(|_| Error(None))?;
+        all.push(word).map_err(|_| Error(None))
+    }
 
     impl AllocGlobal for HostRuntime {
         fn alloc(&self) -> Global {

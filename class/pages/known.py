@@ -1,64 +1,24 @@
-"""The page that runs: what it has to know of docs/ and examples/, the module, and the views of class/step, in one file.
-"""
+"""What the pages know of docs/ and examples/: the words of tables, the forms of lines, and the texts to choose from."""
 
 from __future__ import annotations
 
-import argparse
-import base64
-import gzip
-import json
 import re
-import tempfile
 from pathlib import Path
 from collections.abc import Iterator
 from typing import Any
 
 from authors import why
-from common import calling, meanings
-from common.calling import Failed
+from common import meanings
+from common.calling import REPOSITORY, Failed
 from exercises import exercise
 from common.machine import assembly, instructions, script
 from step import page
-from . import module
 
-HERE = Path(__file__).resolve().parent
-REPOSITORY = HERE.parent.parent
-EXAMPLES = REPOSITORY / "examples"
+TOP = Path(REPOSITORY)
+EXAMPLES = TOP / "examples"
 FIRST = "first.pip"
 MOST_EDITED = 1 << 18          # bytes; a longer text is run, and not shown
 BEGINNING = ".frames 64\n.cpus 1\n.page 0x400000\n"      # without these lines a program is refused
-
-
-def main() -> None:
-    parser = argparse.ArgumentParser(
-        description="One HTML file that runs the program: the same text, not the same proof.")
-    parser.add_argument("--to", type=Path, required=True, metavar="FILE", help="the page")
-    module.take_module(parser)
-    calling.started(parser, lambda given: write(given.to, given.module, given.debian))
-
-
-def write(to: Path, made: Path | None, debian: Path | None) -> None:
-    with tempfile.TemporaryDirectory() as place:
-        if made is None:
-            made = Path(place) / "pip.wasm"
-            module.make(made, debian)
-        binary = made.read_bytes()
-    if not binary.startswith(b"\0asm"):
-        raise Failed(f"{made} is no module of WebAssembly")
-    to.parent.mkdir(parents=True, exist_ok=True)
-    to.write_text(written(binary), encoding="utf-8")
-    print(f"{to}: {to.stat().st_size} bytes, the same text, not the same proof")
-
-
-def written(binary: bytes) -> str:
-    texts = json.dumps([*examples(), *exercises()]).encode()
-    told = {"/* facts */": page.as_data(facts()), "/* examples */": packed(texts), "/* module */": packed(binary)}
-    return re.sub(r"(?m)^ *// .*\n", "", page.filled("page.html", [str(HERE), page.HERE], told))     # remarks stay here
-
-
-def packed(content: bytes) -> str:
-    """As the page unpacks it: zipped, in the letters of base64."""
-    return base64.b64encode(gzip.compress(content, mtime=0)).decode()
 
 
 def facts() -> dict[str, Any]:
@@ -67,7 +27,7 @@ def facts() -> dict[str, Any]:
     forms = {name.decode(): list(form) for name, form in {**script.FORMS, **further}.items()}
     return {"statuses": list(meanings.statuses().values()), "calls": page.told_calls(), "vectors": meanings.vectors(),
             "forms": forms, "causes": meanings.causes(), "assembly": of_assembly(), "ends": ends(),
-            "most": MOST_EDITED}
+            "most": MOST_EDITED, "texts": [*examples(), *exercises()]}
 
 
 def of_assembly() -> dict[str, Any]:
@@ -104,16 +64,12 @@ def group(path: Path) -> str:
 
 
 def example(path: Path) -> dict[str, str]:
-    """A text, with the answers or the trace that are beside it; of a trace the words of its command, too."""
+    """A text, by its path, and where the answers or the trace are that are beside it."""
     is_script = path.suffix == ".pip"
     made = {"name": path.name, "group": group(path), "kind": "script" if is_script else "assembly",
-            "text": path.read_text(encoding="utf-8")}
+            "path": path.relative_to(TOP).as_posix()}
     beside = path.with_suffix(".out" if is_script else ".run")
-    if not beside.exists():
-        return made
-    told = beside.read_text(encoding="utf-8")
-    words, out = ("script", told) if is_script else told.split("\n", 1)
-    return {**made, "words": words, "out": out}
+    return {**made, "beside": beside.relative_to(TOP).as_posix()} if beside.exists() else made
 
 
 def exercises() -> Iterator[dict[str, str | bool]]:
