@@ -85,3 +85,6 @@ merge-requires g c = record {
   paced = paced_as_asked _ _ _ _ c.read_words.ensures
       c.in-Some-Merge.is c.in-Some-Merge.field-0-is lab_due_of _ _ _ c.requires.paced;
 }
+
+pub returns-in-None : goal.returns-in-None
+returns-in-None g c = record { ends = rw (← c.read_words.ensures, c.in-None.is) c.show_usage.ensures.ends }
