@@ -1,5 +1,5 @@
 -- The numbers in the words of the command line are within their bounds.
-use Rattle.std.proofs.Common.{◌≡◌, ℕ, ◌≤◌, ◌<◌, ◌*◌, ◌^◌, ◌&&◌, Bool, true, false, cond, refl, List, [], ◌∷◌, Option}
+use Rattle.std.proofs.Common.{ℕ, ◌≤◌, ◌<◌, ◌*◌, ◌^◌, ◌&&◌, Bool, List, [], ◌∷◌, Option}
 use Rattle.std.proofs.Common.{None, Some, arith, length}
 use Rattle.std.specs.Prelude.{codes, nat_le, nat_lt, option_and_then}
 use Rattle.std.specs.List.{AllByRecursion}

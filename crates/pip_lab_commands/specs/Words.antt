@@ -170,6 +170,6 @@ first_command None other = other
 abbrev pub lab_command_of : List (List ℕ) → Option LabCommand
 lab_command_of words = first_command (fixed_command words) (first_command (later_command words) (given_command words))
 
--- the lab_usage line
+-- the usage line
 abbrev pub lab_usage : List ℕ
 lab_usage = codes "usage: pip-lab slots N TURNS ROUNDS | slots N ROUNDS K:TURNS .. | every STATES [FROM [DEPTH]] [after STEPS SEED] | against STATES [FROM [DEPTH]] [after STEPS SEED] | apart STATES STEPS SEED | part [FROM] | merge"
