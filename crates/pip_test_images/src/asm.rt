@@ -1,7 +1,7 @@
+use crate::ends::check_end;
 use pip_base::MAX_INPUT;
 use pip_commands::asm;
 use pip_io::{MemSink, MemSource};
-use pip_test_ends::check_end;
 use std::process::Abort;
 use std::test::Fail;
 

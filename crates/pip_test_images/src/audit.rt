@@ -1,7 +1,7 @@
+use crate::ends::check_end;
 use crate::run::{FRAMES, TREE};
 use pip_commands::audit;
 use pip_io::{MemSink, MemSource};
-use pip_test_ends::check_end;
 use std::process::Abort;
 use std::test::Fail;
 

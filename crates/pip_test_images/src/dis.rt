@@ -1,6 +1,6 @@
+use crate::ends::check_end;
 use pip_commands::dis;
 use pip_io::{Gatherer, MemSink, MemSource};
-use pip_test_ends::check_end;
 use std::process::Abort;
 use std::test::Fail;
 

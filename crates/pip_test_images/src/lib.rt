@@ -8,6 +8,8 @@ mod audit;
 #[cfg(test)]
 mod dis;
 #[cfg(test)]
+mod ends;
+#[cfg(test)]
 mod native;
 #[cfg(test)]
 mod run;

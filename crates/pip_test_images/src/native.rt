@@ -2,6 +2,7 @@ ghost use Rattle.std.specs.Prelude.{◌≡◌, ◌<◌, length};
 ghost use Rattle.pip_base.specs.Opening.{CanOpen};
 ghost use Rattle.pip_native.specs.Choice.{AnswersNext};
 
+use crate::ends::{check_end, image_of};
 use arrayvec::ArrayVec;
 use pip_base::{Status, Steps};
 use pip_commands::{native, new_machine};
@@ -9,7 +10,6 @@ use pip_frames::Frames;
 use pip_io::{MemSink, MemSource};
 use pip_native::{Chooser, Decision, Monitor, decide, next_child};
 use pip_switch::Machine;
-use pip_test_ends::{check_end, image_of};
 use std::cell::Cell;
 use std::marker::Brand;
 use std::process::Abort;

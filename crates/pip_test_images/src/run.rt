@@ -4,11 +4,11 @@ ghost use Rattle.pip_io.specs.Memory.{source_faults};
 ghost use Rattle.pip_io.specs.Histories.{remaining};
 ghost use Rattle.pip_lines.specs.Due.{AnswersDue};
 
+use crate::ends::{check_end, holds, image_of};
 use pip_base::{Plan, Steps};
 use pip_commands::{MONITOR, core_dump, dis, new_machine, run, tree};
 use pip_io::{Discard, Failed, Gatherer, MemSink, MemSource, Source};
 use pip_lines::{Callback, Line, due, raise_due, run_lines};
-use pip_test_ends::{check_end, holds, image_of};
 use std::cell::Cell;
 use std::marker::Brand;
 use std::process::Abort;

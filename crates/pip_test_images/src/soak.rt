@@ -1,13 +1,13 @@
 ghost use Rattle.std.specs.Prelude.{◌<◌, ◌≤◌};
 ghost use Rattle.pip_base.specs.Opening.{CanOpen};
 
+use crate::ends::check_end;
 use pip_base::Steps;
 use pip_commands::soak;
 use pip_frames::RawFrames;
 use pip_io::{Gatherer, MemSink, MemSource};
 use pip_model::Port;
 use pip_switch::Machine;
-use pip_test_ends::check_end;
 use std::marker::Brand;
 use std::process::Abort;
 use std::sync::ledger::{Blank, Ledger};

@@ -6,6 +6,8 @@ mod against;
 #[cfg(test)]
 mod apart;
 #[cfg(test)]
+mod ends;
+#[cfg(test)]
 mod every;
 #[cfg(test)]
 mod slots;

@@ -1,11 +1,11 @@
 //! Tests of the command `slots`.
 ghost use Rattle.std.specs.Prelude.{◌≤◌, ◌<◌, ◌+◌, ◌*◌, ◌^◌};
 
+use crate::ends::{check_end, image_of};
 use arrayvec::ArrayVec;
 use pip_commands::slots;
 use pip_io::{MemSink, MemSource};
 use pip_slots::{RoundSlot, in_turn};
-use pip_test_ends::{check_end, image_of};
 use std::process::Abort;
 use std::test::Fail;
 

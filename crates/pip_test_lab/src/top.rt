@@ -1,6 +1,6 @@
+use crate::ends::{check_end, words_of};
 use pip_io::{MemSink, MemSource};
 use pip_lab_commands::lab;
-use pip_test_ends::{check_end, words_of};
 use std::process::Abort;
 use std::test::Fail;
 

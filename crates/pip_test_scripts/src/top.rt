@@ -1,7 +1,6 @@
-use crate::ends::{check_end, holds};
+use crate::ends::{check_end, holds, words_of};
 use pip_commands::pip;
 use pip_io::{MemSink, MemSource};
-use pip_test_ends::words_of;
 use std::process::Abort;
 use std::test::Fail;
 

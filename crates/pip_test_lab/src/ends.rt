@@ -1,15 +1,15 @@
-//! What the tests of all commands share: images, words, and comparisons as calls, since a proof grows with all that is
-//! written out before it in a function.
-#![tactic(auto)]
-
-use pip_commands::asm;
-use pip_due::Ended;
+//! What the tests of all commands share: comparisons as calls, since a proof grows with all that is written out before it
+//! in a function.
+use pip_commands::{Ended, asm};
 use pip_io::{MemSink, MemSource};
 use std::process::Abort;
 use std::test::Fail;
 
 /// The image of an assembly text, in a sink.
-pub fn image_of(rt: &(impl Abort + AllocGlobal), text: &str) -> Result<MemSink<'static>, Fail> {
+pub(crate) fn image_of(
+    rt: &(impl Abort + AllocGlobal),
+    text: &str,
+) -> Result<MemSink<'static>, Fail> {
     let mut image = MemSink::new(rt.alloc(), 65536, &[])?;
     let ended = asm(
         rt.alloc(),
@@ -21,7 +21,7 @@ pub fn image_of(rt: &(impl Abort + AllocGlobal), text: &str) -> Result<MemSink<'
 }
 
 /// Compares the text and the status of a command that was given `of`, and whether it handed a machine back.
-pub fn check_end(
+pub(crate) fn check_end(
     rt: &impl Abort,
     of: &str,
     ended: &Ended,
@@ -35,13 +35,8 @@ pub fn check_end(
     assert_eq!(rt; ended.machine.is_some(), has_machine, "of {of}");
 }
 
-/// Asserts what holds of a command that was given `of`.
-pub fn holds(rt: &impl Abort, it: bool, of: &str) {
-    assert!(rt; it, "of {of}");
-}
-
 /// The words of a line, at the spaces between them.
-pub fn words_of(rt: &(impl Abort + AllocGlobal), line: &str) -> Result<Vec<String>, Fail> {
+pub(crate) fn words_of(rt: &(impl Abort + AllocGlobal), line: &str) -> Result<Vec<String>, Fail> {
     let mut words = Vec::new(rt.alloc());
     for word in line.split(' ') {
         words.push(String::from_str(rt.alloc(), word)?)?;
