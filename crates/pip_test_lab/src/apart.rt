@@ -1,6 +1,6 @@
 use crate::ends::{check_end, image_of};
-use pip_commands::apart;
 use pip_io::{MemSink, MemSource};
+use pip_lab_commands::apart;
 use std::process::Abort;
 use std::test::Fail;
 

@@ -3,8 +3,8 @@ ghost use Rattle.std.specs.Prelude.{◌≤◌, ◌<◌, ◌+◌, ◌*◌, ◌^�
 
 use crate::ends::{check_end, image_of};
 use arrayvec::ArrayVec;
-use pip_commands::slots;
 use pip_io::{MemSink, MemSource};
+use pip_lab_commands::slots;
 use pip_slots::{RoundSlot, in_turn};
 use std::process::Abort;
 use std::test::Fail;
