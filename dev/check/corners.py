@@ -5,6 +5,7 @@ import os
 import random
 from collections.abc import Iterator
 
+from common import calling
 from common.blocks import blocks, listed
 from common.machine import against, runs, script
 from reference import audit, commands as reference

@@ -5,6 +5,7 @@ import re
 from collections.abc import Iterator
 
 from authors import asmx
+from common import calling
 from common.machine import script
 from reference import commands as reference
 from .running import Differs, contents, expect, paths, run, text_of, told_path
