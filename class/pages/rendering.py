@@ -10,7 +10,7 @@ import importlib.util
 import json
 import re
 import sys
-from collections.abc import Callable
+from collections.abc import Callable, Sequence
 from dataclasses import dataclass, field
 from pathlib import Path
 from typing import Any
@@ -100,10 +100,7 @@ def added(content: str) -> list[Any]:
 
 def named(found: Rendered, token: Any, title: str) -> None:
     """Gives a heading its anchor. Of equal ones each has its own."""
-    before = [name for _, _, name in found.headings]
-    name = anchor(title)
-    if name in before:
-        name += f"-{sum(re.fullmatch(re.escape(name) + r'(-[0-9]+)?', other) is not None for other in before)}"
+    name = anchor(title, [name for _, _, name in found.headings])
     token.attrs["id"] = PREFIX + name
     found.title = found.title or title
     found.headings.append((int(token.tag[1]), title, name))
@@ -122,9 +119,12 @@ def shown(token: Any) -> str:
     return "".join(" " if child.type == "softbreak" else child.content for child in token.children or [])
 
 
-def anchor(title: str) -> str:
-    """The anchor of a heading: lower case, without marks, with hyphens for spaces."""
-    return re.sub(r"[^\w\- ]", "", title.lower()).replace(" ", "-")
+def anchor(title: str, before: Sequence[str] = ()) -> str:
+    """The anchor of a heading after those with these: lower case, without marks, with hyphens for spaces; one that is
+    there already gets a number."""
+    name = re.sub(r"[^\w\- ]", "", title.lower()).replace(" ", "-")
+    count = sum(re.fullmatch(re.escape(name) + r"(-[0-9]+)?", other) is not None for other in before)
+    return f"{name}-{count}" if name in before else name
 
 
 # Colours

@@ -83,4 +83,7 @@ def without_code(path: str) -> str:
 def headings(path: str) -> set[str]:
     """The anchors of a document's headings."""
     titles = re.findall("^#+ (.*)$", without_code(path), re.MULTILINE)
-    return set(map(anchor, titles))
+    found: list[str] = []
+    for title in titles:
+        found.append(anchor(title, found))
+    return set(found)

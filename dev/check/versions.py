@@ -4,9 +4,10 @@ from __future__ import annotations
 
 import re
 from collections.abc import Iterator
+from pathlib import Path
 
 from exporter import workspace
-from .running import Differs, text_of
+from .running import REPOSITORY, Differs, text_of
 
 FORM = re.compile(r"\d+\.\d+\.\d+\n")
 # Which other files have it, and where
@@ -26,7 +27,7 @@ def versions(program: str) -> None:
         if [found.split(":")[0] for found in others(number.strip(), planted)] != [path]:
             raise Differs(f"a planted version of {path} isn't found")
     found = list(others(number.strip(), texts))
-    if f'version = "{number.strip()}"' not in workspace.PACKAGE:
+    if f'version = "{number.strip()}"' not in workspace.package("pip", "", Path(REPOSITORY)):
         found.append("exported crates have another")
     if found:
         raise Differs("; ".join(found))
