@@ -1,5 +1,5 @@
-//! What the tests of all commands share: comparisons as calls, since a proof grows with all that is written out before it
-//! in a function.
+//! What the tests of all commands share: comparisons as calls, since a proof grows with all that is written out before
+//! it in a function.
 use pip_commands::{Ended, asm};
 use pip_io::{MemSink, MemSource};
 use std::process::Abort;
