@@ -6,7 +6,7 @@ import os
 import shutil
 import subprocess
 import sys
-from collections.abc import Mapping, Sequence
+from collections.abc import Iterator, Mapping, Sequence
 from dataclasses import dataclass
 from pathlib import Path
 
@@ -14,6 +14,13 @@ from common import calling
 from common.calling import Failed
 
 REPOSITORY = Path(calling.REPOSITORY)
+
+
+def files_below(folder: Path) -> Iterator[Path]:
+    """The files of a folder, without what was built in it, which may be thousands."""
+    for at, folders, names in os.walk(folder):
+        folders[:] = [name for name in folders if name != "out"]
+        yield from (Path(at, name) for name in names)
 
 
 @dataclass(frozen=True)
@@ -45,14 +52,13 @@ class Program:
         if not self.built.exists():
             return False
         made = self.built.stat().st_mtime
-        return all(path.stat().st_mtime <= made for path in self.sources()
-                   if "out" not in path.relative_to(REPOSITORY).parts)
+        return all(path.stat().st_mtime <= made for path in self.sources())
 
     def sources(self) -> list[Path]:
         folders = [REPOSITORY / "crates", REPOSITORY / "dev" / "exporter", self.source]
         kinds = (".rt", ".rs", ".toml", ".py", ".txt")
         return [REPOSITORY / "crates.txt",
-                *(path for folder in folders for path in folder.rglob("*") if path.suffix in kinds)]
+                *(path for folder in folders for path in files_below(folder) if path.suffix in kinds)]
 
     def files(self) -> dict[str, str]:
         """The files of the crate in an export."""
