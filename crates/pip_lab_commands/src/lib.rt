@@ -8,8 +8,7 @@
 //!   `law_slots_apart` says that two inputs that agree on a child have the same bytes in its slots.
 //! - `every`, `against` and `apart` are those of pip_searches.
 //! - `part` and `merge` are those of pip_certificates. `law_certified_runs` joins them to runs: the labels of parts
-//! that
-//!   were merged to a whole are all lines that a run can write.
+//!   that were merged to a whole are all lines that a run can write.
 #![tactic(auto)]
 
 mod commands;
