@@ -49,10 +49,17 @@ def key_of(pid: int, top: int, rows: Rows) -> tuple[str, str] | None:
     while pid in rows and pid != top:
         parent, _, words = rows[pid]
         if not key and (name := NAME.search(words)):
-            is_edit = "/rt-edit-" in os.path.realpath(f"/proc/{pid}/cwd")
-            key = name[1], "tests" if " --test" in words else "edits" if is_edit else "proof"
+            key = name[1], "tests" if " --test" in words else "edits" if is_of_edit(pid) else "proof"
         pid = parent
     return key if pid == top else None
+
+
+def is_of_edit(pid: int) -> bool:
+    """Whether a process works in the copy of a crate for an edit; no, if it has ended, or its folder is gone."""
+    try:
+        return "/rt-edit-" in os.readlink(f"/proc/{pid}/cwd")
+    except OSError:
+        return False
 
 
 def show(used: Used, wall: float) -> None:

@@ -10,6 +10,7 @@ from collections.abc import Callable
 from authors import asmx
 from common import calling
 from common.calling import REPOSITORY, Failed
+from common.machine import image as images
 from reference import parts
 from . import worst
 from .count import Counted
@@ -57,8 +58,12 @@ def macros(*name: str) -> Input:
 
 
 def with_way(image: Input, turns: int) -> Input:
-    """An image, and a part whose way has that many turns of processor 0."""
-    return lambda program: image(program) + parts.written(parts.Part([], [0] * turns, []))
+    """An image, and a part whose way has that many turns of processor 0, and which asks all after its first key."""
+    def input_of(program: Counted) -> bytes:
+        data = image(program)
+        machine = images.read(data)
+        return data + parts.written(parts.Part([], [0] * turns, [0] * (machine.cpus + len(machine.plans))))
+    return input_of
 
 
 def lines(keys: int) -> Input:

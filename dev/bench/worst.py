@@ -2,6 +2,7 @@
 
     dev/bench/worst names prefixes COUNT     an assembly text of that many labels, which begin with the same 26 letters
     dev/bench/worst chain DEPTH BYTES KIND   a script that works at the end of a chain of partitions
+    dev/bench/worst events DEPTH EVENT       a script whose last line is delivered by a chain of partitions, or a poll
     dev/bench/worst audit                    a text of 4096 frames
     dev/bench/worst build WANTS COUNT        a script: a child is built with that many wants and ended, again and again
     dev/bench/worst calls                    an assembly text, for `run`: its root makes and ends a child in a loop
@@ -9,7 +10,9 @@
     dev/bench/worst fill                     an assembly text, for `every`: it stores a word in place after place
 
 KIND of a chain: `create` makes and ends a child again and again, `prepare` gives a child tables and takes them back.
-BYTES is the size of the script, at most. WANTS, at most 990, are each in a directory of its own."""
+BYTES is the size of the script, at most. EVENT is load, store, fetch, trap or poll: all partitions but the root have a
+handler whose block is nowhere, and what is saved goes to another page than the entries; all lines are pending, and the
+last alone has a block. DEPTH is at most 90. WANTS, at most 990, are each in a directory of its own."""
 
 import os
 import sys
@@ -53,6 +56,34 @@ def chain(depth: str, most: str, kind: str) -> Iterator[str]:
     room = int(most) - sum(len(line) + 1 for line in lines)
     for _ in range(room // sum(len(line) + 1 for line in again)):
         yield from again
+
+
+# ---- events that are delivered
+
+GONE, BLOCKS = 0xFFFFE000, 0x401000      # an address with a table and no row, and a page for the root's blocks
+EVENTS = {"load": ["ld 0 0x20000000"], "store": ["st 0 0x20000000 1"], "fetch": ["fetch 0"], "trap": ["trap 0 14 0 0"],
+          "poll": [*(f"raise {line}" for line in range(16)), "poll 0"]}
+
+
+def events(depth: str, event: str) -> Iterator[str]:
+    """A chain in which each partition has its entries in a page of its own, and then the event."""
+    yield "boot 4096 1"
+    yield from (entry(0xFFFFF000, 32 + line, GONE) for line in range(15))
+    yield from (entry(0xFFFFF000, vector, BLOCKS + 0x100 * k) for k, vector in enumerate((47, 14, 63)))
+    pages = [0x400000 + 4096 * k for k in range(2, 4060)]
+    for left in reversed(range(int(depth))):
+        made = deletions.family(pages, 10 * left + 10)
+        lent = made.index(deletions.lend(pages, 8, 1, 0xFFFFF000)[0])
+        yield from made[:lent]
+        yield from (entry(pages[8], 14, GONE), entry(pages[8], 63, deletions.CHILD_PAGES[0]))
+        yield from (*made[lent:], deletions.call(8, pages[0], 64, 256))
+        pages = deletions.CHILD_PAGES[1:]
+    yield from EVENTS[event]
+
+
+def entry(page: int, vector: int, block: int) -> str:
+    """The root, or who has a page of its own there, has its block for a vector at an address."""
+    return f"st 0 {page + 4 * vector:#x} {block:#x}"
 
 
 # ---- children that are built
@@ -113,7 +144,8 @@ def put_descriptor(memory: Memory, frame: int, first: int) -> None:
 
 
 KINDS: dict[str, Callable[..., Iterator[str]]] = {
-    "names": labels, "chain": chain, "build": built, "audit": lambda: iter(walk.core_text(slow_memory()).splitlines()),
+    "names": labels, "chain": chain, "events": events, "build": built,
+    "audit": lambda: iter(walk.core_text(slow_memory()).splitlines()),
     "calls": lambda: text_of("calls.s"), "faults": lambda: iter(FAULTS.split("\n")), "fill": lambda: text_of("fill.s")}
 
 

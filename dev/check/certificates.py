@@ -26,7 +26,7 @@ MOST_CHECKED = 60                # parts with a wrong mark, a wrong way or a wro
 
 def certificates(program: str) -> None:
     """Each NAME.every that closes, part by part; the text of each part of a small one is the reference's."""
-    tried = 0
+    tried, chance = 0, random.Random(1)
     for name, image, first, told, texts in cut(program):
         states = int(told[-1].split()[1])
         lines = [checked(program, name, first, image + text) for text in texts]
@@ -37,6 +37,8 @@ def certificates(program: str) -> None:
             answer, status = run([calling.lab(program), "merge"], b"".join(wrong))
             if status not in (2, 9):
                 raise Differs(f"{name}: a wrong certificate ({what}) ends with status {status}: {answer.decode()}")
+        for text in texts:
+            has_one_text(chance, program, name, first, image, text)
         if states < 200:
             by_reference(name, first, image, texts, lines)
     goes_on(program, image)
@@ -123,6 +125,22 @@ def by_reference(name: str, first: int, image: bytes, texts: Sequence[bytes], li
              parts.part(image + text, first))
 
 
+def has_one_text(chance: random.Random, program: str, name: str, first: int, image: bytes, text: bytes) -> None:
+    """A part with a mark too many or too few, or with a word of the base that is the booted one, is refused."""
+    machine = images.read(image)
+    part = parts.part_of(image + text, len(image), machine.frames, choices_of(machine))
+    frames, places = parts.booted(machine), {place[:2] for place in part.base}
+    frame, index = chance.choice([(frame, index) for frame in range(machine.frames) for index in range(1024)
+                                  if (frame, index) not in places])
+    base = sorted([*part.base, (frame, index, frames[frame][index])])
+    at = 4 + 12 * base.index((frame, index, frames[frame][index]))
+    for wrong, fault in ((part._replace(marks=[*part.marks, 0]), f"marks {len(image) + parts.marks_at(part)}"),
+                         (part._replace(marks=part.marks[:-1]), f"marks {len(image) + parts.marks_at(part)}"),
+                         (part._replace(base=base), f"base {len(image) + at}")):
+        expect(f"{name}: a part of another text", run([calling.lab(program), "part", str(first)],
+               image + parts.written(wrong)), (f"bad part {fault}\n".encode(), 2))
+
+
 def choices_of(machine: images.Image) -> int:
     return machine.cpus + len(machine.plans)
 
@@ -137,8 +155,8 @@ def wrong_certificates(program: str, name: str, first: int, image: bytes, texts:
     for place in range(len(lines)):
         yield "a part is missing", together([*lines[:place], *lines[place + 1:]])
     for what, place, text in wrong_parts(chance, image, texts):
-        own, _ = run([calling.lab(program), "part", str(first)], image + text)
-        yield what, together([*lines[:place], own.splitlines(keepends=True), *lines[place + 1:]])
+        own, status = run([calling.lab(program), "part", str(first)], image + text)
+        yield what, together([*lines[:place], own.splitlines(keepends=True) if status == 0 else [], *lines[place + 1:]])
 
 
 def wrong_parts(chance: random.Random, image: bytes, texts: Sequence[bytes]) -> Iterator[tuple[str, int, bytes]]:

@@ -69,10 +69,6 @@ CHECKS: dict[str, Check | tuple[Check, ...]] = {
 }
 
 
-# Checks that are made with --all or by their names alone: the prover's work for a drawn edit is as long as the crates
-# below it are many.
-BY_HAND = ("drawn-edits",)
-
 # seconds of a part of a check. More means that it waits for what never comes, as for a process that was killed for
 # memory
 LONGEST = 2400
@@ -137,9 +133,8 @@ def checked() -> int:
         indexed.rewrite()
         return 0
     program = os.path.abspath(calling.direct(given.program))
-    but = given.but if given.only or given.all else [*given.but, *BY_HAND]
-    names = [name for name in given.only or CHECKS if name not in but]
-    return summed_up({name: made(name, CHECKS[name], program) for name in names}, given.all, but)
+    names = [name for name in given.only or CHECKS if name not in given.but]
+    return summed_up({name: made(name, CHECKS[name], program) for name in names}, given.all, given.but)
 
 
 def summed_up(endings: dict[str, tuple[str, str]], is_all: bool, but: list[str]) -> int:

@@ -4,8 +4,9 @@ A counter of one's own would count nothing for the caller, whose bound would the
 a `Blank` of std's ledger, at the ledger `Brand` or at one that the caller has chosen. So these names are looked for,
 and the module `ledger` that has them, whatever else they are called in a `use`, a type's alias or a macro's argument.
 The commands may name them, and programs, which are known by their `fn main`; and so may crates of tests, on which no
-other crate may stand. The search of pip_every has a counter of its own, too: its choices are calls of a trait of
-pip_search, which knows no counter, so it counts for nobody."""
+other crate may stand. The search of pip_every has a counter of its own, too, and so has the copy with which a journal
+of pip_journal begins: a search's choices are calls of a trait of pip_search, which knows no counter, so they count for
+nobody."""
 
 import os
 import re
@@ -15,7 +16,7 @@ from common.blocks import blocks, parted
 from .running import REPOSITORY, Differs, planted
 from .sources import sources
 
-COMMANDS = "pip_children", "pip_commands", "pip_searches", "pip_certificates", "pip_lab_commands"
+COMMANDS = "pip_children", "pip_commands", "pip_search_commands", "pip_certificate_commands", "pip_lab_commands"
 TESTS = "pip_test_"
 KERNEL = "crates/pip_mmu/src/lib.rt"
 NAMES = re.compile(r"\b(?:ledger|Blank|Brand|pip_test_\w+)\b")
@@ -33,10 +34,15 @@ HARMLESS = re.compile(r"""
     | \benum\s+\w+(?:<[^>{]*>)?\s*\{\s*Blank\b | \b(?:ScriptLine|Statement)::Blank\b(?!\s*::) | \bSome\s+Blank\b
     """, re.VERBOSE)
 
-# The lines of pip_base that define the counter, those of pip_journal that let a caller pick the words of a memory, and
-# those of the search.
+# The lines of pip_base that define the counter, those of pip_journal that let a caller pick the words of a memory and
+# that copy them, and those of the search.
 DEFINITION = {
     os.path.join("crates", "pip_journal", "src", "first.rt"): ("use std::marker::Brand;", "impl First for Brand {"),
+    os.path.join("crates", "pip_journal", "src", "frames.rt"):
+        ("use std::sync::ledger::{Blank, Ledger};", "blank: Blank,", "requires blank {"),
+    os.path.join("crates", "pip_journal", "src", "journal.rt"):
+        ("use std::marker::{Brand, PhantomData};", "use std::sync::ledger::{Blank, Ledger};",
+         "copied_uncounted::<Brand>(alloc, &first, Blank::new(1))"),
     os.path.join("crates", "pip_every", "src", "later.rt"):
         ("use std::sync::ledger::{Blank, Ledger};", "blank: Blank,", "requires ledger {"),
     os.path.join("crates", "pip_every", "src", "searching.rt"):

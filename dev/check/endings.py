@@ -9,6 +9,7 @@ from collections.abc import Iterator
 
 from authors import asmx
 from common import calling, forms
+from common.machine import image as images
 from reference import commands as reference
 from reference import parts
 from .running import REPOSITORY, SECONDS, Differs, Output, contents, expect, finished, run, same, write
@@ -122,10 +123,14 @@ def cases() -> Iterator[tuple[list[str], bytes]]:
     lines, _ = asmx.processed(os.path.join(REPOSITORY, "examples", "apart", "leaves.asmx"))
     guests, _ = reference.pip(["asm"], asmx.text_of(lines))
     yield ["apart", "40", "400", "1"], guests
-    part = image + parts.written(parts.Part([(1, 2, 3)], [0], [1, 0]))
-    yield ["part", "3"], part
-    yield ["merge"], b"".join(sorted(reference.lab(["part"], image + parts.written(parts.Part([], [], [])))[0]
-                                     .splitlines(keepends=True)))
+    yield ["part", "3"], with_part(image, 3, parts.Part([(1, 2, 3)], [0], [1, 0]))
+    told, _ = reference.lab(["part"], with_part(image, 0, parts.Part([], [], [])))
+    yield ["merge"], b"".join(sorted(told.splitlines(keepends=True)))
+
+
+def with_part(image: bytes, first: int, part: parts.Part) -> bytes:
+    """An image, and a part with as many marks as it has choices."""
+    return image + parts.written(parts.fitted(images.read(image), first, part))
 
 
 def refused_memory(program: str) -> None:

@@ -111,7 +111,8 @@ def wrapper(program: str) -> None:
     with tempfile.TemporaryDirectory() as place:
         for act in (builds_when_needed, builds_the_lab, tells_its_progress, sees_an_edit_during_the_build,
                     says_where_it_fails, is_stopped, is_ended, runs_unproved, hands_on, says_what_is_built,
-                    says_its_version, says_its_forms, of_an_unproved_release, follows_a_link):
+                    says_its_version, says_its_forms, builds_nothing_for_unknown_words, of_an_unproved_release,
+                    follows_a_link):
             act(Checkout(os.path.join(place, act.__name__)))
     forms_are_the_programs(program)
 
@@ -306,6 +307,20 @@ def says_its_forms(checkout: Checkout) -> None:
             lines = output.splitlines()
             expect(f"{name} {word}", (lines[0].startswith(first), lines[-1].startswith(last), messages, status, builds),
                    (True, True, "", 0, 0))
+
+
+def builds_nothing_for_unknown_words(checkout: Checkout) -> None:
+    """A first word that no form begins with gets the program's usage line and status 1, proved or not, and no build."""
+    for name, unknown in ("pip", "every"), ("lab", "script"):
+        top = f"crates/pip_{'lab_' * (name == 'lab')}commands/src/top.rt"
+        usage = re.findall(r'b"(usage: .*)\\n";', text_of(top))
+        os.makedirs(os.path.dirname(checkout.path(top)))
+        shutil.copy(os.path.join(REPOSITORY, top), checkout.path(top))
+        os.utime(checkout.path(top), (1000, 1000))
+        for words in (), ("",), (unknown, "100"), ("STEPS",), ("--unproved", unknown), ("--unproved",):
+            expect(f"{name} {words}", checkout.run(*words, command=checkout.path(name)), (usage[0] + "\n", "", 1, 0))
+        expect_told(f"{name}, a word that is one", checkout.run("script" if name == "pip" else "every",
+                    command=checkout.path(name)), f"ran {'script' if name == 'pip' else 'every'}\n", 7, builds=1)
 
 
 def forms_are_the_programs(program: str) -> None:

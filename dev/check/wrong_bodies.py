@@ -14,7 +14,7 @@ from edits.reading import ADMITTED, GATE, TRIED, Edit, NotApplied, all_edits, ed
 from .running import REPOSITORY, Differs, Skipped, each, needed, part, planted_for, run, text_of
 
 DRAWN, CRATES = 10, 2    # how many are tried, and of how many crates at most
-SECONDS = 1800           # after which no further one is begun
+SECONDS = 300            # after which no further one is begun
 COUNTS = {GATE: r"tries (\d+) edits", TRIED: r"(\d+) others", ADMITTED: r"admits? (\d+) more"}      # in CONTRIBUTING.md
 
 
@@ -57,13 +57,14 @@ def drawn_edits(program: str) -> None:
     crates = sorted({edit.crate for edit in chosen})
     known, until = tried.chains(REPOSITORY), time.monotonic() + SECONDS
     results = each(lambda crate: refused([edit for edit in chosen if edit.crate == crate], known[crate], until), crates)
-    wrong = [f"{edit.place}: {outcome}" for found in results for edit, outcome in found
-             if not tried.is_due(edit.kind, outcome)]
+    judged = [(edit, outcome) for found in results for edit, outcome in found
+              if not outcome.startswith(tried.UNJUDGED)]
+    wrong = [f"{edit.place}: {outcome}" for edit, outcome in judged if not tried.is_due(edit.kind, outcome)]
     if wrong:
         raise Differs(f"an edit that was refused once isn't: mend it, or the contract. {'; '.join(wrong)}")
-    left = len(chosen) - sum(map(len, results))
+    left = len(chosen) - len(judged)
     if left:
-        raise Skipped(f"{left} of {len(chosen)} edits not begun in {SECONDS} seconds")
+        raise Skipped(f"{left} of {len(chosen)} edits not judged in time")
 
 
 def refused(chosen: list[Edit], chain: list[str], until: float) -> list[tuple[Edit, str]]:

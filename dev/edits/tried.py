@@ -2,9 +2,10 @@
 
     dev/tried [NAME [EDIT ..]]
 
-Without an edit it prints crate, kind and name of each. An edit is put into a copy of the crate and of those below it,
-where `rt check` keeps what was proved; a line says what came of it. The status is 1 if one of them isn't refused by a
-goal, or is admitted and a goal refuses it."""
+Without an edit it prints crate, kind and name of each. An edit is put into a copy of the crate, which is checked over
+the libraries that the last gate built here: of the crate only the function that the edit changes. Where there are none,
+the crates below are copied, too, and proved first. A line says what came of it. The status is 1 if one of them isn't
+refused by a goal, or is admitted and a goal refuses it."""
 
 from __future__ import annotations
 
@@ -21,6 +22,8 @@ from common import calling
 from common.calling import REPOSITORY, Failed
 from exporter import crates
 from .reading import ADMITTED, Edit, NotApplied, edited, edits_of
+
+UNJUDGED, SECONDS = "no verdict", 420      # a check that takes longer is ended
 
 TOLD = re.compile(r"(?:note: )?\S+?:\d+:\d+: (.*)")         # a line of the prover about a place
 LOST = re.compile(r"has no field|is not in scope|has no `|was not admitted")
@@ -72,14 +75,34 @@ def chains(top: str) -> dict[str, list[str]]:
 
 
 def outcomes(edits: list[Edit], chain: list[str]) -> Iterator[tuple[Edit, str]]:
-    """What becomes of edits of one crate, which are put into a copy of it and of those below it one after another."""
+    """What becomes of edits of one crate, which are put into a copy of it, or of it and those below it, one after
+    another."""
     with tempfile.TemporaryDirectory(prefix="pip-tried-") as place:
-        copy_crates(place, chain)
+        name = edits[0].crate
+        check = over_libraries(name, chain)
+        copy_crates(place, [name] if check else chain)
         for edit in edits:
-            yield edit, outcome_of(edit, os.path.join(place, "crates", edit.crate))
+            yield edit, outcome_of(edit, os.path.join(place, "crates", name), check or ["rt", "check", "--jobs", "1"])
 
 
-def outcome_of(edit: Edit, crate: str) -> str:
+def over_libraries(crate: str, chain: list[str]) -> list[str] | None:
+    """The command that checks a crate over libraries that the last gate built here, if they are there, and the programs
+    are as new as the sources."""
+    libraries = {name: Path(REPOSITORY, "crates", name, "out", "rlib") for name in chain if name != crate}
+    if calling.PROVED not in calling.built(calling.LAB_WRAPPER) \
+            or not all((place / f"{name}.rlib").exists() for name, place in libraries.items()):
+        return None
+    kit = Path(os.path.realpath(shutil.which("rt") or "rt")).parent.parent
+    below = crates.crates_of(Path(REPOSITORY))[crate].uses
+    places = {name: libraries.get(name, kit / "rlibs") for name in ("std", *below)}
+    externs = [word for name, place in places.items() for word in ("--extern", f"{name}={place / name}.rlib")]
+    found = [word for place in (kit / "rlibs", *libraries.values()) for word in ("-L", f"dependency={place}")]
+    return [str(kit / "bin" / "rattle"), "check", "--crate-name", crate, "src/lib.rt", *externs, *found,
+            "--antt-project", str(kit / "rattle" / "logic" / "antt-project.json"),
+            "--logic-built", str(kit / "logic_built"), "--jobs", "1"]
+
+
+def outcome_of(edit: Edit, crate: str, check: list[str]) -> str:
     """What becomes of an edit in a copy of its crate, which is as it was afterwards."""
     try:
         texts = edited(REPOSITORY, edit)
@@ -88,7 +111,7 @@ def outcome_of(edit: Edit, crate: str) -> str:
     try:
         for path, text in texts.items():
             Path(crate, path).write_text(text, encoding="utf-8")
-        return judged(crate, place_of(edit))
+        return judged(crate, check, place_of(edit))
     finally:
         for path in texts:
             shutil.copy2(os.path.join(REPOSITORY, "crates", edit.crate, path), Path(crate, path))
@@ -149,11 +172,15 @@ def function_at(lines: list[str], old: str) -> str | None:
     return f"{of[1]}::{found[2]}" if of and " for " not in head else ""
 
 
-def judged(crate: str, function: str | None) -> str:
-    """What `rt check` says of a crate, or of a function in it."""
-    only = ["--only", function] if function else []
-    done = subprocess.run(["rt", "check", *only, "--jobs", "1"], cwd=crate, stdin=subprocess.DEVNULL,
-                          stdout=subprocess.PIPE, stderr=subprocess.STDOUT, encoding="utf-8", errors="replace")
+def judged(crate: str, check: list[str], function: str | None) -> str:
+    """What a check says of a crate, or of a function in it. Goals that stay open can take it long: then it says
+    nothing."""
+    try:
+        done = subprocess.run([*check, *(["--only", function] if function else [])], cwd=crate, timeout=SECONDS,
+                              stdin=subprocess.DEVNULL, stdout=subprocess.PIPE, stderr=subprocess.STDOUT,
+                              encoding="utf-8", errors="replace")
+    except subprocess.TimeoutExpired:
+        return f"{UNJUDGED} in {SECONDS} seconds"
     if done.returncode == 0:
         return "passes"
     return verdict(done.stdout)
@@ -171,7 +198,7 @@ def verdict(text: str) -> str:
         return f"refused: {', '.join(goals)}"
     if told:
         return f"refused, but names were lost: {told[0]}"
-    raise Failed(f"rt check gives no verdict: {first(lines, 'rt: ')}")
+    raise Failed(f"the check gives no verdict: {first(lines, 'rt: ')}")
 
 
 def first(lines: list[str], mark: str) -> str:

@@ -16,7 +16,7 @@ import tempfile
 
 from common import calling
 from common.calling import first_difference
-from . import commands, generate
+from . import coming, commands, generate
 
 Answer = tuple[bytes, int]                                   # output and status
 # words and input; what the reference answers, and the program
@@ -32,7 +32,7 @@ def difference(path: str, command: str, seed: int) -> Difference | None:
         done = subprocess.run(calling.called(path, words), input=text, stdout=subprocess.PIPE, timeout=SECONDS)
     except subprocess.TimeoutExpired:
         return words, text, expected, (b"nothing in time", -1)
-    got = done.stdout, done.returncode
+    got = coming.judged(words, text, done.stdout) if command == "against" else done.stdout, done.returncode
     return None if got == expected else (words, text, expected, got)
 
 

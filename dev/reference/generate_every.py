@@ -131,7 +131,7 @@ def labels(rng: random.Random, data: bytes, lines: list[bytes]) -> list[bytes]:
     search = every.Search(against.MenuMoments(machine, 0, every.begun(machine, every.AT_FIRST), deeds), SHORT, None)
     known = [f"{cpu} {text}" for cpu, text in search.found] + ["0 out 0x00000001", "out"]
     count = rng.choice((1, 1, 2, 3, 5, against.MOST_LABELS, against.MOST_LABELS + 1) if rng.random() < 0.1 else (1, 2))
-    return [b"again " + rng.choice(known).encode() for _ in range(count)]
+    return [rng.choice((b"again ", b"comes ")) + rng.choice(known).encode() for _ in range(count)]
 
 
 def menu_case(seed: int) -> tuple[list[str], bytes]:

@@ -18,7 +18,8 @@ def wrong_lines(chance: random.Random, lines: list[bytes], count: int) -> Iterat
     told = [i for i, line in enumerate(lines) if line.startswith(b"part ")]
     places = {"key": own, "twice": own, "deeper": own, "ask": asked, "asked twice": asked, "sooner": asked,
               "label": shown, "label everywhere": shown, "label twice": shown, "label for another": shown,
-              "part": told, "other": told, "numbers": told}
+              "part": told, "other": told, "numbers": told, "form of a key": own, "form of a label": shown,
+              "form of a part": told}
     for _ in range(count):
         kind = chance.choice([kind for kind, known in places.items() if known])
         at = chance.choice(places[kind])
@@ -32,6 +33,15 @@ def wrong_lines(chance: random.Random, lines: list[bytes], count: int) -> Iterat
             changed = [line, line]
         elif kind == "label for another":
             changed = [changed_label(chance, line)]
+        elif kind == "form of a key":
+            changed = [line, line[-11:]]
+        elif kind == "form of a label":
+            changed = [chance.choice([b"line", b"linex", b"line 9 x", b"line 0 ", b"line 4" + line[6:], line + b" ",
+                                      b"line  " + line[5:], b"line" + line[5:], line[:7] + b"0" + line[7:]])]
+        elif kind == "form of a part":
+            about = chance.choice([b"", b"x", line[5:-46], b"0" + line[5:-45], line[5:-45] + b"0", b" " + line[5:-45]])
+            yield kind, sorted(b"part " + about + each[-45:] if i in told else each for i, each in enumerate(lines))
+            continue
         elif kind == "deeper":
             if not any(lines[i][:-11] == line[:-11] and lines[i][-8:] == line[-8:] for i in asked):
                 continue                         # nobody asks for it so soon
@@ -77,9 +87,21 @@ def part_case(seed: int) -> tuple[list[str], bytes]:
     part = Part([(*place, chance.randrange(1 << 32)) for place in places],
                 [choice for choice in runs for _ in range(chance.randrange(1, 4))],
                 [int(chance.random() < own) for _ in range(chance.randrange(60))])
+    if chance.random() < 0.8:
+        part = parts.fitted(machine, int((words or ["0"])[0]), part)
     if chance.random() < 0.3:
         return words, data + wrong_text(chance, machine.frames, choices, part)
+    if places and chance.random() < 0.1:
+        return words, data + parts.written(booted_word(chance, machine, part))
     return words, data + parts.written(part)
+
+
+def booted_word(chance: random.Random, machine: image.Image, part: Part) -> Part:
+    """A part with a word of its base that is the booted one."""
+    at = chance.randrange(len(part.base))
+    frame, index, _ = part.base[at]
+    return part._replace(base=[*part.base[:at], (frame, index, parts.booted(machine)[frame][index]),
+                               *part.base[at + 1:]])
 
 
 def wrong_text(chance: random.Random, frames: int, choices: int, part: Part) -> bytes:

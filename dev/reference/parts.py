@@ -2,6 +2,7 @@
 
 from __future__ import annotations
 
+import re
 import struct
 from collections.abc import Iterable, Iterator, Sequence
 from dataclasses import dataclass
@@ -16,9 +17,15 @@ from common.machine.script import lines
 
 MOST_CHOICES = 10000000         # of a way
 MOST_MARKS = 2 ** 32 - 1
+MOST_LINES = 2 ** 32 - 1        # that are merged
 SUM, PRIME = 0xcbf29ce484222325, 0x100000001b3
 LABEL_SUM, LABEL_PRIME = 0x811c9dc5, 0x01000193
 DIGITS = frozenset(b"0123456789abcdef")
+NUMBER, WORD = rb"(?:0|[1-9][0-9]*)", rb"0x[0-9a-f]{8}"
+SWITCH = rb"switch %s %s %s" % (NUMBER, NUMBER, NUMBER)
+LABEL = re.compile(rb" [0-3] (?:%s|park %s %s|out %s|call %s (?:reply %s %s|%s))"
+                   % (SWITCH, NUMBER, NUMBER, WORD, NUMBER, NUMBER, WORD, SWITCH))
+ABOUT = re.compile(rb"%s [0-9a-f]{16}" % b" ".join([NUMBER] * 5))
 
 
 class Part(NamedTuple):
@@ -124,13 +131,18 @@ def packed(words: Iterable[int]) -> bytes:
     return bytes(told)
 
 
+def booted(image: Image) -> list[list[int]]:
+    """The words of an image's frames before its first turn."""
+    tree = image_world(image).tree
+    return [layout.frame_words(tree, frame) for frame in range(image.frames)]
+
+
 class Keys:
     """The keys of an image's moments, as bytes."""
 
     def __init__(self, image: Image, moments: Moments, base: Sequence[tuple[int, int, int]]) -> None:
-        tree = image_world(image).tree
         self.moments, self.frames = moments, image.frames
-        self.first = [layout.frame_words(tree, frame) for frame in range(image.frames)]
+        self.first = booted(image)
         for frame, index, word in base:
             self.first[frame][index] = word
         self.known: dict[Moment, bytes] = {}
@@ -222,8 +234,32 @@ def lines_of(checked: Checked, about: str, way: int) -> list[str]:
 def part(data: bytes, first: int) -> list[str]:
     """The lines that `part` writes of an image and a part after it."""
     image, after = parted(data)
-    given = part_of(data, len(data) - len(after), image.frames, image.cpus + len(image.plans))
-    return lines_of(check(image, first, given), about(image, first, given.base), len(given.way))
+    at = len(data) - len(after)
+    given = part_of(data, at, image.frames, image.cpus + len(image.plans))
+    frames = booted(image)
+    for i, (frame, index, word) in enumerate(given.base):
+        if frames[frame][index] == word:
+            raise BadPart("base", at + 4 + 12 * i)
+    checked = check(image, first, given)
+    if len(given.marks) != count_of_marks(image, checked):
+        raise BadPart("marks", at + marks_at(given))
+    return lines_of(checked, about(image, first, given.base), len(given.way))
+
+
+def count_of_marks(image: Image, checked: Checked) -> int:
+    """How many marks a part has: one for each choice at each of its keys."""
+    return len(checked.keys) * (image.cpus + len(image.plans))
+
+
+def marks_at(part: Part) -> int:
+    """Where in the text of a part the number of its marks is."""
+    return 8 + 12 * len(part.base) + 8 * sum(1 for i, choice in enumerate(part.way) if part.way[i - 1:i] != [choice])
+
+
+def fitted(image: Image, first: int, part: Part) -> Part:
+    """A part with as many marks as its check makes choices: 0 for each that is missing."""
+    count = count_of_marks(image, check(image, first, part))
+    return part._replace(marks=(part.marks + [0] * count)[:count])
 
 
 # The merge
@@ -277,7 +313,7 @@ class Merge:
             self.take_key(line[:-11], line[-11:-9], depth_of(line[-9:]))
 
     def take_key(self, key: bytes, kind: bytes, depth: int | None) -> None:
-        if depth is None or kind not in (b" +", b" ?") or len(key) % 2 or not DIGITS.issuperset(key):
+        if depth is None or kind not in (b" +", b" ?") or not key or len(key) % 2 or not DIGITS.issuperset(key):
             raise Fault("form")
         if self.labels or self.parts:
             raise Fault("order")
@@ -297,6 +333,8 @@ class Merge:
         self.asked, self.latest = self.asked + 1, depth
 
     def take_label(self, label: bytes) -> None:
+        if not LABEL.fullmatch(label):
+            raise Fault("form")
         if self.parts or self.labels and label < self.labels[-1]:
             raise Fault("order")
         self.labels.append(label)
@@ -304,7 +342,7 @@ class Merge:
     def take_part(self, line: bytes) -> None:
         numbers = tuple(depth_of(line[at:at + 9]) for at in range(len(line) - 45, len(line), 9))
         told = tuple(number for number in numbers if number is not None)
-        if len(line) < 50 or len(told) < 5:
+        if len(line) < 50 or len(told) < 5 or not ABOUT.fullmatch(line[5:-45]):
             raise Fault("form")
         if self.parts and line[5:-45] != self.about:
             raise Fault("apart")
@@ -334,6 +372,8 @@ def merge(told: Iterable[bytes]) -> bytes:
     merging = Merge()
     for number, line in enumerate(told, 1):
         try:
+            if number > MOST_LINES:
+                raise Fault("many")
             merging.take(line)
         except Fault as fault:
             raise Refused(str(fault), number, line) from None

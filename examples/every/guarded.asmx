@@ -51,21 +51,11 @@ next_turn:                        # the root is masked, and r15 is the address o
     ldw r7 r15 4
     stw r7 r15 0
     stw r1 r15 4
+    stw r10 r15 8                 # no line has come in this turn
     li r2 63                      # yield(child, 63, nothing is saved)
     li r3 256
     sys 8
     j next_turn                   # refused: it can't be entered any more
-
-line:                             # vector 32; r13 is where the pc stands in the root's block for 63
-    bne r3 r10 stray              # a line has r3 = 0, and has masked the root
-    ldw r7 r13 0
-    la r8 stray
-    beq r7 r8 next_turn
-    li r1 1                       # the root was interrupted before its vcli: it goes on, unmasked
-    li r2 63
-    li r3 256
-    sys 8
-    j refused
 
 stray:                            # a child forged a line, or entered by 63: its turn is over
     sys 10
@@ -73,6 +63,13 @@ stray:                            # a child forged a line, or entered by 63: its
     stw r8 r13 0
     j next_turn
 
+line:                             # vector 32; r13 is where the pc stands in the root's block for 63
+    bne r3 r10 stray              # a line has r3 = 0, and has masked the root
+    ldw r7 r13 0
+    la r8 service
+    bne r7 r8 stray
+    ldw r3 r13 16                 # the root was interrupted before its vcli: the child is served,
+    stw r13 r15 8                 # and then its turn is over
 service:                          # vector 70; r3 is the child, r15 the address of `turn`
     sys 10                        # from here on no line is taken, and nothing that was saved of the root is waited for
     la r8 stray
@@ -96,6 +93,8 @@ service:                          # vector 70; r3 is the child, r15 the address 
     li r4 3
     sys 5
     bne r0 r10 refused
+    ldw r7 r15 8                  # a line has come: it goes on when it has its turn again
+    bne r7 r10 next_turn
     mov r1 r6                     # the child goes on after its trap
     li r2 63
     li r3 256
@@ -156,6 +155,7 @@ lend:
 turn:
     .word FIRST
     .word SECOND
+    .word 0                       # not 0 where a line has come before the root was masked
 
 .page FIRST+TABLE at LAST
 .handler 63 0x400 first

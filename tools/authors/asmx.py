@@ -43,6 +43,7 @@ WRITTEN = {
     "not": ("rA rB", ("li {0} 0", "sub {0} {0} {1}", "addi {0} {0} -1")),
 }
 OF_RULES = (".never", ".always")
+ASKING = (".again", ".comes")
 DIRECTIVES = [*(name.decode() for name in why.DIRECTIVES), *why.OF_ASMX[:why.OF_ASMX.index("la")]]
 KNOWN = [*instructions.OPCODES, *WRITTEN]
 LIKE = {**why.LIKE, "jmp": "jal or j"}
@@ -231,7 +232,7 @@ class Text:
         self.labels: dict[str, Label] = {}
         self.pages: list[Page] = []
         self.head: Lines = []
-        self.may: list[list[Word]] = []                     # lines .may, .again, .never and .always
+        self.may: list[list[Word]] = []                     # lines .may, .again, .comes, .never and .always
         self.menu: Lines = []                               # what becomes of them
         self.rules: list[Rule] = []
 
@@ -246,7 +247,7 @@ class Text:
             self.take_page(words)
         elif first in (".frames", ".cpus", ".line"):
             self.head.append((first.place, Line.of([first, *(self.operand(word, False) for word in words[1:])])))
-        elif first in (".may", ".again", *OF_RULES):
+        elif first in (".may", *ASKING, *OF_RULES):
             self.may.append(words)
         elif not self.pages:
             self.pages.append(Page(first.place, 0, 0))      # lest all lines after it be told, too
@@ -443,11 +444,12 @@ class Text:
         return value
 
     def of_menu(self, words: list[Word]) -> Line:
-        """The line of a menu that `.may WHO WHAT` or `.again LABEL` is, with numbers in the place of names and sums."""
-        if words[0] == ".again":
+        """The line of a menu that `.may WHO WHAT`, `.again LABEL` or `.comes LABEL` is, with numbers in the place of
+        names and sums."""
+        if words[0] in ASKING:
             if len(words) < 2:
-                raise words[0].wrong(".again has a line without its step, as 0 out 0x00000005")
-            return Line.of([words[0].put(against.AGAIN.decode()), *words[1:]])
+                raise words[0].wrong(f"{words[0]} has a line without its step, as 0 out 0x00000005")
+            return Line.of([words[0].put(words[0][1:]), *words[1:]])
         if len(words) < 3:
             raise words[0].wrong(f".may has 'each' or a partition's name, and a deed: {', '.join(DEEDS)}")
         who, what, *numbers = words[1:]
@@ -609,7 +611,7 @@ def main() -> None:
     parser.add_argument("file", metavar="FILE", help="the source; - is standard input")
     parser.add_argument("--image", metavar="OUT", help="assemble it, and write the image there")
     parser.add_argument("--against", metavar="OUT",
-                        help="the same, and after the image its menu, the lines .may and .again, for against")
+                        help="the same, and after the image its menu, the lines .may, .again and .comes, for against")
     parser.add_argument("--check", action="store_true",
                         help="only say what is wrong, also of a script or a menu, with the rule that applies")
     parser.add_argument("--as", dest="kind", choices=("script", "asm", "menu"),

@@ -79,10 +79,14 @@ def place_of(given: Given, kind: str, first: int, second: int) -> str:
 def meaning_again(line: str, with_menu: bool) -> str:
     found = AGAIN.fullmatch(line)
     assert found
-    if found[2] == "yes":
+    if found[3] == "within":
+        return "it comes, where each processor has turns and each line is raised, within so many windows of each"
+    if found[1] == "comes" and found[3] == "no":
+        return "after this way a loop avoids it in which each processor has turns and each line is raised"
+    if found[3] == "yes":
         return "it can come again, whatever was done" + (" of the menu" if with_menu else "")
-    if found[2] == "no":
-        return "it never comes after this way" if found[3] else "it never comes"
+    if found[3] == "no":
+        return "it never comes after this way" if found[4] else "it never comes"
     return "only a search that closes says this"
 
 

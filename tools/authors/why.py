@@ -15,8 +15,8 @@ NUMBER = re.compile(rb"0|[1-9][0-9]*|0x[0-9a-f]{1,8}")
 LONGEST = 120
 MOST_TOLD = 20           # bad lines of one text
 # What tools/asmx adds
-OF_ASMX = (".equ", ".handler", ".include", ".may", ".again", ".never", ".always", "la", "j", "nop", "call", "ret",
-           "neg", "not")
+OF_ASMX = (".equ", ".handler", ".include", ".may", ".again", ".comes", ".never", ".always", "la", "j", "nop", "call",
+           "ret", "neg", "not")
 LIKE = {"ld": "ldw", "st": "stw", "load": "ldw", "store": "stw", "lw": "ldw", "sw": "stw", "lb": "ldb", "sb": "stb",
         "move": "mov", "jmp": "jal", "trap": "int", "ecall": "sys", "syscall": "sys",
         "subi": "addi with a negative number", "bgt": "blt", "bgtu": "bltu",
@@ -145,13 +145,13 @@ def judge_menu(lines: list[bytes], place: int, kind: str) -> NoReturn:
     judge_bytes(line, place)
     (_, who), *words = words_of(line)
     if kind == "who":
-        raise Cause("menu who", 1, f"{shown(who)} is neither 'each', 'again' nor a number")
+        raise Cause("menu who", 1, f"{shown(who)} is neither 'each', 'again', 'comes' nor a number")
     if kind == "many":
         most = (against.MOST_LINES, "lines") if place > against.MOST_LINES else \
-            (against.MOST_LABELS, "labels") if who == against.AGAIN else (against.MOST_DEEDS, "deeds")
+            (against.MOST_LABELS, "labels") if who in against.ASKS else (against.MOST_DEEDS, "deeds")
         raise Cause("menu many", 1, f"there are {most[0]} {most[1]} before")
-    if who == against.AGAIN:
-        raise Cause("menu what", len(line) + 1, "no label comes after 'again'")
+    if who in against.ASKS:
+        raise Cause("menu what", len(line) + 1, f"no label comes after '{who.decode()}'")
     (column, name), *operands = words or [(len(line) + 1, b"")]
     if name not in against.WORDS:
         raise Cause("menu what", column, f"{shown(name)} is none of ld, lb, st, sb, trap and call")

@@ -31,6 +31,7 @@ COMMANDS = {
     "site": "pages.site",
     "step": "step.command",
     "tried": "edits.tried",
+    "work": "bench.work",
     "worst": "bench.worst",
 }
 

@@ -7,8 +7,8 @@ name=$1
 shift
 here=$(dirname "$(dirname "$(dirname "$(readlink -f "$0")")")") || exit 11
 case $name in
-    lab) crate=pip_lab first=merge reference=lab.py ;;
-    *) crate=pip first=script reference=program.py ;;
+    lab) crate=pip_lab commands=pip_lab_commands first=merge reference=lab.py ;;
+    *) crate=pip commands=pip_commands first=script reference=program.py ;;
 esac
 out=$here/crates/$crate/out
 # What the proved program needs is not in here, so that rt has its folder for itself.
@@ -37,6 +37,17 @@ version() {
     echo "commit $(git -C "$here" describe --always --dirty 2>/dev/null || sed -n 's/^commit  *//p' "$here/PROOF" 2>/dev/null)"
     rt version 2>/dev/null || echo "no kit: rt isn't in the PATH"
     if is_proved; then echo "proved"; elif is_exported; then echo "not proved: built by cargo"; else echo "not built"; fi
+}
+
+# refuse_unknown [WORD]: nothing is built for a first word that no form begins with. It gets what the program says to
+# it, the usage line, which is taken from its source, and status 1
+refuse_unknown() {
+    usage=$(sed -n 's/^ *b"\(usage: .*\)\\n";$/\1/p' "$here/crates/$commands/src/top.rt" 2>/dev/null)
+    [ -n "$usage" ] || return 0
+    forms=$(echo "${usage#usage: * }" | tr '|' '\n')
+    echo "$forms" | first_word=${1-} awk '$1 == ENVIRON["first_word"] { known = 1 } END { exit !known }' && return
+    echo "$usage"
+    exit 1
 }
 
 # show_progress: what progress.awk says: a line for each crate, for how far it is every 10 seconds, and as a sign of
@@ -125,6 +136,7 @@ run_reference() {
 # run_unproved WORD ..: the program of the export, or the reference where cargo can't build it
 run_unproved() {
     if ! is_exported; then
+        refuse_unknown "$@"
         has python3 || { say "$name --unproved needs Python 3.9 or later: python3 isn't in the PATH"; exit 11; }
         has cargo || { say "cargo isn't in the PATH"; run_reference "$@"; }
         in_turn "$unproved" is_exported export_and_build || run_reference "$@"
@@ -145,6 +157,7 @@ if [ "${1-}" = --unproved ]; then shift; run_unproved "$@"; fi
 if is_proved; then exec "$out/$crate" "$@"; fi
 # A release for which no gate was run
 if [ -e "$here/UNPROVED" ]; then run_unproved "$@"; fi
+refuse_unknown "$@"
 has rt || {
     say "$name can't be built: rt, the command of the Rattle kit, isn't in the PATH"
     say "put it there, or say ./$name --unproved $*: at once, by cargo or Python, and nothing is proved of it"

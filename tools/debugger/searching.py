@@ -30,7 +30,7 @@ from .rules import Rule
 
 LINE = re.compile(r"(\d+) (\d+|-) ([^:]+): ?(.*)")
 END = re.compile(r"states (\d+) (?:depth (\d+) (closed|stopped|found|ended)|(within) (\d+))")
-AGAIN = re.compile(r"again (.+): (yes|no|unknown)((?: [^ ]+)*)")
+AGAIN = re.compile(r"(again|comes) (.+): (yes|within|no|unknown)((?: [^ ]+)*)")
 REASONS = {3: "its input can't be read", 4: "its output can't be written", 5: "no memory was found: give fewer STATES"}
 NO_MEMORY = 5
 MOST_KEPT = 64           # searches whose ways are kept

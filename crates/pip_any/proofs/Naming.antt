@@ -37,8 +37,8 @@ use Rattle.pip_search.specs.declared.searching.Extent.TheVariants.{Closed}
 use Rattle.pip_any.specs.Programs.{AreNamedTurns, ConfinedProgramsAreNamed, EachTurn, HostileExits}
 use Rattle.pip_any.specs.Programs.{HostileKeeps, ProgramsAreNamed, SearchLooksAway}
 use Rattle.pip_any.proofs.Beginning.{raised_alike}
-use Rattle.pip_searches.specs.RunLaw.{ArePlansFrom, IsNamedBy}
-use Rattle.pip_searches.proofs.RunsChosen.{StandsAt, due_late, place_in, turn_events}
+use Rattle.pip_search_commands.specs.RunLaw.{ArePlansFrom, IsNamedBy}
+use Rattle.pip_search_commands.proofs.RunsChosen.{StandsAt, due_late, place_in, turn_events}
 
 module _ (own : List ℕ) (blind : ℕ → ℕ → Bool) (first : Memory) (g : Menu) (m : Moment) (t0 : ℕ) where
   -- the moment after choices

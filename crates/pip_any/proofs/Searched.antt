@@ -13,8 +13,8 @@ use Rattle.pip_hostile.specs.Tests.{IsPassed}
 use Rattle.pip_hostile.proofs.Testing.{tests_pass}
 use Rattle.pip_search.specs.Reached.{AreChoices, IsCovered}
 use Rattle.pip_search.specs.Systems.{after_choices}
-use Rattle.pip_searches.specs.SearchDues.{begun_moment, begun_world, image_menu, most_choices}
-use Rattle.pip_searches.specs.declared.start.Start.{Start}
+use Rattle.pip_search_commands.specs.SearchDues.{begun_moment, begun_world, image_menu, most_choices}
+use Rattle.pip_search_commands.specs.declared.start.Start.{Start}
 use Rattle.pip_any.specs.AnyProgram.{AnyProgramFromStart, AnyProgramIsNamed, TestedNamesAnyProgram}
 
 pub any_program_is_named : AnyProgramIsNamed

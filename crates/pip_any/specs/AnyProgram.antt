@@ -6,18 +6,18 @@ use Rattle.pip_base.specs.declared.types.Plan.{Plan}
 use Rattle.pip_every.specs.Menus.{Menu, menu_model}
 use Rattle.pip_every.specs.Moments.{Moment}
 use Rattle.pip_hostile.specs.Tests.{looks_away}
-use Rattle.pip_due.specs.EndsBy.{Response}
-use Rattle.pip_due.specs.Planned.{lines_planned}
+use Rattle.pip_command_contracts.specs.EndsBy.{Response}
+use Rattle.pip_command_contracts.specs.Planned.{lines_planned}
 use Rattle.pip_model.specs.Acts.{text_of}
 use Rattle.pip_model.specs.Images.{Image, image_word}
 use Rattle.pip_outside.specs.Outside.{Alike}
 use Rattle.pip_search.specs.Reached.{AreChoices}
 use Rattle.pip_search.specs.Systems.{after_choices}
 use Rattle.pip_search.specs.declared.searching.Extent.TheVariants.{Closed}
-use Rattle.pip_searches.specs.MenuText.{MenuSaid}
-use Rattle.pip_searches.specs.RunLaw.{ArePlansFrom, steps_from}
-use Rattle.pip_searches.specs.SearchDues.{IsSearchedAgainst, begun_moment, begun_world, image_menu}
-use Rattle.pip_searches.specs.declared.start.Start.{Start}
+use Rattle.pip_search_commands.specs.MenuText.{MenuSaid}
+use Rattle.pip_search_commands.specs.RunLaw.{ArePlansFrom, steps_from}
+use Rattle.pip_search_commands.specs.SearchDues.{IsSearchedAgainst, begun_moment, begun_world, image_menu}
+use Rattle.pip_search_commands.specs.declared.start.Start.{Start}
 
 -- where the search closed, at each of its moments looks away from these words, and finds the hostile partitions
 -- confined: it names what each turn shows of each run of another image that begins alike, by any seed and plans, if the

@@ -17,7 +17,7 @@ use Rattle.pip_search.specs.Summary.{IsTold, Witness}
 use Rattle.pip_search.specs.Systems.{after_choices}
 use Rattle.pip_search.specs.declared.searching.Extent.{Extent}
 use Rattle.pip_search.specs.declared.searching.Extent.TheVariants.{Closed}
-use Rattle.pip_searches.specs.RunLaw.{ArePlansFrom, IsNamedBy}
+use Rattle.pip_search_commands.specs.RunLaw.{ArePlansFrom, IsNamedBy}
 
 -- ---- what the search has to find
 

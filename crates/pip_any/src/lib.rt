@@ -1,5 +1,5 @@
-//! What `against` says of every program of a partition: docs/GUARANTEES.md, "Children that do anything". They compute
-//! nothing: what each says is its contract.
+//! What `against` says of every program of a partition: docs/GUARANTEES.md, "Children that do anything". The functions
+//! here compute nothing: each is a law, which its contract says.
 #![tactic(auto)]
 
 ghost use Rattle.pip_any.specs.AnyProgram.{AnyProgramFromStart, AnyProgramIsNamed, TestedNamesAnyProgram};

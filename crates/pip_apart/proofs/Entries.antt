@@ -87,13 +87,6 @@ module _ (t : Tree) (s : IsSound t) (line va : ℕ) (is : va ≡ entry_at (32 + 
       ∙ ap is_set (ap (word_reached t) (sym of_entry)
       ∙ faulted t (reach t n va Load Word) va f (sym e ∙ answer)))
 
--- where a child has the page
-pub lent_tells : (t : Tree) (line va : ℕ) → va ≡ entry_at (32 + line) → (lent : Bool) → lent ≡ true
-    → lent ≡ is_lent t (row_at t.root.rows (vpage va)) → true ≡ might_take t line
-lent_tells t line va is lent on said =
-    sym (ap (λ b. cond b true (is_set (word_reached t (reach t t.root.name (entry_at (32 + line)) Load Word))))
-    (ap (λ a. is_lent t (row_at t.root.rows (vpage a))) (sym is) ∙ sym said ∙ on))
-
 -- ---- the first
 
 -- the first of fewer numbers is the first of more
@@ -112,11 +105,3 @@ first_here f n k b none is on l =
     ap (λ o. first_some o (cond (f k) (Some k) None)) none ∙ ap (λ c. cond c (Some k) None) (sym is ∙ on) in
     let rest : n ≡ suc k + (n - suc k) = omega (arith, l) in
     sym (ap (first_before f) rest ∙ first_later f (suc k) (n - suc k) k one)
-
--- and one for which it isn't leaves none
-pub first_not : (f : ℕ → Bool) (k : ℕ) (b : Bool) → first_before f k ≡ None → b ≡ f k → b ≡ false
-    → first_before f (k + 1) ≡ None
-first_not f k b none is off =
-    let one : k + 1 ≡ suc k = omega arith in
-    ap (first_before f) one ∙ ap (λ o. first_some o (cond (f k) (Some k) None)) none
-    ∙ ap (λ c. cond c (Some k) None) (sym is ∙ off)

@@ -18,11 +18,13 @@ use Rattle.pip_search.specs.declared.searching.Extent.{Extent}
 use Rattle.pip_search.specs.declared.searching.Extent.TheVariants.{Closed, Stopped, Within}
 use Rattle.pip_apart.specs.Alone.{AreProcessors, AreSearched, IsSearchedAlone, guest_model}
 use Rattle.pip_apart.specs.Company.{IsOfGuests}
-use Rattle.pip_apart.specs.Found.{GuestAlone, IsFoundAt, IsKnownAt, IsLineOf, Known, KnownLinesSuffice}
+use Rattle.pip_apart.specs.Found.{GuestAlone, IsFoundAt, IsKnownAt, IsLineOf, Known, KnownAreInCompany}
+use Rattle.pip_apart.specs.Found.{KnownGuestsHold, KnownLinesSuffice}
 use Rattle.pip_apart.specs.Found.{RunsShowKnown, ShowOnly, SlotsShowKnown, all_stay, hold_apart, has_closed}
 use Rattle.pip_apart.specs.Found.{is_marked, stays}
 use Rattle.pip_apart.specs.Tops.{root_on, tops}
-use Rattle.pip_apart.proofs.Searched.{searches_add}
+use Rattle.pip_apart.proofs.Searched.{searched_guests_stay, searches_add}
+use Rattle.pip_apart.proofs.NoLine.{guests_hold_among_lines, of_one}
 use Rattle.pip_apart.proofs.Telling.{none_marked}
 use Rattle.pip_apart.proofs.Testing.{both, not_true}
 use Rattle.pip_apart.proofs.Children.{of_guests, processors_are, top_named, top_not_root, tops_are, tops_aside}
@@ -177,6 +179,32 @@ show_from w most limit k plans is on below before (x ∷ ss) = (
 pub slots_show_known : SlotsShowKnown
 slots_show_known w most limit k plans ss is on below = show_from w most limit k plans is on below [] ss
 
+pub known_are_in_company : KnownAreInCompany
+known_are_in_company w most limit k is on =
+    let a = are_searched w most limit k is on in
+    let b = both (all_stay k.guests) _ on in
+    let c = both (is_none k.root) _ b.1 in
+    let none : root_on w ≡ None = sym is.root_is ∙ is_nothing k.root c.0 in
+    record {
+      guests = record {
+        sound = a.sound;
+        each = λ q j. record {
+          name = a.names q j;
+          not_root = a.not_root q j;
+          stays = searched_guests_stay w q (lines_of k.guests q) a.sound (a.names q j) (a.not_root q j)
+              (of_one w (tops w) a.lines q j) (a.searched q j);
+        };
+        aside = a.aside;
+      };
+      lines = a.lines;
+      slots = λ ss. all_guests w ss a.sound none;
+    }
+
+pub known_guests_hold : KnownGuestsHold
+known_guests_hold w most limit k plans ss is on below p i =
+    let c = known_are_in_company w most limit k is on in
+    guests_hold_among_lines plans w (tops w) ss c.guests c.lines below (c.slots ss) p i
+
 pub runs_show_known : RunsShowKnown
 runs_show_known w plans seed c m n most limit k is on below =
     let v = after_acts w (steps w plans seed c m 0) in
@@ -186,4 +214,5 @@ runs_show_known w plans seed c m n most limit k is on below =
           ∙ ap (λ acts. steps w plans seed c m 0 ++ acts)
           (ap (steps v plans seed c n) at ∙ runs_are_steps v plans seed c n m);
       show = slots_show_known v most limit k plans (run_slots seed c n m) is on below;
+      alone = λ p i. known_guests_hold v most limit k plans (run_slots seed c n m) is on below p i;
     }

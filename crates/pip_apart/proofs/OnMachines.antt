@@ -35,18 +35,6 @@ none_tells w cpu e = sym (go (runs_on w cpu) e)
     go None q = refl
     go (Some r) q = cc
 
--- whether it is the root
-pub root_tells : (p : State) (w : World) (cpu part n : ℕ) (b : Bool) → StandsAs p w
-    → option_map (λ r. r.name) (runs_on w cpu) ≡ Some part → n ≡ part → b ≡ (n == 1)
-    → b ≡ names_root w.tree (runs_on w cpu)
-root_tells p w cpu part n b s e same is = is ∙ sym (go (runs_on w cpu) e)
-  where
-    go : (r : Option Occupant) → option_map (λ r. r.name) r ≡ Some part → names_root w.tree r ≡ (n == 1)
-    go None q = cc
-    go (Some r) q =
-        let name : r.name ≡ part = cc in
-        ap (λ k. k == w.tree.root.name) (name ∙ sym same) ∙ ap (λ k. n == k) (root_is_one w.tree s.bare.sound.tree)
-
 pub no_root : (w : World) (cpu : ℕ) → option_map (λ r. r.name) (runs_on w cpu) ≡ None
     → false ≡ names_root w.tree (runs_on w cpu)
 no_root w cpu e = sym (go (runs_on w cpu) e)

@@ -67,20 +67,6 @@ all_covered : (fs : List Found) → filter (λ (f : Found). true) fs ≡ fs
 all_covered [] = refl
 all_covered (f ∷ fs) = ap (λ xs. f ∷ xs) (all_covered fs)
 
--- what is at a place of a list of witnesses is the witness of what is there
-witness_at : (vs : List Visit) (fs : List Found) (k : ℕ) (x : Witness) → slice_get (map (witness_of vs) fs) k ≡ Some x
-    → (f : Found) × ((slice_get fs k ≡ Some f) × (x.label ≡ f.label.items))
-witness_at vs [] k x e = cc
-witness_at vs (f ∷ fs) zero x e = let same : witness_of vs f ≡ x = cc in (f, (refl, ap (λ x. x.label) (sym same)))
-witness_at vs (f ∷ fs) (suc k) x e = witness_at vs fs k x e
-
-pub none_leaves : (depth : ℕ) (vs : List Visit) (fs : List Found) → ((k : ℕ) (f : Found) (text : List ℕ)
-    → slice_get fs k ≡ Some f → f.label.items ≢ mark ∷ text) → NoneLeaves (witnesses_of (Closed depth) vs fs)
-none_leaves depth vs fs h k x text e =
-    let (f, (d, same)) = witness_at vs fs k x
-    (ap (λ xs. slice_get (map (witness_of vs) xs) k) (sym (all_covered fs)) ∙ e) in
-    λ z. h k f text d (sym same ∙ z)
-
 -- ---- all guests
 
 -- what was found from a key is found at each world of the key

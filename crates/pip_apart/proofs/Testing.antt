@@ -21,10 +21,6 @@ pub not_true : (b : Bool) → not b ≡ true → b ≡ true → ⊥
 not_true true e f = cc
 not_true false e f = cc
 
-pub true_not : (b : Bool) → (b ≡ true → ⊥) → not b ≡ true
-true_not true h = absurd (h refl)
-true_not false h = refl
-
 pub yields_to : (c : CallName) → is_yield c ≡ true → c ≡ Yields
 yields_to (OnMemory c) e = cc
 yields_to Yields e = refl

@@ -6,14 +6,16 @@ use Rattle.std.specs.List.{AllByRecursion, list_any}
 use Rattle.pip_base.specs.Memory.{IsMemory, Memory}
 use Rattle.pip_base.specs.declared.types.Plan.{Plan}
 use Rattle.pip_model.specs.Acts.{after_acts, text_of}
+use Rattle.pip_model.specs.Lists.{In}
 use Rattle.pip_model.specs.Run.{steps}
 use Rattle.pip_model.specs.Turn.{turn}
 use Rattle.pip_model.specs.Worlds.{IsSoundWorld, World}
-use Rattle.pip_guests.specs.Programs.{Slot, all_steps, next_world, ready, run_slots}
+use Rattle.pip_guests.specs.Programs.{IsRunAsAlone, Slot, all_steps, next_world, ready, run_slots}
 use Rattle.pip_search.specs.Summary.{IsTold, Witness}
 use Rattle.pip_search.specs.declared.searching.Extent.{Extent}
 use Rattle.pip_search.specs.declared.searching.Extent.TheVariants.{Closed, Stopped, Within}
 use Rattle.pip_apart.specs.Alone.{guest_model, mark}
+use Rattle.pip_apart.specs.Company.{AreGuests, IsOfGuests, TakesNoLine, slots_of}
 use Rattle.pip_apart.specs.Tops.{first_taken, processors_of, root_on, tops}
 
 -- what a search of one guest found: its top and its processors, the lines with their ways, how many states there are,
@@ -92,6 +94,25 @@ KnownLinesSuffice = (w : World) (most limit : ℕ) (k : Known) (plans : List Pla
     → text_of (turn (ready plans (after_acts w (all_steps plans w ss)) s) s.cpu 0) ≢ []
     → IsLineOf k.guests (text_of (turn (ready plans (after_acts w (all_steps plans w ss)) s) s.cpu 0))
 
+-- the tops of a world are guests in a company: none is above another, each stays inside where it runs alone, the root
+-- takes no line, and whatever slots there are, each is of one of them, or of a processor that runs nothing
+pub record AreInCompany (w : World) : Type 0 where
+  pub guests : AreGuests w (tops w)
+  pub lines : TakesNoLine w (tops w)
+  pub slots : (ss : List Slot) → AllByRecursion (IsOfGuests w (tops w)) ss
+
+-- so it is where the guests hold
+abbrev pub KnownAreInCompany : Type 0
+KnownAreInCompany =
+    (w : World) (most limit : ℕ) (k : Known) → IsKnownAt w most limit k → hold_apart k ≡ true → AreInCompany w
+
+-- and then each guest does exactly what it does alone, whatever turns processors have from there on, in whatever order
+-- and with whatever lines raised
+abbrev pub KnownGuestsHold : Type 0
+KnownGuestsHold = (w : World) (most limit : ℕ) (k : Known) (plans : List Plan) (ss : List Slot)
+    → IsKnownAt w most limit k → hold_apart k ≡ true → AllByRecursion (λ x. x.line < 16) plans → (p : ℕ)
+    → In p (tops w) → IsRunAsAlone plans p w ss (slots_of w p ss)
+
 -- each step of slots shows nothing, or a line of which P holds
 abbrev pub ShowOnly : (List ℕ → Type 0) → List Plan → World → List Slot → Type 0
 ShowOnly P plans w [] = Unit {0}
@@ -106,11 +127,14 @@ SlotsShowKnown = (w : World) (most limit : ℕ) (k : Known) (plans : List Plan) 
     → ShowOnly (IsLineOf k.guests) plans w ss
 
 -- a run of m steps comes to a world whose guests hold in company: it goes on with steps of which each shows nothing, or
--- a line that is known
+-- a line that is known, and in which each guest does exactly what it does alone
 pub record GoesOnKnown (w : World) (plans : List Plan) (seed c m n : ℕ) (k : Known) : Type 0 where
   pub acts : steps w plans seed c (m + n) 0 ≡ steps w plans seed c m 0
       ++ all_steps plans (after_acts w (steps w plans seed c m 0)) (run_slots seed c n m)
   pub show : ShowOnly (IsLineOf k.guests) plans (after_acts w (steps w plans seed c m 0)) (run_slots seed c n m)
+  pub alone : (p : ℕ) → In p (tops (after_acts w (steps w plans seed c m 0)))
+      → IsRunAsAlone plans p (after_acts w (steps w plans seed c m 0)) (run_slots seed c n m)
+      (slots_of (after_acts w (steps w plans seed c m 0)) p (run_slots seed c n m))
 
 -- that is so where that world is known
 abbrev pub RunsShowKnown : Type 0

@@ -22,7 +22,8 @@ mod text;
 ghost use Rattle.pip_apart.specs.Alone.{MarkedGuestsLeave, SearchedGuestsStay, SearchesAdd};
 ghost use Rattle.pip_apart.specs.Company.{AloneIsAnOrder, GuestsHoldAmongLines, GuestsHoldInCompany};
 ghost use Rattle.pip_apart.specs.Company.{LinesAreShownAlone};
-ghost use Rattle.pip_apart.specs.Found.{KnownLinesSuffice, KnownOnce, RunsShowKnown, SlotsShowKnown};
+ghost use Rattle.pip_apart.specs.Found.{KnownAreInCompany, KnownGuestsHold, KnownLinesSuffice, KnownOnce};
+ghost use Rattle.pip_apart.specs.Found.{RunsShowKnown, SlotsShowKnown};
 ghost use Rattle.pip_apart.specs.Kept.{InsideTurnsAskNot, KeptTurnsStay};
 
 pub use guest::Guest;
@@ -51,10 +52,13 @@ pub fn law_searches()
 {}
 
 /// What is known of the guests of a world by searches of each alone says what all of them can show together: from there
-/// on, after each run that comes there, and of slots of any order. There is one thing to be known of each world.
+/// on, after each run that comes there, and of slots of any order; and that each does exactly what it does alone. There
+/// is one thing to be known of each world.
 pub fn law_known()
     ensures once { KnownOnce }
     ensures lines { KnownLinesSuffice }
     ensures slots { SlotsShowKnown }
     ensures runs { RunsShowKnown }
+    ensures company { KnownAreInCompany }
+    ensures hold { KnownGuestsHold }
 {}

@@ -32,14 +32,14 @@ record Begins (op : ℕ) (m : List ℕ) (f : Form) : Type 0 where
 by_words : (op : ℕ) (m rest : List ℕ) (f : Form) (xs : List (List ℕ)) → Begins op m f → words_of rest ≡ xs
     → assembly_phrase InPage (words_of (m ++ 32 ∷ rest)) ≡ held (by_form op m f xs)
 by_words op m rest f xs b e =
-    ap (assembly_phrase InPage) (word_before m rest b.plain_name ∙ ap (λ k. m ∷ k) e) ∙ b.is xs
+    rw (word_before m rest b.plain_name, e, b.is xs)
 
 one_reg : (a : ℕ) → a < 16 → words_of (reg_text a) ≡ reg_text a ∷ []
 one_reg a h = reg_last a h
 
 then_words : (a : ℕ) (rest : List ℕ) (xs : List (List ℕ)) → a < 16 → words_of rest ≡ xs
     → words_of (before a rest) ≡ reg_text a ∷ xs
-then_words a rest xs h e = reg_word a rest h ∙ ap (λ k. reg_text a ∷ k) e
+then_words a rest xs h e = rw (reg_word a rest h, e)
 
 abbrev Again : ℕ → List ℕ → Form → Type 0
 Again op m f = (w : ℕ) → opcode_of w ≡ op → fits w f ≡ true
@@ -63,18 +63,18 @@ again_two_and_value : (op : ℕ) (m : List ℕ) → Begins op m F.TwoAndValue �
 again_two_and_value op m b w e f =
     let v : immediate w < 65536 = half w in
     by_words op m _ F.TwoAndValue _ b (then_words (reg_a w) _ _ (ra w)
-    (then_words (reg_b w) _ _ (rb w) (number_word (immediate w) (omega (arith, v)))))
+    (then_words (reg_b w) _ _ (rb w) (number_word (immediate w) (omega arith))))
     ∙ (λ j. held (made op (reg_again (reg_a w) (ra w) j) (reg_again (reg_b w) (rb w) j) no_field
-    (unsigned_again m 0 65535 (immediate w) (omega arith) (omega (arith, v)) (omega arith) j)))
+    (unsigned_again m 0 65535 (immediate w) (omega arith) (omega arith) (omega arith) j)))
     ∙ ap (λ v. Ok (Holds (plain_cell v))) (back_two_and_value op w e f)
 
 again_two_and_shift : (op : ℕ) (m : List ℕ) → Begins op m F.TwoAndShift → Again op m F.TwoAndShift
 again_two_and_shift op m b w e f =
     let v = shift_fits w f in
     by_words op m _ F.TwoAndShift _ b (then_words (reg_a w) _ _ (ra w)
-    (then_words (reg_b w) _ _ (rb w) (number_word (immediate w) (omega (arith, v)))))
+    (then_words (reg_b w) _ _ (rb w) (number_word (immediate w) (omega arith))))
     ∙ (λ j. held (made op (reg_again (reg_a w) (ra w) j) (reg_again (reg_b w) (rb w) j) no_field
-    (unsigned_again m 0 31 (immediate w) (omega arith) (omega (arith, v)) (omega arith) j)))
+    (unsigned_again m 0 31 (immediate w) (omega arith) (omega arith) (omega arith) j)))
     ∙ ap (λ v. Ok (Holds (plain_cell v))) (back_two_and_shift op w e f)
 
 again_two_and_offset : (op : ℕ) (m : List ℕ) → Begins op m F.TwoAndOffset → Again op m F.TwoAndOffset
@@ -88,9 +88,9 @@ again_two_and_offset op m b w e f =
 again_one_and_value : (op : ℕ) (m : List ℕ) → Begins op m F.OneAndValue → Again op m F.OneAndValue
 again_one_and_value op m b w e f =
     let v : immediate w < 65536 = half w in
-    by_words op m _ F.OneAndValue _ b (then_words (reg_a w) _ _ (ra w) (number_word (immediate w) (omega (arith, v))))
+    by_words op m _ F.OneAndValue _ b (then_words (reg_a w) _ _ (ra w) (number_word (immediate w) (omega arith)))
     ∙ (λ j. held (made op (reg_again (reg_a w) (ra w) j) no_field no_field
-    (unsigned_again m 0 65535 (immediate w) (omega arith) (omega (arith, v)) (omega arith) j)))
+    (unsigned_again m 0 65535 (immediate w) (omega arith) (omega arith) (omega arith) j)))
     ∙ ap (λ v. Ok (Holds (plain_cell v))) (back_one_and_value op w e f)
 
 again_one_and_offset : (op : ℕ) (m : List ℕ) → Begins op m F.OneAndOffset → Again op m F.OneAndOffset
@@ -109,9 +109,9 @@ again_one op m b w e f =
 again_value : (op : ℕ) (m : List ℕ) → Begins op m F.Value → Again op m F.Value
 again_value op m b w e f =
     let v : immediate w < 65536 = half w in
-    by_words op m _ F.Value _ b (number_word (immediate w) (omega (arith, v)))
+    by_words op m _ F.Value _ b (number_word (immediate w) (omega arith))
     ∙ (λ j. held (made op no_field no_field no_field
-    (unsigned_again m 0 65535 (immediate w) (omega arith) (omega (arith, v)) (omega arith) j)))
+    (unsigned_again m 0 65535 (immediate w) (omega arith) (omega arith) (omega arith) j)))
     ∙ ap (λ v. Ok (Holds (plain_cell v))) (back_value op w e f)
 
 again_vector : (op : ℕ) (m : List ℕ) → Begins op m F.Vector → Again op m F.Vector
@@ -119,9 +119,9 @@ again_vector op m b w e f =
     let v = vector_fits w f in
     let l = v.0 in
     let k = v.1 in
-    by_words op m _ F.Vector _ b (number_word (immediate w) (omega (arith, k)))
+    by_words op m _ F.Vector _ b (number_word (immediate w) (omega arith))
     ∙ (λ j. held (made op no_field no_field no_field
-    (unsigned_again m 64 255 (immediate w) (omega (arith, l)) (omega (arith, k)) (omega arith) j)))
+    (unsigned_again m 64 255 (immediate w) (omega arith) (omega arith) (omega arith) j)))
     ∙ ap (λ v. Ok (Holds (plain_cell v))) (back_vector op w e f)
 
 again_form : (f : Form) (op : ℕ) (m : List ℕ) → Begins op m f → Again op m f
@@ -170,13 +170,13 @@ parts a b c d e f h = record {
 no_directive : {A : Type 0} (a b c : Bool) (x y z e : A) → a ≡ false → b ≡ false → c ≡ false
     → cond a x (cond b y (cond c z e)) ≡ e
 no_directive a b c x y z e ha hb hc =
-    ap (λ t. cond t x (cond b y (cond c z e))) ha ∙ ap (λ t. cond t y (cond c z e)) hb ∙ ap (λ t. cond t z e) hc
+    rw (ha, hb, hc)
 
 at_place : (op : ℕ) (m : List ℕ) (xs : List (List ℕ)) (p : Option ℕ) → is_place op p ≡ true
     → by_place m xs p ≡ by_row op m xs (opcode_at op)
 at_place op m xs None e = absurd (grind (arith, e))
 at_place op m xs (Some k) e =
-    let s : k + 1 ≡ op = grind (arith, nat_tests, e) in ap (λ n. by_row n m xs (opcode_at n)) s
+    let s : k + 1 ≡ op = grind (arith, nat_tests, e) in rw s
 
 begins : (op : ℕ) (o : Opcode) → opcode_at op ≡ Some o → Begins op o.name o.form
 begins op o at =

@@ -28,20 +28,20 @@ four a b c d ha hb hc hd =
 
 -- a word that was read from four bytes is written as these four
 pub word_front : (bs : List ℕ) → 4 ≤ length bs → AllBytes bs → little_bytes 4 (word_of_bytes bs) ++ drop 4 bs ≡ bs
-word_front [] h a = absurd (omega (arith, h))
-word_front (a ∷ []) h z = absurd (omega (arith, h))
-word_front (a ∷ b ∷ []) h z = absurd (omega (arith, h))
-word_front (a ∷ b ∷ c ∷ []) h z = absurd (omega (arith, h))
-word_front (a ∷ b ∷ c ∷ d ∷ bs) h z = ap (λ f. f ++ bs) (four a b c d z.0 z.1.0 z.1.1.0 z.1.1.1.0)
+word_front [] h a = absurd (omega arith)
+word_front (a ∷ []) h z = absurd (omega arith)
+word_front (a ∷ b ∷ []) h z = absurd (omega arith)
+word_front (a ∷ b ∷ c ∷ []) h z = absurd (omega arith)
+word_front (a ∷ b ∷ c ∷ d ∷ bs) h z = cc (four a b c d z.0 z.1.0 z.1.1.0 z.1.1.1.0)
 
 small : (a b c d : ℕ) → a < 256 → b < 256 → c < 256 → d < 256 → a + 256 * (b + 256 * (c + 256 * (d + 256 * 0))) < 2 ^ 32
 small a b c d ha hb hc hd = omega arith
 
 pub word_small : (bs : List ℕ) → 4 ≤ length bs → AllBytes bs → word_of_bytes bs < 2 ^ 32
-word_small [] h a = absurd (omega (arith, h))
-word_small (a ∷ []) h z = absurd (omega (arith, h))
-word_small (a ∷ b ∷ []) h z = absurd (omega (arith, h))
-word_small (a ∷ b ∷ c ∷ []) h z = absurd (omega (arith, h))
+word_small [] h a = absurd (omega arith)
+word_small (a ∷ []) h z = absurd (omega arith)
+word_small (a ∷ b ∷ []) h z = absurd (omega arith)
+word_small (a ∷ b ∷ c ∷ []) h z = absurd (omega arith)
 word_small (a ∷ b ∷ c ∷ d ∷ bs) h z = small a b c d z.0 z.1.0 z.1.1.0 z.1.1.1.0
 
 -- that many words from the front
@@ -55,7 +55,7 @@ unfolding words_in
 words_front zero bs h a = record { bytes = refl; words = tt; count = refl }
 words_front (suc k) bs h a =
     let l = length-drop 4 bs in
-    let r = words_front k (drop 4 bs) (omega (arith, h, l)) (bytes_drop 4 bs a) in
+    let r = words_front k (drop 4 bs) (omega arith) (bytes_drop 4 bs a) in
     let e : 4 * suc k ≡ 4 + 4 * k = omega arith in
     record {
       bytes = append_assoc (little_bytes 4 (word_of_bytes bs)) (bytes_of (words_in k (drop 4 bs))) (drop (4 * suc k) bs)
@@ -64,16 +64,16 @@ words_front (suc k) bs h a =
           ++ (bytes_of (words_in k (drop 4 bs)) ++ t)) (sym (drop-drop (4 * k) 4 bs))
           ∙ ap (λ t. little_bytes 4 (word_of_bytes bs) ++ t) r.bytes
           ∙ word_front bs (omega (arith, h)) a;
-      words = (word_small bs (omega (arith, h)) a, r.words);
-      count = ap suc r.count;
+      words = (word_small bs (omega arith) a, r.words);
+      count = rw r.count;
     }
 
 pub bytes_append : (a b : List ℕ) → bytes_of (a ++ b) ≡ bytes_of a ++ bytes_of b
 bytes_append [] b = refl
 bytes_append (w ∷ a) b =
-    ap (λ t. little_bytes 4 w ++ t) (bytes_append a b) ∙ sym (append_assoc (little_bytes 4 w) (bytes_of a) (bytes_of b))
+    rw (bytes_append a b, ← append_assoc (little_bytes 4 w) (bytes_of a) (bytes_of b))
 
 pub zeros_bytes : (k : ℕ) → bytes_of (replicate k 0) ≡ replicate (4 * k) 0
 zeros_bytes zero = refl
 zeros_bytes (suc k) = let e : 4 * suc k ≡ suc (suc (suc (suc (4 * k)))) = omega arith in
-    ap (λ t. little_bytes 4 0 ++ t) (zeros_bytes k) ∙ sym (ap (λ n. replicate n 0) e)
+    cc (zeros_bytes k)

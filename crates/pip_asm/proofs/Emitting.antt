@@ -15,18 +15,16 @@ use Rattle.pip_asm.proofs.Bytes.{bytes_append, zeros_bytes}
 
 pub word_after : (old ws p new : List ℕ) (v : ℕ) → p ≡ old ++ bytes_of ws → new ≡ p ++ little_bytes 4 v
     → new ≡ old ++ bytes_of (ws ++ v ∷ [])
-word_after old ws p new v e f = f ∙ ap (λ t. t ++ little_bytes 4 v) e
-    ∙ append_assoc old (bytes_of ws) (little_bytes 4 v) ∙ ap (λ t. old ++ t) (sym (bytes_append ws (v ∷ [])))
+word_after old ws p new v e f = rw (f, e, append_assoc old (bytes_of ws) (little_bytes 4 v), ← bytes_append ws (v ∷ []))
 
 pub prefix_after : (old ws : List ℕ) (r : Result (List ℕ) LineFault)
     → prefix old (words_before ws r) ≡ prefix (old ++ bytes_of ws) r
 prefix_after old ws (Ok vs) =
-    ap (λ t. Ok (old ++ t)) (bytes_append ws vs) ∙ ap (λ t. Ok t) (sym (append_assoc old (bytes_of ws) (bytes_of vs)))
+    rw (bytes_append ws vs, ← append_assoc old (bytes_of ws) (bytes_of vs))
 prefix_after old ws (Err e) = refl
 
 pub prefix_head : (head : List ℕ) (r : Result (List ℕ) LineFault) → as_image head r ≡ prefix (magic ++ bytes_of head) r
-prefix_head head (Ok ws) = ap (λ t. Ok (magic ++ t)) (bytes_append head ws)
-    ∙ ap (λ t. Ok t) (sym (append_assoc magic (bytes_of head) (bytes_of ws)))
+prefix_head head (Ok ws) = rw (bytes_append head ws, ← append_assoc magic (bytes_of head) (bytes_of ws))
 prefix_head head (Err e) = refl
 
 -- bytes that were filled up with zeros
@@ -34,8 +32,7 @@ pub zeros_resized : (old new : List ℕ) (k : ℕ) → new ≡ take (length old 
     ++ replicate (length old + 4 * k - length old) 0 → new ≡ old ++ bytes_of (replicate k 0)
 zeros_resized old new k e =
     let d : length old + 4 * k - length old ≡ 4 * k = omega arith in
-    e ∙ ap (λ t. t ++ replicate (length old + 4 * k - length old) 0) (take_all (length old + 4 * k) old (omega arith))
-    ∙ ap (λ n. old ++ replicate n 0) d ∙ ap (λ t. old ++ t) (sym (zeros_bytes k))
+    rw (e, take_all (length old + 4 * k) old (omega arith), d, ← zeros_bytes k)
 
 two_after : (a b : List ℕ) (v w : ℕ) → (a ++ bytes_of (v ∷ [])) ++ little_bytes 4 w ≡ a ++ bytes_of (v ∷ w ∷ [])
 two_after a b v w = append_assoc a (bytes_of (v ∷ [])) (little_bytes 4 w)
@@ -50,12 +47,6 @@ pub four_words : (b0 b1 b2 b3 b4 : List ℕ) (x y z w : ℕ) → b1 ≡ b0 ++ li
     → b3 ≡ b2 ++ little_bytes 4 z → b4 ≡ b3 ++ little_bytes 4 w → b4 ≡ b0 ++ bytes_of (x ∷ y ∷ z ∷ w ∷ [])
 four_words b0 b1 b2 b3 b4 x y z w e f g h =
     word_after b0 (x ∷ y ∷ z ∷ []) b3 b4 w (three_words b0 b1 b2 b3 x y z e f g) h
-
--- a plan more
-pub plan_after : (b b' whole : List ℕ) (p : Plan) (ps : List Plan) → b' ≡ b ++ bytes_of (p.line ∷ p.first ∷ p.period
-    ∷ []) → b ++ bytes_of (plan_words (p ∷ ps)) ≡ whole → b' ++ bytes_of (plan_words ps) ≡ whole
-plan_after b b' whole p ps e f = ap (λ t. t ++ bytes_of (plan_words ps)) e
-    ∙ append_assoc b (bytes_of (p.line ∷ p.first ∷ p.period ∷ [])) (bytes_of (plan_words ps)) ∙ f
 
 -- the head of an image
 pub head_after : (b0 b1 b2 b3 ws vs : List ℕ) → b1 ≡ b0 ++ magic → b2 ≡ b1 ++ bytes_of ws → b3 ≡ b2 ++ bytes_of vs
@@ -72,5 +63,5 @@ plan_more b0 b1 b2 p ps e f = f ∙ ap (λ t. t ++ bytes_of (plan_words ps)) e
 
 pub refused_first : {A B : Type 0} (r : Result A LineFault) (f : A → Result B LineFault) (e : AsmError) → Refused r e
     → Refused (and_then r f) e
-refused_first r f (E.Line n k) h = ap (λ r. and_then r f) h
+refused_first r f (E.Line n k) h = rw h
 refused_first r f E.Memory h = tt

@@ -9,7 +9,7 @@ use Rattle.byteorder.specs.Endian.{little_bytes}
 use Rattle.pip_model.specs.declared.assembly.AsmKind.{AsmKind}
 use Rattle.pip_model.specs.Assembly.{LineFault, at_line, and_then, word_of_cell}
 use Rattle.pip_model.specs.Images.{bytes_of}
-use Rattle.pip_line.specs.Seen.{HasRoomFor, use_seen}
+use Rattle.pip_asm_line.specs.Seen.{HasRoomFor, use_seen}
 use Rattle.pip_asm.specs.declared.emit.Note.{Note}
 use Rattle.pip_asm.specs.declared.emit.Written.{Written}
 use Rattle.pip_asm.specs.Emitted.{Adds, AreNotes, IsEmpty, IsInBounds, cell_word, fill_in, pages_of, put, said, words}
@@ -17,7 +17,7 @@ use Rattle.pip_asm.specs.Emitted.{Adds, AreNotes, IsEmpty, IsInBounds, cell_word
 -- ---- answers one after another
 
 pub ok_is : {A E : Type 0} (a b : A) → ◌≡◌ {A = Result A E} (Ok a) (Ok b) → a ≡ b
-ok_is {A} {E} a b e = ap un e
+ok_is {A} {E} a b e = cc
   where
     un : Result A E → A
     un (Ok x) = x
@@ -56,15 +56,13 @@ put_last : (bs old four : List ℕ) (p : ℕ) → length bs ≡ p → length old
     → take p (bs ++ old) ++ (four ++ drop (p + 4) (bs ++ old)) ≡ bs ++ four
 put_last bs old four p e o =
     let l = length-append bs old in
-    ap (λ t. t ++ (four ++ drop (p + 4) (bs ++ old))) (take_at bs old p e)
-    ∙ ap (λ d. bs ++ (four ++ d)) (drop_all (p + 4) (bs ++ old) (omega (arith, l, e, o)))
-    ∙ ap (λ t. bs ++ t) (append-nil four)
+    rw (take_at bs old p e, drop_all (p + 4) (bs ++ old) (omega (arith, l, e, o)), append-nil four)
 
 -- ---- all words
 
 notes_more : (m n : ℕ) (ns : List Note) → m ≤ n → AreNotes m ns → AreNotes n ns
 notes_more m n [] h a = tt
-notes_more m n (x ∷ ns) h a = (omega (arith, h, a.0), a.1, notes_more m n ns h a.2)
+notes_more m n (x ∷ ns) h a = (omega arith, a.1, notes_more m n ns h a.2)
 
 notes_and : (n : ℕ) (ns : List Note) (x : Note) → AreNotes n ns → x.place + 4 ≤ n → HasRoomFor x.cell.number
     x.cell.takes
@@ -75,7 +73,7 @@ notes_and n (y ∷ ns) x a h r = (a.0, a.1, notes_and n ns x a.2 h r)
 -- notes stay within the bytes
 pub notes_put : (bs four : List ℕ) (p : ℕ) (ns : List Note) → length four ≡ 4 → p + 4 ≤ length bs
     → AreNotes (length bs) ns → AreNotes (length (take p bs ++ (four ++ drop (p + 4) bs))) ns
-notes_put bs four p ns e h a = subst (λ n. AreNotes n ns) (sym (put_length bs four p e h)) a
+notes_put bs four p ns e h a = rw (put_length bs four p e h) a
 
 module _ (names : List ℕ → Option ℕ) where
   word_of : Note → Result ℕ AsmKind
@@ -83,7 +81,7 @@ module _ (names : List ℕ → Option ℕ) where
 
   filled_length : (ns : List Note) (bs cs : List ℕ) → AreNotes (length bs) ns → fill_in names ns bs ≡ Ok cs
       → length cs ≡ length bs
-  filled_length [] bs cs a e = ap length (sym (ok_is bs cs e))
+  filled_length [] bs cs a e = rw (← ok_is bs cs e)
   filled_length (x ∷ ns) bs cs a e =
       go (λ w f. filled_length ns (put bs x.place w) cs (notes_put bs (little_bytes 4 w) x.place ns refl a.0 a.2) f
       ∙ put_length bs (little_bytes 4 w) x.place refl a.0)
@@ -132,19 +130,25 @@ module _ (names : List ℕ → Option ℕ) where
       → fill_in names (ns ++ x ∷ []) (bs ++ old) ≡ and_then (fill_in names ns bs) (λ cs. and_then (cell_word x.line
       (word_of_cell names x.next x.cell.number (use_seen x.cell.takes))) (λ ms. Ok (cs ++ ms)))
   note_after ns x bs old a e o =
-      filled_and ns x (bs ++ old)
-      ∙ ap (λ r. and_then r (λ cs. at_line x.line (word_of_cell names x.next x.cell.number (use_seen x.cell.takes))
-      (λ w. Ok (put cs x.place w)))) (filled_after ns bs old a)
-      ∙ and_and (fill_in names ns bs) (λ cs. Ok (cs ++ old)) (λ cs.
-      at_line x.line (word_of_cell names x.next x.cell.number (use_seen x.cell.takes)) (λ w. Ok (put cs x.place w)))
-      ∙ and_same (fill_in names ns bs) (λ cs. at_line x.line (word_of_cell names x.next x.cell.number
-      (use_seen x.cell.takes)) (λ w. Ok (put (cs ++ old) x.place w))) (λ cs. and_then (cell_word x.line
-      (word_of_cell names x.next x.cell.number (use_seen x.cell.takes))) (λ ms. Ok (cs ++ ms))) (λ cs f.
-      one cs (filled_length ns bs cs a f ∙ sym e) (word_of_cell names x.next x.cell.number (use_seen x.cell.takes)))
+      rw (
+        filled_and ns x (bs ++ old),
+        filled_after ns bs old a,
+        and_and (fill_in names ns bs) (λ cs. Ok (cs ++ old))
+            (λ cs. at_line x.line (word_of_cell names x.next x.cell.number (use_seen x.cell.takes))
+            (λ w. Ok (put cs x.place w))),
+        and_same (fill_in names ns bs)
+            (λ cs. at_line x.line (word_of_cell names x.next x.cell.number (use_seen x.cell.takes))
+            (λ w. Ok (put (cs ++ old) x.place w)))
+            (λ cs. and_then (cell_word x.line
+            (word_of_cell names x.next x.cell.number (use_seen x.cell.takes)))
+            (λ ms. Ok (cs ++ ms)))
+            (λ cs f. one cs (filled_length ns bs cs a f ∙ sym e)
+            (word_of_cell names x.next x.cell.number (use_seen x.cell.takes))),
+      )
     where
       one : (cs : List ℕ) → length cs ≡ x.place → (r : Result ℕ AsmKind)
           → at_line x.line r (λ w. Ok (put (cs ++ old) x.place w)) ≡ and_then (cell_word x.line r) (λ ms. Ok (cs ++ ms))
-      one cs l (Ok w) = ap (λ t. Ok t) (put_last cs old (little_bytes 4 w) x.place l o)
+      one cs l (Ok w) = rw (put_last cs old (little_bytes 4 w) x.place l o)
       one cs l (Err k) = refl
 
 -- ---- what was written
@@ -159,8 +163,7 @@ front_stays s t more whole h b = (λ i. take (h i) (b i)) ∙ take-append-le s.h
 
 head_within : (s t : Written) (more : List ℕ) → IsInBounds s → t.head ≡ s.head → t.bytes.items ≡ s.bytes.items ++ more
     → t.head ≤ length t.bytes.items
-head_within s t more whole h b = let l = length-append s.bytes.items more in let k = ap length b in
-    let w = whole.head in omega (arith, l, k, w, h)
+head_within s t more whole h b = omega (arith, length-append s.bytes.items more, ap length b)
 
 pub words_add : (s t : Written) (ws : List ℕ) → IsInBounds s → t.head ≡ s.head → t.notes.items ≡ s.notes.items
     → t.bytes.items ≡ s.bytes.items ++ bytes_of ws → Adds s (words ws) t
@@ -168,12 +171,11 @@ words_add s t ws whole h n b =
     let p = pages_after s t (bytes_of ws) whole h b in
     let l = length-append (pages_of s) (bytes_of ws) in
     let more : AreNotes (length (pages_of s ++ bytes_of ws)) s.notes.items = notes_more (length (pages_of s))
-    (length (pages_of s ++ bytes_of ws)) s.notes.items (omega (arith, l)) whole.notes in
+    (length (pages_of s ++ bytes_of ws)) s.notes.items (omega arith) whole.notes in
     record {
       whole = record {
         head = head_within s t (bytes_of ws) whole h b;
-        notes = subst (λ ns.
-            AreNotes (length (pages_of t)) ns) (sym n) (subst (λ bs. AreNotes (length bs) s.notes.items) (sym p) more);
+        notes = rw n (subst (λ bs. AreNotes (length bs) s.notes.items) (sym p) more);
       };
       front = front_stays s t (bytes_of ws) whole h b;
       says = λ names. (λ i. fill_in names (n i) (p i))
@@ -189,15 +191,14 @@ note_adds s t x four whole room place o h n b =
     let p = pages_after s t four whole h b in
     let l = length-append (pages_of s) four in
     let d = length-drop s.head s.bytes.items in
-    let at : x.place ≡ length (pages_of s) = place ∙ sym d in
+    let at : x.place ≡ length (pages_of s) = cc in
     let all : AreNotes (length (pages_of s ++ four)) (s.notes.items ++ x ∷ []) =
     notes_and (length (pages_of s ++ four)) s.notes.items x (notes_more (length (pages_of s))
-    (length (pages_of s ++ four)) s.notes.items (omega (arith, l)) whole.notes) (omega (arith, l, at, o)) room in
+    (length (pages_of s ++ four)) s.notes.items (omega arith) whole.notes) (omega arith) room in
     record {
       whole = record {
         head = head_within s t four whole h b;
-        notes = subst (λ ns. AreNotes (length (pages_of t)) ns)
-            (sym n) (subst (λ bs. AreNotes (length bs) (s.notes.items ++ x ∷ [])) (sym p) all);
+        notes = rw n (subst (λ bs. AreNotes (length bs) (s.notes.items ++ x ∷ [])) (sym p) all);
       };
       front = front_stays s t four whole h b;
       says = λ names. (λ i. fill_in names (n i) (p i))
@@ -213,13 +214,13 @@ pub record Begun (head : List ℕ) (t : Written) : Type 0 where
 pub begun : (s t : Written) (front : List ℕ) → IsEmpty s → t.bytes.items ≡ s.bytes.items ++ front
     → t.head ≡ length t.bytes.items → t.notes.items ≡ s.notes.items → Begun front t
 begun s t front none b h n =
-    let bytes : t.bytes.items ≡ front = b ∙ ap (λ bs. bs ++ front) none.bytes in
+    let bytes : t.bytes.items ≡ front = rw (b, none.bytes) in
     let notes : t.notes.items ≡ [] = n ∙ none.notes in
-    let pages : pages_of t ≡ [] = drop_all t.head t.bytes.items (omega (arith, h)) in
+    let pages : pages_of t ≡ [] = drop_all t.head t.bytes.items (omega arith) in
     record {
       whole =
-          record { head = omega (arith, h); notes = subst (λ ns. AreNotes (length (pages_of t)) ns) (sym notes) tt };
-      front = take_all t.head t.bytes.items (omega (arith, h)) ∙ bytes;
+          record { head = omega arith; notes = rw notes tt };
+      front = cc (take_all t.head t.bytes.items (omega (arith, h)));
       said = λ names. (λ i. fill_in names (notes i) (pages i));
     }
 

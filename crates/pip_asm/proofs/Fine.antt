@@ -33,10 +33,10 @@ clean_append (x ∷ a) b h k = grind (arith, clean_append a b, h, k)
 
 pub fine_join : (m n : ℕ) (a b : List ℕ) → Fine m a → Fine n b → Fine (m + n) (a ++ b)
 fine_join m n a b f g = let s = f.short in let t = g.short in let e = length-append a b in
-    record { clean = clean_append a b f.clean g.clean; short = omega (arith, s, t, e) }
+    record { clean = clean_append a b f.clean g.clean; short = omega arith }
 
 pub fine_more : (m n : ℕ) (a : List ℕ) → m ≤ n → Fine m a → Fine n a
-fine_more m n a h f = let s = f.short in record { clean = f.clean; short = omega (arith, s, h) }
+fine_more m n a h f = let s = f.short in record { clean = f.clean; short = omega arith }
 
 digits_clean : (bs : List ℕ) → all_ascii_digits bs ≡ true → is_clean bs ≡ true
 digits_clean [] a = refl
@@ -80,7 +80,7 @@ fine_reg (suc (suc (suc (suc (suc (suc (suc (suc (suc (suc (suc (suc (suc (suc z
 fine_reg (suc (suc (suc (suc (suc (suc (suc (suc (suc (suc (suc (suc (suc (suc (suc zero))))))))))))))) h =
     record { clean = refl; short = omega arith }
 fine_reg (suc (suc (suc (suc (suc (suc (suc (suc (suc (suc (suc (suc (suc (suc (suc (suc n)))))))))))))))) h =
-    absurd (omega (arith, h))
+    absurd (omega arith)
 
 pub fine_before : (a n : ℕ) (rest : List ℕ) → a < 16 → Fine n rest → Fine (4 + n) (before a rest)
 fine_before a n rest h f = let g = fine_join 1 n (32 ∷ []) rest (record { clean = refl; short = omega arith }) f in

@@ -20,11 +20,10 @@ use Rattle.pip_asm.proofs.Whole.{ArePages}
 -- one line
 pub first_step : (s t : AssemblyState) (n : ℕ) (l : List ℕ) (ls : List (List ℕ)) (st : Statement)
     → statement s.stage l ≡ Ok st → place_statement s st ≡ Ok t → first_pass s n (l ∷ ls) ≡ first_pass t (n + 1) ls
-first_step s t n l ls st e f = ap (λ r. at_line n (and_then r (place_statement s)) (λ t. first_pass t (n + 1) ls)) e
-    ∙ ap (λ r. at_line n r (λ t. first_pass t (n + 1) ls)) f
+first_step s t n l ls st e f = rw (e, f)
 
 fits : (s : AssemblyState) (k : ℕ) → s.size + k ≤ 1024 → grown s k ≡ Ok (record s { size = s.size + k })
-fits s k h = ap (λ b. cond b (Ok (record s { size = s.size + k })) (Err K.Size)) (within (s.size + k) 1024 h)
+fits s k h = rw (within (s.size + k) 1024 h)
   where
     within : (a b : ℕ) → a ≤ b → nat_le a b ≡ true
     within a b h = grind (arith, nat_tests, h)
@@ -49,9 +48,9 @@ module _ (n c least : ℕ) (plans : List Plan) where
       → (k : ℕ) × (first_pass (state InPage n c least plans seen at size) m (map word_said ws ++ ls)
       ≡ first_pass (state InPage n c least plans seen at (size + length ws)) k ls)
   first_words seen at size m [] ls a h = let e : size ≡ size + 0 = omega arith in
-      (m, ap (λ z. first_pass (state InPage n c least plans seen at z) m ls) e)
+      (m, cc)
   first_words seen at size m (w ∷ ws) ls a h =
-      let r = first_words seen at (size + 1) (m + 1) ws ls a.1 (omega (arith, h)) in
+      let r = first_words seen at (size + 1) (m + 1) ws ls a.1 (omega arith) in
       let e : size + 1 + length ws ≡ size + suc (length ws) = omega arith in (
         r.0,
         first_step (state InPage n c least plans seen at size) (state InPage n c least plans seen at (size + 1)) m
@@ -63,9 +62,7 @@ module _ (n c least : ℕ) (plans : List Plan) where
   begun : (g : Stage) (seen : List ℕ) (at size v : ℕ) → has_row n v ≡ true → is_seen v seen ≡ false → place_statement
       (state g n
       c least plans seen at size) (Begins v) ≡ Ok (state InPage n c least plans (seen ++ v ∷ []) (v * 4096) 0)
-  begun g seen at size v r s = ap (λ b. cond b (cond (is_seen v seen) (Err K.Twice)
-      (Ok (state InPage n c least plans (seen ++ v ∷ []) (v * 4096) 0))) (Err K.Range)) r
-      ∙ ap (λ b. cond b (Err K.Twice) (Ok (state InPage n c least plans (seen ++ v ∷ []) (v * 4096) 0))) s
+  begun g seen at size v r s = rw (r, s)
 
   pub record PagesPassed (g : Stage) (seen : List ℕ) (at size m k : ℕ) (ps : List Part) : Type 0 where
     pub stage : Stage
@@ -103,7 +100,7 @@ module _ (n c least : ℕ) (plans : List Plan) where
       ok.count in
       let r = first_words (seen ++ p.vpage ∷ []) (p.vpage * 4096) 0 (m + 1) (without_last_zeros p.words)
       (parts_lines ps)
-      (words_left (without_last_zeros p.words) _ (sym_words (sym t.whole) ok.words)) (omega (arith, l)) in
+      (words_left (without_last_zeros p.words) _ (sym_words (sym t.whole) ok.words)) (omega arith) in
       let q = first_pages InPage (seen ++ p.vpage ∷ []) (p.vpage * 4096) (0 + length (without_last_zeros p.words)) r.0
       k ps tt
       small h.1 in
@@ -119,11 +116,11 @@ module _ (n c least : ℕ) (plans : List Plan) where
             ps)
             (Begins p.vpage) (page_said g p.vpage o (small p.vpage ok.row)) (begun g seen at size p.vpage ok.row ok.new)
             ∙ r.1 ∙ q.passed;
-        count = omega (arith, d, e);
+        count = omega arith;
       }
     where
       shorter : (ts zs ws : List ℕ) → ts ++ zs ≡ ws → length ws ≡ 1024 → length ts ≤ 1024
-      shorter ts zs ws e c = let l = length-append ts zs in let k = ap length e in omega (arith, l, k, c)
+      shorter ts zs ws e c = omega (arith, length-append ts zs, ap length e)
 
       sym_words : {a b : List ℕ} → a ≡ b → AllWords a → AllWords b
-      sym_words e w = subst AllWords e w
+      sym_words e w = rw (← e) w

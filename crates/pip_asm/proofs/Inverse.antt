@@ -37,8 +37,8 @@ no_names t = None
 
 none_there : (n v : ℕ) → n ≤ 4096 → 2 ^ 20 ≤ v → has_row n v ≡ false
 none_there n v m h =
-    let d : v ≢ 0xfffff = omega (arith, h) in
-    sym (ap is_some (root-frame_none n (tables_of_root n) v refl d (inr (omega (arith, h, m)))))
+    let d : v ≢ 0xfffff = omega arith in
+    rw (← root-frame_none n (tables_of_root n) v refl d (inr (omega (arith, h, m))))
 
 pub small_row : (n v : ℕ) → n ≤ 4096 → has_row n v ≡ true → v < 2 ^ 20
 small_row n v m r = go (v < 2 ^ 20) (le_or v (2 ^ 20))
@@ -62,7 +62,7 @@ AllClean (l ∷ ls) = (is_clean l ≡ true) × AllClean ls
 
 lines_again : (ls : List (List ℕ)) → AllClean ls → lines_of (text_of_lines ls) ≡ ls
 lines_again [] h = refl
-lines_again (l ∷ ls) h = line_cut l (text_of_lines ls) h.0 ∙ ap (λ t. l ∷ t) (lines_again ls h.1)
+lines_again (l ∷ ls) h = rw (line_cut l (text_of_lines ls) h.0, lines_again ls h.1)
 
 clean_append : (a b : List (List ℕ)) → AllClean a → AllClean b → AllClean (a ++ b)
 clean_append [] b h k = k
@@ -73,7 +73,7 @@ words_clean [] h = tt
 words_clean (w ∷ ws) h = ((word_is w h.0).fine.clean, words_clean ws h.1)
 
 kept_words : {a b : List ℕ} → a ≡ b → AllWords a → AllWords b
-kept_words e w = subst AllWords e w
+kept_words e w = rw (← e) w
 
 pages_clean : (n : ℕ) (seen : List ℕ) (k : ℕ) (ps : List Part) → ArePages n seen k ps → AllClean (parts_lines ps)
 pages_clean n seen zero [] h = tt
@@ -120,20 +120,20 @@ pages_only n seen (suc k) [] h = absurd h
 pages_only n seen (suc k) (Head f ∷ ps) h = absurd h
 pages_only n seen (suc k) (Line p ∷ ps) h = absurd h
 pages_only n seen (suc k) (Holds p ∷ ps) h = let r = pages_only n (seen ++ p.vpage ∷ []) k ps h.1 in
-    (r.0, ap (λ t. p.vpage ∷ p.words ++ t) r.1)
+    (r.0, rw r.1)
 
 parts_split : (n m least k : ℕ) (ps : List Part) → AreParts n m least k ps
     → line_words ps ++ page_words ps ≡ parts_words ps
-parts_split n m least zero ps h = let r = pages_only n [] m ps h in ap (λ t. t ++ page_words ps) r.0 ∙ r.1
+parts_split n m least zero ps h = let r = pages_only n [] m ps h in rw (r.0, r.1)
 parts_split n m least (suc k) [] h = absurd h
 parts_split n m least (suc k) (Head f ∷ ps) h = absurd h
 parts_split n m least (suc k) (Line p ∷ ps) h =
-    ap (λ t. p.line ∷ p.first ∷ p.period ∷ t) (parts_split n m (p.line + 1) k ps h.1)
+    rw (parts_split n m (p.line + 1) k ps h.1)
 parts_split n m least (suc k) (Holds p ∷ ps) h = absurd h
 
 plan_words_more : (ps : List Plan) (p : Plan) → plan_words (ps ++ p ∷ []) ≡ plan_words ps ++ plan_words_of p
 plan_words_more [] p = refl
-plan_words_more (q ∷ ps) p = ap (λ r. q.line ∷ q.first ∷ q.period ∷ r) (plan_words_more ps p)
+plan_words_more (q ∷ ps) p = rw (plan_words_more ps p)
 
 record PartsPassed (n m c least k : ℕ) (plans : List Plan) (num : ℕ) (ps : List Part) : Type 0 where
   stage : Stage
@@ -162,9 +162,9 @@ first_parts n m c least zero plans num ps b h =
       at' = q.at';
       size' = q.size';
       passed = q.passed;
-      words = sym (ap (λ t. plan_words plans ++ t) r.0 ∙ append-nil (plan_words plans));
+      words = cc (append-nil (plan_words plans), r.0);
       plan_count = omega arith;
-      page_count = omega (arith, d);
+      page_count = omega arith;
     }
 first_parts n m c least (suc k) plans num [] b h = absurd h
 first_parts n m c least (suc k) plans num (Head f ∷ ps) b h = absurd h
@@ -181,11 +181,10 @@ first_parts n m c least (suc k) plans num (Line p ∷ ps) b h =
       size' = q.size';
       passed = first_step (state Header n c least plans [] 0 0) (state Header n c (p.line + 1) (plans ++ p ∷ []) [] 0 0)
           num (plan_text p) (parts_lines ps) (Plans p) (plan_said p h.0.line h.0.first h.0.period)
-          (ap (λ t. cond t (Ok (state Header n c (p.line + 1) (plans ++ p ∷ []) [] 0 0)) (Err K.Range)) h.0.above)
+          (rw h.0.above)
           ∙ q.passed;
-      words = q.words ∙ ap (λ t. t ++ line_words ps) (plan_words_more plans p)
-          ∙ append_assoc (plan_words plans) (plan_words_of p) (line_words ps);
-      plan_count = omega (arith, d, l);
+      words = rw (q.words, plan_words_more plans p, append_assoc (plan_words plans) (plan_words_of p) (line_words ps));
+      plan_count = omega arith;
       page_count = q.page_count;
     }
 first_parts n m c least (suc k) plans num (Holds p ∷ ps) b h = absurd h
@@ -194,7 +193,7 @@ second_parts : (n m least k num : ℕ) (ps : List Part) → n ≤ 4096 → ArePa
     → second_pass no_names Header 0 0 num (parts_lines ps) ≡ Ok (page_words ps)
 second_parts n m least zero num ps b h =
     let r = pages_only n [] m ps h in
-    second_pages no_names n Header [] 0 0 num m ps tt (λ v i. small_row n v b i) h ∙ ap (λ w. Ok w) (sym r.1)
+    rw (second_pages no_names n Header [] 0 0 num m ps tt (λ v i. small_row n v b i) h, ← r.1)
 second_parts n m least (suc k) num [] b h = absurd h
 second_parts n m least (suc k) num (Head f ∷ ps) b h = absurd h
 second_parts n m least (suc k) num (Line p ∷ ps) b h =
@@ -250,12 +249,12 @@ again (Head f ∷ ps) h =
         → length seen ≡ p → plan_words plans ≡ line_words ps → line_words ps ++ page_words ps ≡ parts_words ps
         → (n ∷ c ∷ length plans ∷ length seen ∷ plan_words plans) ++ page_words ps ≡ n ∷ c ∷ l ∷ p ∷ parts_words ps
     head_again n c plans seen l p ps e f g k =
-        let e' : length plans ≡ l = omega (arith, e) in
+        let e' : length plans ≡ l = omega arith in
         (λ i. n ∷ c ∷ e' i ∷ f i ∷ (g i ++ page_words ps)) ∙ ap (λ t. n ∷ c ∷ l ∷ p ∷ t) k
 
 -- for every image
 pub assembled_again : (bs : List ℕ) → AllBytes bs → (image_parts bs).fault ≡ None → assembly (dis_text bs) ≡ Ok bs
-assembled_again bs a h = let w = image_whole bs a h in again (image_parts bs).parts w.parts ∙ ap (λ b. Ok b) w.spelled
+assembled_again bs a h = let w = image_whole bs a h in rw (again (image_parts bs).parts w.parts, w.spelled)
 
 all_bytes : (bs : List ℕ) → AreBytes bs → AllBytes bs
 all_bytes [] h = tt

@@ -36,7 +36,7 @@ record Stays (g : Gives) (s : AssemblyState) : Type 0 where
 
 meet : (a g : Gives) (s t : AssemblyState) → Stays a s → ◌≡◌ {A = Result AssemblyState AsmKind} (Ok s) (Ok t)
     → ◌≡◌ {A = Result Gives AsmKind} (Ok a) (Ok g) → Stays g t
-meet a g s t h e f = subst (λ g. Stays g t) (ok_is a g f) (subst (Stays a) (ok_is s t e) h)
+meet a g s t h e f = rw (← ok_is a g f) (subst (Stays a) (ok_is s t e) h)
 
 chosen : {A E : Type 0} (b : Bool) (r : Result A E) (k : E) (t : A) → cond b r (Err k) ≡ Ok t → r ≡ Ok t
 chosen true r k t e = e
@@ -79,11 +79,12 @@ pub line_keeps : (s t : Passed) (n : ℕ) (l : List ℕ) (st : Statement) → st
     t.written
     → KeepsBytes s n l t
 line_keeps s t n l st e f w names ls =
-    ap (λ r. and_then (said names s.written)
-    (λ bs. prefix bs (at_line n (and_then r (given names s.stage s.at s.size)) tail))) e
-    ∙ go (given names s.stage s.at s.size st) (λ g q. stays names (state_of s) (state_of t) st g f q)
-    (said names s.written)
-    ∙ sym (ap (λ r. and_then r after) (w names))
+    rw (
+      e,
+      go (given names s.stage s.at s.size st) (λ g q. stays names (state_of s) (state_of t) st g f q)
+          (said names s.written),
+      ← w names,
+    )
   where
     tail : Gives → Result (List ℕ) LineFault
     tail g = words_before g.words (second_pass names g.stage g.at g.size (n + 1) ls)
@@ -103,22 +104,22 @@ line_keeps s t n l st e f w names ls =
 
 -- a line that gives no words
 pub says_nothing : (s t : Written) → t ≡ s → SaysMore s (words []) t
-says_nothing s t e names = ap (said names) e ∙ go (said names s)
+says_nothing s t e names = rw e (go (said names s))
   where
     go : (r : Result (List ℕ) LineFault) → r ≡ and_then r (λ bs. Ok (bs ++ []))
-    go (Ok bs) = ap (λ t. Ok t) (sym (append-nil bs))
+    go (Ok bs) = cc (append-nil bs)
     go (Err e) = refl
 
 -- the words of one piece after those of another
 pub says_both : (s t u : Written) (a b : List ℕ) → SaysMore s (words a) t → SaysMore t (words b) u → SaysMore s
     (words (a ++ b)) u
 says_both s t u a b f g names =
-    g names ∙ ap (λ r. and_then r (λ bs. Ok (bs ++ bytes_of b))) (f names) ∙ go (said names s)
+    rw (g names, f names, go (said names s))
   where
     go : (r : Result (List ℕ) LineFault) → and_then (and_then r (λ bs. Ok (bs ++ bytes_of a)))
         (λ bs. Ok (bs ++ bytes_of b))
         ≡ and_then r (λ bs. Ok (bs ++ bytes_of (a ++ b)))
-    go (Ok bs) = ap (λ t. Ok t) (append_assoc bs (bytes_of a) (bytes_of b) ∙ ap (λ t. bs ++ t) (sym (bytes_append a b)))
+    go (Ok bs) = rw (append_assoc bs (bytes_of a) (bytes_of b), ← bytes_append a b)
     go (Err e) = refl
 
 -- a cell gives the word that it holds
@@ -140,16 +141,16 @@ said_none names s e = (λ i. fill_in names (e.notes i) (drop s.head (e.bytes i))
 pub begun_says : (g : Stage) (size : ℕ) (front : List ℕ) (s t : Written) → (g ≡ InPage → ⊥) → StartsWith g front s
     → ((names : List ℕ → Option ℕ) → said names t ≡ Ok []) → SaysMore s (words (padding g size)) t
 begun_says Start size front s t n e h names =
-    h names ∙ sym (ap (λ r. and_then r (λ bs. Ok (bs ++ []))) (said_none names s e))
+    cc (h names, said_none names s e)
 begun_says Framed size front s t n e h names =
-    h names ∙ sym (ap (λ r. and_then r (λ bs. Ok (bs ++ []))) (said_none names s e))
+    cc (h names, said_none names s e)
 begun_says Header size front s t n e h names =
-    h names ∙ sym (ap (λ r. and_then r (λ bs. Ok (bs ++ []))) (said_none names s e))
+    cc (h names, said_none names s e)
 begun_says InPage size front s t n e h names = absurd (n refl)
 
 pub head_long : (w : Written) (f c : ℕ) (plans : List Plan) → take w.head w.bytes.items ≡ first_head f c plans
     → 24 ≤ w.head
-head_long w f c plans e = let l = length-take w.head w.bytes.items in let k = ap length e in omega (arith, l, k)
+head_long w f c plans e = omega (arith, length-take w.head w.bytes.items, ap length e)
 
 -- ---- the whole text
 
@@ -171,15 +172,9 @@ pub finished : {T : Type 0} (items : T → List ℕ) (text : List ℕ) (p : Pass
     → MatchResult r (λ image. and_then (bytes_ended (address_of_name p.names) p) (λ bs. Ok (head_of (state_of p) ++ bs))
     ≡ Ok (items image)) (Refused (bytes_ended (address_of_name p.names) p))
     → MatchResult r (λ image. assembly text ≡ Ok (items image)) (Refused (assembly text))
-finished items text p (Ok image) j h = j ∙ h
-finished items text p (Err e) j h = subst (λ r. Refused r e) (sym j)
-    (refused_first (bytes_ended (address_of_name p.names) p) (λ bs. Ok (head_of (state_of p) ++ bs)) e h)
-
--- no line was taken
-pub first_said : (p : Passed) → state_of p ≡ first_state → IsEmpty p.written → (names : List ℕ → Option ℕ)
-    (ls : List (List ℕ)) → bytes_said names p 1 ls ≡ prefix [] (second_pass names Start 0 0 1 ls)
-first_said p h e names ls = λ i.
-    and_then (said_none names p.written e i) (λ bs. prefix bs (second_pass names (h i).stage (h i).at (h i).size 1 ls))
+finished items text p (Ok image) j h = cc
+finished items text p (Err e) j h = rw j (refused_first (bytes_ended (address_of_name p.names) p)
+    (λ bs. Ok (head_of (state_of p) ++ bs)) e h)
 
 -- the number of pages is put into the head
 pub ended : {T : Type 0} (items : T → List ℕ) (p q : Passed) (n : ℕ) (r : Result T AsmError) → q ≡ record p {
@@ -195,7 +190,7 @@ pub ended : {T : Type 0} (items : T → List ℕ) (p q : Passed) (n : ℕ) (r : 
 ended {T} items p q n r e front says count h = go r h
   where
     same : said (address_of_name q.names) q.written ≡ bytes_ended (address_of_name p.names) p
-    same = ap (λ x. said (address_of_name x.names) q.written) e ∙ says (address_of_name p.names)
+    same = rw (e, says (address_of_name p.names))
 
     head : put (take q.written.head q.written.bytes.items) 20 n ≡ head_of (state_of p)
     head = (λ i. put (front i) 20 ((count ∙ ap (λ x. length x.pages.items) e) i))
@@ -207,4 +202,4 @@ ended {T} items p q n r e front says count h = go r h
         (λ bs. Ok (head_of (state_of p) ++ bs))
         ≡ Ok (items image)) (Refused (bytes_ended (address_of_name p.names) p))
     go (Ok image) h = (λ i. and_then (sym same i) (λ rest. Ok (sym head i ++ rest))) ∙ h
-    go (Err k) h = subst (λ r. Refused r k) same h
+    go (Err k) h = rw (← same) h

@@ -21,8 +21,8 @@ none_marked old ms n o e h =
     let k : ms ≡ replicate n false = h ∙ ap (λ t. take n t ++ replicate (n - length t) false) o
     ∙ ap (λ t. t ++ replicate (n - 0) false) (take-nil n) ∙ ap (λ k. replicate k false) (omega arith) in
     record {
-      count = ap length k ∙ length-replicate n false ∙ e;
-      tells = λ v near. ap (λ t. slice_index_or t (v % 8192) false) k ∙ blank n (v % 8192);
+      count = rw (k, length-replicate n false, e);
+      tells = λ v near. rw (k, blank n (v % 8192));
     }
   where
     take-nil : (n : ℕ) → take {A = Bool} n [] ≡ []
@@ -34,10 +34,10 @@ last = refl
 
 -- pages with one mark are one page
 one_place : (u v : ℕ) → IsNear u → IsNear v → u % 8192 ≡ v % 8192 → u ≡ v
-one_place u v (inl a) (inl b) e = omega (arith, a, b, e)
-one_place u v (inl a) (inr b) e = let f = ap (λ n. n % 8192) b ∙ last in omega (arith, a, f, e)
-one_place u v (inr a) (inl b) e = let f = ap (λ n. n % 8192) a ∙ last in omega (arith, b, f, e)
-one_place u v (inr a) (inr b) e = a ∙ sym b
+one_place u v (inl a) (inl b) e = omega arith
+one_place u v (inl a) (inr b) e = omega arith
+one_place u v (inr a) (inl b) e = omega arith
+one_place u v (inr a) (inr b) e = cc
 
 or_true : (b : Bool) → (b || true) ≡ true
 or_true true = refl
@@ -55,16 +55,14 @@ marked ms p seen near h = record {
 }
   where
     more : (v : ℕ) (b : Bool) → (p == v) ≡ b → is_seen v (seen ++ p ∷ []) ≡ (is_seen v seen || b)
-    more v b e = list_any-append (λ x. x == v) seen (p ∷ []) ∙ ap (λ t. is_seen v seen || (t || false)) e
-        ∙ ap (λ t. is_seen v seen || t) (or_false b)
+    more v b e = rw (list_any-append (λ x. x == v) seen (p ∷ []), e, or_false b)
 
     tells : (v : ℕ) → IsNear v → (((p == v) ≡ true) × (p ≡ v)) ⊎ (((p == v) ≡ false) × (p ≢ v))
         → slice_index_or (set ms (p % 8192) true) (v % 8192) false ≡ is_seen v (seen ++ p ∷ [])
     tells v n (inl e) =
         let c = h.count in
-        let lt : p % 8192 < length ms = omega (arith, c) in
-        ap (λ t. slice_index_or (set ms (p % 8192) true) (t % 8192) false) (sym e.1)
-        ∙ get_or-set_same ms (p % 8192) true false lt ∙ sym (more v true e.0 ∙ or_true (is_seen v seen))
+        let lt : p % 8192 < length ms = omega arith in
+        cc (e.1, get_or-set_same ms (p % 8192) true false lt, or_true (is_seen v seen), more v true e.0)
     tells v n (inr e) =
         let ne : v % 8192 ≢ p % 8192 = λ q. e.1 (sym (one_place v p n near q)) in
         get_or-set_other ms (p % 8192) (v % 8192) true false ne ∙ h.tells v n
@@ -81,5 +79,5 @@ near n v m r = go (eqb_tells v 0xfffff) (below v 8191)
     go (inl e) b = inr e.1
     go (inr e) (inl b) = inl b
     go (inr e) (inr b) =
-        let f = ap is_some (root-frame_none n (tables_of_root n) v refl e.1 (inr (omega (arith, m, b)))) in
+        let f = ap is_some (root-frame_none n (tables_of_root n) v refl e.1 (inr (omega arith))) in
         absurd (grind (arith, f, r))

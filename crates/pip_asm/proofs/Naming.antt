@@ -62,8 +62,8 @@ found-new xs k x mark a t h is i (suc n) low high none =
       | inr ne ↦ rw (
         get-set_other xs k i x ne,
         here,
-        found-new xs k x mark a t h is (i + 1) n (omega (arith, low, ne))
-            (omega (arith, high)) later,
+        found-new xs k x mark a t h is (i + 1) n (omega arith)
+            (omega arith) later,
       )
     ]
 
@@ -98,7 +98,7 @@ free-here xs k free i (suc n) low high = elim (cases_eq i k) [
 pub free-none : (mark : ℕ) (t : List ℕ) (o : Option NameSlot) → mark ≢ 0 → is_free o ≡ true → address_at mark t o ≡ None
 free-none mark t None ne e = refl
 free-none mark t (Some s) ne e =
-    rw (ne_eqb s.mark mark (λ q. ne (sym q ∙ eqb-true s.mark 0 e)))
+    rw (ne_eqb s.mark mark (λ q. ne (cc (eqb-true s.mark 0 e))))
 
 -- another name isn't at a place
 pub other-none : (mark m a : ℕ) (name t : List ℕ) → bytes_eq name t ≡ false → (s : NameSlot) → s.name.now ≡ name
@@ -190,11 +190,6 @@ pub table_found : (n : Addresses) (t : List ℕ) (xs ys : List NameSlot) (hash m
     → hash ≡ hash_on n.seed t → mark ≡ mark_of hash → xs ≡ n.slots.items → home ≡ home_of xs hash → ys ≡ n.slots.items
     → r ≡ found_in ys mark t home 8 → r ≡ in_table n t
 table_found n t xs ys hash mark home r h m x o y e = cc
-
--- and a look for a free place
-pub room_found : (n : Addresses) (t : List ℕ) (xs ys : List NameSlot) (hash home : ℕ) → hash ≡ hash_on n.seed t
-    → xs ≡ n.slots.items → home ≡ home_of xs hash → ys ≡ n.slots.items → has_free ys home 8 ≡ has_room n t
-room_found n t xs ys hash home h x o y = cc
 
 -- no name has an address in a table of free places and an empty map
 pub none_named : (n : Addresses) (size : ℕ) (s : NameSlot) → n.slots.items ≡ replicate size s → s.mark ≡ 0

@@ -62,23 +62,24 @@ page_back n seen at bs x a h =
     h in
     let long = not_less (length bs) 4100 t.3 in
     let l = length-drop 4 bs in
-    let f = words_front 1024 (drop 4 bs) (omega (arith, long, l)) (bytes_drop 4 bs a) in
-    subst (PageBack n seen bs) t.4 (record {
+    let f = words_front 1024 (drop 4 bs) (omega arith) (bytes_drop 4 bs a) in
+    rw (← t.4) (record {
       ok = record {
         row = t.2;
         new = t.1;
         count = f.count;
         words = f.words;
-        small = word_small bs (omega (arith, long)) a;
+        small =
+            word_small bs (omega (arith, long)) a;
       };
-      front = record {
-        spelled = append_assoc (little_bytes 4 (word_of_bytes bs)) (bytes_of (words_in 1024 (drop 4 bs))) (drop 4100 bs)
-            ∙ ap (λ r. little_bytes 4 (word_of_bytes bs)
-            ++ (bytes_of (words_in 1024 (drop 4 bs)) ++ r)) (sym (drop-drop 4096 4 bs))
-            ∙ ap (λ r. little_bytes 4 (word_of_bytes bs) ++ r) f.bytes
-            ∙ word_front bs (omega (arith, long)) a;
-        bytes = bytes_drop 4100 bs a;
-      };
+      front =
+          record {
+            spelled = append_assoc (little_bytes 4 (word_of_bytes bs)) (bytes_of (words_in 1024 (drop 4 bs)))
+                (drop 4100 bs) ∙ ap (λ r. little_bytes 4 (word_of_bytes bs) ++
+                (bytes_of (words_in 1024 (drop 4 bs)) ++ r)) (sym (drop-drop 4096 4 bs)) ∙ ap
+                (λ r. little_bytes 4 (word_of_bytes bs) ++ r) f.bytes ∙ word_front bs (omega (arith, long)) a;
+            bytes = bytes_drop 4100 bs a;
+          };
     })
 
 abbrev pub plan_words_of : Plan → List ℕ
@@ -104,8 +105,7 @@ three_words bs h a =
     let f = words_front 3 bs h a in
     let e : drop 4 (drop 4 bs) ≡ drop 8 bs = drop-drop 4 4 bs in
     record {
-      spelled = ap (λ r. bytes_of (word_of_bytes bs ∷ word_of_bytes (drop 4 bs) ∷ word_of_bytes r ∷ [])
-          ++ drop 12 bs) (sym e) ∙ f.bytes;
+      spelled = rw (← e, f.bytes);
       bytes = bytes_drop 12 bs a;
     }
 
@@ -118,14 +118,18 @@ plan_back at least bs x a h =
     let long = not_less (length bs) 12 t.0 in
     let l = length-drop 4 bs in
     let m = length-drop 8 bs in
-    subst (PlanBack least bs) t.2 (record {
+    rw (← t.2) (record {
       ok = record {
         above = both_left _ _ t.1;
-        line = less _ _ (both_right (nat_le least (word_of_bytes bs)) _ t.1);
-        first = word_small (drop 4 bs) (omega (arith, long, l)) (bytes_drop 4 bs a);
-        period = word_small (drop 8 bs) (omega (arith, long, m)) (bytes_drop 8 bs a);
+        line =
+            less _ _ (both_right (nat_le least (word_of_bytes bs)) _ t.1);
+        first =
+            word_small (drop 4 bs) (omega (arith, long, l)) (bytes_drop 4 bs a);
+        period =
+            word_small (drop 8 bs) (omega (arith, long, m)) (bytes_drop 8 bs a);
       };
-      front = three_words bs long a;
+      front =
+          three_words bs long a;
     })
 
 -- ---- the fields
@@ -148,12 +152,13 @@ field_back at good e bs x a h = go (nat_lt (length bs) 4) refl h
     go false l h =
         let t = field_tests false (good (word_of_bytes bs)) e e (word_of_bytes bs, drop 4 bs) x h in
         let long = not_less (length bs) 4 l in
-        subst (FieldBack good bs) t.2 (record {
+        rw (← t.2) (record {
           ok = t.1;
           front = record {
-            spelled = append_assoc (little_bytes 4
-                (word_of_bytes bs)) [] (drop 4 bs) ∙ word_front bs long a;
-            bytes = bytes_drop 4 bs a;
+            spelled =
+                append_assoc (little_bytes 4 (word_of_bytes bs)) [] (drop 4 bs) ∙ word_front bs long a;
+            bytes =
+                bytes_drop 4 bs a;
           };
         })
 
@@ -166,9 +171,8 @@ magic_back : (bs x : List ℕ) → AllBytes bs → magic_of bs ≡ Ok x → (mag
 magic_back bs x a h =
     let t = magic_tests (nat_lt (length bs) 8) (bytes_eq (take 8 bs) magic) (bytes_eq (take 8 bs) old_magic)
     (F.Short (length bs)) (F.OldVersion 0) (F.Magic 0) (drop 8 bs) x h in (
-      ap (λ f. f ++ x) (sym ((bytes_eq-Decides (take 8 bs) magic).0 t.1)) ∙ ap (λ r. take 8 bs ++ r) (sym t.2)
-          ∙ halves 8 bs,
-      subst AllBytes t.2 (bytes_drop 8 bs a),
+      cc ((bytes_eq-Decides (take 8 bs) magic).0 t.1, t.2, halves 8 bs),
+      rw (← t.2) (bytes_drop 8 bs a),
     )
   where
     magic_tests : (l g o : Bool) (a b c : ImageError) (y x : List ℕ)
@@ -178,7 +182,7 @@ magic_back bs x a h =
     halves : (k : ℕ) (bs : List ℕ) → take k bs ++ drop k bs ≡ bs
     halves zero bs = refl
     halves (suc k) [] = refl
-    halves (suc k) (b ∷ bs) = ap (λ r. b ∷ r) (halves k bs)
+    halves (suc k) (b ∷ bs) = rw (halves k bs)
 
 pub record FieldsOk (f : Fields) : Type 0 where
   pub frames : (nat_le 16 f.frames && nat_le f.frames 4096) ≡ true
@@ -195,8 +199,7 @@ pub record FieldsBack (bs : List ℕ) (x : Fields × List ℕ) : Type 0 where
 four_begin : (b0 b1 b2 b3 b4 : List ℕ) (f c l p : ℕ) → Begins b0 (f ∷ []) b1 → Begins b1 (c ∷ []) b2
     → Begins b2 (l ∷ []) b3 → Begins b3 (p ∷ []) b4 → bytes_of (f ∷ c ∷ l ∷ p ∷ []) ++ b4 ≡ b0
 four_begin b0 b1 b2 b3 b4 f c l p h i j k =
-    ap (λ r. little_bytes 4 f ++ (little_bytes 4 c ++ (little_bytes 4 l ++ r))) k.spelled ∙ ap (λ r. little_bytes 4 f
-    ++ (little_bytes 4 c ++ r)) j.spelled ∙ ap (λ r. little_bytes 4 f ++ r) i.spelled ∙ h.spelled
+    rw (k.spelled, j.spelled, i.spelled, h.spelled)
 
 abbrev accepted : Fields × List ℕ → Result (Fields × List ℕ) ImageError
 accepted x = Ok x
@@ -226,9 +229,10 @@ fields_back bs x a h =
     let p = field_back 20 (λ n. nat_le n 4096) (F.Page 20) r3.1 r4 l.front.bytes e4 in
     let y : Fields × List ℕ = (record { frames = r1.0; cpus = r2.0; plans = r3.0; pages = r4.0 }, r4.1) in
     let e : y ≡ x = ok_same y x h4 in
-    subst (FieldsBack bs) e (record {
+    rw (← e) (record {
       ok = record { frames = f.ok; cpus = c.ok };
-      spelled = ap (λ r. magic
-          ++ r) (four_begin r0 r1.1 r2.1 r3.1 r4.1 r1.0 r2.0 r3.0 r4.0 f.front c.front l.front p.front) ∙ m.0;
+      spelled =
+          ap (λ r. magic ++ r) (four_begin r0 r1.1 r2.1 r3.1 r4.1 r1.0 r2.0 r3.0 r4.0 f.front c.front l.front p.front) ∙
+          m.0;
       bytes = p.front.bytes;
     })

@@ -22,10 +22,10 @@ too_long : (n : ℕ) → n ≤ 120 → nat_lt 120 n ≡ false
 too_long n h = grind (arith, nat_tests, h)
 
 neither : {A : Type 0} (l r : Bool) (x y z : A) → l ≡ false → r ≡ false → cond l x (cond r y z) ≡ z
-neither l r x y z h k = ap (λ t. cond t x (cond r y z)) h ∙ ap (λ t. cond t y z) k
+neither l r x y z h k = rw (h, k)
 
 truly : {A : Type 0} (b : Bool) (x y : A) → b ≡ true → cond b x y ≡ x
-truly b x y h = ap (λ t. cond t x y) h
+truly b x y h = rw h
 
 pub said : (g : Stage) (text : List ℕ) → Starts text → length text ≤ 120
     → statement g text ≡ assembly_phrase g (words_of text)
@@ -109,8 +109,7 @@ page_fine v = fine_more 16 120 _ (omega arith) (fine_join 6 10 (codes ".page ")
 begins : (v : ℕ) → one_number (λ a. a % 4096 == 0) (λ a. Begins (a / 4096)) (Some (v * 4096)) ≡ Ok (Begins v)
 begins v =
     let e : v * 4096 / 4096 ≡ v = omega arith in
-    ranged (λ a. a % 4096 == 0) (λ a. Begins (a / 4096)) (v * 4096) (grind (arith, nat_tests))
-    ∙ ap (λ u. Ok (Begins u)) e
+    rw (ranged (λ a. a % 4096 == 0) (λ a. Begins (a / 4096)) (v * 4096) (grind (arith, nat_tests)), e)
 
 pub page_said : (g : Stage) (v : ℕ) → IsOpen g → v < 2 ^ 20 → statement g (page_text v) ≡ Ok (Begins v)
 page_said Start v o h = absurd o
@@ -132,9 +131,7 @@ plain_fine w = fine_more 16 120 _ (omega arith)
 
 plain_said : (w : ℕ) → w < 2 ^ 32 → statement InPage (codes ".word " ++ word_text w) ≡ Ok (Holds (plain_cell w))
 plain_said w h =
-    said InPage (codes ".word " ++ word_text w) refl (plain_fine w).short
-    ∙ ap (λ ws. assembly_phrase InPage (codes ".word" ∷ ws)) (text_word w)
-    ∙ ap (λ o. held (word_operand (word_text w) o)) (number_text w h)
+    rw (said InPage (codes ".word " ++ word_text w) refl (plain_fine w).short, text_word w, number_text w h)
 
 pub record WordIs (w : ℕ) (text : List ℕ) : Type 0 where
   pub says : statement InPage text ≡ Ok (Holds (plain_cell w))

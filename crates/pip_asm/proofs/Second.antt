@@ -19,13 +19,11 @@ pub second_step : (names : List ℕ → Option ℕ) (g : Stage) (at size n : ℕ
     (st : Statement) (t : Gives) → statement g l ≡ Ok st → given names g at size st ≡ Ok t
     → second_pass names g at size n (l ∷ ls) ≡ words_before t.words (second_pass names t.stage t.at t.size (n + 1) ls)
 second_step names g at size n l ls st t e f =
-    ap (λ r. at_line n (and_then r (given names g at size))
-    (λ t. words_before t.words (second_pass names t.stage t.at t.size (n + 1) ls))) e
-    ∙ ap (λ r. at_line n r (λ t. words_before t.words (second_pass names t.stage t.at t.size (n + 1) ls))) f
+    rw (e, f)
 
 pub after_both : (a b : List ℕ) (r : Result (List ℕ) LineFault)
     → words_before a (words_before b r) ≡ words_before (a ++ b) r
-after_both a b (Ok c) = ap (λ w. Ok w) (sym (append_assoc a b c))
+after_both a b (Ok c) = rw (← append_assoc a b c)
 after_both a b (Err e) = refl
 
 pub after_none : (r : Result (List ℕ) LineFault) → words_before [] r ≡ r
@@ -39,8 +37,7 @@ module _ (names : List ℕ → Option ℕ) where
   second_words at size m [] ls a =
       let e : size ≡ size + 0 = omega arith in (
         m,
-        ap (λ z. second_pass names InPage at z m ls) e
-            ∙ sym (after_none (second_pass names InPage at (size + 0) m ls)),
+        cc (after_none (second_pass names InPage at (size + 0) m ls)),
       )
   second_words at size m (w ∷ ws) ls a =
       let r = second_words at (size + 1) (m + 1) ws ls a.1 in
@@ -59,15 +56,13 @@ module _ (names : List ℕ → Option ℕ) where
       let l = length-append ts (replicate t.zeros 0) in
       let z = length-replicate {A = ℕ} t.zeros 0 in
       let w = ap length t.whole in
-      let e : 1024 - (0 + length ts) ≡ t.zeros = omega (arith, l, z, w, c) in
-      append_assoc front (v ∷ []) _
-      ∙ ap (λ k. front ++ (v ∷ (ts ++ (replicate k 0 ++ rest)))) e
-      ∙ ap (λ r. front ++ (v ∷ r)) (sym (append_assoc ts (replicate t.zeros 0) rest) ∙ ap (λ r. r ++ rest) t.whole)
+      let e : 1024 - (0 + length ts) ≡ t.zeros = omega arith in
+      rw (append_assoc front (v ∷ []) _, e, ← append_assoc ts (replicate t.zeros 0) rest, t.whole)
 
   pub second_pages : (n : ℕ) (g : Stage) (seen : List ℕ) (at size m k : ℕ) (ps : List Part) → IsOpen g
       → ((v : ℕ) → has_row n v ≡ true → v < 2 ^ 20) → ArePages n seen k ps
       → second_pass names g at size m (parts_lines ps) ≡ Ok (padding g size ++ parts_words ps)
-  second_pages n g seen at size m zero [] o small h = ap (λ w. Ok w) (sym (append-nil (padding g size)))
+  second_pages n g seen at size m zero [] o small h = cc (append-nil (padding g size))
   second_pages n g seen at size m zero (p ∷ ps) o small h = absurd h
   second_pages n g seen at size m (suc k) [] o small h = absurd h
   second_pages n g seen at size m (suc k) (Head f ∷ ps) o small h = absurd h
@@ -80,17 +75,15 @@ module _ (names : List ℕ → Option ℕ) where
       let q = second_pages n InPage (seen ++ p.vpage ∷ []) (p.vpage * 4096) (0 + length (without_last_zeros p.words))
       r.0 k ps tt
       small h.1 in
-      second_step names g at size m (page_text p.vpage) (map word_said (without_last_zeros p.words) ++ parts_lines ps)
-      (Begins p.vpage) (record {
-        words = padding g size ++ p.vpage ∷ [];
-        stage = InPage;
-        at = p.vpage * 4096;
-        size = 0;
-      }) (page_said g p.vpage o (small p.vpage ok.row)) refl
-      ∙ ap (λ s. words_before (padding g size ++ p.vpage ∷ []) s)
-      (r.1 ∙ ap (λ s. words_before (without_last_zeros p.words) s) q)
-      ∙ ap (λ w. Ok w) (padded (without_last_zeros p.words) p.words t (padding g size) (parts_words ps) p.vpage
-      ok.count)
+      rw (
+        second_step names g at size m (page_text p.vpage)
+            (map word_said (without_last_zeros p.words) ++ parts_lines ps) (Begins p.vpage)
+            (record { words = padding g size ++ p.vpage ∷ []; stage = InPage; at = p.vpage * 4096; size = 0 })
+            (page_said g p.vpage o (small p.vpage ok.row)) refl,
+        r.1,
+        q,
+        padded (without_last_zeros p.words) p.words t (padding g size) (parts_words ps) p.vpage ok.count,
+      )
     where
       sym_words : {a b : List ℕ} → a ≡ b → AllWords a → AllWords b
-      sym_words e w = subst AllWords e w
+      sym_words e w = rw (← e) w

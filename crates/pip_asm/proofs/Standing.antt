@@ -13,8 +13,8 @@ use Rattle.pip_model.specs.declared.assembly.AsmKind.{AsmKind}
 use Rattle.pip_model.specs.declared.assembly.AsmKind.TheVariants as K
 use Rattle.pip_model.specs.declared.assembly.Stage.{Stage}
 use Rattle.pip_model.specs.declared.assembly.Stage.TheVariants.{Start, Framed, Header, InPage}
-use Rattle.pip_line.specs.Seen.{statement_of}
-use Rattle.pip_line.specs.declared.cell.Statement.{Statement as OwnStatement}
+use Rattle.pip_asm_line.specs.Seen.{statement_of}
+use Rattle.pip_asm_line.specs.declared.cell.Statement.{Statement as OwnStatement}
 use Rattle.pip_asm.specs.Stages.{StandsAt}
 
 -- the stage is the one at which such a line stands
@@ -112,4 +112,4 @@ all g (b ∷ bs) =
 -- a line of this stage says what the program read
 pub stands : (g : Stage) (said st : OwnStatement) → StandsAt g (statement_of said) → said ≡ st
     → Stands g (statement_of st)
-stands g said st (l, e) is = subst (λ s. Stands g (statement_of s)) is (subst (λ r. IfOk r (Stands g)) e (all g l))
+stands g said st (l, e) is = rw (← is) (subst (λ r. IfOk r (Stands g)) e (all g l))

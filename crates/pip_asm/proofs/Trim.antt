@@ -11,13 +11,13 @@ pub record Trims (ws ts : List ℕ) : Type 0 where
 first_by : (w : ℕ) (ws : List ℕ) (b : Bool) → (w == 0) ≡ b → Trims ws [] → Trims (w ∷ ws) (cond b [] (w ∷ []))
 first_by w ws true e t = record {
   zeros = suc t.zeros;
-  whole = ap (λ v. v ∷ replicate t.zeros 0) (sym (eqb-true w 0 e)) ∙ ap (λ vs. w ∷ vs) t.whole;
+  whole = cc (eqb-true w 0 e, t.whole);
 }
-first_by w ws false e t = record { zeros = t.zeros; whole = ap (λ vs. w ∷ vs) t.whole }
+first_by w ws false e t = record { zeros = t.zeros; whole = rw t.whole }
 
 on : (w : ℕ) (ws ts : List ℕ) → Trims ws ts → Trims (w ∷ ws) (trim_on w ts)
 on w ws [] t = first_by w ws (w == 0) refl t
-on w ws (v ∷ vs) t = record { zeros = t.zeros; whole = ap (λ us. w ∷ us) t.whole }
+on w ws (v ∷ vs) t = record { zeros = t.zeros; whole = rw t.whole }
 
 pub trims : (ws : List ℕ) → Trims ws (without_last_zeros ws)
 trims [] = record { zeros = 0; whole = refl }

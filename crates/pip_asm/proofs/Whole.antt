@@ -41,7 +41,7 @@ pub record PagesWhole (n : ℕ) (seen : List ℕ) (k : ℕ) (bs : List ℕ) (ps 
 
 -- a part in front
 spelled_on : (ws vs rest bs : List ℕ) → Begins bs ws rest → bytes_of vs ≡ rest → bytes_of (ws ++ vs) ≡ bs
-spelled_on ws vs rest bs f e = bytes_append ws vs ∙ ap (λ r. bytes_of ws ++ r) e ∙ f.spelled
+spelled_on ws vs rest bs f e = rw (bytes_append ws vs, e, f.spelled)
 
 pub pages_whole : (n : ℕ) (seen : List ℕ) (at k : ℕ) (bs : List ℕ) → AllBytes bs
     → (page_parts n seen at k bs).fault ≡ None → PagesWhole n seen k bs (page_parts n seen at k bs).parts
@@ -115,6 +115,5 @@ image_whole bs a h = go (fields_of bs) refl h
         let w = parts_whole x.0.frames x.0.pages 24 0 x.0.plans x.1 b.bytes h in
         record {
           parts = (b.ok, w.parts);
-          spelled = ap (λ r. magic ++ r) (bytes_append (field_words x.0) _
-              ∙ ap (λ r. bytes_of (field_words x.0) ++ r) w.spelled) ∙ b.spelled;
+          spelled = rw (bytes_append (field_words x.0) _, w.spelled, b.spelled);
         }

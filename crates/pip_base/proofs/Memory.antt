@@ -80,7 +80,7 @@ same_words m n mok nok same each =
     same_lists m n same (λ k d in_m.
     let in_n : k < length n = omega arith in
     get_or_default m k d [] in_m
-    ∙ (same_number_lists (get_or m k []) (get_or n k []) (mok k [] in_m ∙ sym (nok k [] in_n)) (λ i i_in. each k i
+    ∙ (same_number_lists (get_or m k []) (get_or n k []) (cc (mok k [] in_m, nok k [] in_n)) (λ i i_in. each k i
     in_m (let long : length (get_or m k []) ≡ 1024 = mok k [] in_m in omega arith)) ∙ get_or_default n k [] d in_n))
 
 pub length-put_words : (m : Memory) (f i : ℕ) (ws : List ℕ) → length (put_words m f i ws) ≡ length m
@@ -118,15 +118,20 @@ word_at-put_words_here m f i [] j ok f_in room h = absurd (omega arith)
 word_at-put_words_here m f i (w ∷ ws) zero ok f_in room h =
     let n = length-put_word m f i w in
     let same : i + 0 ≡ i = omega arith in
-    ap (λ k. word_at (put_words (put_word m f i w) f (i + 1) ws) f k) same
-    ∙ (word_at-put_words_index (put_word m f i w) f (i + 1) ws i (IsMemory-put m f i w ok f_in) (omega arith)
-    (omega arith) (inl (omega arith)) ∙ word_at-put_same m f i w ok f_in (omega arith))
+    rw (
+      same,
+      word_at-put_words_index (put_word m f i w) f (i + 1) ws i (IsMemory-put m f i w ok f_in) (omega arith)
+          (omega arith) (inl (omega arith)),
+      word_at-put_same m f i w ok f_in (omega arith),
+    )
 word_at-put_words_here m f i (w ∷ ws) (suc j) ok f_in room h =
     let n = length-put_word m f i w in
     let same : i + suc j ≡ i + 1 + j = omega arith in
-    ap (λ k. word_at (put_words (put_word m f i w) f (i + 1) ws) f k) same
-    ∙ word_at-put_words_here (put_word m f i w) f (i + 1) ws j (IsMemory-put m f i w ok f_in) (omega arith)
-    (omega arith) (omega arith)
+    rw (
+      same,
+      word_at-put_words_here (put_word m f i w) f (i + 1) ws j (IsMemory-put m f i w ok f_in) (omega arith)
+          (omega arith) (omega arith),
+    )
 
 pub length-zero_frame : (m : Memory) (f : ℕ) → length (zero_frame m f) ≡ length m
 unfolding zero_frame

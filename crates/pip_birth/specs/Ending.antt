@@ -1,5 +1,5 @@
 -- A child that ends with all below it: the tree without them, and what holds on the way there.
-use Rattle.std.specs.Prelude.{◌≡◌, ◌+◌, ◌*◌, ◌<◌, ◌≤◌, ◌/◌, ◌^◌, ℕ, true, Option, List, ◌++◌, Some, flat_map, is_some}
+use Rattle.std.specs.Prelude.{◌≡◌, ◌+◌, ◌*◌, ◌<◌, ◌≤◌, ◌/◌, ◌^◌, ℕ, true, Option, List, ◌++◌, Some, is_some}
 use Rattle.std.specs.Prelude.{length}
 use Rattle.pip_base.specs.declared.types.Pair.{Pair}
 use Rattle.pip_base.specs.Memory.{Memory, word_at}
@@ -11,8 +11,8 @@ use Rattle.pip_model.specs.Lists.{Distinct, In, has}
 use Rattle.pip_model.specs.Midway.{Midway, PagesStay, find_other, tree_rows}
 use Rattle.pip_model.specs.declared.level.Level.TheVariants.{Mmu}
 use Rattle.pip_model.specs.Sound.{IsSound}
-use Rattle.pip_model.specs.Tree.{Node, Tree, below, chain, config, find_node, held_pages, hidden, holds, node, table_at}
-use Rattle.pip_model.specs.Tree.{vpage}
+use Rattle.pip_model.specs.Tree.{Node, Tree, chain, find_node, held_pages, hidden, holds, table_at, vpage}
+use Rattle.pip_model.specs.Work.{ending_work}
 use Rattle.pip_space.specs.Levels.{table_frame_at}
 use Rattle.pip_birth.specs.Newborn.{zero_frames}
 use Rattle.pip_kern.specs.Taking.{CanTakeEach, HasTaken, rows_taken}
@@ -155,14 +155,7 @@ CountsWalked parent born k m before after = (t : Tree) (y : Node) (start : Memor
     → (ws : List ℕ) × (hs : List ℕ) × AreWalked x k ws × AreClearedPages t y (1024 * k) hs
     × (after ≤ before + 102 * length ws + page_work t y * length hs)
 
--- at most how many steps it takes to end a child with all below it: 7 for each partition from the caller up to the
--- root, and 67, for each page of configuration of what ends, and 102 for each table of the caller
-abbrev pub ending_work : Tree → ℕ → ℕ → ℕ
-ending_work t caller child =
-    35 + 102 * length (node t caller).tables
-    + (7 * length (chain t caller) + 67) * length (flat_map config (below t child))
-
--- and by the number of frames alone
+-- at most how many steps it takes to end a child with all below it, by the number of frames alone
 abbrev pub most_ending_work : ℕ → ℕ
 most_ending_work n = 104483 + (7 * n + 67) * n
 

@@ -22,14 +22,3 @@ cut_part S old new w acts m = (
       ∙ ap text_of m.whole,
   left_more m.missing (text_of m.rest) m.some,
 )
-
--- a part of a text after a text
-pub part_after : (a b c : Taken) (done text : List ℕ) → Appends a b done → AppendsPart b c text
-    → AppendsPart a c (done ++ text)
-part_after a b c done text x y =
-    (done ++ y.0, y.1, Appends-trans _ _ _ _ _ x y.2, append_assoc done y.0 y.1 ∙ ap (λ t. done ++ t) y.3, y.4)
-
--- a part of a longer text
-pub part_of_more : (a b : Taken) (text more : List ℕ) → AppendsPart a b text → AppendsPart a b (text ++ more)
-part_of_more a b text more y =
-    (y.0, y.1 ++ more, y.2, sym (append_assoc y.0 y.1 more) ∙ ap (λ t. t ++ more) y.3, left_more y.1 more y.4)

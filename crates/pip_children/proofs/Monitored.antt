@@ -10,19 +10,19 @@ use Rattle.pip_io.specs.Histories.{writing}
 use Rattle.pip_model.specs.Images.{Image, Part, image_parts}
 use Rattle.pip_model.specs.declared.image.ImageError.{ImageError}
 use Rattle.pip_switch.specs.Standing.{StandsAs, State}
-use Rattle.pip_watch.specs.Watching.{short_line}
+use Rattle.pip_native_run.specs.Watching.{short_line}
 use Rattle.pip_children.specs.Children.{Schedule, children_text, children_world}
-use Rattle.pip_due.specs.EndsBy.{Response, Due, EndsBy, IsAnswered, plainly}
-use Rattle.pip_due.specs.Faults.{image_line}
+use Rattle.pip_command_contracts.specs.EndsBy.{Response, Due, EndsBy, IsAnswered, plainly}
+use Rattle.pip_command_contracts.specs.Faults.{image_line}
 use Rattle.pip_children.specs.Dues.{IsChildrenAnswer, IsRoomy, IsShort, IsUnshort, schedule_due}
-use Rattle.pip_due.specs.Machines.{StandsIfAny}
+use Rattle.pip_command_contracts.specs.Machines.{StandsIfAny}
 use Rattle.pip_children.specs.Loading.{LoadsNative, RefusesUnshort, StoppedNative}
-use Rattle.pip_due.specs.Streams.{EndsLine, IsCalm, Streams}
+use Rattle.pip_command_contracts.specs.Streams.{EndsLine, IsCalm, Streams}
 use Rattle.pip_children.specs.declared.loading.ChildrenLoadError.{ChildrenLoadError}
 use Rattle.pip_children.specs.declared.loading.ChildrenLoadError.TheVariants as T
-use Rattle.pip_due.proofs.Endings.{apart, by_answer, by_memory, by_plain, by_write_fault, part_plain}
-use Rattle.pip_due.proofs.ImageFaults.{is_faulty, no_image}
-use Rattle.pip_due.proofs.Refused.{by_refusal}
+use Rattle.pip_command_contracts.proofs.Endings.{apart, by_answer, by_memory, by_plain, by_write_fault, part_plain}
+use Rattle.pip_command_contracts.proofs.ImageFaults.{is_faulty, no_image}
+use Rattle.pip_command_contracts.proofs.Refused.{by_refusal}
 
 module _ (s : Schedule) (n code : ℕ) (p : Option State) (a c : Streams)
     (flushed : code ≢ 4 → c.written.buffered ≡ []) where

@@ -4,7 +4,7 @@ use Rattle.std.proofs.Common.{arith}
 use Rattle.std.specs.Prelude.{Result, Ok, Err, IsErr, IsOk, OnErr}
 use Rattle.pip_base.specs.declared.types.Plan.{Plan}
 use Rattle.pip_cpu.specs.Made.{Cut, Made}
-use Rattle.pip_children.proofs.Cuts.{part_after, part_of_more}
+use Rattle.pip_io.proofs.Piecewise.{part_after, part_longer}
 use Rattle.pip_io.specs.Taken.{Taken, Appends, AppendsPart, Keeps, Wrote}
 use Rattle.pip_io.proofs.Taken.{Appends-trans, Appends-kept, cut_sent, part_sent}
 use Rattle.pip_model.specs.Acts.{Act, text_of}
@@ -12,11 +12,11 @@ use Rattle.pip_model.specs.Images.{Image, image_word}
 use Rattle.pip_model.specs.Run.{end_line, trace_image_line, image_world}
 use Rattle.pip_model.specs.Worlds.{World}
 use Rattle.pip_switch.specs.Standing.{StandsAs, State}
-use Rattle.pip_watch.specs.Rooms.{HasRoomForChildren}
-use Rattle.pip_watch.specs.Watching.{addresses, built_from, ready_world, with_handlers}
-use Rattle.pip_watch.proofs.Beginning.{room_first}
-use Rattle.pip_watch.proofs.Entries.{handlers_as, room_kept}
-use Rattle.pip_due.specs.Loading.{Begins}
+use Rattle.pip_native_run.specs.Rooms.{HasRoomForChildren}
+use Rattle.pip_native_run.specs.Watching.{addresses, built_from, ready_world, with_handlers}
+use Rattle.pip_native_run.proofs.Beginning.{room_first}
+use Rattle.pip_native_run.proofs.Entries.{handlers_as, room_kept}
+use Rattle.pip_command_contracts.specs.Loading.{Begins}
 use Rattle.pip_children.specs.Children.{Schedule, children_text, image_acts}
 use Rattle.pip_children.specs.Dues.{IsRoomy}
 use Rattle.pip_children.specs.Loading.{ShowsChildren, ShowsChildrenOut}
@@ -74,7 +74,7 @@ module _ (s : Schedule) (i : Image) (n frames pages : ℕ) (plans : List Plan)
   pub cut_first : (old new : Taken) → AppendsPart old new (trace_image_line frames (length p.cpus) (length plans) pages)
       → AppendsPart old new text
   cut_first old new x =
-      part_of_more old new line (lines ++ (text_of acts ++ last)) (subst (AppendsPart old new) same_line x)
+      part_longer old new line (lines ++ (text_of acts ++ last)) (subst (AppendsPart old new) same_line x)
 
   module _ (old one : Taken) (x : Appends old one (trace_image_line frames (length p.cpus) (length plans) pages)) where
     began : Appends old one line
@@ -84,7 +84,7 @@ module _ (s : Schedule) (i : Image) (n frames pages : ℕ) (plans : List Plan)
     pub cut_built : (new : Taken) (xs : List ℕ) → xs ≡ addresses n n → AppendsPart one new (built_from 0 xs)
         → AppendsPart old new text
     cut_built new xs same y =
-        part_after old one new line (lines ++ (text_of acts ++ last)) began (part_of_more one new lines
+        part_after old one new line (lines ++ (text_of acts ++ last)) began (part_longer one new lines
         (text_of acts ++ last) (subst (λ xs. AppendsPart one new (built_from 0 xs)) same y))
 
     module _ (two : Taken) (xs : List ℕ) (same : xs ≡ addresses n n) (y : Appends one two (built_from 0 xs)) where
@@ -97,7 +97,7 @@ module _ (s : Schedule) (i : Image) (n frames pages : ℕ) (plans : List Plan)
       cut_steps S new z =
           part_after old one new line (lines ++ (text_of acts ++ last)) began
           (part_after one two new lines (text_of acts ++ last) told
-          (part_of_more two new (text_of acts) last (cut_part S two new (ready_world (image_world i) n) acts z)))
+          (part_longer two new (text_of acts) last (cut_part S two new (ready_world (image_world i) n) acts z)))
 
       -- they were made
       pub made_steps : {T E : Type 0} (r : Result T E) (q : State) (three new : Taken) → Made (StandsAs q) two three
@@ -119,8 +119,8 @@ module _ (s : Schedule) (i : Image) (n frames pages : ℕ) (plans : List Plan)
 pub children_unsettled : {T E A B : Type 0} (r : Result T E) (r' : Result A B) (s : Schedule) (i : Image) (n : ℕ)
     (old new : Taken) (q : State) → IsErr r → IsErr r' → ShowsChildren r s i n old new q
     → ShowsChildrenOut r' s i n old new q
-children_unsettled (Ok v) r' s i n old new q err err' h = absurd (cc)
-children_unsettled (Err e) (Ok v) s i n old new q err err' h = absurd (cc)
+children_unsettled (Ok v) r' s i n old new q err err' h = absurd cc
+children_unsettled (Err e) (Ok v) s i n old new q err err' h = absurd cc
 children_unsettled (Err e) (Err f) s i n old new q err err' h = part_sent _ _ _ h
 
 -- it was
@@ -129,4 +129,4 @@ pub children_settled : {T E A B : Type 0} (r : Result T E) (r' : Result A B) (s 
     → OnErr r' (new.buffered ≢ []) → ShowsChildrenOut r' s i n old new q
 children_settled (Ok v) (Ok w) s i n old mid new q ok h kept some = (Appends-kept old mid new _ h.0 kept, h.1)
 children_settled (Ok v) (Err f) s i n old mid new q ok h kept some = cut_sent old mid new _ h.0 kept some
-children_settled (Err e) r' s i n old mid new q ok h kept some = absurd (cc)
+children_settled (Err e) r' s i n old mid new q ok h kept some = absurd cc

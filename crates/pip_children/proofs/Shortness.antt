@@ -9,8 +9,8 @@ use Rattle.pip_image.proofs.Steps.{after_parts}
 use Rattle.pip_model.specs.Images.{Head, Holds, Line, Part, image_parts, page_parts}
 use Rattle.pip_model.specs.declared.image.ImageError.{ImageError}
 use Rattle.pip_children.specs.Dues.{IsRoomy, IsUnshort}
-use Rattle.pip_due.specs.ImageDues.{IsHeaderText}
-use Rattle.pip_due.proofs.ImageFaults.{by_line, faulty}
+use Rattle.pip_command_contracts.specs.ImageDues.{IsHeaderText}
+use Rattle.pip_command_contracts.proofs.ImageFaults.{by_line, faulty}
 
 -- the parts of bytes after a header begin with those of the header
 told_front : (bytes front back : List ℕ) → bytes ≡ front ++ back → (h : IsHeaderText front)

@@ -1,9 +1,9 @@
 -- Where a command on children waits: at first nothing was read.
 use Rattle.std.specs.Prelude.{◌≡◌, refl, ℕ, []}
 use Rattle.std.proofs.Common.{ap, sym, subst}
-use Rattle.pip_due.specs.Pacing.{Waits}
-use Rattle.pip_due.specs.Streams.{Streams}
-use Rattle.pip_due.proofs.Waiting.{no_fault, nothing_told, waits_first}
+use Rattle.pip_command_contracts.specs.Pacing.{Waits}
+use Rattle.pip_command_contracts.specs.Streams.{Streams}
+use Rattle.pip_command_contracts.proofs.Waiting.{no_fault, nothing_told, waits_first}
 use Rattle.pip_image.specs.Reading.{LacksHeader}
 use Rattle.pip_children.specs.Children.{Schedule}
 use Rattle.pip_children.specs.Dues.{schedule_due}

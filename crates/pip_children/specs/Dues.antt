@@ -1,14 +1,14 @@
 -- What is due of a command on children of the root.
 use Rattle.std.specs.Prelude.{◌≡◌, ℕ, ◌+◌, ◌≤◌, ◌<◌, ◌⊎◌, List, [], ◌++◌, Some, None, Result, Ok, Err}
 use Rattle.std.specs.Prelude.{option_map}
-use Rattle.pip_due.specs.EndsBy.{Due, Response, plainly}
-use Rattle.pip_due.specs.Faults.{image_line}
-use Rattle.pip_due.specs.ImageDues.{IsFaulty, IsHeaderText, image_due}
+use Rattle.pip_command_contracts.specs.EndsBy.{Due, Response, plainly}
+use Rattle.pip_command_contracts.specs.Faults.{image_line}
+use Rattle.pip_command_contracts.specs.ImageDues.{IsFaulty, IsHeaderText, image_due}
 use Rattle.pip_image.specs.Reading.{EndsAtMost}
 use Rattle.pip_model.specs.Images.{Image, image, image_parts}
 use Rattle.pip_model.specs.Worlds.{World}
 use Rattle.pip_model.specs.declared.image.ImageError.{ImageError}
-use Rattle.pip_watch.specs.Watching.{pages_taken, short_line}
+use Rattle.pip_native_run.specs.Watching.{pages_taken, short_line}
 use Rattle.pip_children.specs.Children.{Schedule, children_text, children_world}
 
 -- this many frames have room for n children

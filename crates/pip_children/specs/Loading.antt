@@ -7,11 +7,11 @@ use Rattle.pip_io.specs.Taken.{Taken, Appends, AppendsPart, SendsPart}
 use Rattle.pip_model.specs.Images.{Image, Part, image_parts}
 use Rattle.pip_model.specs.declared.image.ImageError.{ImageError}
 use Rattle.pip_switch.specs.Standing.{StandsAs, State}
-use Rattle.pip_watch.specs.Watching.{pages_taken}
+use Rattle.pip_native_run.specs.Watching.{pages_taken}
 use Rattle.pip_children.specs.Children.{Schedule, children_text, children_world}
-use Rattle.pip_due.specs.Loading.{LoadsImage}
+use Rattle.pip_command_contracts.specs.Loading.{LoadsImage}
 use Rattle.pip_children.specs.Dues.{IsRoomy, IsUnshort}
-use Rattle.pip_due.specs.ImageDues.{IsHeaderText}
+use Rattle.pip_command_contracts.specs.ImageDues.{IsHeaderText}
 use Rattle.pip_children.specs.declared.loading.ChildrenLoadError.{ChildrenLoadError}
 use Rattle.pip_children.specs.declared.loading.ChildrenLoadError.TheVariants as T
 

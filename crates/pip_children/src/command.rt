@@ -4,14 +4,14 @@ ghost use Rattle.pip_base.specs.Opening.{CanOpen};
 ghost use Rattle.pip_base.specs.declared.types.Plan.{Plan};
 ghost use Rattle.pip_lines.specs.Due.{AnswersDue};
 ghost use Rattle.pip_children.specs.Dues.{schedule_due};
-ghost use Rattle.pip_due.specs.Commands.{Fulfils, FulfilsJoined, MayStart, MayStartJoined};
+ghost use Rattle.pip_command_contracts.specs.Commands.{Fulfils, FulfilsJoined, MayStart, MayStartJoined};
 
 use crate::loading::{ChildrenLoadError, load};
 use crate::scheduling::Scheduling;
 use crate::showing::show;
 use crate::text::short_line;
 use pip_base::{Plan, Steps};
-use pip_due::{Ended, end_at_image, end_with};
+use pip_command_contracts::{Ended, end_at_image, end_with};
 use pip_io::{Joint, Sink, Source};
 use pip_lines::{Callback, due};
 use std::alloc::Global;

@@ -9,7 +9,7 @@ ghost use Rattle.pip_children.specs.Loading.{LoadsNative, StoppedNative};
 ghost use Rattle.pip_children.specs.Pacing.{IsFaultlessUnshort};
 
 use pip_base::{Plan, Steps};
-use pip_due::loading::{self, Loaded, load_after};
+use pip_command_contracts::loading::{self, Loaded, load_after};
 use pip_image::JointReader;
 use pip_io::{Joint, Sink, Source};
 use pip_lines::Callback;

@@ -3,17 +3,17 @@ ghost use Rattle.std.specs.Prelude.{◌≡◌, ◌<◌, ◌≤◌, [], OnOk};
 ghost use Rattle.std.specs.List.{AllByRecursion};
 ghost use Rattle.pip_io.specs.Causes.{HasCause};
 ghost use Rattle.pip_model.specs.Images.{Image};
-ghost use Rattle.pip_due.specs.Loading.{Begins, HasImage};
+ghost use Rattle.pip_command_contracts.specs.Loading.{Begins, HasImage};
 ghost use Rattle.pip_children.specs.Dues.{IsRoomy};
 ghost use Rattle.pip_children.specs.Loading.{ShowsChildren, ShowsChildrenOut};
 
 use crate::scheduling::Scheduling;
 use pip_base::Steps;
-use pip_due::loading::Loaded;
+use pip_command_contracts::loading::Loaded;
 use pip_io::{Failed, Sink};
 use pip_lines::{Callback, write_end, write_image};
 use pip_model::Port;
-use pip_watch::{build_children, set_handlers, write_children};
+use pip_native_run::{build_children, set_handlers, write_children};
 use std::sync::ledger::Ledger;
 
 /// Builds `n` children, makes their steps, and writes the text, and all that the sink holds.

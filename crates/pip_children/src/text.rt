@@ -1,9 +1,9 @@
 //! The line of a header of too few frames.
 ghost use Rattle.std.specs.Prelude.{◌≡◌, ◌≤◌};
-ghost use Rattle.pip_watch.specs.Watching.{short_line as short_text};
+ghost use Rattle.pip_native_run.specs.Watching.{short_line as short_text};
 
 use arrayvec::ArrayString;
-use pip_due::push_decimal;
+use pip_command_contracts::push_decimal;
 
 /// `short`, how many pages can be had of that many frames, how many `n` children need, and a newline.
 pub fn short_line(frames: u32, n: u32) -> ArrayString<64>

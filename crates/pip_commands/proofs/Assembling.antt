@@ -8,33 +8,17 @@ use Rattle.pip_io.specs.Histories.{writing}
 use Rattle.pip_model.specs.Assembly.{LineFault, assembly}
 use Rattle.pip_switch.specs.Standing.{State}
 use Rattle.pip_commands.specs.Dues.{asm_answer, asm_due}
-use Rattle.pip_due.specs.EndsBy.{EndsBy, IsAnswered, EndsWithResponse}
+use Rattle.pip_command_contracts.specs.EndsBy.{EndsBy, IsAnswered, EndsWithResponse}
 use Rattle.pip_commands.specs.Faults.{asm_line}
-use Rattle.pip_due.specs.Streams.{IsCalm, Streams}
-use Rattle.pip_due.proofs.Endings.{apart, by_limit, by_memory, by_plain, by_read_fault}
+use Rattle.pip_command_contracts.specs.Streams.{IsCalm, Streams}
+use Rattle.pip_command_contracts.proofs.Endings.{apart, by_limit, by_memory, by_plain, by_read_fault}
 
 module _ (code : ℕ) (p : Option State) (a b : Streams) (none : p ≡ None) (no_faults : IsCalm code a b)
     (flushed : code ≢ 4 → b.written.buffered ≡ []) where
-  -- a read failed, or there was no memory to read on, or the limit was passed
-  pub asm_unread : code ≡ 3 → (bytes : List ℕ) → TakesPart bytes a.left b.left → RoseByOne a.reads b.reads
-      → Keeps a.written b.written → EndsBy asm_due code p a b
-  asm_unread is bytes read rose kept = by_read_fault asm_due code p a b no_faults flushed apart bytes read.read none is
-      (record { text = []; due = refl; limit = read.limit; wrote = kept }) rose
-
   pub asm_lacks : code ≡ 5 → (bytes : List ℕ) → TakesPart bytes a.left b.left → Keeps a.written b.written
       → EndsBy asm_due code p a b
   asm_lacks is bytes read kept = by_memory asm_due code p a b no_faults flushed apart bytes read.read none is
       read.limit kept
-
-  pub asm_past : code ≡ 6 → TakesMore a.left b.left → Keeps a.written b.written → EndsBy asm_due code p a b
-  asm_past is read kept =
-      by_limit asm_due code p a b no_faults flushed apart (read.bytes ++ read.last ∷ []) read.read none is (record {
-        first = read.bytes;
-        beyond = read.last;
-        all = refl;
-        limit = ap Some (sym read.limit);
-        so_far = record { text = []; due = refl; limit = let l = read.limit in omega (arith, l); wrote = kept };
-      })
 
   -- the whole input was read
   module _ (start : a.written.buffered ≡ []) (input : List ℕ) (read : TakesWhole input a.left b.left) where

@@ -9,7 +9,7 @@ use Rattle.pip_core_text.specs.Core.{Whole, core_text}
 use Rattle.pip_core_text.specs.CoreRead.{BeginsText, IsBadLineOf, IsBadText, IsText, RefusesText}
 use Rattle.pip_core_text.specs.declared.text.CoreError.{CoreError}
 use Rattle.pip_core_text.proofs.CanonicalRun.{only_texts}
-use Rattle.pip_children.proofs.Cuts.{part_of_more}
+use Rattle.pip_io.proofs.Piecewise.{part_longer}
 use Rattle.pip_io.specs.Causes.{RoseByOne}
 use Rattle.pip_io.specs.Taken.{Taken, Appends, Keeps, SendsPart, Wrote}
 use Rattle.pip_io.specs.Histories.{writing}
@@ -23,9 +23,9 @@ use Rattle.pip_model.proofs.Frames.ControlLays.{root_stands}
 use Rattle.pip_switch.specs.Standing.{State}
 use Rattle.pip_commands.specs.Dues.{audit_answer, audit_due, found_answer, yes_text}
 use Rattle.pip_commands.specs.AuditTexts.{bad_line, no_line, yes_line}
-use Rattle.pip_due.specs.EndsBy.{Due, EndsBy, IsAnswered, IsOfAnswer, EndsWithResponse, plainly}
-use Rattle.pip_due.specs.Streams.{EndsLine, IsCalm, Streams}
-use Rattle.pip_due.proofs.Endings.{by_memory, by_plain, by_read_fault}
+use Rattle.pip_command_contracts.specs.EndsBy.{Due, EndsBy, IsAnswered, IsOfAnswer, EndsWithResponse, plainly}
+use Rattle.pip_command_contracts.specs.Streams.{EndsLine, IsCalm, Streams}
+use Rattle.pip_command_contracts.proofs.Endings.{by_memory, by_plain, by_read_fault}
 
 -- ---- what is found
 
@@ -67,13 +67,6 @@ no_answer (Differs d) line is = ap (λ l. plainly 9 l None) (inside is)
     inside : {x y : List ℕ} → Some x ≡ Some y → x ≡ y
     inside e = cc
 
-pub answers_no : (m : Memory) (line : List ℕ) (code : ℕ) (before after : Taken) (writes writes' : ℕ)
-    → no_line (finding m) ≡ Some line → EndsLine 9 line code (writing before writes) (writing after writes')
-    → EndsWithResponse (found_answer (finding m)) code (writing before writes) (writing after writes')
-answers_no m line code before after writes writes' some h =
-    subst (λ v. EndsWithResponse v code (writing before writes) (writing after writes'))
-    (sym (no_answer (finding m) line some)) h
-
 -- a text, and a line after it
 line_after : (status code : ℕ) (text line : List ℕ) (before mid after : Taken) (writes writes' : ℕ)
     → Appends before mid text → EndsLine status line code (writing mid writes) (writing after writes')
@@ -106,8 +99,8 @@ module _ (m : Memory) (shape : IsMemory m) (words : HasWordsOnly m) (none : no_l
     where
       cut : {T E : Type 0} (r : Result T E) (t : Tree) → IsErr r → Wrote r before after (tree_text t)
           → SendsPart before after (yes_text t)
-      cut (Ok v) t err h = absurd (cc)
-      cut (Err e) t err h = part_sent before after (yes_text t) (part_of_more before after (tree_text t) yes_line h)
+      cut (Ok v) t err h = absurd cc
+      cut (Err e) t err h = part_sent before after (yes_text t) (part_longer before after (tree_text t) yes_line h)
 
 -- ---- what is read
 

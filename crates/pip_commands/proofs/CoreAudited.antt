@@ -18,8 +18,8 @@ use Rattle.pip_switch.specs.Standing.{State}
 use Rattle.pip_commands.specs.Dues.{audit_answer, audit_due, found_answer, yes_text}
 use Rattle.pip_commands.specs.AuditLaw.{CoreIsAudited, IsGiven, core_of}
 use Rattle.pip_commands.specs.AuditTexts.{yes_line}
-use Rattle.pip_due.specs.EndsBy.{Response, EndsBy, IsAnswered, IsOfAnswer, IsWithin, or_nothing, plainly}
-use Rattle.pip_due.specs.Streams.{Streams}
+use Rattle.pip_command_contracts.specs.EndsBy.{Response, EndsBy, IsAnswered, IsOfAnswer, IsWithin, or_nothing, plainly}
+use Rattle.pip_command_contracts.specs.Streams.{Streams}
 use Rattle.pip_words.proofs.Answered.{answered}
 use Rattle.pip_commands.proofs.Audited.{text_shape, text_words}
 use Rattle.pip_commands.proofs.LayoutWords.{layout_words}

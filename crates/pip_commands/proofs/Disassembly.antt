@@ -5,9 +5,9 @@ use Rattle.pip_drive.specs.Ends.{IsAnswer}
 use Rattle.pip_model.specs.Images.{image_parts}
 use Rattle.pip_model.specs.declared.image.ImageError.{ImageError}
 use Rattle.pip_model.specs.declared.image.ImageError.TheVariants as F
-use Rattle.pip_due.specs.EndsBy.{IsAnswered}
-use Rattle.pip_due.specs.Faults.{image_line}
-use Rattle.pip_due.specs.ImageDues.{IsFaulty}
+use Rattle.pip_command_contracts.specs.EndsBy.{IsAnswered}
+use Rattle.pip_command_contracts.specs.Faults.{image_line}
+use Rattle.pip_command_contracts.specs.ImageDues.{IsFaulty}
 use Rattle.pip_commands.specs.Dues.{dis_due}
 use Rattle.pip_commands.proofs.Driven.{Serves}
 

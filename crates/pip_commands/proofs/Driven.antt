@@ -7,10 +7,11 @@ use Rattle.pip_io.specs.Histories.{writing}
 use Rattle.pip_io.proofs.Taken.{Appends-trans, SendsPart-after, past_sent}
 use Rattle.pip_drive.specs.Due.{DueOf}
 use Rattle.pip_drive.specs.Ends.{EndsWith, IsAnswer, IsCutShort, IsOut, Waits as TransducerWaits}
-use Rattle.pip_due.specs.EndsBy.{Due as CommandDue, EndsBy, IsAnswered, IsDueLast, IsOfAnswer, IsWithin, Response}
-use Rattle.pip_due.specs.Pacing.{Waits}
-use Rattle.pip_due.specs.Streams.{EndsLine, Streams}
-use Rattle.pip_due.proofs.Endings.{by_answer, by_read_fault, by_write_fault, no_world}
+use Rattle.pip_command_contracts.specs.EndsBy.{Due as CommandDue, EndsBy, IsAnswered, IsDueLast, IsOfAnswer, IsWithin}
+use Rattle.pip_command_contracts.specs.EndsBy.{Response}
+use Rattle.pip_command_contracts.specs.Pacing.{Waits}
+use Rattle.pip_command_contracts.specs.Streams.{EndsLine, Streams}
+use Rattle.pip_command_contracts.proofs.Endings.{by_answer, by_read_fault, by_write_fault, no_world}
 use Rattle.pip_switch.specs.Standing.{State}
 
 -- a machine serves a command: what it waits with and what it says midway is due of the command, too
@@ -29,29 +30,6 @@ abbrev naming : ℕ → List ℕ → List ℕ → Response
 naming status front line = record { status = status; front = front; last = Some line; world = None }
 
 module _ {V : Type 0} (D : CommandDue) (d : DueOf V) (loose : Bool) (s : Serves D d loose) (a b : Streams) where
-  -- it may read where the command may
-  pub driven_waits : TransducerWaits d a b → Waits D a b
-  driven_waits w = record {
-    bytes = w.so_far.bytes;
-    read = w.so_far.read;
-    so_far = record {
-      text = w.so_far.text;
-      due = s.so_far _ _ w.so_far.due;
-      limit = s.within _;
-      wrote = w.so_far.wrote;
-    };
-    out = w.so_far.out;
-    reads = w.reads;
-    writes = w.so_far.writes;
-  }
-
-  -- a read failed
-  pub driven_read : IsOut d a b × RoseByOne a.reads b.reads → EndsBy D 3 None a b
-  driven_read (out, rose) = by_read_fault D 3 None a b
-      (record { reads = λ not. absurd (not refl); writes = λ not. out.writes }) (λ not. out.out)
-      (λ u. absurd (s.reads 3 u)) out.bytes out.read refl refl
-      (record { text = out.text; due = s.so_far _ _ out.due; limit = s.within _; wrote = out.wrote }) rose
-
   -- a write failed
   pub driven_write : IsCutShort d loose a b → EndsBy D 4 None a b
   driven_write cut = by_write_fault D 4 None a b

@@ -20,7 +20,7 @@ use Rattle.pip_model.specs.declared.script.ScriptLine.TheVariants as L
 use Rattle.pip_model.proofs.Trees.Boot.{zeros_small}
 use Rattle.pip_script.specs.Replies.{RepliesBy, RepliesIn, RepliesTo}
 use Rattle.pip_switch.specs.Standing.{StandsAs, State}
-use Rattle.pip_due.specs.Machines.{StandsIfAny}
+use Rattle.pip_command_contracts.specs.Machines.{StandsIfAny}
 use Rattle.pip_commands.specs.Runs.{IsCutShort, LeadsBy, OfSome, Runs, RunsIn, Stopped}
 use Rattle.pip_commands.specs.declared.commands.script.line.ScriptLineError.{ScriptLineError}
 use Rattle.pip_commands.specs.declared.commands.script.line.ScriptLineError.TheVariants.{Bad, Write, Memory as NoMemory}
@@ -139,18 +139,3 @@ module _ (w : World) (cpus : ℕ) (line : List ℕ)
         by l bad e k = absurd k
         by l (says s v) e k =
             record { said = said; world = v; verdict = e ∙ ap (λ t. says t v) (sym k.0); wrote = part }
-
--- a machine that stands for some world of those
-pub runs_machine : (w : World) (line : List ℕ) (before after : Taken) (machine : State)
-    → RunsIn w line before after (λ v. StandsAs machine v) → Runs (Some w) line before after (Some machine)
-runs_machine w line before after machine run = record {
-  text = run.text;
-  world = run.world;
-  leads = run.leads;
-  wrote = run.wrote;
-  stands = by run.world run.stands;
-}
-  where
-    by : (v : Option World) → OfSome (λ v. StandsAs machine v) v → StandsIfAny (Some machine) v
-    by None s = absurd s
-    by (Some v) s = s

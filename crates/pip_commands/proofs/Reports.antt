@@ -4,7 +4,7 @@ use Rattle.std.specs.Prelude.{◌≢◌, [], Result, Ok, Err, IsErr, IsOk, OnErr
 use Rattle.pip_io.proofs.Taken.{Appends-trans, cut_sent, part_sent, Appends-kept}
 use Rattle.pip_base.specs.declared.types.Plan.{Plan}
 use Rattle.pip_cpu.specs.Made.{MadeOrCut}
-use Rattle.pip_children.proofs.Cuts.{part_after}
+use Rattle.pip_io.proofs.Piecewise.{part_after}
 use Rattle.pip_io.specs.Taken.{Taken, Appends, Keeps, Wrote}
 use Rattle.pip_model.specs.Acts.{after_acts}
 use Rattle.pip_model.specs.Dump.{frames_text, tree_text}
@@ -18,7 +18,7 @@ use Rattle.pip_switch.specs.Standing.{StandsAs, State}
 use Rattle.pip_switch.proofs.Running.{root_held}
 use Rattle.pip_children.proofs.Cuts.{cut_part}
 use Rattle.pip_commands.specs.Shown.{ShowsOut, ShowsReport}
-use Rattle.pip_due.specs.Loading.{Begins}
+use Rattle.pip_command_contracts.specs.Loading.{Begins}
 use Rattle.pip_commands.specs.declared.commands.run.report.Report.{Report}
 use Rattle.pip_commands.specs.declared.commands.run.report.Report.TheVariants as R
 

@@ -10,18 +10,18 @@ use Rattle.pip_io.specs.Histories.{writing}
 use Rattle.pip_model.specs.Images.{Part, image_parts}
 use Rattle.pip_model.specs.declared.image.ImageError.{ImageError}
 use Rattle.pip_switch.specs.Standing.{StandsAs, State}
-use Rattle.pip_due.specs.EndsBy.{Response, Due, EndsBy, IsAnswered, plainly}
-use Rattle.pip_due.specs.Faults.{image_line}
+use Rattle.pip_command_contracts.specs.EndsBy.{Response, Due, EndsBy, IsAnswered, plainly}
+use Rattle.pip_command_contracts.specs.Faults.{image_line}
 use Rattle.pip_commands.specs.Dues.{last_world, run_answer, run_due, shown}
-use Rattle.pip_due.specs.Loading.{LoadsImage, StoppedLoading}
-use Rattle.pip_due.specs.Machines.{StandsIfAny}
-use Rattle.pip_due.specs.Streams.{EndsLine, IsCalm, Streams}
-use Rattle.pip_due.specs.declared.loading.LoadError.{LoadError}
-use Rattle.pip_due.specs.declared.loading.LoadError.TheVariants as T
+use Rattle.pip_command_contracts.specs.Loading.{LoadsImage, StoppedLoading}
+use Rattle.pip_command_contracts.specs.Machines.{StandsIfAny}
+use Rattle.pip_command_contracts.specs.Streams.{EndsLine, IsCalm, Streams}
+use Rattle.pip_command_contracts.specs.declared.loading.LoadError.{LoadError}
+use Rattle.pip_command_contracts.specs.declared.loading.LoadError.TheVariants as T
 use Rattle.pip_commands.specs.declared.commands.run.report.Report.{Report}
-use Rattle.pip_due.proofs.Endings.{apart, by_answer, by_memory, by_write_fault, part_plain}
-use Rattle.pip_due.proofs.ImageFaults.{is_faulty, no_image}
-use Rattle.pip_due.proofs.Refused.{by_refusal}
+use Rattle.pip_command_contracts.proofs.Endings.{apart, by_answer, by_memory, by_write_fault, part_plain}
+use Rattle.pip_command_contracts.proofs.ImageFaults.{is_faulty, no_image}
+use Rattle.pip_command_contracts.proofs.Refused.{by_refusal}
 
 module _ (r : Report) (count seed code : ℕ) (p : Option State) (a c : Streams)
     (flushed : code ≢ 4 → c.written.buffered ≡ []) where

@@ -16,10 +16,10 @@ use Rattle.pip_model.specs.Grammar.{lines_of}
 use Rattle.pip_model.specs.Text.{transcript_from}
 use Rattle.pip_model.specs.Worlds.{World}
 use Rattle.pip_switch.specs.Standing.{State}
-use Rattle.pip_due.specs.Machines.{StandsIfAny}
+use Rattle.pip_command_contracts.specs.Machines.{StandsIfAny}
 use Rattle.pip_commands.specs.Progress.{EndsTurn, HasNoLine, IsSettled, IsUnread, IsUnwritten, Names, Settles}
 use Rattle.pip_commands.specs.Progress.{TakesLast, TurnDoes, bytes_coming, status_of}
-use Rattle.pip_due.specs.Streams.{Streams}
+use Rattle.pip_command_contracts.specs.Streams.{Streams}
 use Rattle.pip_commands.specs.declared.commands.script.line.ScriptLineError.{ScriptLineError}
 use Rattle.pip_commands.specs.declared.commands.script.line.ScriptLineError.TheVariants.{Bad, Write, Memory}
 use Rattle.pip_commands.specs.declared.commands.script.turn.End.{End}

@@ -18,10 +18,10 @@ use Rattle.pip_soak.specs.declared.counts.Counts.{Counts}
 use Rattle.pip_soak.proofs.LoadText.{soak_text_is}
 use Rattle.pip_switch.specs.Standing.{StandsAs, State}
 use Rattle.pip_commands.specs.Dues.{soak_due}
-use Rattle.pip_due.specs.EndsBy.{Due, EndsBy, IsAnswered, plainly}
-use Rattle.pip_due.specs.Machines.{StandsIfAny}
-use Rattle.pip_due.specs.Streams.{IsCalm, Streams, beside}
-use Rattle.pip_due.proofs.Endings.{by_answer, by_memory, by_write_fault, part_plain}
+use Rattle.pip_command_contracts.specs.EndsBy.{Due, EndsBy, IsAnswered, plainly}
+use Rattle.pip_command_contracts.specs.Machines.{StandsIfAny}
+use Rattle.pip_command_contracts.specs.Streams.{IsCalm, Streams, beside}
+use Rattle.pip_command_contracts.proofs.Endings.{by_answer, by_memory, by_write_fault, part_plain}
 
 -- ---- the machine of a load
 

@@ -138,9 +138,3 @@ decided_text v n bytes beyond left (inl all) = ap (λ b. transcript_from v n (li
 decided_text v n bytes beyond left (inr last) = first_told v n (lines_of bytes) last.0
 
 -- ---- a line whose answer was cut short
-
-pub said_told : (v : Option World) (n : ℕ) (line : List ℕ) (x : Verdict) (rest : Option World → Transcript)
-    → (text : List ℕ) (v' : Option World) → LeadsBy x v text v' → (rest v').text ≡ []
-    → (transcript_of_line v n x rest).text ≡ text
-said_told v n line x rest text v' leads nil =
-    ap (λ t. t.text) (told_on x v v' n text rest leads) ∙ ap (λ t. text ++ t) nil ∙ append-nil text

@@ -20,11 +20,11 @@ use Rattle.pip_model.specs.Script.{bad}
 use Rattle.pip_model.specs.Text.{judge, line_text, said_text, transcript_from}
 use Rattle.pip_model.specs.Worlds.{World}
 use Rattle.pip_switch.specs.Standing.{State}
-use Rattle.pip_due.specs.Machines.{StandsIfAny}
+use Rattle.pip_command_contracts.specs.Machines.{StandsIfAny}
 use Rattle.pip_commands.specs.Progress.{EndsHere, EndsTurn, HasFinished, IsUncut, IsUnread, IsUnwritten, RanWholeLine}
 use Rattle.pip_commands.specs.Progress.{Names, Overruns, TakesLast, bytes_coming, status_of}
 use Rattle.pip_commands.specs.Runs.{IsCutShort, LeadsBy, Runs, Stopped}
-use Rattle.pip_due.specs.Streams.{Streams}
+use Rattle.pip_command_contracts.specs.Streams.{Streams}
 use Rattle.pip_commands.specs.declared.commands.script.line.ScriptLineError.{ScriptLineError}
 use Rattle.pip_commands.specs.declared.commands.script.line.ScriptLineError.TheVariants.{Bad, Write, Memory}
 use Rattle.pip_commands.specs.declared.commands.script.turn.End.{End}

@@ -7,10 +7,10 @@ use Rattle.pip_core_text.proofs.FirstBad.{can_end}
 use Rattle.pip_model.specs.DisText.{parts_lines, text_of_lines}
 use Rattle.pip_commands.specs.Dues.{asm_due, audit_due, dis_due, run_due}
 use Rattle.pip_commands.specs.Dues.{script_due}
-use Rattle.pip_due.specs.Pacing.{Waits}
-use Rattle.pip_due.specs.Streams.{Streams}
+use Rattle.pip_command_contracts.specs.Pacing.{Waits}
+use Rattle.pip_command_contracts.specs.Streams.{Streams}
 use Rattle.pip_commands.specs.declared.commands.run.report.Report.{Report}
-use Rattle.pip_due.proofs.Waiting.{no_fault, nothing_told, waits_first}
+use Rattle.pip_command_contracts.proofs.Waiting.{no_fault, nothing_told, waits_first}
 
 -- and begins the text of a memory
 begins_none : (n : ℕ) → BeginsLines n []

@@ -14,19 +14,19 @@ use Rattle.pip_model.specs.Text.{Ending, Transcript, bad_at, text_before}
 use Rattle.pip_model.specs.Text.{finished, script_text, transcript, script_world, transcript_from}
 use Rattle.pip_switch.specs.Standing.{State}
 use Rattle.pip_commands.specs.Dues.{IsJudged, max_input, script_answer, script_due}
-use Rattle.pip_due.specs.EndsBy.{EndsBy, IsAnswered, IsDueLast, IsSoFar, plainly}
-use Rattle.pip_due.specs.Pacing.{Waits}
+use Rattle.pip_command_contracts.specs.EndsBy.{EndsBy, IsAnswered, IsDueLast, IsSoFar, plainly}
+use Rattle.pip_command_contracts.specs.Pacing.{Waits}
 use Rattle.pip_commands.specs.Progress.{EndsHere, EndsTurn, HasFinished, HasRun, IsUncut, IsUnread, IsUnwritten}
 use Rattle.pip_commands.specs.Progress.{LacksMemoryToBoot, Overruns, TakesLast, TurnDoes, bytes_coming}
 use Rattle.pip_io.specs.Moments.{NoneFailed}
 use Rattle.pip_io.proofs.Moments.{calm_both}
 use Rattle.pip_commands.specs.Progress.{status_of}
-use Rattle.pip_due.specs.Streams.{IsCalm, Streams}
+use Rattle.pip_command_contracts.specs.Streams.{IsCalm, Streams}
 use Rattle.pip_commands.specs.declared.commands.script.turn.End.{End}
 use Rattle.pip_commands.specs.declared.commands.script.turn.End.TheVariants.{Finished, BadLine, ReadFault}
 use Rattle.pip_commands.specs.declared.commands.script.turn.End.TheVariants.{WriteFault, NoMemory, Limit}
-use Rattle.pip_due.proofs.Endings.{apart, by_answer, by_limit, by_memory}
-use Rattle.pip_due.proofs.Endings.{by_read_fault, by_write_fault, past_nothing}
+use Rattle.pip_command_contracts.proofs.Endings.{apart, by_answer, by_limit, by_memory}
+use Rattle.pip_command_contracts.proofs.Endings.{by_read_fault, by_write_fault, past_nothing}
 use Rattle.pip_commands.proofs.Telling.{goes_both}
 
 -- ---- turn after turn

@@ -12,8 +12,8 @@ use Rattle.pip_model.specs.Sound.{IsSound}
 use Rattle.pip_model.specs.Tree.{Tree}
 use Rattle.pip_switch.specs.Standing.{State}
 use Rattle.pip_commands.specs.Dues.{audit_due, yes_text}
-use Rattle.pip_due.specs.EndsBy.{EndsBy}
-use Rattle.pip_due.specs.Streams.{Streams}
+use Rattle.pip_command_contracts.specs.EndsBy.{EndsBy}
+use Rattle.pip_command_contracts.specs.Streams.{Streams}
 
 -- what `core` writes of a tree's frames after this many steps
 abbrev pub core_of : Tree → ℕ → List ℕ

@@ -21,19 +21,19 @@ use Rattle.pip_model.specs.Tree.{Tree}
 use Rattle.pip_model.specs.Worlds.{World}
 use Rattle.pip_model.specs.declared.image.ImageError.{ImageError}
 use Rattle.pip_model.specs.declared.script.ScriptLine.TheVariants.{Boot}
-use Rattle.pip_watch.specs.Watching.{native_text, native_world}
+use Rattle.pip_native_run.specs.Watching.{native_text, native_world}
 use Rattle.pip_children.specs.Dues.{children_due}
 use Rattle.pip_words.specs.Usage.{unknown_due}
 use Rattle.pip_commands.specs.AuditTexts.{bad_line, differs_line, unread_line, unsound_line, yes_line}
-use Rattle.pip_due.specs.EndsBy.{Due, Response, plainly}
+use Rattle.pip_command_contracts.specs.EndsBy.{Due, Response, plainly}
 use Rattle.pip_commands.specs.Faults.{asm_line}
-use Rattle.pip_due.specs.Faults.{image_line}
+use Rattle.pip_command_contracts.specs.Faults.{image_line}
 use Rattle.pip_commands.specs.Words.{usage}
 use Rattle.pip_commands.specs.declared.commands.run.report.Report.{Report}
 use Rattle.pip_commands.specs.declared.commands.run.report.Report.TheVariants as R
 use Rattle.pip_commands.specs.declared.words.Command.{Command}
 use Rattle.pip_commands.specs.declared.words.Command.TheVariants as C
-use Rattle.pip_due.specs.ImageDues.{IsHeaderText, image_due, without_reading}
+use Rattle.pip_command_contracts.specs.ImageDues.{IsHeaderText, image_due, without_reading}
 
 -- `soak`: the text of the load, and its last world
 abbrev pub soak_due : ℕ → ℕ → Due

@@ -5,7 +5,7 @@ use Rattle.pip_input.specs.Lines.{IsLineless}
 use Rattle.pip_io.specs.Pacing.{MayRead}
 use Rattle.pip_io.specs.Taken.{Taken, Keeps}
 use Rattle.pip_io.specs.Histories.{writing}
-use Rattle.pip_due.specs.Streams.{Streams, beside}
+use Rattle.pip_command_contracts.specs.Streams.{Streams, beside}
 
 -- while no line of a script stands in what is held, more may be read, once all that was given to be written is out
 abbrev pub MayReadLine : (Streams → Type 0) → Held → Streams → Type 0

@@ -15,10 +15,10 @@ use Rattle.pip_model.specs.Grammar.{lines_of}
 use Rattle.pip_model.specs.Text.{Transcript, finished, bad_at, text_before, line_text, transcript_from}
 use Rattle.pip_model.specs.Worlds.{World}
 use Rattle.pip_switch.specs.Standing.{State}
-use Rattle.pip_due.specs.Machines.{StandsIfAny}
+use Rattle.pip_command_contracts.specs.Machines.{StandsIfAny}
 use Rattle.pip_commands.specs.Runs.{Boots}
 use Rattle.pip_commands.specs.Dues.{IsJudged, max_input}
-use Rattle.pip_due.specs.Streams.{IsCalm, Streams}
+use Rattle.pip_command_contracts.specs.Streams.{IsCalm, Streams}
 use Rattle.pip_commands.specs.declared.commands.script.line.ScriptLineError.{ScriptLineError}
 use Rattle.pip_commands.specs.declared.commands.script.line.ScriptLineError.TheVariants.{Bad, Write, Memory}
 use Rattle.pip_commands.specs.declared.commands.script.turn.End.{End}

@@ -1,9 +1,10 @@
 //! The commands of the program, over any source and any sink.
 //!
 //! [`pip`] and the nine commands carry the headline: by the words and the status, what was read and what was written
-//! (`EndsBy` of pip_due, one record for all). What is due of a command, a value of `Due`, is in specs/Dues, which
-//! chooses it by the words. `words` reads the command line, `commands/` has a file for each command, where those that
-//! differ in their last step alone share one, and `text` has the lines that the commands write themselves.
+//! (`EndsBy` of pip_command_contracts, one record for all). What is due of a command, a value of `Due`, is in
+//! specs/Dues, which chooses it by the words. `words` reads the command line, `commands/` has a file for each command,
+//! where those that differ in their last step alone share one, and `text` has the lines that the commands write
+//! themselves.
 //!
 //! - `script`: `line` runs one line, over any port once there is one; `turn` takes a line from the input and runs it
 //!   (`LineComes`); the sink is flushed before more is read, and at the end. Between two turns `HasRun` holds: all
@@ -35,5 +36,5 @@ pub use commands::soak::soak;
 pub use laws::{law_core_audited, law_inputs_answered};
 pub use machines::new_machine;
 pub use monitor::MONITOR;
-pub use pip_due::Ended;
+pub use pip_command_contracts::Ended;
 pub use top::pip;

@@ -9,7 +9,7 @@ ghost use Rattle.pip_commands.specs.Faults.{asm_kind, asm_line};
 
 use arrayvec::ArrayString;
 use pip_audit::Verdict;
-use pip_due::push_decimal;
+use pip_command_contracts::push_decimal;
 use pip_model::AsmKind;
 use pip_script::{push_decimal as push_number, push_word};
 

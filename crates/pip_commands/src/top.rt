@@ -2,7 +2,7 @@
 ghost use Rattle.std.specs.Prelude.{map, string_bytes};
 ghost use Rattle.pip_commands.specs.Dues.{due_of};
 ghost use Rattle.pip_commands.specs.Words.{command_of};
-ghost use Rattle.pip_due.specs.Commands.{Fulfils, MayStart};
+ghost use Rattle.pip_command_contracts.specs.Commands.{Fulfils, MayStart};
 
 use crate::commands::asm::asm;
 use crate::commands::audit::audit;
@@ -12,7 +12,7 @@ use crate::commands::run::{core_dump, run, tree};
 use crate::commands::script::script;
 use crate::commands::soak::soak;
 use crate::words::{Command, read_words};
-use pip_due::Ended;
+use pip_command_contracts::Ended;
 use pip_io::{Sink, Source};
 use pip_words::show_usage;
 use std::alloc::Global;

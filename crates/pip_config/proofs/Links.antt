@@ -53,8 +53,7 @@ module _ (m : Memory) (first : ℕ) (more new : List Pair) (slot : ℕ → Table
         word_at-put_words_frame m (list_frame first more j) 0 (q.frame ∷ q.va ∷ []) (list_frame first more k) i
         list.shape here (omega arith) (λ e. ne (list.apart k j k_in j_in e))
         ∙ (list.each k i k_in i_in ∙ sym (word_link new more slot k i (other k k_in ne)))
-    | inl e ↦ ap (λ z. word_at linked (list_frame first more z) i) e
-        ∙ (on_page i i_in ∙ ap (λ z. page_word new slot z i) (sym e))
+    | inl e ↦ rw (e, on_page i i_in, ← e)
   ]
 
   linked_count : length linked ≡ length m
@@ -85,11 +84,11 @@ length_more more q = length-append more (q ∷ [])
 pub frame_old : (first : ℕ) (more : List Pair) (q : Pair) (k : ℕ) → k ≤ length more
     → list_frame first (more ++ q ∷ []) k ≡ list_frame first more k
 frame_old first more q zero h = refl
-frame_old first more q (suc k) h = ap (λ (p : Pair). p.frame) (link_old more q k (omega arith))
+frame_old first more q (suc k) h = cc (link_old more q k (omega arith))
 
 pub frame_new : (first : ℕ) (more : List Pair) (q : Pair)
     → list_frame first (more ++ q ∷ []) (length more + 1) ≡ q.frame
-frame_new first more q = frame_next first (more ++ q ∷ []) (length more) ∙ ap (λ (p : Pair). p.frame) (link_last more q)
+frame_new first more q = rw (frame_next first (more ++ q ∷ []) (length more), link_last more q)
 
 -- ---- a list without slots
 
@@ -100,12 +99,11 @@ unfolding slots
 empty_list m f shape inside zeros = record {
   pages = record {
     shape = shape;
-    inside = λ k h. let z : k ≡ 0 = omega arith in subst (λ j. list_frame f [] j < length m) (sym z) inside;
+    inside = λ k h. let z : k ≡ 0 = omega arith in rw z inside;
     apart = λ j k j_in k_in e. omega arith;
     each = λ k i k_in i_in.
         let z : k ≡ 0 = omega arith in
-        ap (λ j. word_at m (list_frame f [] j) i) z
-        ∙ (zeros i i_in ∙ sym (word_none [] (slots []) k i (link_past [] k (omega arith)) (λ q h. refl)));
+        cc (zeros i i_in, word_none [] (slots []) k i (link_past [] k (omega arith)) (λ q h. refl));
   };
   room = omega arith;
   small = All-nil HasSmallFrames;
@@ -136,10 +134,10 @@ module _ (m : Memory) (first : ℕ) (more : List Pair) (ts : List Table) (list :
 
   none : (j : ℕ) → 170 * (length more + 1) ≤ j → slots ts j ≡ no_table
   unfolding slots
-  none j h = get_or_past ts j no_table (let r = list.room in omega arith)
+  none j h = get_or_past ts j no_table (omega arith)
 
   new_page : (k : ℕ) → k ≡ length more + 1 → list_frame first longer k ≡ q.frame
-  new_page k e = ap (list_frame first longer) e ∙ frame_new first more q
+  new_page k e = rw (e, frame_new first more q)
 
   -- the page's words are those of a last page without slots
   new_word : (k i : ℕ) → k ≡ length more + 1 → i < 1024
@@ -157,19 +155,19 @@ module _ (m : Memory) (first : ℕ) (more : List Pair) (ts : List Table) (list :
       record {
         shape = linked_shape m first more longer (slots ts) list.pages (length more) q last_in (link_last more q) other;
         inside = λ k h. elim (old_or_new k h) [
-          | inl low ↦ let i = list.pages.inside k low in let e = frame_old first more q k low in omega arith
-          | inr e ↦ let i = fresh.inside in let p = new_page k e in omega arith
+          | inl low ↦ omega (arith, list.pages.inside k low, frame_old first more q k low)
+          | inr e ↦ omega (arith, new_page k e)
         ];
         apart = λ j k j_in k_in e. elim (old_or_new j j_in) [
           | inl j_low ↦ elim (old_or_new k k_in) [
             | inl k_low ↦ list.pages.apart j k j_low k_low
-                (sym (frame_old first more q j j_low) ∙ (e ∙ frame_old first more q k k_low))
+                (rw (← frame_old first more q j j_low, e, frame_old first more q k k_low))
             | inr k_is ↦
-                absurd (fresh.further j j_low (sym (new_page k k_is) ∙ (sym e ∙ frame_old first more q j j_low)))
+                absurd (fresh.further j j_low (rw (← new_page k k_is, ← e, frame_old first more q j j_low)))
           ]
           | inr j_is ↦ elim (old_or_new k k_in) [
-            | inl k_low ↦ absurd (fresh.further k k_low (sym (new_page j j_is) ∙ (e ∙ frame_old first more q k k_low)))
-            | inr k_is ↦ j_is ∙ sym k_is
+            | inl k_low ↦ absurd (fresh.further k k_low (rw (← new_page j j_is, e, frame_old first more q k k_low)))
+            | inr k_is ↦ cc
           ]
         ];
         each = λ k i k_in i_in. elim (old_or_new k k_in) [
@@ -182,8 +180,7 @@ module _ (m : Memory) (first : ℕ) (more : List Pair) (ts : List Table) (list :
   ListIn-append : ListIn appended first longer ts
   ListIn-append = record {
     pages = PagesIn-append;
-    room = let n = long in let r = list.room in
-        omega arith;
+    room = omega (arith, long);
     small = list.small;
   }
 
@@ -199,11 +196,11 @@ pub append_list : (m n : Memory) (first : ℕ) (more : List Pair) (ts : List Tab
     → IsFresh m first more q.frame → (k page : ℕ) → k ≡ length more → page ≡ list_frame first more k
     → n ≡ put_words m page 0 (q.frame ∷ q.va ∷ []) → ListIn n first (more ++ q ∷ []) ts × ListStays first more m n
 append_list m n first more ts list q fresh k page last page_is is =
-    let at : page ≡ list_frame first more (length more) = page_is ∙ ap (list_frame first more) last in
+    let at : page ≡ list_frame first more (length more) = rw (page_is, last) in
     let same : put_words m (list_frame first more (length more)) 0 (q.frame ∷ q.va ∷ []) ≡ n =
-    ap (λ f. put_words m f 0 (q.frame ∷ q.va ∷ [])) (sym at) ∙ sym is in (
-      subst (λ k. ListIn k first (more ++ q ∷ []) ts) same (ListIn-append m first more ts list q fresh),
-      subst (λ k. ListStays first more m k) same (ListStays-append m first more ts list q fresh),
+    rw (← at, ← is) in (
+      rw (← same) (ListIn-append m first more ts list q fresh),
+      rw (← same) (ListStays-append m first more ts list q fresh),
     )
 
 -- ---- a page less
@@ -217,12 +214,12 @@ module _ (m : Memory) (first : ℕ) (more : List Pair) (q : Pair) (ts : List Tab
   whole_length = length_more more q
 
   before_in : length more ≤ length whole
-  before_in = let n = whole_length in omega arith
+  before_in = omega (arith, whole_length)
 
   kept : (k : ℕ) → k ≤ length whole → k ≢ length more → next_list_page more k ≡ next_list_page whole k
   kept k h ne = elim (cases_lt k (length more)) [
     | inl low ↦ sym (link_old more q k low)
-    | inr high ↦ link_past more k high ∙ sym (link_past whole k (let n = whole_length in omega arith))
+    | inr high ↦ cc (link_past more k high, link_past whole k (let n = whole_length in omega arith))
   ]
 
   last_gone : next_list_page more (length more) ≡ own 0
@@ -239,7 +236,7 @@ module _ (m : Memory) (first : ℕ) (more : List Pair) (q : Pair) (ts : List Tab
           inside = λ k h. let l = whole_length in let i = list.pages.inside k (omega arith) in
               let e = frame_old first more q k h in omega arith;
           apart = λ j k j_in k_in e. let l = whole_length in list.pages.apart j k (omega arith) (omega arith)
-              (frame_old first more q j j_in ∙ (e ∙ sym (frame_old first more q k k_in)));
+              (rw (frame_old first more q j j_in, e, ← frame_old first more q k k_in));
           each = λ k i k_in i_in. let l = whole_length in
               ap (λ f. word_at popped f i) (sym (frame_old first more q k k_in))
               ∙ linked_word m first whole more (slots ts)
@@ -265,11 +262,10 @@ pub pop_list : (m n : Memory) (first : ℕ) (more : List Pair) (q : Pair) (ts : 
     → ListIn n first more ts × ListStays first more m n
 pop_list m n first more q ts list room k page before page_is blank is_zero is =
     let at : page ≡ list_frame first (more ++ q ∷ []) (length more) =
-    page_is ∙ ap (list_frame first (more ++ q ∷ [])) before in
-    let same : put_words m (list_frame first (more ++ q ∷ []) (length more)) 0 (0 ∷ 0 ∷ []) ≡ n = ap (λ f.
-    put_words m f 0 (0 ∷ 0 ∷ [])) (sym at) ∙ (ap (λ z. put_words m page 0 (z ∷ 0 ∷ [])) (sym is_zero) ∙ sym is) in (
-      subst (λ k. ListIn k first more ts) same (ListIn-pop m first more q ts list room),
-      subst (λ k. ListStays first more m k) same (ListStays-pop m first more q ts list room),
+    rw (page_is, before) in
+    let same : put_words m (list_frame first (more ++ q ∷ []) (length more)) 0 (0 ∷ 0 ∷ []) ≡ n = cc in (
+      rw (← same) (ListIn-pop m first more q ts list room),
+      rw (← same) (ListStays-pop m first more q ts list room),
     )
 
 -- the pair of the last page is read from the page before it
@@ -279,7 +275,7 @@ pub last_read : (m : Memory) (first : ℕ) (more : List Pair) (q : Pair) (ts : L
 last_read m first more q ts list k page before page_is r w va frame word =
     let n = length_more more q in
     let at : page ≡ list_frame first (more ++ q ∷ []) (length more) =
-    page_is ∙ ap (list_frame first (more ++ q ∷ [])) before in
+    rw (page_is, before) in
     let last = link_last more q in
     same_pair r q
     (va ∙ (ap (λ f. word_at m f 1) at ∙ (list.pages.each (length more) 1 (omega arith) (omega arith)
@@ -288,28 +284,3 @@ last_read m first more q ts list k page before page_is r w va frame word =
     ∙ (word_frame (more ++ q ∷ []) (slots ts) (length more) ∙ ap (λ (p : Pair). p.frame) last)))))
 
 -- ---- between two calls
-
--- where no word of its pages changes, the list stays
-pub ListIn-kept : (m n : Memory) (first : ℕ) (more : List Pair) (ts : List Table) → ListIn m first more ts → IsMemory n
-    → length n ≡ length m
-    → ((k i : ℕ) → k ≤ length more → i < 1024
-    → word_at n (list_frame first more k) i ≡ word_at m (list_frame first more k) i) → ListIn n first more ts
-ListIn-kept m n first more ts list shape count same = record {
-  pages = record {
-    shape = shape;
-    inside = λ k h. let i = list.pages.inside k h in omega arith;
-    apart = list.pages.apart;
-    each = λ k i k_in i_in. same k i k_in i_in ∙ list.pages.each k i k_in i_in;
-  };
-  room = list.room;
-  small = list.small;
-}
-
--- what changes pages of a list alone changes pages of a longer list alone
-pub ListStays-longer : (first : ℕ) (more : List Pair) (q : Pair) (m n : Memory) → ListStays first more m n
-    → ListStays first (more ++ q ∷ []) m n
-ListStays-longer first more q m n stay = record {
-  count = stay.count;
-  words = λ f i off. stay.words f i (λ k h e. let l = length_more more q in
-      off k (omega arith) (e ∙ sym (frame_old first more q k h)));
-}

@@ -37,7 +37,7 @@ list_apart : (x : Node) → Distinct (config x) → (j k : ℕ) → j ≤ length
 list_apart x d j k j_in k_in e =
     let a = role_of_list x d j j_in in
     let b = role_of_list x d k k_in in
-    let same : Some (ListPage j) ≡ Some (ListPage k) = sym a ∙ (ap (role x) e ∙ b) in
+    let same : Some (ListPage j) ≡ Some (ListPage k) = rw (← a, e, b) in
     cc
 
 in_slots : (ts : List Table) (i : ℕ) (none : Table) → i < length ts → In (get_or ts i none) ts
@@ -59,27 +59,14 @@ module _ (m : Memory) (x : Node) (cells : Level → ℕ → ℕ) (n : NodeIn m x
   node_list room = record {
     pages = record {
       shape = n.shape;
-      inside = λ k h. let i = list_inside m x cells n k h in let e = node_page x k in omega arith;
-      apart = λ j k j_in k_in e. list_apart x n.once j k j_in k_in (sym (node_page x j) ∙ (e ∙ node_page x k));
-      each = λ k i k_in i_in. ap (λ f. word_at m f i) (node_page x k) ∙ read_list m x cells n k k_in i i_in;
+      inside = λ k h. omega (arith, list_inside m x cells n k h, node_page x k);
+      apart = λ j k j_in k_in e. list_apart x n.once j k j_in k_in (rw (← node_page x j, e, node_page x k));
+      each = λ k i k_in i_in. rw (node_page x k, read_list m x cells n k k_in i i_in);
     };
     room = room;
     small = All-from_get_or HasSmallFrames x.tables no_table
         (λ i h. small_table (get_or x.tables i no_table) (in_slots x.tables i no_table h));
   }
-
-  -- what the calls ask for
-  pub node_has_list : lists (length x.tables) ≤ length x.more + 1 → HasList m x.base.list.frame (length x.tables)
-  node_has_list room = record { more = x.more; tables = x.tables; is_in = node_list room; count = refl }
-
-  pub node_has_room : lists (length x.tables + 1) ≤ length x.more + 1
-      → HasRoomInList m x.base.list.frame (length x.tables)
-  node_has_room room =
-      let less : lists (length x.tables) ≤ length x.more + 1 = omega arith in
-      record { list = record { more = x.more; tables = x.tables; is_in = node_list less; count = refl }; room = room }
-
-  pub node_has_pages : lists (length x.tables) ≤ length x.more + 1 → HasPages m x.base.list.frame (length x.more + 1)
-  node_has_pages room = record { more = x.more; tables = x.tables; is_in = node_list room; count = refl }
 
 -- ---- the place of a node's table
 
@@ -99,7 +86,7 @@ module _ (m : Memory) (x : Node) (cells : Level → ℕ → ℕ) (n : NodeIn m x
   one_frame t i e =
       let at = role_of_table x n.once Mmu t i in
       let here = role_of_table x n.once Mmu b b_in in
-      let same : Some (TablePage Mmu t.index) ≡ Some (TablePage Mmu b.index) = sym at ∙ (ap (role x) e ∙ here) in
+      let same : Some (TablePage Mmu t.index) ≡ Some (TablePage Mmu b.index) = rw (← at, e, here) in
       let index : t.index ≡ b.index = cc in
       one_index t i index
 
@@ -114,7 +101,7 @@ module _ (m : Memory) (x : Node) (cells : Level → ℕ → ℕ) (n : NodeIn m x
         let (j, j_in, at) = member_place x.tables b b_in in
         let off : is_b (get_or x.tables j no_table) ≡ false =
         fails_before_first is_b x.tables j no_table (omega arith) in
-        let on : is_b (get_or x.tables j no_table) ≡ true = eq-eqb _ _ (ap (λ (t : Table). t.mmu.frame) at) in
+        let on : is_b (get_or x.tables j no_table) ≡ true = eq-eqb _ _ (rw at) in
         absurd (both_ways (is_b (get_or x.tables j no_table)) off on)
   ]
 
@@ -124,7 +111,7 @@ module _ (m : Memory) (x : Node) (cells : Level → ℕ → ℕ) (n : NodeIn m x
     position_or_len is_b x.tables,
     record {
       is_first = let inside : nat_lt (position_or_len is_b x.tables) (length x.tables) ≡ true =
-          lt-ltb _ _ least_inside in ap (λ q. cond q (Some (position_or_len is_b x.tables)) None) inside;
+          lt-ltb _ _ least_inside in rw inside;
       inside = least_inside;
       is_table = one_frame (get_or x.tables (position_or_len is_b x.tables) no_table)
           (in_slots x.tables (position_or_len is_b x.tables) no_table least_inside)
@@ -134,7 +121,7 @@ module _ (m : Memory) (x : Node) (cells : Level → ℕ → ℕ) (n : NodeIn m x
           let same : get_or x.tables j no_table ≡ b =
           one_index (get_or x.tables j no_table) (in_slots x.tables j no_table (omega arith)) e in
           let off : is_b (get_or x.tables j no_table) ≡ false = fails_before_first is_b x.tables j no_table j_in in
-          let on : is_b (get_or x.tables j no_table) ≡ true = eq-eqb _ _ (ap (λ (t : Table). t.mmu.frame) same) in
+          let on : is_b (get_or x.tables j no_table) ≡ true = eq-eqb _ _ (rw same) in
           both_ways (is_b (get_or x.tables j no_table)) off on;
     },
   )
@@ -148,14 +135,14 @@ listed_room x e = omega arith
 module _ (n : Memory) (x : Node) (list : ListIn n x.base.list.frame x.more x.tables) where
   -- the words of a list page are the node's
   pub list_words : (k i : ℕ) → k ≤ length x.more → i < 1024 → word_at n (list_page x k).frame i ≡ list_word x k i
-  list_words k i k_in i_in = ap (λ f. word_at n f i) (sym (node_page x k)) ∙ list.pages.each k i k_in i_in
+  list_words k i k_in i_in = rw (← node_page x k, list.pages.each k i k_in i_in)
 
   -- so are those of a page whose role it is
   pub list_role_words : (cells : Level → ℕ → ℕ) (f k i : ℕ) → role x f ≡ Some (ListPage k) → i < 1024
       → word_at n f i ≡ role_word x cells (ListPage k) i
   unfolding role_word
   list_role_words cells f k i e i_in = let (k_in, at) = list_role_back x k f e in
-      ap (λ g. word_at n g i) at ∙ list_words k i k_in i_in
+      rw (at, list_words k i k_in i_in)
 
 module _ (x : Node) (m n : Memory) (d : Distinct (config x)) (stay : ListStays x.base.list.frame x.more m n) where
   -- frames that aren't the node's stay
@@ -163,14 +150,14 @@ module _ (x : Node) (m n : Memory) (d : Distinct (config x)) (stay : ListStays x
   list_others = record {
     count = stay.count;
     words = λ f i off. stay.words f i
-        (λ k k_in e. off (role_config x f (ListPage k) (ap (role x) (e ∙ node_page x k) ∙ role_of_list x d k k_in)));
+        (λ k k_in e. off (role_config x f (ListPage k) (rw (e, node_page x k, role_of_list x d k k_in))));
   }
 
   -- so do its pages of other roles
   pub other_roles : (f i : ℕ) (r : Role) → role x f ≡ Some r → ((k : ℕ) → r ≢ ListPage k)
       → word_at n f i ≡ word_at m f i
   other_roles f i r e other = stay.words f i
-      (λ k k_in at. other k (same k (sym e ∙ (ap (role x) (at ∙ node_page x k) ∙ role_of_list x d k k_in))))
+      (λ k k_in at. other k (same k (rw (← e, at, node_page x k, role_of_list x d k k_in))))
     where
       same : (k : ℕ) → Some r ≡ Some (ListPage k) → r ≡ ListPage k
       same k h = cc
@@ -181,7 +168,7 @@ module _ (x : Node) (m n : Memory) (d : Distinct (config x)) (stay : ListStays x
 pub front_of-append : {A : Type 0} → (xs : List A) (y : A) → front_of (xs ++ y ∷ []) ≡ xs
 front_of-append [] y = refl
 front_of-append (x ∷ []) y = refl
-front_of-append (x ∷ z ∷ xs) y = ap (λ ws. x ∷ ws) (front_of-append (z ∷ xs) y)
+front_of-append (x ∷ z ∷ xs) y = rw (front_of-append (z ∷ xs) y)
 
 pub last_pair-append : (gs : List Pair) (g : Pair) → last_pair (gs ++ g ∷ []) ≡ g ∷ []
 last_pair-append [] g = refl
@@ -191,7 +178,7 @@ last_pair-append (h ∷ k ∷ gs) g = last_pair-append (k ∷ gs) g
 -- a list that isn't empty has a last
 pub last_split : {A : Type 0} → (x : A) (xs : List A) → (ys : List A) × (y : A) × (x ∷ xs ≡ ys ++ y ∷ [])
 last_split x [] = ([], x, refl)
-last_split x (z ∷ xs) = let (ys, y, e) = last_split z xs in (x ∷ ys, y, ap (λ ws. x ∷ ws) e)
+last_split x (z ∷ xs) = let (ys, y, e) = last_split z xs in (x ∷ ys, y, rw e)
 
 last_of-append : (t : Table) (ts : List Table) (u : Table) → last_of t (ts ++ u ∷ []) ≡ u
 last_of-append t [] u = refl
@@ -210,26 +197,6 @@ swap_out-set [] t (suc k) i h at before = absurd (omega arith)
 swap_out-set (u ∷ ts) t zero i h at before = rw (eq-eqb u.index i at) (last_first-append ts t)
 swap_out-set (u ∷ ts) t (suc k) i h at before =
     rw (ne_eqb u.index i (before 0 (omega arith)))
-    (ap (λ ws. u ∷ ws) (swap_out-set ts t k i (omega arith) at (λ j j_in. before (suc j) (omega arith))))
+    (rw (swap_out-set ts t k i (omega arith) at (λ j j_in. before (suc j) (omega arith))))
 
 -- ---- the page that goes
-
-module _ (m : Memory) (first : ℕ) (more : List Pair) (p : Pair) (ts : List Table)
-    (list : ListIn m first (more ++ p ∷ []) ts) where
-  -- it is none of the pages that stay
-  pub popped_further : (k : ℕ) → k ≤ length more → p.frame ≢ list_frame first more k
-  popped_further k h e =
-      let n = length_more more p in
-      let same : length more + 1 ≡ k = list.pages.apart (length more + 1) k (omega arith) (omega arith)
-      (frame_new first more p ∙ (e ∙ sym (frame_old first more p k h))) in
-      omega arith
-
-  -- where no slot is in it, its words are 0
-  pub popped_zeros : lists (length ts) ≤ length more + 1 → (i : ℕ) → i < 1024 → word_at m p.frame i ≡ 0
-  unfolding slots
-  popped_zeros room i h =
-      let n = length_more more p in
-      ap (λ f. word_at m f i) (sym (frame_new first more p))
-      ∙ (list.pages.each (length more + 1) i (omega arith) h
-      ∙ word_none (more ++ p ∷ []) (slots ts) (length more + 1) i (link_past (more ++ p
-      ∷ []) (length more + 1) (omega arith)) (λ q q_in. get_or_past ts q no_table (omega arith)))

@@ -32,8 +32,7 @@ word_va more slot k = refl
 pub word_link : (a b : List Pair) (slot : ℕ → Table) (k i : ℕ) → next_list_page a k ≡ next_list_page b k
     → page_word a slot k i ≡ page_word b slot k i
 unfolding page_word
-word_link a b slot k i e = ap (λ (p : Pair). if i == 0 then p.frame else if i == 1 then p.va
-    else if nat_lt i 1022 then slice_index (slot_words (slot (170 * k + (i - 2) / 6))) ((i - 2) % 6) else 0) e
+word_link a b slot k i e = rw e
 
 -- after the two words of the link, the link says nothing
 pub word_after : (a b : List Pair) (slot : ℕ → Table) (k i : ℕ) → i ≢ 0 → i ≢ 1
@@ -55,12 +54,11 @@ pub word_none : (more : List Pair) (slot : ℕ → Table) (k i : ℕ) → next_l
     → ((q : ℕ) → 170 * k ≤ q → slot q ≡ no_table) → page_word more slot k i ≡ 0
 unfolding page_word
 word_none more slot k i e none = elim (cases_eq i 0) [
-  | inl z ↦ rw (eq-eqb i 0 z) (ap (λ (p : Pair). p.frame) e)
+  | inl z ↦ rw (eq-eqb i 0 z) (rw e)
   | inr not_zero ↦ rw (ne_eqb i 0 not_zero) (elim (cases_eq i 1) [
-    | inl z ↦ rw (eq-eqb i 1 z) (ap (λ (p : Pair). p.va) e)
+    | inl z ↦ rw (eq-eqb i 1 z) (rw e)
     | inr not_one ↦ rw (ne_eqb i 1 not_one) (elim (cases_lt i 1022) [
-      | inl low ↦ rw (lt-ltb i 1022 low) (ap (λ (t : Table). slice_index (slot_words t)
-          ((i - 2) % 6)) (none (170 * k + (i - 2) / 6) (omega arith)) ∙ no_table_word ((i - 2) % 6))
+      | inl low ↦ rw (lt-ltb i 1022 low) (rw (none (170 * k + (i - 2) / 6) (omega arith), no_table_word ((i - 2) % 6)))
       | inr high ↦ rw (le-ltb i 1022 high) refl
     ])
   ])
@@ -77,33 +75,29 @@ word_slot more slot j i h =
     let place : 170 * (j / 170) + (2 + 6 * (j % 170) + i - 2) / 6 ≡ j = omega arith in
     let field : (2 + 6 * (j % 170) + i - 2) % 6 ≡ i = omega arith in
     rw (ne_eqb (2 + 6 * (j % 170) + i) 0 not_zero, ne_eqb (2 + 6 * (j % 170) + i) 1 not_one, low)
-    (ap (λ (q : ℕ). slice_index (slot_words (slot q)) ((2 + 6 * (j % 170) + i - 2) % 6)) place
-    ∙ ap (slice_index (slot_words (slot j))) field)
+    (rw (place, field))
 
 -- ---- frames
 
 -- the page after page k
 pub frame_next : (first : ℕ) (more : List Pair) (k : ℕ) → list_frame first more (k + 1) ≡ (next_list_page more k).frame
-frame_next first more k = let e : k + 1 ≡ suc k = omega arith in ap (list_frame first more) e
+frame_next first more k = let e : k + 1 ≡ suc k = omega arith in rw e
 
 module _ (m : Memory) (first : ℕ) (more : List Pair) (slot : ℕ → Table) (list : PagesIn m first more slot)
     (k page : ℕ) (page_is : page ≡ list_frame first more k) where
   -- a page is a frame of the memory
   pub page_inside : k ≤ length more → page < length m
-  page_inside h = let i = list.inside k h in subst (λ f. f < length m) (sym page_is) i
+  page_inside h = let i = list.inside k h in rw page_is i
 
   -- word 0 of a page that isn't the last
   pub next_is : k < length more → word_at m page 0 ≡ list_frame first more (k + 1)
-  next_is h = ap (λ f. word_at m f 0) page_is
-      ∙ (list.each k 0 (omega arith) (omega arith) ∙ (word_frame more slot k ∙ sym (frame_next first more k)))
+  next_is h = rw (page_is, list.each k 0 (omega arith) (omega arith), word_frame more slot k, ← frame_next first more k)
 
   -- a word of a slot of the page
   pub slot_word : (j i : ℕ) → k ≡ j / 170 → k ≤ length more → i < 6
       → word_at m page (2 + 6 * (j % 170) + i) ≡ slice_index (slot_words (slot j)) i
   slot_word j i at h i_in =
-      ap (λ f. word_at m f (2 + 6 * (j % 170) + i)) page_is
-      ∙ (list.each k (2 + 6 * (j % 170) + i) h (omega arith)
-      ∙ (ap (λ z. page_word more slot z (2 + 6 * (j % 170) + i)) at ∙ word_slot more slot j i i_in))
+      rw (page_is, list.each k (2 + 6 * (j % 170) + i) h (omega arith), at, word_slot more slot j i i_in)
 
 -- word 0 of a page that isn't the last is a frame's number
 pub next_small : (m : Memory) (first : ℕ) (more : List Pair) (slot : ℕ → Table) → PagesIn m first more slot
@@ -112,7 +106,7 @@ pub next_small : (m : Memory) (first : ℕ) (more : List Pair) (slot : ℕ → T
 next_small m first more slot list k page w page_is is h few =
     let w_is : w ≡ list_frame first more (k + 1) = is ∙ next_is m first more slot list k page page_is h in
     let i = list.inside (k + 1) (omega arith) in
-    subst (λ j. j < 2 ^ 20) (sym w_is) (omega arith)
+    rw w_is (omega arith)
 
 -- word 0 of the last page is 0, so the link of each page is a frame's number
 pub link_small : (m : Memory) (first : ℕ) (more : List Pair) (slot : ℕ → Table) → PagesIn m first more slot

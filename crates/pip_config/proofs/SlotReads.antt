@@ -18,8 +18,7 @@ use Rattle.pip_config.proofs.PageWords.{link_small, next_is, page_inside, same_p
 module _ (m : Memory) (first n k page : ℕ) (more : List Pair) (ts : List Table) (list : ListIn m first more ts)
     (count : length ts ≡ n) (k_in : k < n) (page_is : page ≡ list_frame first more (k / 170)) where
   word_is : (i : ℕ) → i < 6 → word_at m page (2 + 6 * (k % 170) + i) ≡ slice_index (slot_words (slots ts k)) i
-  word_is i h = slot_word m first more (slots ts) list.pages (k / 170) page page_is k i refl (let r = list.room in
-      omega arith) h
+  word_is i h = slot_word m first more (slots ts) list.pages (k / 170) page page_is k i refl (omega arith) h
 
   small : HasSmallFrames (slots ts k)
   unfolding slots
@@ -33,13 +32,13 @@ module _ (m : Memory) (first n k page : ℕ) (more : List Pair) (ts : List Table
 
   -- the three words that are frames
   pub small_mmu : word_at m page (2 + 6 * (k % 170) + 1) < 2 ^ 20
-  small_mmu = subst (λ w. w < 2 ^ 20) (sym (word_is 1 (omega arith))) small.mmu
+  small_mmu = rw (word_is 1 (omega arith)) small.mmu
 
   pub small_shadow1 : word_at m page (2 + 6 * (k % 170) + 2 + 1) < 2 ^ 20
-  small_shadow1 = subst (λ w. w < 2 ^ 20) (sym (ap (word_at m page) second ∙ word_is 3 (omega arith))) small.shadow1
+  small_shadow1 = rw (second, word_is 3 (omega arith)) small.shadow1
 
   pub small_shadow2 : word_at m page (2 + 6 * (k % 170) + 4 + 1) < 2 ^ 20
-  small_shadow2 = subst (λ w. w < 2 ^ 20) (sym (ap (word_at m page) third ∙ word_is 5 (omega arith))) small.shadow2
+  small_shadow2 = rw (third, word_is 5 (omega arith)) small.shadow2
 
   -- three pairs that were read are the table's
   pub slot_is : (a b c : Pair) → a.va ≡ word_at m page (2 + 6 * (k % 170))
@@ -50,11 +49,11 @@ module _ (m : Memory) (first n k page : ℕ) (more : List Pair) (ts : List Table
   slot_is a b c a0 a1 b0 b1 c0 c1 =
       let start : 2 + 6 * (k % 170) ≡ 2 + 6 * (k % 170) + 0 = omega arith in
       let one : a ≡ (slots ts k).mmu = same_pair a (slots ts k).mmu
-      (a0 ∙ (ap (word_at m page) start ∙ word_is 0 (omega arith))) (a1 ∙ word_is 1 (omega arith)) in
+      (rw (a0, start, word_is 0 (omega arith))) (a1 ∙ word_is 1 (omega arith)) in
       let two : b ≡ (slots ts k).shadow1 = same_pair b (slots ts k).shadow1 (b0 ∙ word_is 2 (omega arith))
-      (b1 ∙ (ap (word_at m page) second ∙ word_is 3 (omega arith))) in
+      (rw (b1, second, word_is 3 (omega arith))) in
       let three : c ≡ (slots ts k).shadow2 = same_pair c (slots ts k).shadow2 (c0 ∙ word_is 4 (omega arith))
-      (c1 ∙ (ap (word_at m page) third ∙ word_is 5 (omega arith))) in
+      (rw (c1, third, word_is 5 (omega arith))) in
       rw (one, two, three) refl
 
 -- ---- the page of slot k, from that of the slot before
@@ -62,7 +61,7 @@ module _ (m : Memory) (first n k page : ℕ) (more : List Pair) (ts : List Table
 module _ (m : Memory) (first k page : ℕ) (more : List Pair) (ts : List Table) (list : ListIn m first more ts)
     (k_in : k < length ts) (page_is : page ≡ list_frame first more ((k - 1) / 170)) where
   before_in : (k - 1) / 170 ≤ length more
-  before_in = let r = list.room in omega arith
+  before_in = omega arith
 
   -- the page before is a frame
   pub before_inside : page < length m
@@ -79,20 +78,17 @@ module _ (m : Memory) (first k page : ℕ) (more : List Pair) (ts : List Table) 
     page_of = elim (cases_lt ((k - 1) / 170) (k / 170)) [
       | inl low ↦
           let further : (k - 1) / 170 + 1 ≡ k / 170 = omega arith in
-          let inside : (k - 1) / 170 < length more = let r = list.room in omega arith in
-          next low ∙ (next_is m first more (slots ts) list.pages ((k - 1) / 170) page page_is inside
-          ∙ ap (list_frame first more) further)
-      | inr high ↦ let e : (k - 1) / 170 ≡ k / 170 = omega arith in same e ∙ (page_is ∙ ap (list_frame first more) e)
+          let inside : (k - 1) / 170 < length more = omega arith in
+          rw (next low, next_is m first more (slots ts) list.pages ((k - 1) / 170) page page_is inside, further)
+      | inr high ↦ let e : (k - 1) / 170 ≡ k / 170 = omega arith in rw (same e, page_is, e)
     ]
 
     pub page_of_inside : p < length m
-    page_of_inside = page_inside m first more (slots ts) list.pages (k / 170) p page_of (let r = list.room in
-        omega arith)
+    page_of_inside = page_inside m first more (slots ts) list.pages (k / 170) p page_of (omega arith)
 
     -- where the frame of the MMU table is
     pub page_of_word : word_at m p (2 + 6 * (k % 170) + 1) ≡ (slots ts k).mmu.frame
-    page_of_word = slot_word m first more (slots ts) list.pages (k / 170) p page_of k 1 refl (let r = list.room in
-        omega arith) (omega arith)
+    page_of_word = slot_word m first more (slots ts) list.pages (k / 170) p page_of k 1 refl (omega arith) (omega arith)
 
 -- ---- the least place
 
@@ -108,7 +104,7 @@ table_found ts f k h at before =
     position_or_len_is (is_at f) ts k no_table (omega arith) (λ j j_in. ne_eqb (slots ts j).mmu.frame f (before j j_in))
     (λ z. eq-eqb (slots ts k).mmu.frame f at) in
     let inside : nat_lt k (length ts) ≡ true = lt-ltb k (length ts) h in
-    sym (ap (λ n. cond (nat_lt n (length ts)) (Some n) None) least ∙ ap (λ b. cond b (Some k) None) inside)
+    cc
 
 pub table_absent : (ts : List Table) (f : ℕ) → ((j : ℕ) → j < length ts → (slots ts j).mmu.frame ≢ f)
     → None ≡ position (λ (t : Table). t.mmu.frame == f) ts
@@ -118,26 +114,26 @@ table_absent ts f none =
     position_or_len_is (is_at f) ts (length ts) no_table (omega arith)
     (λ j j_in. ne_eqb (slots ts j).mmu.frame f (none j j_in)) (λ z. absurd (omega arith)) in
     let outside : nat_lt (length ts) (length ts) ≡ false = le-ltb (length ts) (length ts) (omega arith) in
-    sym (ap (λ n. cond (nat_lt n (length ts)) (Some n) None) long ∙ ap (λ b. cond b (Some (length ts)) None) outside)
+    cc
 
 -- ---- a slot that was read
 
 module _ (t : Table) (ps : List Pair) (e : table_pairs t ≡ ps) where
   -- the frame of the first pair
   first_frame : (none : Pair) → (get_or ps 0 none).frame ≡ t.mmu.frame
-  first_frame none = ap (λ qs. (get_or qs 0 none).frame) (sym e)
+  first_frame none = rw (← e)
 
   second_frame : (none : Pair) → (get_or ps 1 none).frame ≡ t.shadow1.frame
-  second_frame none = ap (λ qs. (get_or qs 1 none).frame) (sym e)
+  second_frame none = rw (← e)
 
   third_frame : (none : Pair) → (get_or ps 2 none).frame ≡ t.shadow2.frame
-  third_frame none = ap (λ qs. (get_or qs 2 none).frame) (sym e)
+  third_frame none = rw (← e)
 
   -- the frames of pairs are small
   pub small_frames : (a b c : Pair) → (get_or ps 0 a).frame < 2 ^ 20 → (get_or ps 1 b).frame < 2 ^ 20
       → (get_or ps 2 c).frame < 2 ^ 20 → HasSmallFrames t
   small_frames a b c x y z = record {
-    mmu = subst (λ f. f < 2 ^ 20) (first_frame a) x;
-    shadow1 = subst (λ f. f < 2 ^ 20) (second_frame b) y;
-    shadow2 = subst (λ f. f < 2 ^ 20) (third_frame c) z;
+    mmu = rw (← first_frame a) x;
+    shadow1 = rw (← second_frame b) y;
+    shadow2 = rw (← third_frame c) z;
   }

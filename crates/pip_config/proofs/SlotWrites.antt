@@ -38,7 +38,7 @@ word_far more slot p t k i far = elim (cases_eq i 0) [
 word_here : (more : List Pair) (slot : ℕ → Table) (p : ℕ) (t : Table) (i : ℕ) → i < 6
     → page_word more (put_slot slot p t) (p / 170) (2 + 6 * (p % 170) + i) ≡ slice_index (slot_words t) i
 word_here more slot p t i h =
-    word_slot more (put_slot slot p t) p i h ∙ ap (λ u. slice_index (slot_words u) i) (here (cases_eq p p))
+    cc (word_slot more (put_slot slot p t) p i h, here (cases_eq p p))
   where
     here : (p ≡ p) ⊎ (p ≢ p) → put_slot slot p t p ≡ t
     here (inl e) = rw (eq-eqb p p e) refl
@@ -88,8 +88,7 @@ module _ (m : Memory) (first : ℕ) (more : List Pair) (slot : ℕ → Table) (l
         (list_frame first more k) i list.shape here fits (λ e. ne (list.apart k (p / 170) k_in low e))
         ∙ (list.each k i k_in i_in
         ∙ sym (word_far more slot p t k i (λ h z. let a = h.0 in let b = h.1 in ne (omega arith))))
-    | inl e ↦ ap (λ q. word_at written (list_frame first more q) i) e
-        ∙ (on_page i i_in ∙ ap (λ q. page_word more (put_slot slot p t) q i) (sym e))
+    | inl e ↦ rw (e, on_page i i_in, ← e)
   ]
 
   PagesIn-put : PagesIn written first more (put_slot slot p t)
@@ -97,7 +96,7 @@ module _ (m : Memory) (first : ℕ) (more : List Pair) (slot : ℕ → Table) (l
       record {
         shape =
             IsMemory-put_words m (list_frame first more (p / 170)) (2 + 6 * (p % 170)) (slot_words t) list.shape here;
-        inside = λ k h. let i = list.inside k h in omega arith;
+        inside = λ k h. omega arith;
         apart = list.apart;
         each = word_is;
       }
@@ -116,10 +115,9 @@ pub put_list : (m n : Memory) (first : ℕ) (more : List Pair) (slot : ℕ → T
     (2 + 6 * (p % 170)) (pair_words ps) → PagesIn n first more (put_slot slot p t) × ListStays first more m n
 put_list m n first more slot list p t low page ps page_is pairs_are n_is =
     let e : put_words m (list_frame first more (p / 170)) (2 + 6 * (p % 170)) (slot_words t) ≡ n =
-    ap (λ f. put_words m f (2 + 6 * (p % 170)) (slot_words t)) (sym page_is)
-    ∙ (ap (λ q. put_words m page (2 + 6 * (p % 170)) (pair_words q)) pairs_are ∙ sym n_is) in (
-      subst (λ k. PagesIn k first more (put_slot slot p t)) e (PagesIn-put m first more slot list p t low),
-      subst (λ k. ListStays first more m k) e (ListStays-put m first more slot list p t low),
+    cc in (
+      rw (← e) (PagesIn-put m first more slot list p t low),
+      rw (← e) (ListStays-put m first more slot list p t low),
     )
 
 -- ---- slots as lists
@@ -128,7 +126,7 @@ slots_push : (ts : List Table) (t : Table) (q : ℕ) → put_slot (slots ts) (le
 unfolding slots
 slots_push ts t q = elim (cases_eq q (length ts)) [
   | inl e ↦ rw (eq-eqb q (length ts) e)
-      (sym (ap (λ k. get_or (ts ++ t ∷ []) k no_table) e ∙ get_or-append_seam ts t [] no_table))
+      (cc (get_or-append_seam ts t [] no_table))
   | inr ne ↦ rw (ne_eqb q (length ts) ne) (sym (same (cases_lt q (length ts)) ne))
 ]
   where
@@ -143,12 +141,12 @@ slots_swap : (ts : List Table) (t : Table) (k q : ℕ) → k ≤ length ts
 unfolding slots
 slots_swap ts t k q h = elim (cases_eq q (length ts)) [
   | inl e ↦ rw (eq-eqb q (length ts) e)
-      (sym (get_or_past (slice_set ts k t) q no_table (let n = length-set ts k t in omega arith)))
+      (sym (get_or_past (slice_set ts k t) q no_table (omega (arith, length-set ts k t))))
   | inr ne ↦ rw (ne_eqb q (length ts) ne) (elim (cases_eq q k) [
     | inl e ↦
         let there : q < length ts = omega arith in
         rw (eq-eqb q k e)
-        (sym (ap (λ j. get_or (slice_set ts j t) q no_table) (sym e) ∙ get_or-set_same ts q t no_table there))
+        (cc (get_or-set_same ts q t no_table there))
     | inr off ↦ rw (ne_eqb q k off) (sym (get_or-set_other ts k q t no_table off ∙ elim (cases_lt q (length ts)) [
       | inl low ↦ sym (get_or_append_left ts (t ∷ []) no_table q low)
       | inr high ↦ get_or_past ts q no_table high
@@ -168,14 +166,14 @@ all_front ts t all = All-from_get_or HasSmallFrames ts no_table each
     each : (i : ℕ) → i < length ts → HasSmallFrames (get_or ts i no_table)
     each i h =
         let n = length-append ts (t ∷ []) in
-        subst HasSmallFrames (get_or_append_left ts (t ∷ []) no_table i h)
+        rw (← get_or_append_left ts (t ∷ []) no_table i h)
         (All-get_or HasSmallFrames (ts ++ t ∷ []) i no_table (omega arith) all)
 
 all_last : (ts : List Table) (t : Table) → All HasSmallFrames (ts ++ t ∷ []) → HasSmallFrames t
 all_last ts t all =
     let n = length-append ts (t ∷ []) in
-    subst HasSmallFrames (get_or-append_seam ts t [] no_table)
-    (All-get_or HasSmallFrames (ts ++ t ∷ []) (length ts) no_table (omega arith) all)
+    rw (← get_or-append_seam ts t [] no_table) (All-get_or HasSmallFrames (ts ++ t ∷ []) (length ts) no_table
+    (omega arith) all)
 
 -- ---- what the calls do
 
@@ -183,8 +181,8 @@ pub push_list : (m n : Memory) (first : ℕ) (more : List Pair) (ts : List Table
     → lists (length ts + 1) ≤ length more + 1 → HasSmallFrames t
     → PagesIn n first more (put_slot (slots ts) (length ts) t) → ListIn n first more (ts ++ t ∷ [])
 push_list m n first more ts t list room small pages = record {
-  pages = subst (PagesIn n first more) (fun_ext (λ q. slots_push ts t q)) pages;
-  room = let k = length-append ts (t ∷ []) in subst (λ j. lists j ≤ length more + 1) (sym k) room;
+  pages = rw (← fun_ext (λ q. slots_push ts t q)) pages;
+  room = let k = length-append ts (t ∷ []) in rw k room;
   small = All-push HasSmallFrames ts t list.small small;
 }
 
@@ -193,8 +191,8 @@ pub swap_list : (m n : Memory) (first : ℕ) (more : List Pair) (ts : List Table
     → PagesIn n first more (put_slot (put_slot (slots (ts ++ t ∷ [])) k t) (length ts) no_table)
     → ListIn n first more (slice_set ts k t)
 swap_list m n first more ts t k list h pages = record {
-  pages = subst (PagesIn n first more) (fun_ext (λ q. slots_swap ts t k q h)) pages;
-  room = let a = length-append ts (t ∷ []) in let b = length-set ts k t in let r = list.room in omega arith;
+  pages = rw (← fun_ext (λ q. slots_swap ts t k q h)) pages;
+  room = omega (arith, length-append ts (t ∷ []), length-set ts k t);
   small = All-set HasSmallFrames ts k t (all_last ts t list.small) (all_front ts t list.small);
 }
 

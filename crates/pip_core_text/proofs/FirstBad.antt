@@ -53,13 +53,6 @@ begins_parts : (part : List ℕ) (parts : List (List ℕ)) → HasNoNewline part
 begins_parts part [] h = record { plain = h; is = inl refl }
 begins_parts part (q ∷ qs) h = record { plain = h; is = inr (join_with_byte 10 (q ∷ qs), refl) }
 
-nothing_joined : (part : List ℕ) (parts : List (List ℕ)) → is_nothing (part ∷ parts) ≡ false
-    → 0 < length (join_with_byte 10 (part ∷ parts))
-nothing_joined [] [] h = absurd cc
-nothing_joined [] (q ∷ qs) h = omega arith
-nothing_joined (b ∷ bs) [] h = omega arith
-nothing_joined (b ∷ bs) (q ∷ qs) h = omega arith
-
 -- ---- any place can be gone on from
 
 abbrev ones : ℕ → ℕ → ℕ

@@ -123,10 +123,6 @@ high_plain [] h = refl
 high_plain (b ∷ bs) h = let low = h.0 in
     ap (λ t. t || list_any (λ c. c == 10) bs) (ne_eqb b 10 (λ e. omega (arith, e, low))) ∙ high_plain bs h.1
 
-high_append : (xs ys : List ℕ) → AllHigh xs → AllHigh ys → AllHigh (xs ++ ys)
-high_append [] ys h k = k
-high_append (x ∷ xs) ys h k = (h.0, high_append xs ys h.1 k)
-
 digits_high : (ds : List ℕ) → all_ascii_digits ds ≡ true → AllHigh ds
 digits_high [] a = tt
 digits_high (d ∷ ds) a =

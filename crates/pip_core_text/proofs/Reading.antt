@@ -98,16 +98,6 @@ pub record IsAfter (n k : ℕ) (step : CoreStep) (held : List ℕ) (left left' :
   pub is : (rest : List ℕ)
       → core_text n (taken ++ rest) ≡ after_step step k (is_nothing (split rest)) (λ u. core_after n (k + 1) u rest)
 
--- nothing was taken
-pub at_begin : (n : ℕ) (s : CoreState) (held : List ℕ) (left : Option (List ℕ)) → held ≡ [] → s ≡ at_first n
-    → IsAt n 1 s held left left
-at_begin n s held left none is = record {
-  taken = [];
-  read = subst (λ h. Consumes left left ([] ++ h)) (sym none) (consumes_none left);
-  whole = inl refl;
-  is = λ rest. ap (λ u. core_after n 1 u rest) (sym is);
-}
-
 pub at_kept : (n k : ℕ) (s : CoreState) (held held' : List ℕ) (left a b : Option (List ℕ))
     → Keeps (prepend_known held a) (prepend_known held' b) → IsAt n k s held left a → IsAt n k s held' left b
 at_kept n k s held held' left a b keeps at = record {

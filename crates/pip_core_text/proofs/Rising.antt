@@ -24,12 +24,6 @@ pub record Rises (n : ℕ) (s u : CoreState) : Type 0 where
   pub more : weight s.frame s.group + 8 ≤ weight u.frame u.group
   pub placed : IsPlaced n u.frame u.group
 
--- at most so much, as long as the frames are below n
-pub weight_most : (n : ℕ) (frame group : Option ℕ) → IsPlaced n frame group → weight frame group ≤ 1032 * n
-weight_most n None group h = omega arith
-weight_most n (Some f) None h = let a = h.low in omega (arith, a)
-weight_most n (Some f) (Some i) h = let a = h.low in let b = h.even.0 in omega (arith, a, b)
-
 pub and_both : (a b : Bool) → (a && b) ≡ true → (a ≡ true) × (b ≡ true)
 and_both true true h = (refl, refl)
 and_both true false h = absurd cc

@@ -9,13 +9,16 @@ use crate::place::{LastNamed, LineEffect, take_line};
 use pip_frames::Frames;
 use pip_input::{Input, LineEnd};
 use pip_io::{Discard, Failed, Joint, Sink, Source};
+use thiserror::Error;
 
 /// Why no memory was read.
-#[derive(Clone, Copy, Debug, PartialEq, Eq)]
+#[derive(Clone, Copy, Debug, PartialEq, Eq, Error)]
 pub enum CoreError {
     /// The first line outside the grammar, by its number from 1 on.
+    #[error("line {0} is none of the text of a memory")]
     Line(u64),
     /// A read failed.
+    #[error("a read failed")]
     Read,
 }
 

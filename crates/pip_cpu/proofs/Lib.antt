@@ -1,3 +1,4 @@
 pub mod Makings
 pub mod Carrying
 pub mod Stages
+pub mod Working

@@ -23,7 +23,7 @@ no_fetch w t cpu (O.Parked f k) n = refl
 no_fetch w t cpu O.Idle n = refl
 
 -- a poll that did not switch, where something runs
-goes_on : (w : World) (t cpu : ℕ) (o : Outcome) → ((f to k : ℕ) → o ≡ O.Switched f to k → ⊥) → (o ≡ O.Idle → ⊥)
+pub goes_on : (w : World) (t cpu : ℕ) (o : Outcome) → ((f to k : ℕ) → o ≡ O.Switched f to k → ⊥) → (o ≡ O.Idle → ⊥)
     → acts_after_poll w t cpu o ≡ fetch_acts w t cpu
 goes_on w t cpu (O.Word v) n m = refl
 goes_on w t cpu O.Done n m = refl

@@ -2,6 +2,7 @@
 ghost use Rattle.std.specs.Prelude.{◌≡◌, ◌<◌};
 ghost use Rattle.pip_cpu.specs.Made.{Acts, IsNext};
 ghost use Rattle.pip_io.specs.Causes.{HasCause};
+ghost use Rattle.pip_model.specs.Port.{TakesNoMore};
 ghost use Rattle.pip_model.specs.Effects.{IsEffect};
 ghost use Rattle.pip_model.specs.Answers.{five_of};
 ghost use Rattle.pip_model.specs.Turn.{arguments, effect_acts};
@@ -32,6 +33,8 @@ pub(crate) fn carry<W, P: Port, K: Sink, L: Ledger>(
         (λ w. effect_acts w t cpu (ctx_on w cpu) effect.now) }
     ensures cause { HasCause (K.history sink.old).faults (K.history sink.new).faults result }
     ensures count { P.count port.new ≡ P.count port.old }
+    ensures work { TakesNoMore (P.stands port.old) (λ w. effect_acts w t cpu (ctx_on w cpu) effect.now)
+        steps.old steps.new }
 {
     match effect {
         Effect::Sets { register, word } => {
@@ -77,6 +80,8 @@ fn load<W, P: Port, K: Sink, L: Ledger>(
         (λ w. effect_acts w t cpu (ctx_on w cpu) (F.Loads register va size)) }
     ensures cause { HasCause (K.history sink.old).faults (K.history sink.new).faults result }
     ensures count { P.count port.new ≡ P.count port.old }
+    ensures work { TakesNoMore (P.stands port.old) (λ w. effect_acts w t cpu (ctx_on w cpu) (F.Loads register va size))
+        steps.old steps.new }
 {
     let outcome = port.load(cpu, va, size, steps);
     if let Outcome::Word(word) = outcome {
@@ -105,6 +110,8 @@ fn store<W, P: Port, K: Sink, L: Ledger>(
         (λ w. effect_acts w t cpu (ctx_on w cpu) (F.Stores va word size)) }
     ensures cause { HasCause (K.history sink.old).faults (K.history sink.new).faults result }
     ensures count { P.count port.new ≡ P.count port.old }
+    ensures work { TakesNoMore (P.stands port.old) (λ w. effect_acts w t cpu (ctx_on w cpu) (F.Stores va word size))
+        steps.old steps.new }
 {
     let outcome = port.store(cpu, va, size, word, steps);
     if let Outcome::Done = outcome {
@@ -131,6 +138,8 @@ fn trap<P: Port, K: Sink, L: Ledger>(
         (λ w. effect_acts w t cpu (ctx_on w cpu) (F.Traps vector a b)) }
     ensures cause { HasCause (K.history sink.old).faults (K.history sink.new).faults result }
     ensures count { P.count port.new ≡ P.count port.old }
+    ensures work { TakesNoMore (P.stands port.old) (λ w. effect_acts w t cpu (ctx_on w cpu) (F.Traps vector a b))
+        steps.old steps.new }
 {
     let outcome = port.trap(cpu, vector, a, b, steps);
     write_moved(sink, t, cpu, outcome)
@@ -153,6 +162,8 @@ fn interrupt<P: Port, K: Sink, L: Ledger>(
         (λ w. effect_acts w t cpu (ctx_on w cpu) (F.Interrupts vector)) }
     ensures cause { HasCause (K.history sink.old).faults (K.history sink.new).faults result }
     ensures count { P.count port.new ≡ P.count port.old }
+    ensures work { TakesNoMore (P.stands port.old) (λ w. effect_acts w t cpu (ctx_on w cpu) (F.Interrupts vector))
+        steps.old steps.new }
 {
     port.set_pc(cpu, next);
     let outcome = port.trap(cpu, vector, 0, 0, steps);
@@ -175,6 +186,8 @@ fn call<P: Port, K: Sink, L: Ledger>(
         (λ w. effect_acts w t cpu (ctx_on w cpu) (F.Calls number)) }
     ensures cause { HasCause (K.history sink.old).faults (K.history sink.new).faults result }
     ensures count { P.count port.new ≡ P.count port.old }
+    ensures work { TakesNoMore (P.stands port.old) (λ w. effect_acts w t cpu (ctx_on w cpu) (F.Calls number))
+        steps.old steps.new }
 {
     let args = arguments_of(port, cpu);
     port.set_pc(cpu, next);

@@ -2,6 +2,7 @@
 ghost use Rattle.std.specs.Prelude.{◌≡◌, ◌<◌, IfOk};
 ghost use Rattle.pip_cpu.specs.Made.{Acts};
 ghost use Rattle.pip_io.specs.Causes.{HasCause};
+ghost use Rattle.pip_model.specs.Port.{TakesNoMore};
 ghost use Rattle.pip_model.specs.Effects.{IsEffect, word_effect};
 ghost use Rattle.pip_model.specs.Events as E;
 ghost use Rattle.pip_model.specs.InstrRead.{instr_of};
@@ -34,6 +35,7 @@ pub fn turn<W, P: Port, K: Sink, L: Ledger>(
     ensures end { (w : World) → P.stands port.old w → IfOk result (λ e. e ≡ turn_end w cpu) }
     ensures cause { HasCause (K.history sink.old).faults (K.history sink.new).faults result }
     ensures count { P.count port.new ≡ P.count port.old }
+    ensures work { TakesNoMore (P.stands port.old) (λ w. turn w cpu t) steps.old steps.new }
 {
     let outcome = port.poll(cpu, steps);
     match outcome {
@@ -62,6 +64,7 @@ fn fetch<W, P: Port, K: Sink, L: Ledger>(
     ensures end { (w : World) → P.stands port.old w → IfOk result (λ e. e ≡ fetched_end (outcome_of w (E.Fetch cpu))) }
     ensures cause { HasCause (K.history sink.old).faults (K.history sink.new).faults result }
     ensures count { P.count port.new ≡ P.count port.old }
+    ensures work { TakesNoMore (P.stands port.old) (λ w. fetch_acts w t cpu) steps.old steps.new }
 {
     let outcome = port.fetch(cpu, steps);
     if let Outcome::Word(word) = outcome {
@@ -91,6 +94,7 @@ fn execute<W, P: Port, K: Sink, L: Ledger>(
         (λ w. word_acts w t cpu word (runs_on w cpu)) }
     ensures cause { HasCause (K.history sink.old).faults (K.history sink.new).faults result }
     ensures count { P.count port.new ≡ P.count port.old }
+    ensures work { TakesNoMore (P.stands port.old) (λ w. word_acts w t cpu word (runs_on w cpu)) steps.old steps.new }
 {
     match port.ctx(cpu) {
         Some(ctx) => {

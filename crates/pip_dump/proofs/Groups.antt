@@ -39,9 +39,6 @@ any_append p (x ∷ xs) ys = go (p x) (any_append p xs ys)
     go true e = refl
     go false e = e
 
-abbrev in_group : (ℕ → Bool) → ℕ → Bool
-in_group p k = list_any p (numbers_from (8 * k) 8)
-
 -- one of the words is not 0 where one is in one of the groups
 pub any_grouped : (p : ℕ → Bool) (k n : ℕ)
     → list_any p (numbers_from (8 * k) (8 * n)) ≡ list_any (λ j. list_any p (numbers_from (8 * j) 8)) (numbers_from k n)

@@ -181,13 +181,3 @@ pub next_same : (t : Tree) (x : Node) (a b : ℕ) (o : Option ℕ) → children_
     → IsNextChild t x a o → IsNextChild t x b o
 next_same t x a b None e h = sym e ∙ h
 next_same t x a b (Some c) e (y, f, up, h) = (y, f, up, sym e ∙ h)
-
--- a word that doesn't stand for a descriptor
-pub not_descriptor : (g : Sh1) → ((v : ℕ) → g ≡ Descriptor v → ⊥) → packed_sh1 g % 4096 ≢ 1
-not_descriptor Free h e = absurd (omega arith)
-not_descriptor (Descriptor v) h e = h v refl
-not_descriptor (Config v) h e = absurd (omega arith)
-not_descriptor (Lent v) h e = absurd (omega arith)
-
-pub descriptor_kind : (g : Sh1) (v : ℕ) → g ≡ Descriptor v → packed_sh1 g % 4096 ≡ 1
-descriptor_kind g v e = ap (λ z. packed_sh1 z % 4096) e ∙ omega arith

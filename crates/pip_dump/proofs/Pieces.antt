@@ -41,28 +41,6 @@ pub left_same : (old now : Taken) (rest other whole : List ℕ) → rest ≡ oth
     → IsLeft old now other whole
 left_same old now rest other whole e h = subst (λ r. IsLeft old now r whole) e h
 
--- a prefix of a text after another
-pub part_after : (old mid new : Taken) (a b : List ℕ) → Appends old mid a → AppendsPart mid new b
-    → AppendsPart old new (a ++ b)
-part_after old mid new a b h (front, more, k, same, some) =
-    (a ++ front, more, Appends-trans old mid new a front h k, append_assoc a front more ∙ ap (λ l. a ++ l) same, some)
-
--- a text after another
-pub wrote_after : {T E : Type 0} (old mid new : Taken) (a b : List ℕ) (r : Result T E) → Appends old mid a
-    → Wrote r mid new b → Wrote r old new (a ++ b)
-wrote_after old mid new a b (Ok u) h k = Appends-trans old mid new a b h k
-wrote_after old mid new a b (Err e) h k = part_after old mid new a b h k
-
--- a prefix of a text is one of a longer text
-pub part_longer : (old new : Taken) (a b : List ℕ) → AppendsPart old new a → AppendsPart old new (a ++ b)
-part_longer old new a b (front, more, k, same, some) =
-    (front, more ++ b, k, sym (append_assoc front more b) ∙ ap (λ l. l ++ b) same, rest_more more b some)
-
-pub wrote_of : {T E : Type 0} (old new : Taken) (text said : List ℕ) (r : Result T E) → text ≡ said
-    → OnOk r (Appends old new text) → OnErr r (AppendsPart old new text) → Wrote r old new said
-wrote_of old new text said (Ok u) e h k = subst (Appends old new) e h
-wrote_of old new text said (Err x) e h k = subst (AppendsPart old new) e k
-
 -- what is so where a call failed
 pub match_err : {T E : Type 0} (A B : Type 0) (r : Result T E) → IsErr r → B → MatchResult r (λ _. A) (λ _. B)
 match_err A B (Ok u) bad h = cc

@@ -20,11 +20,6 @@ no_line : (w : World) (cpu : ℕ) (d : Deed) (o : Outcome) → ((f to k : ℕ) �
 no_line w cpu d (O.Switched f to k) n = absurd (n f to k refl)
 no_line w cpu d o n = refl
 
-none_waited : (w : World) (cpu : ℕ) (o : Outcome) → ((f to k : ℕ) → o ≡ O.Switched f to k → ⊥)
-    → acts_after_line w cpu None o ≡ []
-none_waited w cpu (O.Switched f to k) n = absurd (n f to k refl)
-none_waited w cpu o n = refl
-
 -- r: what writing the line answered. old, new: the bytes of the sink
 module _ {T X : Type 0} (r : Result T X) (S : World → Type 0) (old new : Taken) (w : World) (cpu : ℕ) where
   pub deed_done : (d : Deed) (o : Outcome) → (o ≡ outcome_of w (deed_event cpu d)) × S (world_of w (deed_event cpu d))
@@ -49,12 +44,3 @@ module _ {T X : Type 0} (r : Result T X) (S : World → Type 0) (old new : Taken
       let v = world_of w (E.Poll cpu) in
       let same = ap (λ p. acts_after_line v cpu (Some d) p) (sym e) ∙ no_line v cpu d o n in
       after_event S old new w r (E.Poll cpu) _ (subst (λ es. MadeOrCut r S old new v es) (sym same) h)
-
-pub waited : (S : World → Type 0) (old : Taken) (w : World) (cpu : ℕ) (o : Outcome)
-    → ((f to k : ℕ) → o ≡ O.Switched f to k → ⊥) → (o ≡ outcome_of w (E.Poll cpu)) × S (world_of w (E.Poll cpu))
-    → Made S old old w (hostile_acts w cpu None)
-waited S old w cpu o n h =
-    let v = world_of w (E.Poll cpu) in
-    let same = ap (λ p. acts_after_line v cpu None p) (sym h.0) ∙ none_waited v cpu o n in
-    subst (λ es. Made S old old w (Makes (E.Poll cpu) ∷ es)) (sym same)
-    (record { world = h.1; text = Appends-nil old })

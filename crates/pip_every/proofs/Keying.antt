@@ -50,11 +50,6 @@ parts first g key m shape k =
       some = subst (λ v. 1 ≤ length v) (sym k.whole) some;
     }
 
--- a machine has four processors at most, and a cache for each
-pub four_at_most : (p : State) → length p.cpus ≤ 4
-four_at_most p = ∥∥₁_elim p.world (hlevel props) (λ (k : HasCachedWorld p.memory p.cpus p.caches).
-    subst (λ v. length v ≤ 4) k.stands.bare.shows.cpus k.stands.bare.sound.at_most_four)
-
 a_cache_each : (p : State) → length p.caches ≡ length p.cpus
 a_cache_each p = ∥∥₁_elim p.world (ℕ_set (length p.caches) (length p.cpus))
     (λ (k : HasCachedWorld p.memory p.cpus p.caches). k.stands.each)
@@ -146,11 +141,6 @@ keyed first g n shown q turns label key h frames count is =
       whole = is ∙ (ap (λ v. key_words first v q.cpus q.memory) h.turns_are ∙
           ap (λ v. key_words first n.turns v q.memory) (sym cpus_are));
     }
-
--- a moment that is the same has the same key
-pub same_key : (first : Memory) (g : Scope) (key : List ℕ) (m n : Moment) → n ≡ m → IsKeyOf first g key m
-    → IsKeyOf first g key n
-same_key first g key m n e k = subst (λ v. IsKeyOf first g key v) (sym e) k
 
 -- the moment at a world has the key that was added of a machine that stands for it
 pub begun : {first : Memory} {g : Scope} {p q : State} {start key : List ℕ} (w : World) → StandsAs p w → q ≡ p

@@ -17,12 +17,6 @@ use Rattle.pip_every.proofs.Choosing.{nothing_chosen}
 
 -- ---- the numbers of deeds
 
--- below that many times c a quotient by c is below that many
-pub quotient_low : (k u c n : ℕ) → u ≤ k → k < u + c * n → (k - u) / c < n
-quotient_low k u zero n le lt = absurd (omega (arith, zero-mul n, lt, le))
-quotient_low k u (suc c) n le lt =
-    (div-lt_iff_lt-mul {k = suc c} {x = k - u} {y = n} (omega arith)).1 (omega (arith, mul_comm (suc c) n, lt, le))
-
 -- ---- a choice that is no deed
 
 usual_at : (g : Menu) (k : ℕ) → k < usual_choices g → deed_at g k ≡ None
@@ -94,13 +88,3 @@ nothing_made g m k p turns label at same none = record {
 }
 
 -- ---- choices that change nothing
-
-pub nobody_changes : (g : Menu) (m : Moment) (k : ℕ) → picked g m.world k ≡ Nothing → ChangesNothing g m k
-nobody_changes g m k e =
-    subst (λ p. (pick_after g m k p ≡ m) × (text_of (pick_acts g m k p) ≡ [])) (sym e) (refl, refl)
-
-pub early_changes : (g : Menu) (m : Moment) (k : ℕ) → g.scope.cpus ≤ k → k < usual_choices g → m.turns < g.scope.from
-    → ChangesNothing g m k
-early_changes g m k le lt early =
-    subst (λ p. (pick_after g m k p ≡ m) × (text_of (pick_acts g m k p) ≡ [])) (sym (line_is g m.world k le lt))
-    (nothing_chosen g.scope m k le early)

@@ -1,38 +1,39 @@
 -- What is said of one label after another.
-use Rattle.std.proofs.Common.{◌≡◌, ℕ, inl, inr, List, [], ◌∷◌, ◌++◌, length, Some, slice_get, ap, sym, subst, ◌∙◌}
+use Rattle.std.proofs.Common.{◌≡◌, ℕ, zero, suc, refl, arith, length-append, inl, inr, List, [], ◌∷◌, ◌++◌, length}
+use Rattle.std.proofs.Common.{Some, slice_get, ap, sym, subst, ◌∙◌}
 use Rattle.pip_base.specs.Memory.{Memory}
-use Rattle.pip_search.specs.Systems.{Model}
+use Rattle.pip_search.specs.Comes.{MustCome}
 use Rattle.pip_search.specs.declared.searching.Extent.{Extent}
 use Rattle.pip_search.specs.declared.searching.Extent.TheVariants.{Closed, Stopped, Within}
+use Rattle.pip_search.specs.declared.ways.Run.{Run}
 use Rattle.pip_search.proofs.Places.{get-back}
 use Rattle.pip_every.specs.Again.{AreSaid, IsSaid, shown_line}
+use Rattle.pip_every.specs.Comes.{AreComing, IsAvoidedBy, IsComing, own_classes}
 use Rattle.pip_every.specs.Menus.{Menu, menu_model, usual_choices}
 use Rattle.pip_every.specs.Moments.{Moment}
 use Rattle.pip_every.specs.declared.again.Again.{Again}
 use Rattle.pip_every.specs.declared.again.Again.TheVariants.{Can, Lost, Unknown}
+use Rattle.pip_every.specs.declared.comes.Comes.{Comes}
+use Rattle.pip_every.specs.declared.comes.Comes.TheVariants as C
 
--- so it is said of the first of these lines
-abbrev pub AreSaidYet : (m : Model) → ℕ → m.State → List (List ℕ) → Extent → List Again → Type 0
-AreSaidYet m n s lines end said = (j : ℕ) (line : List ℕ) (r : Again) → slice_get lines j ≡ Some line
-    → slice_get said j ≡ Some r → IsSaid m n s (shown_line line) end r
+module _ {R : Type 0} (IsAnswer : List ℕ → R → Type 0) (lines : List (List ℕ)) where
+  -- so it is said of the first of these lines
+  abbrev pub AreYet : List R → Type 0
+  AreYet said = (j : ℕ) (line : List ℕ) (r : R) → slice_get lines j ≡ Some line → slice_get said j ≡ Some r
+      → IsAnswer line r
 
-pub none_said : (m : Model) (n : ℕ) (s : m.State) (lines : List (List ℕ)) (end : Extent) (said : List Again)
-    → said ≡ [] → AreSaidYet m n s lines end said
-none_said m n s lines end said none = λ j line r at is. absurd (none_at said j r none is)
-  where
-    none_at : (rs : List Again) (j : ℕ) (r : Again) → rs ≡ [] → slice_get rs j ≡ Some r → ⊥
-    none_at [] j r n e = cc
-    none_at (x ∷ rs) j r n e = cc
+  pub one_more_said : (said : List R) (i : ℕ) (r : R) → AreYet said → length said ≡ i
+      → ((line : List ℕ) → slice_get lines i ≡ Some line → IsAnswer line r) → AreYet (said ++ r ∷ [])
+  one_more_said said i r all count own j line x at is = elim (get-back said r j x is) [
+    | inl old ↦ all j line x at old
+    | inr new ↦ subst (IsAnswer line) (sym new.1)
+        (own line (ap (slice_get lines) (sym (new.0 ∙ count)) ∙ at))
+  ]
 
-pub one_more_said : (m : Model) (n : ℕ) (s : m.State) (lines : List (List ℕ)) (end : Extent) (said : List Again)
-    (i : ℕ) (r : Again) → AreSaidYet m n s lines end said → length said ≡ i
-    → ((line : List ℕ) → slice_get lines i ≡ Some line → IsSaid m n s (shown_line line) end r)
-    → AreSaidYet m n s lines end (said ++ r ∷ [])
-one_more_said m n s lines end said i r all count own j line x at is = elim (get-back said r j x is) [
-  | inl old ↦ all j line x at old
-  | inr new ↦ subst (IsSaid m n s (shown_line line) end) (sym new.1)
-      (own line (ap (slice_get lines) (sym (new.0 ∙ count)) ∙ at))
-]
+-- as many classes as choices
+pub classes_count : (n : ℕ) → length (own_classes n) ≡ n
+classes_count zero = refl
+classes_count (suc n) = let e = classes_count n in simp length-append (omega (arith, e))
 
 -- what is said doesn't depend on the memory with which keys compare
 rebased_one : (a b : Memory) (g : Menu) (n : ℕ) (m : Moment) (label : List ℕ) (end : Extent) (r : Again)
@@ -52,4 +53,51 @@ rebased_said a b s t n m lines end said same width h =
     (subst (λ k. AreSaid (menu_model b s) k m lines end said) width (record {
       count = h.count;
       each = λ j line r at is. rebased_one a b s n m (shown_line line) end r (h.each j line r at is);
+    }))
+
+rebased_avoided : (a b : Memory) (g : Menu) (classes : List ℕ) (m : Moment) (label : List ℕ) (way round : List Run)
+    → IsAvoidedBy (menu_model a g) classes m label way round → IsAvoidedBy (menu_model b g) classes m label way round
+rebased_avoided a b g classes m label way round h = record {
+  before = h.before;
+  over = h.over;
+  way_is = h.way_is;
+  round_is = h.round_is;
+  avoided = record {
+    can = h.avoided.can;
+    on = h.avoided.on;
+    some = h.avoided.some;
+    each = h.avoided.each;
+    never = h.avoided.never;
+  };
+}
+
+rebased_must : (a b : Memory) (g : Menu) (classes : List ℕ) (m : Moment) (label counts : List ℕ)
+    → MustCome (menu_model a g) classes m label counts → MustCome (menu_model b g) classes m label counts
+rebased_must a b g classes m label counts h before cs windows can on wide fair enough =
+    let soon = h before cs windows can on wide fair enough in record {
+      later = soon.later;
+      first = soon.first;
+      whole = soon.whole;
+      shown = soon.shown;
+      soon = soon.soon;
+    }
+
+rebased_label : (a b : Memory) (g : Menu) (classes : List ℕ) (m : Moment) (label : List ℕ) (end : Extent) (r : Comes)
+    → IsComing (menu_model a g) classes m label end r → IsComing (menu_model b g) classes m label end r
+rebased_label a b g classes m label (Closed depth) (C.Must counts) h =
+    rebased_must a b g classes m label counts.items h
+rebased_label a b g classes m label (Closed depth) (C.Avoided way round) h =
+    rebased_avoided a b g classes m label way.items round.items h
+rebased_label a b g classes m label (Closed depth) C.Unknown h = h
+rebased_label a b g classes m label (Within depth) r h = h
+rebased_label a b g classes m label (Stopped depth) r h = h
+
+pub rebased_coming : (a b : Memory) (s t : Menu) (n : ℕ) (m : Moment) (lines : List (List ℕ)) (end : Extent)
+    (said : List Comes) → s ≡ t → n ≡ usual_choices s → AreComing (menu_model a s) (own_classes n) m lines end said
+    → AreComing (menu_model b t) (own_classes (usual_choices t)) m lines end said
+rebased_coming a b s t n m lines end said same width h =
+    subst (λ g. AreComing (menu_model b g) (own_classes (usual_choices g)) m lines end said) same
+    (subst (λ k. AreComing (menu_model b s) (own_classes k) m lines end said) width (record {
+      count = h.count;
+      each = λ j line r at is. rebased_label a b s (own_classes n) m (shown_line line) end r (h.each j line r at is);
     }))

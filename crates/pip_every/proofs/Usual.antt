@@ -6,6 +6,7 @@ use Rattle.pip_base.specs.Memory.{Memory}
 use Rattle.pip_model.specs.Acts.{text_of}
 use Rattle.pip_model.specs.Worlds.{World}
 use Rattle.pip_search.specs.Certificates.{IsClosedPart, IsReachedPart, Portion}
+use Rattle.pip_search.specs.Portions.{IsPortionOf}
 use Rattle.pip_search.specs.Summary.{IsTold, Witness}
 use Rattle.pip_search.specs.Systems.{Model}
 use Rattle.pip_search.specs.declared.searching.Extent.{Extent}
@@ -77,3 +78,9 @@ closed_usual first s p h = subst (λ a. IsClosedPart (system first s a) p) (same
 pub reached_usual : (first : Memory) (s : Scope) (m : Moment) (p : Portion)
     → IsReachedPart (menu_model first (record { scope = s; may = [] })) m p → IsReachedPart (model_of first s) m p
 reached_usual first s m p h = subst (λ a. IsReachedPart (system first s a) m p) (same_acting s) h
+
+pub portion_usual : (first : Memory) (s : Scope) (start way marks : List ℕ) (p : Portion)
+    → IsPortionOf (menu_model first (record { scope = s; may = [] })) start way marks p
+    → IsPortionOf (model_of first s) start way marks p
+portion_usual first s start way marks p h =
+    subst (λ a. IsPortionOf (system first s a) start way marks p) (same_acting s) h

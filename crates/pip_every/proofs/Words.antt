@@ -149,11 +149,6 @@ abbrev pub IsReading : List ℕ → ℕ → ℕ → List (Option Occupant) → L
 IsReading words count k cpus left = (os : List (Option Occupant)) (rest : List ℕ) → StartsWithAll words count os rest
     → (others : List (Option Occupant)) × ((cpus ++ others ≡ os) × StartsWithAll left (count - k) others rest)
 
-pub read_start : (words : List ℕ) (count : ℕ) → IsReading words count 0 [] words
-read_start words count os rest h =
-    let whole : count - 0 ≡ count = omega arith in
-    (os, (refl, subst (λ v. StartsWithAll words v os rest) (sym whole) h))
-
 -- one more was read
 pub read_next : (words : List ℕ) (count k : ℕ) (cpus more : List (Option Occupant)) (runs : Option Occupant)
     (left after : List ℕ) → k < count → more ≡ cpus ++ (runs ∷ [])
@@ -178,12 +173,3 @@ none_left : (left : List ℕ) (others : List (Option Occupant)) (rest : List ℕ
 none_left left [] rest n none h = (refl, h.whole)
 none_left left (o ∷ os) rest n none h =
     let c : suc (length os) ≡ n = h.count_is in absurd (omega (arith, none, c))
-
-pub read_end : (words : List ℕ) (count k : ℕ) (cpus : List (Option Occupant)) (left : List ℕ) → count ≤ k
-    → IsReading words count k cpus left → (os : List (Option Occupant)) (rest : List ℕ)
-    → StartsWithAll words count os rest
-    → (cpus ≡ os) × (left ≡ rest)
-read_end words count k cpus left le h os rest b =
-    let at = h os rest b in
-    let e : (at.0 ≡ []) × (left ≡ rest) = none_left left at.0 rest (count - k) (omega (arith, le)) at.1.1 in
-    (sym (append-nil cpus) ∙ (ap (λ v. cpus ++ v) (sym e.0) ∙ at.1.0), e.1)

@@ -22,9 +22,13 @@ IsSaid m n s label (Closed depth) Unknown = ⊥
 IsSaid m n s label (Within depth) r = r ≡ Unknown
 IsSaid m n s label (Stopped depth) r = r ≡ Unknown
 
--- so of each of these lines
-pub record AreSaid (m : Model) (n : ℕ) (s : m.State) (lines : List (List ℕ)) (end : Extent) (said : List Again) : Type 0
+-- of each of these lines something is said
+pub record AreAnswers {R : Type 0} (IsAnswer : List ℕ → R → Type 0) (lines : List (List ℕ)) (said : List R) : Type 0
   where
     pub count : length said ≡ length lines
-    pub each : (j : ℕ) (line : List ℕ) (r : Again) → slice_get lines j ≡ Some line → slice_get said j ≡ Some r
-        → IsSaid m n s (shown_line line) end r
+    pub each : (j : ℕ) (line : List ℕ) (r : R) → slice_get lines j ≡ Some line → slice_get said j ≡ Some r
+        → IsAnswer line r
+
+-- whether it can come again
+abbrev pub AreSaid : (m : Model) → ℕ → m.State → List (List ℕ) → Extent → List Again → Type 0
+AreSaid m n s lines end said = AreAnswers (λ line r. IsSaid m n s (shown_line line) end r) lines said

@@ -6,3 +6,4 @@ pub mod Choosing
 pub mod Laws
 pub mod Explored
 pub mod Again
+pub mod Comes

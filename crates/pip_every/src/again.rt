@@ -7,15 +7,10 @@ ghost use Rattle.pip_search.specs.Ways.{AreTraced};
 ghost use Rattle.pip_search.specs.declared.searching.Extent.TheVariants.{Closed};
 ghost use Rattle.pip_every.specs.Again.{AreSaid, IsSaid, shown_line};
 
+use crate::asking::MAX_LABEL;
 use arrayvec::ArrayVec;
 use pip_search::{Extent, Run, Search, System, come_again, runs_to};
 use std::alloc::{AllocError, Global};
-
-/// Of how many labels a menu asks at most.
-pub const MAX_LABELS: usize = 16;
-
-/// How many bytes such a label has at most, without its step.
-pub const MAX_LABEL: usize = 114;
 
 /// What is said of a label.
 #[derive(Drop)]
@@ -30,7 +25,7 @@ pub enum Again {
 }
 
 // What a choice shows, by the text of its line without the step. The only error is that memory is out.
-fn shown(alloc: Global, text: &[u8]) -> Result<Vec<u8>, AllocError>
+pub(crate) fn shown(alloc: Global, text: &[u8]) -> Result<Vec<u8>, AllocError>
     ensures { IfOk result (λ r. r.items ≡ shown_line text.now) }
 {
     let mut label = Vec::new(alloc);

@@ -7,11 +7,14 @@
 //! frames lay out, so one run of the kernel is a step of each moment that has the key (`HasChosen` of specs/Choosing).
 //! [`search_against`] searches with a menu (specs/Menus): what partitions that have deeds may do is all that is on it,
 //! whatever their programs are; with an empty one it is the same search. [`search_on`] is both from any world on, and
-//! also says of labels whether they can come again, wherever choices lead, by turns and lines alone (specs/Again).
+//! also says of labels whether they can come again, wherever choices lead, by turns and lines alone (specs/Again), and
+//! of labels whether they come, wherever choices lead, where those that are made next are fair (specs/Comes).
 //! [`part`] checks a part of a search in the same way, for a certificate.
 #![tactic(auto)]
 
 mod again;
+mod asking;
+mod comes;
 mod deeds;
 mod explorer;
 mod label;
@@ -23,7 +26,9 @@ mod processors;
 mod searching;
 mod seed;
 
-pub use again::{Again, MAX_LABEL, MAX_LABELS};
+pub use again::Again;
+pub use asking::{Asked, MAX_LABEL, MAX_LABELS, Replies};
+pub use comes::Comes;
 pub use label::Label;
 pub use later::{note_words, words_later};
 pub use laws::law_keys;

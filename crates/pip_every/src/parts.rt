@@ -5,6 +5,7 @@ ghost use Rattle.pip_base.specs.Opening.{CanOpen};
 ghost use Rattle.pip_model.specs.Booted.{HasBooted, IsBooted};
 ghost use Rattle.pip_search.specs.Certificates.{HasStop, IsClosedPart, IsReachedPart};
 ghost use Rattle.pip_search.specs.Parts.{portion_of, stops};
+ghost use Rattle.pip_search.specs.Portions.{IsPortionOf};
 ghost use Rattle.pip_search.specs.declared.parts.Part.{Part};
 ghost use Rattle.pip_every.specs.Keys.{IsKeyOf, model_of};
 ghost use Rattle.pip_every.specs.Moments.{first_moment};
@@ -44,6 +45,12 @@ fn part_from<F: First, L: Ledger>(
     requires way { length way.now < 2 ^ 32 }
     requires marks { length marks.now < 2 ^ 32 - 1 }
     ensures can { IfOk result (λ r. All (λ k. k < cpus + length lines.now) way.now → IsSome r) }
+    ensures exact { IfOk result (λ r. IsSome r → All (λ k. k < cpus + length lines.now) way.now) }
+    ensures says { IfOk result (λ r. (p : Part) (n : ℕ) (words : ℕ → ℕ → ℕ) → r ≡ Some p
+        → IsBooted n words (⟦<RawFrames as Frames>⟧.memory mem) → (key : List ℕ)
+        × (IsKeyOf F.words (record { cpus = cpus; lines = lines.now; from = from }) key (first_moment words n cpus)
+        × IsPortionOf (model_of F.words (record { cpus = cpus; lines = lines.now; from = from })) key way.now
+        marks.now (portion_of p))) }
     ensures closed { IfOk result (λ r. (p : Part) → r ≡ Some p → IsClosedPart (model_of F.words
         (record { cpus = cpus; lines = lines.now; from = from })) (portion_of p)) }
     ensures reached { IfOk result (λ r. (p : Part) (n : ℕ) (words : ℕ → ℕ → ℕ) → r ≡ Some p
@@ -67,7 +74,7 @@ fn part_from<F: First, L: Ledger>(
 
 /// Checks a part of all that can happen to a machine over these frames, as `search` goes through it. Keys compare with
 /// the words of the frames `later`, as many as those of the machine. The part begins at the moment to which a way
-/// leads, and marks say which moments after it are its own. `None` only where the way has a choice that can't be made.
+/// leads, and marks say which moments after it are its own. `None` where the way has a choice that can't be made.
 /// The only error is that memory is out.
 pub fn part(
     alloc: Global,
@@ -89,6 +96,13 @@ pub fn part(
     requires way { length way.now < 2 ^ 32 }
     requires marks { length marks.now < 2 ^ 32 - 1 }
     ensures can { IfOk result (λ r. All (λ k. k < cpus + length lines.now) way.now → IsSome r) }
+    ensures exact { IfOk result (λ r. IsSome r → All (λ k. k < cpus + length lines.now) way.now) }
+    ensures says { IfOk result (λ r. (p : Part) (n : ℕ) (words : ℕ → ℕ → ℕ) → r ≡ Some p
+        → IsBooted n words (⟦<RawFrames as Frames>⟧.memory mem) → (key : List ℕ)
+        × (IsKeyOf (⟦<RawFrames as Frames>⟧.memory later) (record { cpus = cpus; lines = lines.now; from = from }) key
+        (first_moment words n cpus)
+        × IsPortionOf (model_of (⟦<RawFrames as Frames>⟧.memory later)
+        (record { cpus = cpus; lines = lines.now; from = from })) key way.now marks.now (portion_of p))) }
     ensures closed { IfOk result (λ r. (p : Part) → r ≡ Some p
         → IsClosedPart (model_of (⟦<RawFrames as Frames>⟧.memory later)
         (record { cpus = cpus; lines = lines.now; from = from })) (portion_of p)) }

@@ -9,15 +9,17 @@ ghost use Rattle.pip_search.specs.Ways.{AreTraced, witnesses_of};
 ghost use Rattle.pip_switch.specs.Standing.{StandsAs};
 ghost use Rattle.pip_every.specs.Again.{AreSaid};
 ghost use Rattle.pip_every.specs.Choosing.{machine_menu};
+ghost use Rattle.pip_every.specs.Comes.{AreComing, own_classes};
 ghost use Rattle.pip_every.specs.Keys.{model_of};
 ghost use Rattle.pip_every.specs.Menus.{menu_model, usual_choices};
 ghost use Rattle.pip_every.specs.Moments.{first_moment, moment_at};
 
-use crate::again::{Again, MAX_LABEL, say_all};
+use crate::again::say_all;
+use crate::asking::{Asked, Replies};
+use crate::comes::say_coming;
 use crate::explorer::Explorer;
 use crate::later::booted_later;
 use crate::menus::May;
-use arrayvec::ArrayVec;
 use pip_base::Steps;
 use pip_frames::{Frames, RawFrames};
 use pip_journal::{First, Journal};
@@ -29,19 +31,20 @@ use std::sync::ledger::{Blank, Ledger};
 
 /// Searches what can happen to a machine from the worlds on for which it stands, of which there is one, as
 /// `search_against` does from the first, and says of the labels of lines, which have no step, whether they can come
-/// again, wherever any choices lead, by turns and lines without deeds. `lines` come once `from` turns were made after
-/// that. It doesn't matter with which frames keys compare. The only error is that memory is out.
+/// again, wherever any choices lead, by turns and lines without deeds; and of others whether they come, where choices
+/// are fair to each processor and to each line. `lines` come once `from` turns were made after that. It doesn't matter
+/// with which frames keys compare. The only error is that memory is out.
 pub fn search_on<F: First, L: Ledger>(
     alloc: Global,
     machine: Machine<Journal<F>>,
     lines: &[u32],
     from: u32,
     may: Vec<May>,
-    labels: &[ArrayVec<u8, MAX_LABEL>],
+    asked: &Asked,
     most: u32,
     limit: u32,
     steps: Steps<L>,
-) -> Result<(Search, Extent, Vec<Again>), AllocError>
+) -> Result<(Search, Extent, Replies), AllocError>
     requires shape { IsMemory F.words }
     requires stands { (w : World) × StandsAs machine w }
     requires below { All (λ line. line < 16) lines.now }
@@ -54,7 +57,11 @@ pub fn search_on<F: First, L: Ledger>(
         (witnesses_of r.1 r.0.visits.items r.0.found.items) (length r.0.visits.items) r.1) }
     ensures said { IfOk result (λ r. (w : World) (first : Memory) → StandsAs machine w → AreSaid (menu_model first
         (machine_menu machine lines.now from may.items)) (usual_choices (machine_menu machine lines.now from may.items))
-        (moment_at w) (map (λ l. l.items) labels.now) r.1 r.2.items) }
+        (moment_at w) (map (λ l. l.items) asked.now.again.items) r.1 r.2.again.items) }
+    ensures coming { IfOk result (λ r. (w : World) (first : Memory) → StandsAs machine w → AreComing (menu_model first
+        (machine_menu machine lines.now from may.items))
+        (own_classes (usual_choices (machine_menu machine lines.now from may.items)))
+        (moment_at w) (map (λ l. l.items) asked.now.comes.items) r.1 r.2.comes.items) }
     ensures traced { IfOk result (λ r. AreTraced r.0.visits.items r.0.found.items) }
     ensures room { IfOk result (λ r. length r.0.visits.items ≤ limit) }
 {
@@ -66,8 +73,25 @@ pub fn search_on<F: First, L: Ledger>(
     let start = key.as_slice();
     let (search, extent) = explore(&mut explorer, alloc, start, most, limit)?;
     let width = explorer.usual_choices();
-    let said = say_all(&search, extent, &mut explorer, alloc, start, labels, width)?;
-    Ok((search, extent, said))
+    let again = say_all(
+        &search,
+        extent,
+        &mut explorer,
+        alloc,
+        start,
+        asked.again.as_slice(),
+        width,
+    )?;
+    let comes = say_coming(
+        &search,
+        extent,
+        &mut explorer,
+        alloc,
+        start,
+        asked.comes.as_slice(),
+        width,
+    )?;
+    Ok((search, extent, Replies { again, comes }))
 }
 
 // `search_against` over a journal whose first words are those of the frames `later`, as many as the machine's. The
@@ -106,13 +130,13 @@ fn search_from<F: First, L: Ledger>(
     let steps: Steps<L> = Steps::new(blank);
     let journal: Journal<F> = Journal::new(alloc, mem, later)?;
     let machine = Machine::new(journal, cpus);
-    let (search, extent, _said) = search_on(
+    let (search, extent, _replies) = search_on(
         alloc,
         machine,
         lines,
         from,
         may,
-        &[],
+        &Asked::new(),
         most,
         limit,
         steps,

@@ -36,15 +36,14 @@ module _ {M : Type 1} {𝓤 : Ura M} (𝓛 : Logic 𝓤) (τ : Ty) (v : Val) whe
       (λ b o at.
       show ! (λ (c : Bool × (ℕ × ℕ)).
       guard 𝓤 (v ≡ answer_val c.0 c.1.0 c.1.1) (sem 𝓛 (got free_token τ c.0 c.1.0 c.1.1))) (true, (b, o)) $
-      check ! (ap only e ∙ ap (λ (ws : List Val). live 0 (of_list ws))
-      (e' ∙ ap (λ (ws : List Val). ws ++ []) (e'' ∙ ap (λ (z : Ptr). ptr_val z ∷ []) at))) $ done !))))))
+      check ! (cc) $ done !))))))
   answered (Err n) =
       qed 𝓛 (‵ (Answer.own_val (Err n) (v ∷ [])) ∷ ‵ ftrue ∷ []) ∵
       fpick ! (λ us. fsplit ! $ feq_l ! (λ e.
       fpick ! (λ vss. fsplit ! $ feq_l ! (λ e'. fsplit ! $ fpick ! (λ none. fsplit ! $ feq_l ! (λ e''. keep ! [] $
       show ! (λ (c : Bool × (ℕ × ℕ)).
       guard 𝓤 (v ≡ answer_val c.0 c.1.0 c.1.1) (sem 𝓛 (got free_token τ c.0 c.1.0 c.1.1))) (false, (0, 0)) $
-      check ! (ap only e ∙ ap (λ (ws : List Val). live 1 (of_list ws)) (e' ∙ ap (λ (ws : List Val). ws ++ []) e'')) $
+      check ! (cc) $
       done !))))))
 
 module _ {M : Type 1} {𝓤 : Ura M} {𝓛 : Logic 𝓤} {K : Type 0} {Γ : List (Item 𝓤)} {G : Goal 𝓤 𝓛.H} where

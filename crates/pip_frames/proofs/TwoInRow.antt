@@ -55,7 +55,7 @@ module _ (R : RattleType) where
         qed 𝓛 (‵ (rest (x ∷ xs) b o) ∷ []) ∵ fsplit ! $ move ! (1 ∷ []) $
         use1 𝓛 (‵ (part (get_or xs i d) b (place s (o + s) i))
         ⊛ (‵ (part (get_or xs j d) b (place s (o + s) j)) ⊛ ‵ (others2 xs i j b (o + s)))) (two_out xs i j b
-        (o + s) (le_of_suc-le-suc li) (le_of_suc-le-suc lj) (λ e. ne (ap suc e))) $
+        (o + s) (le_of_suc-le-suc li) (le_of_suc-le-suc lj) (λ e. ne (rw e))) $
         split3 ! $ move ! (3 ∷ 2 ∷ []) $ fjoin ! $ move ! (1 ∷ 2 ∷ 0 ∷ []) $ done !
 
     two_in : (xs : List X) (i j b o : ℕ) (w : X) → i < length xs → j < length xs → i ≢ j
@@ -77,7 +77,7 @@ module _ (R : RattleType) where
         qed 𝓛 (‵ (part (get_or xs i d) b (place s (o + s) i)) ∷ ‵ (part w b (place s (o + s) j)) ∷ ‵ (fsep (part x b o)
         (others2 xs i j b (o + s))) ∷ []) ∵ move ! (2 ∷ []) $ fsplit ! $ move ! (2 ∷ 3 ∷ 1 ∷ []) $
         use3 𝓛 (‵ (rest (set xs j w) b (o + s))) (two_in xs i j b (o + s) w (le_of_suc-le-suc li) (le_of_suc-le-suc lj)
-        (λ e. ne (ap suc e))) $ move ! (1 ∷ 0 ∷ []) $ done !
+        (λ e. ne (rw e))) $ move ! (1 ∷ 0 ∷ []) $ done !
 
     -- two values are taken out of an array of n
     module _ (n : ℕ) (xs : List X) (i j b o : ℕ) (li : i < length xs) (lj : j < length xs) (ne : i ≢ j) where
@@ -101,6 +101,6 @@ module _ (R : RattleType) where
           rewrite ! 0 (λ (k : ℕ). ‵ (part (get_or xs i d) b k)) (sym (place_is s o i)) refl $
           rewrite ! 1 (λ (k : ℕ). ‵ (part w b k)) (sym (place_is s o j)) refl $
           use3 𝓛 (‵ (rest (set xs j w) b o)) (two_in xs i j b o w li lj ne) $
-          feq_i ! ℕ (length (set xs j w)) n (length-set xs j w ∙ sym counted) $ fjoin ! $
+          feq_i ! ℕ (length (set xs j w)) n (cc (length-set xs j w)) $ fjoin ! $
           use1 𝓛 (‵ (part_at (Array R n) full_share (set xs j w) b o)) (Array-whole 𝓛 R full_share n (set xs j w) b o) $
           done !

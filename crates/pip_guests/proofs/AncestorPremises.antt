@@ -20,18 +20,18 @@ use Rattle.pip_guests.specs.Limits.{IsYieldAnywhere, PlacesMatter, StoresMatter,
 use Rattle.pip_guests.proofs.Premises.{enters, enters_are, five, gives, gives_are, made, made_sound, words}
 
 not_root : (w : World) → w.tree.root.name ≡ 1 → 13 ≢ w.tree.root.name
-not_root w root e = let one : ◌≡◌ {A = ℕ} 13 1 = e ∙ root in omega (arith, one)
+not_root w root e = let one : ◌≡◌ {A = ℕ} 13 1 = cc in omega arith
 
 root_alone : In {A = ℕ} 13 (1 ∷ []) → ⊥
-root_alone i = elim i [ inl e ↦ omega (arith, e) | inr j ↦ j ]
+root_alone i = elim i [ inl e ↦ omega arith | inr j ↦ j ]
 
 -- the root makes the event
 runs_root : (w : World) (e : Event) → actor w e ≡ 1 → w.tree.root.name ≡ 1 → In (actor w e) (names_of (nodes w.tree))
-runs_root w e who root = inl (who ∙ sym root)
+runs_root w e who root = inl (cc)
 
 off_root : (w : World) (e : Event) → actor w e ≡ 1 → ancestry w.tree 1 ≡ 1 ∷ [] → In 13 (ancestry w.tree (actor w e))
     → ⊥
-off_root w e who line h = root_alone (subst (In 13) (ap (ancestry w.tree) who ∙ line) h)
+off_root w e who line h = root_alone (rw (who, line) at h)
 
 -- ---- the root deletes 13
 
@@ -52,8 +52,8 @@ calls_matter law =
     let there : IsBelow (event made (E.Call 0 1 deletes)).world.tree 13 (node made.tree 13) =
     (g.below.nodes (node made.tree 13)).0 (inr (inr (inl refl)), inl refl) in
     elim there.0 [
-      | inl e ↦ let n : ◌≡◌ {A = ℕ} 13 1 = ap (λ x. x.name) e in omega (arith, n)
-      | inr i ↦ elim i [ inl e ↦ let n : ◌≡◌ {A = ℕ} 13 22 = ap (λ x. x.name) e in omega (arith, n) | inr j ↦ j ]
+      | inl e ↦ let n : ◌≡◌ {A = ℕ} 13 1 = ap (λ x. x.name) e in omega arith
+      | inr i ↦ elim i [ inl e ↦ let n : ◌≡◌ {A = ℕ} 13 22 = ap (λ x. x.name) e in omega arith | inr j ↦ j ]
     ]
 
 -- ---- the root yields to 13, and saves nothing
@@ -72,12 +72,12 @@ targets_matter law = go (runs_on entered 0) refl refl
         (runs_root made (E.Call 0 8 enters) refl refl) (off_root made (E.Call 0 8 enters) refl refl) is_yield
 
     go : (o : Option Occupant) → runs_on entered 0 ≡ o → occupant_name o ≡ 13 → ⊥
-    go None k n = omega (arith, n)
+    go None k n = omega arith
     go (Some r) k n =
         let here : In 13 (ancestry entered.tree 13) = inl refl in
         let runs = same.runs_back 0 r (subst (λ m. In 13 (ancestry entered.tree m)) (sym n) here) k in
         let name : ◌≡◌ {A = ℕ} 1 13 = ap occupant_name runs ∙ n in
-        omega (arith, name)
+        omega arith
 
 -- ---- the root stores to a word of 13's page
 
@@ -93,7 +93,7 @@ stores_matter law =
       saved = λ g i e h. elim h [ inl k ↦ cc | inr j ↦ j ];
     }) in
     let word : ◌≡◌ {A = ℕ} 5 0xfffff000 = g.below.words 21 2 (inl refl) (omega arith) in
-    omega (arith, word)
+    omega arith
 
 -- ---- the root's block for vector 63 is in 13's page
 
@@ -121,10 +121,10 @@ places_matter law =
       arguments = leaves;
       is = refl;
       named = refl;
-      target = λ i. elim i [ inl e ↦ omega (arith, e) | inr j ↦ elim j [ inl e ↦ omega (arith, e) | inr k ↦ k ] ];
+      target = λ i. elim i [ inl e ↦ omega arith | inr j ↦ elim j [ inl e ↦ omega arith | inr k ↦ k ] ];
     }) in
     let word : ◌≡◌ {A = ℕ} 0x400000 0x22100000 = g.below.words 21 0 (inl refl) (omega arith) in
-    omega (arith, word)
+    omega arith
 
 -- it loads where it has no page, and is saved there
 pub faults_matter : FaultsMatter
@@ -134,4 +134,4 @@ faults_matter law =
     (runs_root placed e refl refl) (off_root placed e refl refl)
     (record { cpu = 0; va = 0x20000000; size = Word; is = refl }) in
     let word : ◌≡◌ {A = ℕ} 0x400000 0x22100000 = g.below.words 21 0 (inl refl) (omega arith) in
-    omega (arith, word)
+    omega arith

@@ -97,7 +97,7 @@ members_changed p c t f w names ups out = record {
     keep_ups = change-keeps c f (λ z. z.up) ups
 
     same : (x : Node) → In p (ancestry t x.name) → change_at c f x ≡ x
-    same x h = change-else c f x (λ e. out (subst (λ q. In p (ancestry t q)) e h))
+    same x h = change-else c f x (λ e. out (rw (← e) h))
 
 -- ---- the words of the pages of the subtree
 
@@ -110,7 +110,7 @@ module _ (t u : Tree) (p : ℕ) (s : IsSound t) (s' : IsSound u) (n : IsName t p
   found = node_found t p n
 
   there : IsBelow u p (node t p)
-  there = m.to (node t p) (found.0, subst (λ q. In p (ancestry t q)) (sym found.1) (own_line t s p n))
+  there = m.to (node t p) (found.0, rw found.1 (own_line t s p n))
 
   same_node : node u p ≡ node t p
   same_node = named_node u p s' (node t p) there.0 found.1
@@ -121,7 +121,7 @@ module _ (t u : Tree) (p : ℕ) (s : IsSound t) (s' : IsSound u) (n : IsName t p
   hidden_in v r x i e g h q =
       let (z, j, k) = hidden_from v g q in
       let a = row_above v g r z x j i k h in
-      (z, (j, subst (λ b. In b (ancestry v z.name)) e (over_ancestry v r x z i (inr a))), k)
+      (z, (j, rw (← e) (over_ancestry v r x z i (inr a))), k)
 
   hidden_same : (g : ℕ) → In g (row_pages (node t p)) → hidden t g ≡ hidden u g
   hidden_same g h = tests_agree (hidden t g) (hidden u g)
@@ -142,9 +142,9 @@ module _ (t u : Tree) (p : ℕ) (s : IsSound t) (s' : IsSound u) (n : IsName t p
     words = λ g i j l. elim (cases_Bool (hidden t g)) [
       | inl q ↦
           let none = hidden_none t s g q in
-          let none' = hidden_none u s' g (sym (hidden_same g j) ∙ q) in
-          ap (λ w. word_of w i) (none' ∙ sym none)
-      | inr q ↦ ap (λ w. word_of w i) (open_words g q (sym (hidden_same g j) ∙ q))
+          let none' = hidden_none u s' g (rw (← hidden_same g j) q) in
+          cc
+      | inr q ↦ rw (open_words g q (sym (hidden_same g j) ∙ q))
     ];
   }
 
@@ -162,8 +162,8 @@ module _ (t : Tree) (s : IsSound t) (p r : ℕ) (n : IsName t p) (i : IsName t r
       go (Some c) e other h =
           let f = child_found t r d c e in
           elim (line_parent t s p c f.0 h) [
-            | inl q ↦ other (subst (λ x. In x (ancestry t p)) q (own_line t s p n))
-            | inr l ↦ out (subst (λ x. In p (ancestry t x)) f.1 l)
+            | inl q ↦ other (rw (← q) (own_line t s p n))
+            | inr l ↦ out (rw (← f.1) l)
           ]
 
   -- a new child
@@ -198,7 +198,7 @@ module _ (t : Tree) (s : IsSound t) (p r : ℕ) (n : IsName t p) (i : IsName t r
           → IsBelow t p x
       back x (inl e) h = stays x (inl e) h
       back x (inr (inl e)) h =
-          absurd (new_out (subst (λ z. In p (ancestry (tree_with_newborn t r a) z)) (ap (λ z. z.name) e) h))
+          absurd (new_out (rw e at h))
       back x (inr (inr j)) h = stays x (inr j) h
 
   -- a child goes
@@ -254,8 +254,8 @@ module _ (w : World) (s : IsSoundWorld w) (p r : ℕ) (n : IsName w.tree p) (i :
           let under = child_out w.tree s.tree p r n i out a.x0 o in
           subst (λ q. Members p w.tree (tree_without_subtree w.tree q)) (sym k.name)
           (members_deleted w.tree s.tree p r n i out c k.child
-          (subst (λ q. In q (ancestry w.tree p) → ⊥) k.name o)
-          (subst (λ q. In p (ancestry w.tree q) → ⊥) k.name under)
+          (rw (← k.name) o)
+          (rw (← k.name) under)
           (subst (λ q. LeavesTree r w.tree (tree_without_subtree w.tree q)) k.name l))
 
       go : (q : Option Status) → first_met (delete_refusals w.tree (running w) r a.x0) ≡ q
@@ -305,7 +305,7 @@ mask_agrees p r b t out = record {
 }
   where
     same : (x : Node) → In p (ancestry t x.name) → masked_node r b x ≡ x
-    same x h = let q = ne_eqb x.name r (λ e. out (subst (λ q. In p (ancestry t q)) e h)) in
+    same x h = let q = ne_eqb x.name r (λ e. out (rw (← e) h)) in
         λ n. record x { masked = cond (q n) b x.masked }
 
 -- a context that is saved to no page of p
@@ -315,7 +315,7 @@ save_agrees p t c q apart = record {
   to = λ x h. h;
   from = λ x h. h;
   words = λ g i j l. saved_apart t c q g i
-      (λ h k e z. apart h k e (subst (λ v. In v (row_pages (node t p))) (sym z) j));
+      (λ h k e z. apart h k e (rw z j));
 }
 
 -- a word that is stored to no page of p
@@ -323,8 +323,7 @@ word_agrees : (p : ℕ) (t : Tree) (g i x : ℕ) → (In g (row_pages (node t p)
 word_agrees p t g i x apart = record {
   to = λ x h. h;
   from = λ x h. h;
-  words = λ k j l b. ap (λ c. word_of (cond c (Some (λ j. cond (j == i) x (word_of (t.words g) j))) (t.words k)) j)
-      (ne_eqb k g (λ z. apart (subst (λ v. In v (row_pages (node t p))) z l)));
+  words = λ k j l b. rw (ne_eqb k g (λ z. apart (subst (λ v. In v (row_pages (node t p))) z l)));
 }
 
 -- ---- events
@@ -336,8 +335,8 @@ module _ (w : World) (s : IsSoundWorld w) (p cpu : ℕ) (r : Occupant) (n : IsNa
   is_name = s.names_nodes r.name (runs_named w cpu r s k)
 
   before : (z : Occupant) → runs_on w cpu ≡ Some z → In p (ancestry w.tree z.name) → ⊥
-  before z e h = let u : Some z ≡ Some r = sym e ∙ k in let d : z ≡ r = cc in
-      out (subst (λ q. In p (ancestry w.tree q)) (ap (λ z. z.name) d) h)
+  before z e h = let u : Some z ≡ Some r = cc in let d : z ≡ r = cc in
+      out (rw (← d) h)
 
   -- another tree, which agrees, and what isn't of the guest either runs
   put : (t : Tree) (o : Option Occupant) → AgreeTrees p w.tree t
@@ -345,7 +344,7 @@ module _ (w : World) (s : IsSoundWorld w) (p cpu : ℕ) (r : Occupant) (n : IsNa
       → IsSoundWorld (with_running (record w { tree = t }) cpu o)
       → Kept p w (with_running (record w { tree = t }) cpu o)
   put t o a off s' = kept_by p cpu w (with_running (record w { tree = t }) cpu o) s s' n a
-      (λ i d. at_set_other o w.cpus cpu i d) before (λ z e h. off z (sym (at_set_here o w.cpus cpu r k) ∙ e) h)
+      (λ i d. at_set_other o w.cpus cpu i d) before (λ z e h. off z (rw (← at_set_here o w.cpus cpu r k) e) h)
 
   -- r runs on
   on : (t : Tree) (c : Ctx) → AgreeTrees p w.tree t
@@ -353,7 +352,7 @@ module _ (w : World) (s : IsSoundWorld w) (p cpu : ℕ) (r : Occupant) (n : IsNa
       → Kept p w (with_running (record w { tree = t }) cpu (Some (record r { ctx = c })))
   on t c a s' = put t (Some (record r { ctx = c })) a (λ z e h.
       let d : record r { ctx = c } ≡ z = cc in
-      out (subst (λ q. In p (ancestry w.tree q)) (ap (λ z. z.name) (sym d)) h)) s'
+      out (rw (← d) at h)) s'
 
   still : (t : Tree) → AgreeTrees p w.tree t → IsSoundWorld (record w { tree = t }) → Kept p w (record w { tree = t })
   still t a s' = kept_by p cpu w (record w { tree = t }) s s' n a (λ i d. refl) before before
@@ -372,7 +371,7 @@ module _ (w : World) (s : IsSoundWorld w) (p cpu : ℕ) (r : Occupant) (n : IsNa
           (Some (record { name = y.to; ctx = handler_context y.handler v a b y.born })) saved
           (λ z e h. let d : record { name = y.to; ctx = handler_context y.handler v a b y.born } ≡ z = cc in
           out (line_trans w.tree s.tree p y.to r.name
-          (subst (λ q. In p (ancestry w.tree q)) (ap (λ z. z.name) (sym d)) h) (taker_in w r.name v y q))) s'
+          (rw (← d) at h) (taker_in w r.name v y q))) s'
 
   -- a line is taken where r runs
   polled : SavesApart p w r.name → IsSoundWorld (poll w cpu (Some r)).world → Kept p w (poll w cpu (Some r)).world
@@ -393,7 +392,7 @@ module _ (w : World) (s : IsSoundWorld w) (p cpu : ℕ) (r : Occupant) (n : IsNa
       take j (Some c) s' = put _ (Some (record { name = w.tree.root.name; ctx = handler_context c (32 + j) 0 0 0 }))
           (line (filter (λ i. not (i == j)) w.tree.root.pending))
           (λ z e h. let d : record { name = w.tree.root.name; ctx = handler_context c (32 + j) 0 0 0 } ≡ z = cc in
-          m (top_alone w.tree s.tree p (subst (λ q. In p (ancestry w.tree q)) (ap (λ z. z.name) (sym d)) h))) s'
+          m (top_alone w.tree s.tree p (rw (← d) at h))) s'
 
       go : (b : Bool) (j : Option ℕ) → IsSoundWorld (cond b (poll_line w cpu (Some r) j) (none_taken w (Some r))).world
           → Kept p w (cond b (poll_line w cpu (Some r) j) (none_taken w (Some r))).world
@@ -430,7 +429,7 @@ module _ (w : World) (s : IsSoundWorld w) (p cpu : ℕ) (r : Occupant) (n : IsNa
       go None (Some c) s' = put (yielded_tree w.tree r a.x2) (Some (record { name = node_name q; ctx = c }))
           (yielded_agrees w.tree p a.x2 r s.tree m apart.saved)
           (λ z e h. let d : record { name = node_name q; ctx = c } ≡ z = cc in
-          apart.target (subst (λ q. In p (ancestry w.tree q)) (ap (λ z. z.name) (sym d)) h)) s'
+          apart.target (rw (← d) at h)) s'
 
   called : (c : CallName) (a : Five) → CallsApart c p w r.name a → IsWord a.x1 → IsSoundWorld (call c w cpu r a).world
       → Kept p w (call c w cpu r a).world
@@ -443,11 +442,7 @@ module _ (w : World) (s : IsSoundWorld w) (p cpu : ℕ) (r : Occupant) (n : IsNa
 -- what an event makes of the tree and the processors is what it makes of the world, but for the caches
 with_own_caches : (w : World) (p : ℕ) (e : Event) → Kept p w (what_happens w e).world → Kept p w (event w e).world
 with_own_caches w p e h = record {
-  guest = record {
-    below = to_worlds p w _ (to_trees p w _ h.guest.below);
-    runs = h.guest.runs;
-    runs_back = h.guest.runs_back;
-  };
+  guest = assumption;
   name = h.name;
 }
 
@@ -456,41 +451,39 @@ ancestors_kept : (w : World) (p : ℕ) (e : Event) (r : Occupant) → IsSoundWor
     → (In p (ancestry w.tree r.name) → ⊥) → IsNoMatter p w e → Kept p w (what_happens w e).world
 ancestors_kept w p (E.Load cpu va z) r s ev n m k d out h =
     let one = load_by w r cpu va z k in
-    subst (λ x. Kept p w x.world) (sym one) (loaded w s p cpu r n m k out va Load z (reach w.tree r.name va Load z)
-    (subst (SavesApart p w) d h) (subst (λ x. IsSoundWorld x.world) one (acted-sound w (E.Load cpu va z) s ev)))
+    rw one (loaded w s p cpu r n m k out va Load z (reach w.tree r.name va Load z) (subst (SavesApart p w) d h)
+    (subst (λ x. IsSoundWorld x.world) one (acted-sound w (E.Load cpu va z) s ev)))
 ancestors_kept w p (E.Store cpu va z x) r s ev n m k d out h =
     let one = store_by w r cpu va z x k in
-    subst (λ x. Kept p w x.world) (sym one) (stored_there w s p cpu r n m k out va z x (reach w.tree r.name va Store z)
+    rw one (stored_there w s p cpu r n m k out va z x (reach w.tree r.name va Store z)
     (subst (λ q. StoresApart p w q va z) d h.0) (subst (SavesApart p w) d h.1)
     (subst (λ x. IsSoundWorld x.world) one (acted-sound w (E.Store cpu va z x) s ev)))
 ancestors_kept w p (E.Fetch cpu) r s ev n m k d out h =
     let one = fetch_by w r cpu k in
-    subst (λ x. Kept p w x.world) (sym one) (loaded w s p cpu r n m k out r.ctx.pc Fetch Word
-    (reach w.tree r.name r.ctx.pc Fetch Word) (subst (SavesApart p w) d h)
-    (subst (λ x. IsSoundWorld x.world) one (acted-sound w (E.Fetch cpu) s ev)))
+    rw one (loaded w s p cpu r n m k out r.ctx.pc Fetch Word (reach w.tree r.name r.ctx.pc Fetch Word)
+    (subst (SavesApart p w) d h) (subst (λ x. IsSoundWorld x.world) one (acted-sound w (E.Fetch cpu) s ev)))
 ancestors_kept w p (E.Trap cpu v a b) r s ev n m k d out h =
     let one = trap_by w r cpu v a b k in
-    subst (λ x. Kept p w x.world) (sym one) (delivered w s p cpu r n m k out v a b
-    (subst (SavesApart p w) d h) (subst (λ x. IsSoundWorld x.world) one (acted-sound w (E.Trap cpu v a b) s ev)))
+    rw one (delivered w s p cpu r n m k out v a b (subst (SavesApart p w) d h)
+    (subst (λ x. IsSoundWorld x.world) one (acted-sound w (E.Trap cpu v a b) s ev)))
 ancestors_kept w p (E.Call cpu number a) r s ev n m k d out h =
     let one = call_by w r cpu number a k in
-    subst (λ x. Kept p w x.world) (sym one) (called w s p cpu r n m k out (call_named number) a
-    (subst (λ q. CallsApart (call_named number) p w q a) d h) ev.1.1.0
-    (subst (λ x. IsSoundWorld x.world) one (acted-sound w (E.Call cpu number a) s ev)))
+    rw one (called w s p cpu r n m k out (call_named number) a (subst (λ q. CallsApart (call_named number) p w q a) d h)
+    ev.1.1.0 (subst (λ x. IsSoundWorld x.world) one (acted-sound w (E.Call cpu number a) s ev)))
 ancestors_kept w p (E.Raise j) r s ev n m k d out h = absurd h
 ancestors_kept w p (E.Poll cpu) r s ev n m k d out h =
     let one = ap (λ o. poll w cpu o) k in
-    subst (λ x. Kept p w x.world) (sym one) (polled w s p cpu r n m k out (subst (SavesApart p w) d h)
+    rw one (polled w s p cpu r n m k out (subst (SavesApart p w) d h)
     (subst (λ x. IsSoundWorld x.world) one (acted-sound w (E.Poll cpu) s ev)))
 ancestors_kept w p (E.SetContext cpu c) r s ev n m k d out h =
     let one = set_by w r cpu c k in
-    subst (λ x. Kept p w x.world) (sym one) (on w s p cpu r n m k out w.tree c (same_agrees p w.tree)
+    rw one (on w s p cpu r n m k out w.tree c (same_agrees p w.tree)
     (subst (λ x. IsSoundWorld x.world) one (acted-sound w (E.SetContext cpu c) s ev)))
 
 pub ancestors_leave_guests_alone : AncestorsLeaveGuestsAlone
 ancestors_leave_guests_alone w p e s ev n m i out h =
     let (r, k, d) = actor_runs w (actor w e) e s (own_line w.tree s.tree (actor w e) i) in
-    let off : In p (ancestry w.tree r.name) → ⊥ = λ x. out (subst (λ q. In p (ancestry w.tree q)) (sym d) x) in
+    let off : In p (ancestry w.tree r.name) → ⊥ = λ x. out (rw d x) in
     record {
       others = not_guests w p e out;
       same = (with_own_caches w p e (ancestors_kept w p e r s ev n m k d off h)).guest;

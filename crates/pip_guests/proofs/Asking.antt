@@ -42,7 +42,7 @@ parent_off w p s n m h =
     let name = ap (λ b. node_name (cond b None (Some (node w.tree up)))) (ne_eqb p w.tree.root.name m)
     ∙ (node_found w.tree up f.1).1 in
     above_out w w p s s (same_world p w) (node w.tree p) f.0 (node_found w.tree p n).1 up
-    (own_line w.tree s.tree up f.1) (subst (λ a. In p (ancestry w.tree a)) name h)
+    (own_line w.tree s.tree up f.1) (rw (← name) h)
 
 -- the guest's trees agree after both, and on the processor the same runs, or nothing of the guest
 record Parted (p cpu : ℕ) (a b : Happened) : Type 0 where
@@ -56,22 +56,21 @@ module _ (w : World) (p cpu x : ℕ) (r : Occupant) (a : Five) (s : IsSoundWorld
     (d : r.name ≢ w.tree.root.name) (k : runs_on w cpu ≡ Some r) (off : In p (ancestry w.tree x) → ⊥) where
   -- nothing is learned of it
   accepted : (o : Outcome) → O.Switched r.name x a.x1 ≡ o → guest_learns w.tree p o ≡ None
-  accepted o e = subst (λ o. guest_learns w.tree p o ≡ None) e
-      (ap (λ b. cond b (Some (O.Switched r.name x a.x1)) None) (false_from_ne_true _ (λ z. off (has_in p _ z))))
+  accepted o e = rw (← e) (ap (λ b. cond b (Some (O.Switched r.name x a.x1)) None)
+      (false_from_ne_true _ (λ z. off (has_in p _ z))))
 
   gone : (c : Ctx) (z : Occupant) → runs_on (yield_happens w cpu r a x (Some c)).world cpu ≡ Some z
       → In p (ancestry (yield_happens w cpu r a x (Some c)).world.tree z.name) → ⊥
   gone c z e h =
       let q : Occupant = record { name = x; ctx = c } in
-      let u : Some q ≡ Some z = sym (at_set_here (Some q) w.cpus cpu r k) ∙ e in
+      let u : Some q ≡ Some z = rw (← at_set_here (Some q) w.cpus cpu r k) e in
       let v : q ≡ z = cc in
-      off (subst (λ n. In p (ancestry w.tree n)) (ap (λ z. z.name) (sym v))
-      (subst (λ t. In p (ancestry t z.name)) (yielded_same w.tree r a.x2 s.tree d) h))
+      off (rw (← v) at (subst (λ t. In p (ancestry t z.name)) (yielded_same w.tree r a.x2 s.tree d) h))
 
 module _ (w v : World) (p cpu : ℕ) (r : Occupant) (a : Five) (s : IsSoundWorld w) (s' : IsSoundWorld v) (g :
     IsSameGuest p w v) (m : p ≢ w.tree.root.name) (k : runs_on w cpu ≡ Some r) (h : In p (ancestry w.tree r.name)) where
   d : r.name ≢ w.tree.root.name
-  d e = m (top_alone w.tree s.tree p (subst (λ a. In p (ancestry w.tree a)) e h))
+  d e = m (top_alone w.tree s.tree p (rw e at h))
 
   d' : r.name ≢ v.tree.root.name
   d' = not_top w.tree v.tree s.tree s'.tree r.name d
@@ -90,8 +89,7 @@ module _ (w v : World) (p cpu : ℕ) (r : Occupant) (a : Five) (s : IsSoundWorld
   parted x y (Some st) (Some st') c c' off off' i i' e =
       let same : st ≡ st' = cc in
       let z = refused_alike w v p cpu r s s' g m k h st in
-      subst (λ q. Parted p cpu (reply_unless w cpu r (Some st) (yield_happens w cpu r a x c))
-      (reply_unless v cpu r (Some q) (yield_happens v cpu r a y c'))) same (record { trees = z.trees; runs = inl z.on })
+      rw (← same) (record { trees = z.trees; runs = inl z.on })
   parted x y (Some st) None c None off off' i i' e = absurd (i' refl)
   parted x y (Some st) None c (Some q) off off' i i' e = let n = accepted v p cpu y r a s' d' k' off' _ refl in
       let u = e ∙ n in cc
@@ -114,32 +112,32 @@ call_parted : (w v : World) (p cpu number : ℕ) (a : Five) → IsSoundWorld w �
 call_parted w v p cpu number a s s' n m g i r k q =
     let e = E.Call cpu number a in
     let h : In p (ancestry w.tree r.name) =
-    subst (λ b. In p (ancestry w.tree b)) (sym q) (own_line w.tree s.tree p n) in
+    rw q (own_line w.tree s.tree p n) in
     let k' = g.runs cpu r h k in
     let n' = name_after p w.tree v.tree s.tree s'.tree n (to_trees p w v g.below) in
     let m' = not_top w.tree v.tree s.tree s'.tree p m in
-    let one : what_happens w e ≡ yield w cpu r a = call_by w r cpu number a k ∙ ap (λ c. call c w cpu r a) i.asks.0 in
-    let two : what_happens v e ≡ yield v cpu r a = call_by v r cpu number a k' ∙ ap (λ c. call c v cpu r a) i.asks.0 in
+    let one : what_happens w e ≡ yield w cpu r a = rw (call_by w r cpu number a k, i.asks.0) in
+    let two : what_happens v e ≡ yield v cpu r a = rw (call_by v r cpu number a k', i.asks.0) in
     let x = target_node w.tree r.name a.x0 in
     let y = target_node v.tree r.name a.x0 in
     let off = λ (j : In p (ancestry w.tree (node_name x))).
-    parent_off w p s n m (subst (λ b. In p (ancestry w.tree (node_name (target_node w.tree p b)))) i.asks.2
-    (subst (λ b. In p (ancestry w.tree (node_name (target_node w.tree b a.x0)))) q j)) in
+    parent_off w p s n m (rw i.asks.2 at (subst (λ b. In p (ancestry w.tree (node_name (target_node w.tree b a.x0)))) q
+    j)) in
     let off' = λ (j : In p (ancestry v.tree (node_name y))).
-    parent_off v p s' n' m' (subst (λ b. In p (ancestry v.tree (node_name (target_node v.tree p b)))) i.asks.2
-    (subst (λ b. In p (ancestry v.tree (node_name (target_node v.tree b a.x0)))) q j)) in
+    parent_off v p s' n' m' (rw i.asks.2 at (subst (λ b. In p (ancestry v.tree (node_name (target_node v.tree b a.x0))))
+    q j)) in
     let idle =
-    λ (z : (yield w cpu r a).outcome ≡ O.Idle). calls_answer w cpu number a r k (ap (λ h. h.outcome) one ∙ z) in
+    λ (z : (yield w cpu r a).outcome ≡ O.Idle). calls_answer w cpu number a r k (rw (one, z)) in
     let idle' =
-    λ (z : (yield v cpu r a).outcome ≡ O.Idle). calls_answer v cpu number a r k' (ap (λ h. h.outcome) two ∙ z) in
+    λ (z : (yield v cpu r a).outcome ≡ O.Idle). calls_answer v cpu number a r k' (rw (two, z)) in
     let same = ap (λ b. guest_learns w.tree p b.outcome) (sym one) ∙ i.answer
     ∙ ap (λ b. guest_learns v.tree p b.outcome) two in
     let z = parted w v p cpu r a s s' g m k h (node_name x) (node_name y) (first_met (yield_refusals w r.name a x))
     (first_met (yield_refusals v r.name a y)) (handler w.tree (node_name x) a.x1)
     (handler v.tree (node_name y) a.x1) off off' idle idle' same in
     let t = subst (λ b. Parted p cpu b (what_happens v e)) (sym one)
-    (subst (Parted p cpu (yield w cpu r a)) (sym two) z) in
-    record { trees = t.trees; runs = t.runs }
+    (rw two z) in
+    assumption
 
 pub record SameAsking (p : ℕ) (e : Event) (w v : World) : Type 0 where
   pub own : is_of_guest p w e ≡ true
@@ -159,13 +157,13 @@ asked_same w v p (E.SetContext cpu c) s s' ev n m g i = absurd i.asks
 asked_same w v p (E.Call cpu number a) s s' ev n m g i =
     let e = E.Call cpu number a in
     let (r, k, q) =
-    actor_runs w p e s (subst (λ b. In p (ancestry w.tree b)) (sym i.asks.1) (own_line w.tree s.tree p n)) in
-    let is_p : r.name ≡ p = sym q ∙ i.asks.1 in
+    actor_runs w p e s (rw i.asks.1 (own_line w.tree s.tree p n)) in
+    let is_p : r.name ≡ p = cc (i.asks.1) in
     let h : In p (ancestry w.tree r.name) =
-    subst (λ b. In p (ancestry w.tree b)) (sym is_p) (own_line w.tree s.tree p n) in
+    rw is_p (own_line w.tree s.tree p n) in
     let k' = g.runs cpu r h k in
     let h' = line_alike w.tree v.tree p s.tree s'.tree (to_trees p w v g.below) r.name h in
-    let d : r.name ≢ w.tree.root.name = λ z. m (sym is_p ∙ z) in
+    let d : r.name ≢ w.tree.root.name = λ z. m (cc) in
     let d' = not_top w.tree v.tree s.tree s'.tree r.name d in
     let z = call_parted w v p cpu number a s s' n m g i r k is_p in
     let x = event_moves w e r s refl k d in
@@ -189,8 +187,8 @@ asked_same w v p (E.Call cpu number a) s s' ev n m g i =
       }
     ] in
     record {
-      own = in_has p _ (subst (λ b. In p (ancestry w.tree b)) (sym q) h);
-      own_there = in_has p _ (subst (λ o. In p (ancestry v.tree (occupant_name o))) (sym k') h');
+      own = in_has p _ (rw q h);
+      own_there = in_has p _ (rw k' h');
       name = own_name p w.tree (event w e).world.tree l n;
       guest = guest;
     }

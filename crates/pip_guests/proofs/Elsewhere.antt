@@ -43,9 +43,9 @@ pub guests_leave : (w : World) (p : ℕ) (e : Event) → IsSoundWorld w → IsEv
     → In p (ancestry w.tree (actor w e)) → LeavesAside p (cpu_of e) w (event w e).world
 guests_leave w p e s ev m o b =
     let (r, k, q) = actor_runs w p e s b in
-    let h : In p (ancestry w.tree r.name) = subst (λ a. In p (ancestry w.tree a)) q b in
+    let h : In p (ancestry w.tree r.name) = rw (← q) b in
     let d : r.name ≢ w.tree.root.name =
-    λ z. m (top_alone w.tree s.tree p (subst (λ a. In p (ancestry w.tree a)) z h)) in
+    λ z. m (top_alone w.tree s.tree p (rw z at h)) in
     let a = event_moves w e r s o k d in
     let s' = event-sound w e s ev in
     let l = leaves_up p r.name w.tree (event w e).world.tree s.tree s'.tree h a.leaves in
@@ -99,14 +99,14 @@ same_trans p w v u s r q n g h =
 goes_out : (t : Tree) → IsSound t → (p q n : ℕ) → (In p (ancestry t q) → ⊥) → (In q (ancestry t p) → ⊥) → IsName t q
     → Goes t q n → In p (ancestry t n) → ⊥
 goes_out t s p q n nb na i (inl h) k = nb (line_trans t s p n q k h)
-goes_out t s p q n nb na i (inr (inr e)) k = no_line t s p (subst (λ a. In p (ancestry t a)) e k)
+goes_out t s p q n nb na i (inr (inr e)) k = no_line t s p (rw (← e) k)
 goes_out t s p q n nb na i (inr (inl (c, j, u, e))) k =
-    elim (line_parent t s p c j (subst (λ a. In p (ancestry t a)) (sym e) k)) [
+    elim (line_parent t s p c j (rw e k)) [
       | inl d ↦
           let l : In q (ancestry t c.name) = ancestry_down t s c (node t q) j (u ∙ sym (node_found t q i).1) q
-          (subst (λ a. In q (ancestry t a)) (sym (node_found t q i).1) (own_line t s q i)) in
-          na (subst (λ a. In q (ancestry t a)) (sym d) l)
-      | inr l ↦ nb (subst (λ a. In p (ancestry t a)) u l)
+          (rw (← sym (node_found t q i).1) (own_line t s q i)) in
+          na (rw d l)
+      | inr l ↦ nb (rw (← u) l)
     ]
 
 -- the subtree of p, after a change below q, which is aside
@@ -137,13 +137,13 @@ kept_by p cpu w v s r n a cpus before after = record {
   guest = record {
     below = to_worlds p w v a;
     runs = λ i z h e. elim (cases_eq i cpu) [
-      | inl q ↦ absurd (before z (subst (λ i. runs_on w i ≡ Some z) q e) h)
+      | inl q ↦ absurd (before z (rw (← q) e) h)
       | inr q ↦ cpus i q ∙ e
     ];
     runs_back = λ i z h e. elim (cases_eq i cpu) [
-      | inl q ↦ absurd (after z (subst (λ i. runs_on v i ≡ Some z) q e)
+      | inl q ↦ absurd (after z (rw (← q) e)
           (line_alike v.tree w.tree p r.tree s.tree (agree_sym w.tree v.tree p s.tree r.tree n a) z.name h))
-      | inr q ↦ sym (cpus i q) ∙ e
+      | inr q ↦ rw (← cpus i q) e
     ];
   };
   name = name_after p w.tree v.tree s.tree r.tree n a;
@@ -156,12 +156,12 @@ aside_kept w p e q s ev n o k nb na =
     let s' = event-sound w e s ev in
     let i : IsName w.tree q.name = s.names_nodes q.name (runs_named w (cpu_of e) q s k) in
     let d : q.name ≢ w.tree.root.name =
-    λ z. na (subst (λ a. In a (ancestry w.tree p)) (sym z) (root_line w.tree s.tree p n)) in
+    λ z. na (rw z (root_line w.tree s.tree p n)) in
     let a = event_moves w e q s o k d in
     kept_by p (cpu_of e) w (event w e).world s s' n
     (left_aside p q.name w.tree (event w e).world.tree s.tree s'.tree n i nb na a.leaves) a.cpus
-    (λ z c h. let u : Some z ≡ Some q = sym c ∙ k in let x : z ≡ q = cc in
-    nb (subst (λ a. In p (ancestry w.tree a)) (ap (λ z. z.name) x) h))
+    (λ z c h. let u : Some z ≡ Some q = cc in let x : z ≡ q = cc in
+    nb (rw (← x) h))
     (λ z c h. goes_out w.tree s.tree p q.name z.name nb na i (event_goes w e q s o k d z c) h)
 
 -- ---- lines
@@ -172,22 +172,22 @@ module _ (f : Node → Node) (names : (x : Node) → (f x).name ≡ x.name) (ups
   pub changed_to : (x : Node) → IsBelow t p x → IsBelow (on_nodes f t) p x
   changed_to x (i, h) = (
     subst (λ z. In z (nodes (on_nodes f t))) (same x h) (In-map f x (nodes t) i),
-    subst (In p) (sym (ancestry_in f names ups t.root t.others x.name)) h,
+    rw (ancestry_in f names ups t.root t.others x.name) h,
   )
 
   pub changed_from : (x : Node) → IsBelow (on_nodes f t) p x → IsBelow t p x
   changed_from x (i, h) =
       let (z, j, e) = In-map_from f x (nodes t) i in
-      let q : x.name ≡ z.name = ap (λ z. z.name) e ∙ names z in
-      let k : In p (ancestry t z.name) = subst (In p) (ancestry_in f names ups t.root t.others z.name)
+      let q : x.name ≡ z.name = cc (names z) in
+      let k : In p (ancestry t z.name) = rw (← ancestry_in f names ups t.root t.others z.name)
       (subst (λ v. In p (ancestry (on_nodes f t) v)) q h) in
       let d : x ≡ z = e ∙ same z k in
-      (subst (λ v. In v (nodes t)) (sym d) j, subst (λ v. In p (ancestry t v.name)) (sym d) k)
+      (subst (λ v. In v (nodes t)) (sym d) j, rw d k)
 
 -- the root's mask and lines are no matter of a guest
 module _ (t : Tree) (p : ℕ) (m : p ≢ t.root.name) (alone : In p (ancestry t t.root.name) → p ≡ t.root.name) where
   is_low : (x : Node) → In p (ancestry t x.name) → x.name ≢ t.root.name
-  is_low x h e = m (alone (subst (λ a. In p (ancestry t a)) e h))
+  is_low x h e = m (alone (rw e at h))
 
   mask_same : (b : Bool) (x : Node) → In p (ancestry t x.name) → masked_node t.root.name b x ≡ x
   mask_same b x h = let q = ne_eqb x.name t.root.name (is_low x h) in λ n. record x { masked = cond (q n) b x.masked }
@@ -261,8 +261,8 @@ module _ (w : World) (p cpu : ℕ) (s : IsSoundWorld w) (n : IsName w.tree p) (m
   off_before : (o : Option Occupant) → runs_on w cpu ≡ o → IsOff w.tree p o → (z : Occupant) → runs_on w cpu ≡ Some z
       → In p (ancestry w.tree z.name) → ⊥
   off_before None k f z e h = let u = sym k ∙ e in cc
-  off_before (Some q) k f z e h = let u : Some q ≡ Some z = sym k ∙ e in let d : q ≡ z = cc in
-      f.0 (subst (λ a. In p (ancestry w.tree a)) (ap (λ z. z.name) (sym d)) h)
+  off_before (Some q) k f z e h = let u : Some q ≡ Some z = cc in let d : q ≡ z = cc in
+      f.0 (rw d h)
 
   poll_kept : (o : Option Occupant) → runs_on w cpu ≡ o → IsOff w.tree p o → IsSoundWorld (poll w cpu o).world
       → Kept p w (poll w cpu o).world
@@ -283,7 +283,7 @@ module _ (w : World) (p cpu : ℕ) (s : IsSoundWorld w) (n : IsName w.tree p) (m
           entered : (cs : List (Option Occupant)) (i : ℕ) (x z : Occupant) → at_cpu (slice_set cs i (Some x)) i ≡ Some z
               → z.name ≡ x.name
           entered [] i x z e = cc
-          entered (o ∷ cs) zero x z e = let d : x ≡ z = cc in ap (λ z. z.name) (sym d)
+          entered (o ∷ cs) zero x z e = let d : x ≡ z = cc in rw (← d)
           entered (o ∷ cs) (suc i) x z e = entered cs i x z e
 
       go : (b : Bool) (j : Option ℕ) → IsSoundWorld (cond b (poll_line w cpu o j) (none_taken w o)).world
@@ -301,17 +301,13 @@ idle_kept w p e s n o k = from_acted (go e o k)
   where
     from_acted : Kept p w (what_happens w e).world → Kept p w (event w e).world
     from_acted h = record {
-      guest = record {
-        below = to_worlds p w _ (to_trees p w _ h.guest.below);
-        runs = h.guest.runs;
-        runs_back = h.guest.runs_back;
-      };
+      guest = assumption;
       name = h.name;
     }
 
     still : (e : Event) (f : Occupant → Happened) → runs_on w (cpu_of e) ≡ None
         → what_happens w e ≡ on_running w (cpu_of e) (runs_on w (cpu_of e)) f → Kept p w (what_happens w e).world
-    still e f k q = subst (λ h. Kept p w h.world) (sym (q ∙ ap (λ o. on_running w (cpu_of e) o f) k)) (kept_same p w n)
+    still e f k q = rw (q, k) (kept_same p w n)
 
     go : (e : Event) → is_own e ≡ true → runs_on w (cpu_of e) ≡ None → Kept p w (what_happens w e).world
     go (E.Load cpu va z) o k =
@@ -334,8 +330,8 @@ by_kept : (w : World) (p : ℕ) (e : Event) → IsSoundWorld w → IsEvent e →
 by_kept w p e s ev n o (inl k) = idle_kept w p e s n o k
 by_kept w p e s ev n o (inr a) =
     let (q, k, d) = aside_runs w p e s a in
-    aside_kept w p e q s ev n o k (λ h. a.not_below (subst (λ b. In p (ancestry w.tree b)) (sym d) h))
-    (λ h. a.not_above (subst (λ b. In b (ancestry w.tree p)) (sym d) h))
+    aside_kept w p e q s ev n o k (λ h. a.not_below (rw d h))
+    (λ h. a.not_above (rw d h))
   where
     aside_runs : (w : World) (p : ℕ) (e : Event) → IsSoundWorld w → IsAside w.tree p (actor w e)
         → (r : Occupant) × (runs_on w (cpu_of e) ≡ Some r) × (actor w e ≡ r.name)
@@ -346,11 +342,7 @@ poll_of : (w : World) (p cpu : ℕ) → IsSoundWorld w → IsName w.tree p → p
 poll_of w p cpu s n m h =
     let k = poll_kept w p cpu s n m (runs_on w cpu) refl (off h) (acted-sound w (E.Poll cpu) s tt) in
     record {
-      guest = record {
-        below = to_worlds p w _ (to_trees p w _ k.guest.below);
-        runs = k.guest.runs;
-        runs_back = k.guest.runs_back;
-      };
+      guest = assumption;
       name = k.name;
     }
   where

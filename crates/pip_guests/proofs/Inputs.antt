@@ -57,7 +57,7 @@ record Alike (p : ℕ) (w : World) (es : List Event) (v : World) (fs : List Even
 learns_first : (p : ℕ) (w : World) (e : Event) (es : List Event) (b : Bool) → is_of_guest p w e ≡ b → learns_own p w
     (e ∷ es) ≡ cond b (learns p w e ∷ learns_own p (event w e).world es) (learns_own p (event w e).world es)
 learns_first p w e es b q =
-    ap (λ b. cond b (learns p w e ∷ learns_own p (event w e).world es) (learns_own p (event w e).world es)) q
+    rw q
 
 run_alike : (p : ℕ) (w : World) (es : List Event) (v : World) (fs : List Event) → RunAlike p w es v fs → IsSoundWorld w
     → IsSoundWorld v → IsName w.tree p → p ≢ w.tree.root.name → IsSameGuest p w v → AllByRecursion IsEvent es
@@ -88,7 +88,7 @@ run_alike p _ _ _ _ (input {w = w} {v = v} {es = es} {fs = fs} e f i rest) s s' 
     let h = run_alike p (event w e).world es (event v f).world fs rest sw (event-sound v f s' all'.0) i.name
     (not_top w.tree (event w e).world.tree s.tree sw.tree p m) i.guest all.1 all'.1 in
     record {
-      answers = learns_first p w e es false i.others ∙ h.answers ∙ sym (learns_first p v f fs false i.others_there);
+      answers = cc (learns_first p w e es false i.others, h.answers, learns_first p v f fs false i.others_there);
       guest = h.guest;
     }
 run_alike p _ _ _ _ (first {w = w} {v = v} {es = es} {fs = fs} e i rest) s s' n m g all all' =
@@ -102,7 +102,7 @@ run_alike p _ _ _ _ (second {w = w} {v = v} {es = es} {fs = fs} f i rest) s s' n
     let sv = event-sound v f s' all'.0 in
     let on = same_trans p w v (event v f).world s s' sv n g i.same in
     let h = run_alike p w es (event v f).world fs rest s sv n m on all all'.1 in
-    record { answers = h.answers ∙ sym (learns_first p v f fs false i.others); guest = h.guest }
+    record { answers = cc (h.answers, learns_first p v f fs false i.others); guest = h.guest }
 
 pub guests_depend_on_inputs : GuestsDependOnInputs
 guests_depend_on_inputs w v p es fs s s' n m g all all' r = let h = run_alike p w es v fs r s s' n m g all all' in
@@ -129,7 +129,7 @@ saved_apart t c q g j d = go (t.words g) q d
     go None q d = refl
     go (Some w) (Faulted f) d = refl
     go (Some w) (Place h i) d =
-        ap (λ b. cond (b && (nat_le i j && nat_lt j (i + 17))) (context_word c (j - i)) (w j)) (ne_eqb h g (d h i refl))
+        rw (ne_eqb h g (d h i refl))
 
 -- nor does the mask of the root matter
 pub yielded_agrees : (t : Tree) (p s : ℕ) (r : Occupant) → IsSound t → p ≢ t.root.name → ((g i : ℕ)
@@ -141,7 +141,7 @@ yielded_agrees t p s r sound m apart =
       to = a.to;
       from = a.from;
       words = λ g i j l. saved_apart t (with_zeros r.ctx) (yield_place t r.name s) g i
-          (λ h k e z. apart h k e (subst (λ v. In v (row_pages (node t p))) (sym z) j));
+          (λ h k e z. apart h k e (rw z j));
     }
 
 -- one world after a yield into the guest
@@ -165,8 +165,7 @@ yield_entered w p q k cpu n x r a None (Some c) s m runs apart e z =
       here = (
         c,
         ap₂ (λ x k. handler w.tree x k) (sym to) (sym vector) ∙ e,
-        at_set_here (Some (record { name = x; ctx = c })) w.cpus cpu r runs
-            ∙ ap (λ x. Some (record { name = x; ctx = c })) to,
+        rw (at_set_here (Some (record { name = x; ctx = c })) w.cpus cpu r runs, to),
       );
       cpus = λ i d. at_set_other (Some (record { name = x; ctx = c })) w.cpus cpu i d;
     }
@@ -180,7 +179,7 @@ entered w p q k cpu number a s m en = from_acted (go (runs_on w cpu) refl)
 
     from_acted : Entered p q k cpu w (what_happens w e).world → Entered p q k cpu w (event w e).world
     from_acted h = record {
-      trees = record { to = h.trees.to; from = h.trees.from; words = h.trees.words };
+      trees = assumption;
       here = h.here;
       cpus = h.cpus;
     }
@@ -188,15 +187,13 @@ entered w p q k cpu number a s m en = from_acted (go (runs_on w cpu) refl)
     go : (o : Option Occupant) → runs_on w cpu ≡ o → Entered p q k cpu w (what_happens w e).world
     go None z =
         let idle = ap (λ o. (on_running w cpu o (λ r. call (call_named number) w cpu r a)).outcome) z in
-        let both : O.Idle ≡ O.Switched (actor w e) q k = sym idle ∙ en.switched in cc
+        let both : O.Idle ≡ O.Switched (actor w e) q k = cc (en.switched) in cc
     go (Some r) z =
         let t = target_node w.tree r.name a.x0 in
-        let one : what_happens w e ≡ yield w cpu r a = call_by w r cpu number a z
-        ∙ ap (λ c. call c w cpu r a) en.yields in
+        let one : what_happens w e ≡ yield w cpu r a = rw (call_by w r cpu number a z, en.yields) in
         let apart = λ (g i : ℕ) (d : yield_place w.tree r.name a.x2 ≡ Place g i).
         en.saved g i (ap (λ o. yield_place w.tree (occupant_name o) a.x2) z ∙ d) in
-        subst (λ h. Entered p q k cpu w h.world) (sym one)
-        (yield_entered w p q k cpu (actor w e) (node_name t) r a (first_met (yield_refusals w r.name a t))
+        rw one (yield_entered w p q k cpu (actor w e) (node_name t) r a (first_met (yield_refusals w r.name a t))
         (handler w.tree (node_name t) a.x1) s m z apart refl (ap (λ h. h.outcome) (sym one) ∙ en.switched))
 
 pub entries_are_inputs : EntriesAreInputs
@@ -212,7 +209,7 @@ entries_are_inputs w v p q k cpu number number2 a b s s' ev ev' m g en en' =
     let y = entered v p q k cpu number2 b s' (not_top w.tree v.tree s.tree s'.tree p m) en' in
     let (c, hc, on) = x.here in
     let (d, hd, on') = y.here in
-    let same : ◌≡◌ {A = Option Ctx} (Some c) (Some d) = sym hc ∙ handlers w v p s s' g q k en.target ∙ hd in
+    let same : ◌≡◌ {A = Option Ctx} (Some c) (Some d) = cc (handlers w v p s s' g q k en.target) in
     let ctx : c ≡ d = cc in
     let here = on ∙ ap (λ c. Some (record { name = q; ctx = c })) ctx ∙ sym on' in
     let back = agree_trans (event w e).world.tree w.tree (event v f).world.tree p sw.tree s.tree
@@ -242,12 +239,10 @@ place_agrees t u p g i x y a same = elim (cases_Bool (has (row_pages (node t p))
     to = a.to;
     from = a.from;
     words = λ k j l b.
-        let d : k ≢ g = λ z. let h = in_has g _ (subst (λ v. In v (row_pages (node t p))) z l) in
+        let d : k ≢ g = λ z. let h = in_has g _ (rw z at l) in
         absurd (grind (arith, e, h)) in
         let off = ne_eqb k g d in
-        ap (λ c. word_of (cond c (Some (λ j. cond (j == i) y (word_of (u.words g) j))) (u.words k)) j) off
-        ∙ a.words k j l b
-        ∙ sym (ap (λ c. word_of (cond c (Some (λ j. cond (j == i) x (word_of (t.words g) j))) (t.words k)) j) off);
+        cc (a.words k j l b);
   }
 ]
 
@@ -263,13 +258,13 @@ stored w p g i cpu va size x s st =
     let (r, k, q) = actor_runs w (actor w e) e s (own_line w.tree s.tree (actor w e) st.runs) in
     let one = store_by w r cpu va size x k
     ∙ ap (wrote w cpu r va size x) (ap (λ a. reach w.tree a va Store size) (sym q) ∙ st.place) in
-    record { tree = ap (λ h. h.world.tree) one; cpus = ap (λ h. h.world.cpus) one }
+    record { tree = cc; cpus = cc }
 
 -- the address counts by its byte alone
 written_same : (va va2 : ℕ) (size : Size) (x m : ℕ) → va % 4 ≡ va2 % 4
     → written_over va size x m ≡ written_over va2 size x m
 written_same va va2 Word x m e = refl
-written_same va va2 Byte x m e = ap (λ k. m + x * 256 ^ k - m / 256 ^ k % 256 * 256 ^ k) e
+written_same va va2 Byte x m e = rw e
 
 pub stores_are_inputs : StoresAreInputs
 stores_are_inputs w v p g i cpu cpu2 va va2 size x s s' ev ev' byte n m same st st' =
@@ -282,12 +277,12 @@ stores_are_inputs w v p g i cpu cpu2 va va2 size x s s' ev ev' byte n m same st 
     let on = place_agrees w.tree v.tree p g i _ _ tr (λ j. ap (written_over va size x) (sym (tr.words g i j small))
     ∙ written_same va va2 size x (word_of (v.tree.words g) i) byte) in
     let both : AgreeTrees p (event w e).world.tree (event v f).world.tree =
-    subst (λ t. AgreeTrees p t (event v f).world.tree) (sym one.tree) (subst (AgreeTrees p
-    (with_word w.tree g i (written_over va size x (word_of (w.tree.words g) i)))) (sym two.tree) on) in
+    rw one.tree (subst (AgreeTrees p (with_word w.tree g i (written_over va size x (word_of (w.tree.words g) i))))
+    (sym two.tree) on) in
     record {
       others = not_guests w p e st.outside;
       others_there = not_guests v p f st'.outside;
-      name = subst (λ t. IsName t p) (sym one.tree) n;
+      name = rw one.tree n;
       guest = record {
         below = to_worlds p _ _ both;
         runs = λ j r h z. ap (λ cs. at_cpu cs j) two.cpus ∙ same.runs j r
@@ -317,7 +312,7 @@ called w p cpu number a s c =
   where
     from_acted : Called p cpu w (what_happens w (E.Call cpu number a)).world
         → Called p cpu w (event w (E.Call cpu number a)).world
-    from_acted h = record { before = h.before; here = h.here; lines = h.lines; cpus = h.cpus }
+    from_acted h = assumption
 
     after : (r : Occupant) (b : Answer) → runs_on w cpu ≡ Some r → LeavesTree r.name w.tree b.tree
         → (In p (ancestry w.tree r.name) → ⊥) → Called p cpu w (reply_happens w cpu r b).world
@@ -325,13 +320,13 @@ called w p cpu number a s c =
         let q : Occupant =
         record r { ctx = record r.ctx { regs = with_reply (status_number b.status) b.value r.ctx.regs } } in
         record {
-          before = λ z e h. let u : Some r ≡ Some z = sym k ∙ e in let d : r ≡ z = cc in
-              out (subst (λ n. In p (ancestry w.tree n)) (ap (λ z. z.name) (sym d)) h);
+          before = λ z e h. let u : Some r ≡ Some z = cc in let d : r ≡ z = cc in
+              out (rw d h);
           here = λ z e h.
-              let u : Some q ≡ Some z = sym (at_set_here (Some q) w.cpus cpu r k) ∙ e in
+              let u : Some q ≡ Some z = rw (← at_set_here (Some q) w.cpus cpu r k) e in
               let d : q ≡ z = cc in
               let g : In p (ancestry b.tree r.name) =
-              subst (λ n. In p (ancestry b.tree n)) (ap (λ z. z.name) (sym d)) h in
+              rw (← d) at h in
               out ((l.lines r.name p (s.names_nodes r.name (runs_named w cpu r s k)) (line_name b.tree r.name p g)).1
               g);
           lines = λ n i h. (l.lines n p i (line_name b.tree n p h)).1 h;
@@ -344,14 +339,14 @@ goes_on : (w v w' v' : World) (p cpu cpu2 : ℕ) → IsSoundWorld w → Called p
     → ((i : ℕ) (r : Occupant) → In p (ancestry w.tree r.name) → runs_on w i ≡ Some r → runs_on v i ≡ Some r)
     → (i : ℕ) (r : Occupant) → In p (ancestry w'.tree r.name) → runs_on w' i ≡ Some r → runs_on v' i ≡ Some r
 goes_on w v w' v' p cpu cpu2 s x y there g i r h e = elim (cases_eq i cpu) [
-  | inl d ↦ absurd (x.here r (subst (λ i. runs_on w' i ≡ Some r) d e) h)
+  | inl d ↦ absurd (x.here r (rw (← d) e) h)
   | inr d ↦
-      let old : runs_on w i ≡ Some r = sym (x.cpus i d) ∙ e in
+      let old : runs_on w i ≡ Some r = rw (← x.cpus i d) e in
       let below = x.lines r.name (s.names_nodes r.name (runs_named w i r s old)) h in
       let other = g i r below old in
       elim (cases_eq i cpu2) [
-        | inl c ↦ absurd (y.before r (subst (λ i. runs_on v i ≡ Some r) c other) (there r.name below))
-        | inr c ↦ y.cpus i c ∙ other
+        | inl c ↦ absurd (y.before r (rw (← c) other) (there r.name below))
+        | inr c ↦ cc (y.cpus i c)
       ]
 ]
 

@@ -84,7 +84,7 @@ module _ (w v : World) (p cpu : ℕ) (r : Occupant) (s : IsSoundWorld w) (s' : I
   n' = s'.names_nodes r.name (runs_named v cpu r s' k')
 
   d : r.name ≢ w.tree.root.name
-  d e = m (top_alone w.tree s.tree p (subst (λ a. In p (ancestry w.tree a)) e h))
+  d e = m (top_alone w.tree s.tree p (rw e at h))
 
   d' : r.name ≢ v.tree.root.name
   d' = not_top w.tree v.tree s.tree s'.tree r.name d
@@ -93,7 +93,7 @@ module _ (w v : World) (p cpu : ℕ) (r : Occupant) (s : IsSoundWorld w) (s' : I
       → Alike p cpu (record { outcome = o; world = with_running (record w { tree = t }) cpu z })
       (record { outcome = o; world = with_running (record v { tree = u }) cpu z })
   put_alike o t u z a =
-      record { outcome = refl; trees = a; on = at_set_here z w.cpus cpu r k ∙ sym (at_set_here z v.cpus cpu r k') }
+      record { outcome = refl; trees = a; on = cc (at_set_here z w.cpus cpu r k, at_set_here z v.cpus cpu r k') }
 
   pub refused_alike : (st : Status)
       → Alike p cpu (reply_happens w cpu r (refuse w.tree st)) (reply_happens v cpu r (refuse v.tree st))
@@ -104,17 +104,17 @@ module _ (w v : World) (p cpu : ℕ) (r : Occupant) (s : IsSoundWorld w) (s' : I
       → AgreeTrees p (saved_to w.tree c (save_place w.tree r.name x)) (saved_to v.tree c (save_place v.tree r.name x))
   saves_agree c x =
       let q = save_place_alike w.tree v.tree r.name s.tree s'.tree n ar x in
-      subst (λ z. AgreeTrees p (saved_to w.tree c (save_place w.tree r.name x)) (saved_to v.tree c z)) q
-      (saved_agree w.tree v.tree p c (save_place w.tree r.name x) tr (λ h i e.
-      save_there w.tree r.name x h i s.tree n e) (λ h i e. save_there v.tree r.name x h i s'.tree n' (sym q ∙ e)))
+      rw (← q) (saved_agree w.tree v.tree p c (save_place w.tree r.name x) tr
+      (λ h i e. save_there w.tree r.name x h i s.tree n e)
+      (λ h i e. save_there v.tree r.name x h i s'.tree n' (sym q ∙ e)))
 
   pub yields_agree : (c : Ctx) (x : ℕ)
       → AgreeTrees p (saved_to w.tree c (yield_place w.tree r.name x)) (saved_to v.tree c (yield_place v.tree r.name x))
   yields_agree c x =
       let q = yield_place_alike w.tree v.tree r.name s.tree s'.tree n ar x in
-      subst (λ z. AgreeTrees p (saved_to w.tree c (yield_place w.tree r.name x)) (saved_to v.tree c z)) q
-      (saved_agree w.tree v.tree p c (yield_place w.tree r.name x) tr (λ h i e.
-      yield_there w.tree r.name x h i s.tree n e) (λ h i e. yield_there v.tree r.name x h i s'.tree n' (sym q ∙ e)))
+      rw (← q) (saved_agree w.tree v.tree p c (yield_place w.tree r.name x) tr
+      (λ h i e. yield_there w.tree r.name x h i s.tree n e)
+      (λ h i e. yield_there v.tree r.name x h i s'.tree n' (sym q ∙ e)))
 
   deliver_alike : (x a b : ℕ) → StaysBelow w.tree p (deliver w cpu r x a b).outcome
       → Alike p cpu (deliver w cpu r x a b) (deliver v cpu r x a b)
@@ -123,8 +123,7 @@ module _ (w v : World) (p cpu : ℕ) (r : Occupant) (s : IsSoundWorld w) (s' : I
       go : (o : Option Taker) → nearest_taker w r.name x ≡ o → StaysBelow w.tree p (deliver_to w cpu r x a b o).outcome
           → Alike p cpu (deliver_to w cpu r x a b o) (deliver v cpu r x a b)
       go None e st = absurd st
-      go (Some y) e st = subst (λ o. Alike p cpu (deliver_to w cpu r x a b (Some y)) (deliver_to v cpu r x a b o))
-          (sym (taker_alike w v p s s' g x y st m r.name h e))
+      go (Some y) e st = rw (taker_alike w v p s s' g x y st m r.name h e)
           (put_alike (O.Switched r.name y.to x) (save w.tree r.name 63 r.ctx) (save v.tree r.name 63 r.ctx)
           (Some (record { name = y.to; ctx = handler_context y.handler x a b y.born })) (saves_agree r.ctx 63))
 
@@ -133,15 +132,13 @@ module _ (w v : World) (p cpu : ℕ) (r : Occupant) (s : IsSoundWorld w) (s' : I
       (load_happens w cpu r va c z (reach w.tree r.name va c z))
       (load_happens v cpu r va c z (reach v.tree r.name va c z))
   loaded_alike va c z st =
-      subst (λ q. Alike p cpu (load_happens w cpu r va c z (reach w.tree r.name va c z))
-      (load_happens v cpu r va c z q))
-      (reach_alike w.tree v.tree r.name s.tree s'.tree n ar va c z) (go (reach w.tree r.name va c z) refl st)
+      rw (← reach_alike w.tree v.tree r.name s.tree s'.tree n ar va c z) (go (reach w.tree r.name va c z) refl st)
     where
       go : (q : Reached) → reach w.tree r.name va c z ≡ q → StaysBelow w.tree p (load_happens w cpu r va c z q).outcome
           → Alike p cpu (load_happens w cpu r va c z q) (load_happens v cpu r va c z q)
       go (Place f i) e st = record {
-        outcome = ap (λ x. O.Word (read_of va z x))
-            (sym (ar.words f i (reached_row w.tree r.name va f i c z e) (reached_small w.tree r.name va f i c z e)));
+        outcome = rw (← ar.words f i (reached_row w.tree r.name va f i c z e)
+            (reached_small w.tree r.name va f i c z e));
         trees = tr;
         on = k ∙ sym k';
       }
@@ -151,8 +148,8 @@ module _ (w v : World) (p cpu : ℕ) (r : Occupant) (s : IsSoundWorld w) (s' : I
       → StaysBelow w.tree p (wrote w cpu r va z x (reach w.tree r.name va Store z)).outcome → Alike p cpu
       (wrote w cpu r va z x (reach w.tree r.name va Store z)) (wrote v cpu r va z x (reach v.tree r.name va Store z))
   wrote_alike va z x st =
-      subst (λ q. Alike p cpu (wrote w cpu r va z x (reach w.tree r.name va Store z)) (wrote v cpu r va z x q))
-      (reach_alike w.tree v.tree r.name s.tree s'.tree n ar va Store z) (go (reach w.tree r.name va Store z) refl st)
+      rw (← reach_alike w.tree v.tree r.name s.tree s'.tree n ar va Store z)
+      (go (reach w.tree r.name va Store z) refl st)
     where
       go : (q : Reached) → reach w.tree r.name va Store z ≡ q → StaysBelow w.tree p (wrote w cpu r va z x q).outcome
           → Alike p cpu (wrote w cpu r va z x q) (wrote v cpu r va z x q)
@@ -160,7 +157,7 @@ module _ (w v : World) (p cpu : ℕ) (r : Occupant) (s : IsSoundWorld w) (s' : I
           let row = reached_row w.tree r.name va f i Store z e in record {
             outcome = refl;
             trees = stored-agree w.tree v.tree p f i _ _ tr (rows_up w.tree s.tree p r.name f h row)
-                (ap (written_over va z x) (sym (ar.words f i row (reached_small w.tree r.name va f i Store z e))));
+                (rw (← ar.words f i row (reached_small w.tree r.name va f i Store z e)));
             on = k ∙ sym k';
           }
       go (Faulted f) e st = deliver_alike (fault_vector f) va (16 * access_number Store + fault_number f) st
@@ -177,7 +174,7 @@ module _ (w v : World) (p cpu : ℕ) (r : Occupant) (s : IsSoundWorld w) (s' : I
       at x None None = record { outcome = refl; trees = tr; on = k ∙ sym k' }
       at x None (Some c) = put_alike (O.Switched r.name x.name a.x1) (yielded_tree w.tree r a.x2)
           (yielded_tree v.tree r a.x2) (Some (record { name = x.name; ctx = c }))
-          (subst (λ t. AgreeTrees p t (yielded_tree v.tree r a.x2)) (sym (yielded_same w.tree r a.x2 s.tree d))
+          (rw (yielded_same w.tree r a.x2 s.tree d)
           (subst (AgreeTrees p (saved_to w.tree (with_zeros r.ctx) (yield_place w.tree r.name a.x2)))
           (sym (yielded_same v.tree r a.x2 s'.tree d')) (yields_agree (with_zeros r.ctx) a.x2)))
 
@@ -201,10 +198,9 @@ module _ (w v : World) (p cpu : ℕ) (r : Occupant) (s : IsSoundWorld w) (s' : I
           → Alike p cpu (yield_to w cpu r a q) (yield_to v cpu r a q)
       go None below = no_target (not (a.x0 == 1) && not (is_place a.x0))
       go (Some x) below =
-          subst (λ o. Alike p cpu (yield_to w cpu r a (Some x)) (reply_unless v cpu r o
-          (yield_happens v cpu r a x.name (handler v.tree x.name a.x1)))) (refusals x (below x refl))
-          (subst (λ c. Alike p cpu (yield_to w cpu r a (Some x)) (reply_unless v cpu r (first_met (yield_refusals w
-          r.name a (Some x))) (yield_happens v cpu r a x.name c))) (handlers w v p s s' g x.name a.x1 (below x refl))
+          rw (← refusals x (below x refl)) (subst (λ c. Alike p cpu (yield_to w cpu r a (Some x))
+          (reply_unless v cpu r (first_met (yield_refusals w r.name a (Some x)))
+          (yield_happens v cpu r a x.name c))) (handlers w v p s s' g x.name a.x1 (below x refl))
           (at x (first_met (yield_refusals w r.name a (Some x))) (handler w.tree x.name a.x1)))
 
   -- a call that does not switch, by the law of one partition
@@ -229,24 +225,24 @@ module _ (w v : World) (p cpu : ℕ) (r : Occupant) (s : IsSoundWorld w) (s' : I
     where
       go : (c : CallName) → call_named number ≡ c
           → Alike p cpu (event w (E.Call cpu number a)) (event v (E.Call cpu number a))
-      go (OnMemory c) q = plain_alike number a ev (subst (λ c. IsSwitching c → ⊥) (sym q) (λ z. z))
-      go (Masks b) q = plain_alike number a ev (subst (λ c. IsSwitching c → ⊥) (sym q) (λ z. z))
-      go Unknown q = plain_alike number a ev (subst (λ c. IsSwitching c → ⊥) (sym q) (λ z. z))
+      go (OnMemory c) q = plain_alike number a ev (rw q (λ z. z))
+      go (Masks b) q = plain_alike number a ev (rw q (λ z. z))
+      go Unknown q = plain_alike number a ev (rw q (λ z. z))
       go Yields q =
           let l = yield_alike a (λ x y. asks (q, x, y)) in
           let one : what_happens w (E.Call cpu number a) ≡ yield w cpu r a =
-          call_by w r cpu number a k ∙ ap (λ c. call c w cpu r a) q in
+          rw (call_by w r cpu number a k, q) in
           let two : what_happens v (E.Call cpu number a) ≡ yield v cpu r a =
-          call_by v r cpu number a k' ∙ ap (λ c. call c v cpu r a) q in
+          rw (call_by v r cpu number a k', q) in
           let z = subst (λ x. Alike p cpu x (what_happens v (E.Call cpu number a))) (sym one)
-          (subst (Alike p cpu (yield w cpu r a)) (sym two) l) in
-          record { outcome = z.outcome; trees = z.trees; on = z.on }
+          (rw two l) in
+          assumption
 
 module _ (w v : World) (p : ℕ) (s : IsSoundWorld w) (s' : IsSoundWorld v) (g : IsSameGuest p w v)
     (m : p ≢ w.tree.root.name) where
   from_acted : (e : Event) → Alike p (cpu_of e) (what_happens w e) (what_happens v e) → Alike p (cpu_of e) (event w e)
       (event v e)
-  from_acted e z = record { outcome = z.outcome; trees = z.trees; on = z.on }
+  from_acted e z = assumption
 
   event_alike : (e : Event) (r : Occupant) → IsEvent e → is_own e ≡ true → runs_on w (cpu_of e) ≡ Some r
       → In p (ancestry w.tree r.name) → StaysBelow w.tree p (event w e).outcome → (AsksParent p r.name e → ⊥)
@@ -255,30 +251,29 @@ module _ (w v : World) (p : ℕ) (s : IsSoundWorld w) (s' : IsSoundWorld v) (g :
       let e = E.Load cpu va z in
       let one = load_by w r cpu va z k in
       let two = load_by v r cpu va z (g.runs cpu r h k) in
-      from_acted e (subst (λ x. Alike p cpu x (what_happens v e)) (sym one)
-      (subst (Alike p cpu (load_happens w cpu r va Load z (reach w.tree r.name va Load z))) (sym two)
-      (loaded_alike w v p cpu r s s' g m k h va Load z (subst (λ x. StaysBelow w.tree p x.outcome) one st))))
+      from_acted e (rw one (subst (Alike p cpu (load_happens w cpu r va Load z (reach w.tree r.name va Load z)))
+      (sym two) (loaded_alike w v p cpu r s s' g m k h va Load z
+      (subst (λ x. StaysBelow w.tree p x.outcome) one st))))
   event_alike (E.Fetch cpu) r ev o k h st asks =
       let e = E.Fetch cpu in
       let one = fetch_by w r cpu k in
       let two = fetch_by v r cpu (g.runs cpu r h k) in
-      from_acted e (subst (λ x. Alike p cpu x (what_happens v e)) (sym one) (subst (Alike p cpu
-      (load_happens w cpu r r.ctx.pc Fetch Word (reach w.tree r.name r.ctx.pc Fetch Word))) (sym two)
-      (loaded_alike w v p
-      cpu r s s' g m k h r.ctx.pc Fetch Word (subst (λ x. StaysBelow w.tree p x.outcome) one st))))
+      from_acted e (rw one
+      (subst (Alike p cpu (load_happens w cpu r r.ctx.pc Fetch Word (reach w.tree r.name r.ctx.pc Fetch Word)))
+      (sym two) (loaded_alike w v p cpu r s s' g m k h r.ctx.pc Fetch Word
+      (subst (λ x. StaysBelow w.tree p x.outcome) one st))))
   event_alike (E.Store cpu va z x) r ev o k h st asks =
       let e = E.Store cpu va z x in
       let one = store_by w r cpu va z x k in
       let two = store_by v r cpu va z x (g.runs cpu r h k) in
-      from_acted e (subst (λ y. Alike p cpu y (what_happens v e)) (sym one)
-      (subst (Alike p cpu (wrote w cpu r va z x (reach w.tree r.name va Store z))) (sym two)
+      from_acted e (rw one (subst (Alike p cpu (wrote w cpu r va z x (reach w.tree r.name va Store z))) (sym two)
       (wrote_alike w v p cpu r s s' g m k h va z x (subst (λ y. StaysBelow w.tree p y.outcome) one st))))
   event_alike (E.Trap cpu x a b) r ev o k h st asks =
       let e = E.Trap cpu x a b in
       let one = trap_by w r cpu x a b k in
       let two = trap_by v r cpu x a b (g.runs cpu r h k) in
-      from_acted e (subst (λ y. Alike p cpu y (what_happens v e)) (sym one) (subst (Alike p cpu (deliver w cpu r x a b))
-      (sym two) (deliver_alike w v p cpu r s s' g m k h x a b (subst (λ y. StaysBelow w.tree p y.outcome) one st))))
+      from_acted e (rw one (subst (Alike p cpu (deliver w cpu r x a b)) (sym two)
+      (deliver_alike w v p cpu r s s' g m k h x a b (subst (λ y. StaysBelow w.tree p y.outcome) one st))))
   event_alike (E.Call cpu number a) r ev o k h st asks = call_alike w v p cpu r s s' g m k h number a ev asks
   event_alike (E.Raise j) r ev o k h st asks = cc
   event_alike (E.Poll cpu) r ev o k h st asks = cc
@@ -286,9 +281,9 @@ module _ (w v : World) (p : ℕ) (s : IsSoundWorld w) (s' : IsSoundWorld v) (g :
       let e = E.SetContext cpu c in
       let one = set_by w r cpu c k in
       let two = set_by v r cpu c (g.runs cpu r h k) in
-      from_acted e (subst (λ y. Alike p cpu y (what_happens v e)) (sym one)
-      (subst (Alike p cpu (done (with_running w cpu (Some (record r { ctx = c }))))) (sym two) (put_alike w v p cpu
-      r s s' g m k h O.Done w.tree v.tree (Some (record r { ctx = c })) (to_trees p w v g.below))))
+      from_acted e (rw one (subst (Alike p cpu (done (with_running w cpu (Some (record r { ctx = c }))))) (sym two)
+      (put_alike w v p cpu r s s' g m k h O.Done w.tree v.tree (Some (record r { ctx = c }))
+      (to_trees p w v g.below))))
 
 -- what of the guest runs in the one runs in the other, after an event on one processor of both that leaves there the
 -- same
@@ -298,9 +293,9 @@ pub one_way : (w v w' v' : World) (p cpu : ℕ) → IsSoundWorld w → ((n : ℕ
     → ((i : ℕ) (r : Occupant) → In p (ancestry w.tree r.name) → runs_on w i ≡ Some r → runs_on v i ≡ Some r)
     → (i : ℕ) (r : Occupant) → In p (ancestry w'.tree r.name) → runs_on w' i ≡ Some r → runs_on v' i ≡ Some r
 one_way w v w' v' p cpu s before cw cv on g i r h e = elim (cases_eq i cpu) [
-  | inl q ↦ subst (λ i. runs_on v' i ≡ Some r) (sym q) (sym on ∙ subst (λ i. runs_on w' i ≡ Some r) q e)
+  | inl q ↦ rw q (sym on ∙ subst (λ i. runs_on w' i ≡ Some r) q e)
   | inr q ↦
-      let old : runs_on w i ≡ Some r = sym (cw i q) ∙ e in
+      let old : runs_on w i ≡ Some r = rw (← cw i q) e in
       cv i q ∙ g i r (before r.name (s.names_nodes r.name (runs_named w i r s old)) h) old
 ]
 
@@ -321,15 +316,15 @@ pub inside_same : (w v : World) (p : ℕ) (e : Event) → IsSoundWorld w → IsS
     → IsSameGuest p w v → IsInside p w e → IsSameInside p e w v
 inside_same w v p e s s' ev m g i =
     let (r, k, q) = actor_runs w p e s i.below in
-    let h : In p (ancestry w.tree r.name) = subst (λ a. In p (ancestry w.tree a)) q i.below in
+    let h : In p (ancestry w.tree r.name) = rw (← q) i.below in
     let k' = g.runs (cpu_of e) r h k in
-    let q' : actor v e ≡ r.name = ap occupant_name k' in
+    let q' : actor v e ≡ r.name = rw k' in
     let tr = to_trees p w v g.below in
     let h' = line_alike w.tree v.tree p s.tree s'.tree tr r.name h in
     let d : r.name ≢ w.tree.root.name =
-    λ z. m (top_alone w.tree s.tree p (subst (λ a. In p (ancestry w.tree a)) z h)) in
+    λ z. m (top_alone w.tree s.tree p (rw z at h)) in
     let d' = not_top w.tree v.tree s.tree s'.tree r.name d in
-    let asks : AsksParent p r.name e → ⊥ = subst (λ a. AsksParent p a e → ⊥) q i.asks in
+    let asks : AsksParent p r.name e → ⊥ = rw (← q) i.asks in
     let z = event_alike w v p s s' g m e r ev i.own k h i.stays asks in
     let a = event_moves w e r s i.own k d in
     let b = event_moves v e r s' i.own k' d' in
@@ -339,10 +334,9 @@ inside_same w v p e s s' ev m g i =
       outcome = z.outcome;
       inside = record {
         own = i.own;
-        below = subst (λ a. In p (ancestry v.tree a)) (sym q') h';
-        stays = subst (StaysBelow v.tree p) z.outcome
-            (stays_alike w.tree v.tree p s.tree s'.tree tr (event w e).outcome i.stays);
-        asks = subst (λ a. AsksParent p a e → ⊥) (sym q') asks;
+        below = rw q' h';
+        stays = rw (← z.outcome) (stays_alike w.tree v.tree p s.tree s'.tree tr (event w e).outcome i.stays);
+        asks = rw q' asks;
       };
       guest = record {
         below = to_worlds p _ _ z.trees;

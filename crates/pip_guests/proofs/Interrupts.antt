@@ -42,8 +42,8 @@ poll_taken w p cpu n m k r s d runs e = go (may_take w cpu (Some r)) (lowest_lin
         record {
           trees = entered_agrees (save w.tree r.name 63 r.ctx) p d (top_alone w.tree s.tree p)
               (filter (λ i. not (i == j)) w.tree.root.pending);
-          here = λ z e. let u : Some q ≡ Some z = sym (at_set_here (Some q) w.cpus cpu r runs) ∙ e in
-              let v : q ≡ z = cc in ap (λ z. z.name) (sym v);
+          here = λ z e. let u : Some q ≡ Some z = rw (← at_set_here (Some q) w.cpus cpu r runs) e in
+              let v : q ≡ z = cc in rw (← v);
           cpus = λ i c. at_set_other (Some q) w.cpus cpu i c;
         }
 
@@ -58,25 +58,21 @@ taken : (w : World) (p cpu n m k : ℕ) (r : Occupant) → IsSoundWorld w → p 
 taken w p cpu n m k r s d runs e =
     let one = ap (poll w cpu) runs in
     let h = subst (λ x. Taken p cpu r w x.world) (sym one)
-    (poll_taken w p cpu n m k r s d runs (ap (λ x. x.outcome) (sym one) ∙ e)) in
-    record {
-      trees = record { to = h.trees.to; from = h.trees.from; words = h.trees.words };
-      here = h.here;
-      cpus = h.cpus;
-    }
+    (poll_taken w p cpu n m k r s d runs (rw (← one, e))) in
+    assumption
 
 -- the root is not of the guest
 root_off : (w after : World) (p cpu : ℕ) (r : Occupant) → IsSoundWorld w → p ≢ w.tree.root.name → Taken p cpu r w after
     → ((n : ℕ) → In p (ancestry after.tree n) → In p (ancestry w.tree n)) → (z : Occupant) → runs_on after cpu ≡ Some z
     → In p (ancestry after.tree z.name) → ⊥
 root_off w after p cpu r s d x before z e h =
-    d (top_alone w.tree s.tree p (subst (λ n. In p (ancestry w.tree n)) (x.here z e) (before z.name h)))
+    d (top_alone w.tree s.tree p (rw (x.here z e) at (before z.name h)))
 
 pub interrupts_are_inputs : InterruptsAreInputs
 interrupts_are_inputs w v p cpu k l s s' d g i i' =
     let e = E.Poll cpu in
     let (r, c, q) = actor_runs w p e s i.below in
-    let h : In p (ancestry w.tree r.name) = subst (λ n. In p (ancestry w.tree n)) q i.below in
+    let h : In p (ancestry w.tree r.name) = rw (← q) i.below in
     let c' = g.runs cpu r h c in
     let d' = not_top w.tree v.tree s.tree s'.tree p d in
     let x = taken w p cpu _ _ k r s d c i.taken in

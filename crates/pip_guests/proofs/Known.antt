@@ -70,13 +70,13 @@ module _ (w : World) (cpu : ℕ) (r : Occupant) where
 fault_tells : (w : World) (e : Event) (r : Occupant) → can_fault e ≡ true → runs_on w (cpu_of e) ≡ Some r
     → (event w e).outcome ≢ O.Idle
 fault_tells w (E.Load cpu va z) r f k e = loaded_tells w cpu r va Load z (reach w.tree r.name va Load z)
-    (ap (λ h. h.outcome) (sym (load_by w r cpu va z k)) ∙ e)
+    (rw (← load_by w r cpu va z k, e))
 fault_tells w (E.Store cpu va z x) r f k e = wrote_tells w cpu r va z x (reach w.tree r.name va Store z)
-    (ap (λ h. h.outcome) (sym (store_by w r cpu va z x k)) ∙ e)
+    (rw (← store_by w r cpu va z x k, e))
 fault_tells w (E.Fetch cpu) r f k e = loaded_tells w cpu r r.ctx.pc Fetch Word (reach w.tree r.name r.ctx.pc Fetch Word)
-    (ap (λ h. h.outcome) (sym (fetch_by w r cpu k)) ∙ e)
+    (rw (← fetch_by w r cpu k, e))
 fault_tells w (E.Trap cpu v a b) r f k e =
-    deliver_tells w cpu r v a b (nearest_taker w r.name v) (ap (λ h. h.outcome) (sym (trap_by w r cpu v a b k)) ∙ e)
+    deliver_tells w cpu r v a b (nearest_taker w r.name v) (rw (← trap_by w r cpu v a b k, e))
 fault_tells w (E.Call cpu number a) r f k e = cc
 fault_tells w (E.Raise j) r f k e = cc
 fault_tells w (E.Poll cpu) r f k e = cc
@@ -152,27 +152,23 @@ call_known w p cpu number a s m h =
 
     by : (r : Occupant) → runs_on w cpu ≡ Some r → actor w e ≡ r.name → (c : CallName) → call_named number ≡ c
         → StaysOrLeaves p w e ⊎ AsksParent p (actor w e) e
-    by r k q (OnMemory c) z = inside (subst (λ o. StaysBelow w.tree p o)
-        (ap (λ h. h.outcome) (sym (call_by w r cpu number a k ∙ ap (λ c. call c w cpu r a) z))) tt)
+    by r k q (OnMemory c) z = inside (rw (call_by w r cpu number a k, z) tt)
         (λ i. let y = sym z ∙ i.0 in cc)
-    by r k q (Masks b) z = inside (subst (λ o. StaysBelow w.tree p o)
-        (ap (λ h. h.outcome) (sym (call_by w r cpu number a k ∙ ap (λ c. call c w cpu r a) z))) tt)
+    by r k q (Masks b) z = inside (rw (call_by w r cpu number a k, z) tt)
         (λ i. let y = sym z ∙ i.0 in cc)
-    by r k q Unknown z = inside (subst (λ o. StaysBelow w.tree p o)
-        (ap (λ h. h.outcome) (sym (call_by w r cpu number a k ∙ ap (λ c. call c w cpu r a) z))) tt)
+    by r k q Unknown z = inside (rw (call_by w r cpu number a k, z) tt)
         (λ i. let y = sym z ∙ i.0 in cc)
     by r k q Yields z = elim (cases_Bool (r.name == p && a.x0 == 0)) [
       | inl y ↦ inr (z, q ∙ eqb-true r.name p (both _ _ y).0, eqb-true a.x0 0 (both _ _ y).1)
       | inr y ↦
-          let one : what_happens w e ≡ yield w cpu r a = call_by w r cpu number a k ∙ ap (λ c. call c w cpu r a) z in
-          let below : In p (ancestry w.tree r.name) = subst (λ b. In p (ancestry w.tree b)) q h in
+          let one : what_happens w e ≡ yield w cpu r a = rw (call_by w r cpu number a k, z) in
+          let below : In p (ancestry w.tree r.name) = rw (← q) h in
           let not_root = λ (x : r.name ≡ w.tree.root.name).
-          m (top_alone w.tree s.tree p (subst (λ b. In p (ancestry w.tree b)) x below)) in
+          m (top_alone w.tree s.tree p (rw x at below)) in
           let asks = λ (x : r.name ≡ p) (v : a.x0 ≡ 0). neither _ _ y (eqb-same r.name p x) (eqb-same a.x0 0 v) in
           let idle = λ (x : (yield w cpu r a).outcome ≡ O.Idle).
-          calls_answer w cpu number a r k (ap (λ h. h.outcome) one ∙ x) in
-          inside (subst (λ o. StaysBelow w.tree p o) (ap (λ h. h.outcome) (sym one))
-          (yield_stays w p cpu r a s below not_root asks idle)) (λ i. asks (sym q ∙ i.1) i.2)
+          calls_answer w cpu number a r k (rw (one, x)) in
+          inside (rw one (yield_stays w p cpu r a s below not_root asks idle)) (λ i. asks (cc (i.1)) i.2)
     ]
 
 pub events_are_known : EventsAreKnown
@@ -189,6 +185,6 @@ events_are_known w p (E.SetContext cpu c) s m o h =
       own = refl;
       below = h;
       stays =
-          subst (λ o. StaysBelow w.tree p o) (ap (λ h. h.outcome) (sym (set_by w r cpu c k))) tt;
+          rw (set_by w r cpu c k) tt;
       asks = λ i. i;
     }))

@@ -55,9 +55,9 @@ module _ (w : World) (p cpu : ℕ) (r : Occupant) (x a b : ℕ) (k : runs_on w c
   off_of None h z e i = let u = sym (at_set_here None w.cpus cpu r k) ∙ e in cc
   off_of (Some y) h z e i =
       let q : Occupant = record { name = y.to; ctx = handler_context y.handler x a b y.born } in
-      let u : Some q ≡ Some z = sym (at_set_here (Some q) w.cpus cpu r k) ∙ e in
+      let u : Some q ≡ Some z = rw (← at_set_here (Some q) w.cpus cpu r k) e in
       let d : q ≡ z = cc in
-      h (subst (λ c. In p (ancestry w.tree c)) (ap (λ z. z.name) (sym d)) i)
+      h (rw (← d) at i)
 
 pub record Left (p cpu : ℕ) (u : Tree) (a b : Happened) : Type 0 where
   pub trees : AgreeTrees p a.world.tree b.world.tree
@@ -80,9 +80,9 @@ module _ (w v : World) (p cpu : ℕ) (r : Occupant) (s : IsSoundWorld w) (s' : I
       let out = out_of w p cpu r x a b k o lv in
       let out' = there (nearest_taker v r.name x) refl out in
       record {
-        trees = subst (λ t. AgreeTrees p t (deliver v cpu r x a b).world.tree) (sym (tree_of w p cpu r x a b k o))
-            (subst (AgreeTrees p (save w.tree r.name 63 r.ctx)) (sym (tree_of v p cpu r x a b (g.runs cpu r h k)
-            (nearest_taker v r.name x))) (saves_agree w v p cpu r s s' g m k h r.ctx 63));
+        trees = rw (tree_of w p cpu r x a b k o) (subst (AgreeTrees p (save w.tree r.name 63 r.ctx))
+            (sym (tree_of v p cpu r x a b (g.runs cpu r h k) (nearest_taker v r.name x)))
+            (saves_agree w v p cpu r s s' g m k h r.ctx 63));
         leaves = leaves_of v p cpu r x a b (g.runs cpu r h k) (nearest_taker v r.name x) out';
         off = off_of w p cpu r x a b k o out;
         off_there = off_of v p cpu r x a b (g.runs cpu r h k) (nearest_taker v r.name x) out';
@@ -100,8 +100,7 @@ module _ (w v : World) (p cpu : ℕ) (r : Occupant) (s : IsSoundWorld w) (s' : I
       → Leaves w.tree p (load_happens w cpu r va c z (reach w.tree r.name va c z)).outcome → Left p cpu v.tree
       (load_happens w cpu r va c z (reach w.tree r.name va c z))
       (load_happens v cpu r va c z (reach v.tree r.name va c z))
-  loaded_left va c z lv = subst (λ q. Left p cpu v.tree (load_happens w cpu r va c z (reach w.tree r.name va c z))
-      (load_happens v cpu r va c z q)) (reach_alike w.tree v.tree r.name s.tree s'.tree (line_name w.tree r.name p h)
+  loaded_left va c z lv = rw (← reach_alike w.tree v.tree r.name s.tree s'.tree (line_name w.tree r.name p h)
       (agree_below w.tree v.tree p s.tree s'.tree tr r.name h) va c z) (go (reach w.tree r.name va c z) lv)
     where
       go : (q : Reached) → Leaves w.tree p (load_happens w cpu r va c z q).outcome
@@ -112,8 +111,7 @@ module _ (w v : World) (p cpu : ℕ) (r : Occupant) (s : IsSoundWorld w) (s' : I
   wrote_left : (va : ℕ) (z : Size) (x : ℕ)
       → Leaves w.tree p (wrote w cpu r va z x (reach w.tree r.name va Store z)).outcome → Left p cpu v.tree
       (wrote w cpu r va z x (reach w.tree r.name va Store z)) (wrote v cpu r va z x (reach v.tree r.name va Store z))
-  wrote_left va z x lv = subst (λ q. Left p cpu v.tree (wrote w cpu r va z x (reach w.tree r.name va Store z))
-      (wrote v cpu r va z x q)) (reach_alike w.tree v.tree r.name s.tree s'.tree (line_name w.tree r.name p h)
+  wrote_left va z x lv = rw (← reach_alike w.tree v.tree r.name s.tree s'.tree (line_name w.tree r.name p h)
       (agree_below w.tree v.tree p s.tree s'.tree tr r.name h) va Store z) (go (reach w.tree r.name va Store z) lv)
     where
       go : (q : Reached) → Leaves w.tree p (wrote w cpu r va z x q).outcome
@@ -125,8 +123,8 @@ module _ (w v : World) (p cpu : ℕ) (r : Occupant) (s : IsSoundWorld w) (s' : I
       → Left p cpu v.tree a b) → Leaves w.tree p (event w e).outcome → Left p cpu v.tree (event w e) (event v e)
   of_event e a b one two f lv =
       let z = subst (λ y. Left p cpu v.tree y (what_happens v e)) (sym one)
-      (subst (Left p cpu v.tree a) (sym two) (f (subst (λ y. Leaves w.tree p y.outcome) one lv))) in
-      record { trees = z.trees; leaves = z.leaves; off = z.off; off_there = z.off_there }
+      (rw two (f (subst (λ y. Leaves w.tree p y.outcome) one lv))) in
+      assumption
 
 module _ (w v : World) (p : ℕ) (s : IsSoundWorld w) (s' : IsSoundWorld v) (g : IsSameGuest p w v)
     (m : p ≢ w.tree.root.name) where
@@ -153,9 +151,9 @@ pub one_left : (w v w' v' : World) (p cpu : ℕ) → IsSoundWorld w
     → ((i : ℕ) (r : Occupant) → In p (ancestry w.tree r.name) → runs_on w i ≡ Some r → runs_on v i ≡ Some r)
     → (i : ℕ) (r : Occupant) → In p (ancestry w'.tree r.name) → runs_on w' i ≡ Some r → runs_on v' i ≡ Some r
 one_left w v w' v' p cpu s before cw cv off g i r h e = elim (cases_eq i cpu) [
-  | inl q ↦ absurd (off r (subst (λ i. runs_on w' i ≡ Some r) q e) h)
+  | inl q ↦ absurd (off r (rw (← q) e) h)
   | inr q ↦
-      let old : runs_on w i ≡ Some r = sym (cw i q) ∙ e in
+      let old : runs_on w i ≡ Some r = rw (← cw i q) e in
       cv i q ∙ g i r (before r.name (s.names_nodes r.name (runs_named w i r s old)) h) old
 ]
 
@@ -173,12 +171,12 @@ own_fault (E.SetContext cpu c) o = refl
 pub guests_are_left_alike : GuestsAreLeftAlike
 guests_are_left_alike w v p e s s' ev m g i =
     let (r, k, q) = actor_runs w p e s i.below in
-    let h : In p (ancestry w.tree r.name) = subst (λ a. In p (ancestry w.tree a)) q i.below in
+    let h : In p (ancestry w.tree r.name) = rw (← q) i.below in
     let k' = g.runs (cpu_of e) r h k in
-    let q' : actor v e ≡ r.name = ap occupant_name k' in
+    let q' : actor v e ≡ r.name = rw k' in
     let h' = line_alike w.tree v.tree p s.tree s'.tree (to_trees p w v g.below) r.name h in
     let d : r.name ≢ w.tree.root.name =
-    λ z. m (top_alone w.tree s.tree p (subst (λ a. In p (ancestry w.tree a)) z h)) in
+    λ z. m (top_alone w.tree s.tree p (rw z at h)) in
     let d' = not_top w.tree v.tree s.tree s'.tree r.name d in
     let o = own_fault e i.faults in
     let z = event_left w v p s s' g m e r i.faults k h i.leaves in
@@ -189,7 +187,7 @@ guests_are_left_alike w v p e s s' ev m g i =
     record {
       leaving = record {
         faults = i.faults;
-        below = subst (λ a. In p (ancestry v.tree a)) (sym q') h';
+        below = rw q' h';
         leaves = z.leaves;
       };
       guest = record {

@@ -64,11 +64,11 @@ module _ (p : ℕ) (r : Row) where
       → IsBelow (on_nodes change u) p x
   below t u to x (i, h) =
       let (z, j, e) = In-map_from change x (nodes t) i in
-      let q : x.name ≡ z.name = ap (λ z. z.name) e ∙ names z in
-      let k : In p (ancestry t z.name) = subst (In p) (ap (ancestry (on_nodes change t)) q ∙ line t z.name) h in
+      let q : x.name ≡ z.name = cc (names z) in
+      let k : In p (ancestry t z.name) = rw (← line t z.name, ← q) h in
       let b = to z (j, k) in (
         subst (λ y. In y (nodes (on_nodes change u))) (sym e) (In-map change z (nodes u) b.0),
-        subst (In p) (sym (ap (ancestry (on_nodes change u)) q ∙ line u z.name)) b.1,
+        rw (q, line u z.name) b.1,
       )
 
   -- p's pages are this one, and those that it had
@@ -80,7 +80,7 @@ module _ (p : ℕ) (r : Row) where
       let is : node (on_nodes change t) p ≡ with_row r (node t p) =
       named_node (on_nodes change t) p s' (change (node t p)) there (names (node t p) ∙ f.1)
       ∙ change-here p (with_row r) (node t p) f.1 in
-      inserted r (node t p).rows g (subst (λ x. In g (row_pages x)) is h)
+      inserted r (node t p).rows g (rw is at h)
 
   -- trees that agree below p do so with the row, if the page has the same words in both
   both_agree : (t u : Tree) → IsSound t → IsSound (on_nodes change t) → IsName t p → AgreeTrees p t u
@@ -90,7 +90,7 @@ module _ (p : ℕ) (r : Row) where
     to = below t u a.to;
     from = below u t a.from;
     words = λ g i j l. elim (pages t s s' n g j) [
-      | inl e ↦ subst (λ g. word_of (u.words g) i ≡ word_of (t.words g) i) (sym e) (same i l)
+      | inl e ↦ rw e (same i l)
       | inr k ↦ a.words g i k l
     ];
   }
@@ -118,9 +118,9 @@ lent_tree w p g cv rights cpu number a s l =
     let e = E.Call cpu number a in
     let (r, k, q) = actor_runs w (actor w e) e s (own_line w.tree s.tree (actor w e) l.runs) in
     let asked : first_met (add_refusals w.tree r.name a.x0 a.x1 a.x2 a.x3) ≡ None =
-    subst (λ n. first_met (add_refusals w.tree n a.x0 a.x1 a.x2 a.x3) ≡ None) q l.accepted in
-    let child : child_name w.tree r.name a.x1 ≡ p = subst (λ n. child_name w.tree n a.x1 ≡ p) q l.child in
-    let page : page_of w.tree r.name a.x0 ≡ g = subst (λ n. page_of w.tree n a.x0 ≡ g) q l.page in
+    cc in
+    let child : child_name w.tree r.name a.x1 ≡ p = rw (← q) l.child in
+    let page : page_of w.tree r.name a.x0 ≡ g = cc in
     ap (λ h. h.world.tree) (call_by w r cpu number a k ∙ ap (λ c. call c w cpu r a) l.adds)
     ∙ unless_none w.tree (first_met (add_refusals w.tree r.name a.x0 a.x1 a.x2 a.x3)) _ asked
     ∙ ap (λ c. tree_with_row w.tree c (record { at = vpage a.x2; frame = page_of w.tree r.name a.x0; rights = a.x3 }))
@@ -132,11 +132,10 @@ lent_tree w p g cv rights cpu number a s l =
 calls_on : (w : World) (p g cv rights cpu number : ℕ) (a : Five) → IsSoundWorld w → IsName w.tree p
     → LendsPage p g cv rights w cpu number a → CallsOn p w cpu number a
 calls_on w p g cv rights cpu number a s n l = record {
-  plain = λ h. subst (λ c. IsSwitching c) l.adds h;
+  plain = λ h. rw l.adds at h;
   outside = l.outside;
   runs = l.runs;
-  name = subst (λ t. IsName t p) (sym (lent_tree w p g cv rights cpu number a s l))
-      (still_named p (row_of_page g cv rights) w.tree n);
+  name = rw (lent_tree w p g cv rights cpu number a s l) (still_named p (row_of_page g cv rights) w.tree n);
 }
 
 pub lendings_are_inputs : LendingsAreInputs
@@ -149,7 +148,7 @@ lendings_are_inputs w v p g cv rights cpu cpu2 number number2 a b s s' ev ev' n 
     let sound = subst IsSound one (event-sound w (E.Call cpu number a) s ev).tree in
     let agree = both_agree p r w.tree v.tree s.tree sound n tr words in
     let after = subst (λ t. AgreeTrees p t (event v (E.Call cpu2 number2 b)).world.tree) (sym one)
-    (subst (AgreeTrees p (tree_with_row w.tree p r)) (sym two) agree) in
+    (rw two agree) in
     calls_are_inputs w v p cpu cpu2 number number2 a b s s' n same (calls_on w p g cv rights cpu number a s n l)
     (calls_on v p g cv rights cpu2 number2 b s' there l')
     (to_worlds p (event w (E.Call cpu number a)).world (event v (E.Call cpu2 number2 b)).world after)

@@ -59,14 +59,14 @@ made_sound = event-sound booted (E.Call 0 0 pages) (boot_world-sound_with (λ g 
 
 alone_sound : IsSoundWorld alone
 alone_sound = cpu_runs made 0 child made_sound (inr (inl refl))
-    (inl (λ i. elim i [ inl e ↦ omega (arith, e) | inr j ↦ j ])) first_context
+    (inl (λ i. elim i [ inl e ↦ omega arith | inr j ↦ j ])) first_context
 
 busy_sound : IsSoundWorld busy
-busy_sound = cpu_runs alone 1 root alone_sound (inl refl) (inl (λ i. elim i [ inl e ↦ omega (arith, e) | inr j ↦ j ]))
+busy_sound = cpu_runs alone 1 root alone_sound (inl refl) (inl (λ i. elim i [ inl e ↦ omega arith | inr j ↦ j ]))
     first_context
 
 not_root : 13 ≢ alone.tree.root.name
-not_root e = omega (arith, e)
+not_root e = omega arith
 
 same : IsSameGuest 13 busy alone
 same = record {
@@ -79,8 +79,8 @@ same = record {
     to zero r h e = e
     to (suc zero) r h e =
         let d : root ≡ r = cc in
-        let k : In 13 (ancestry busy.tree 1) = subst (λ z. In 13 (ancestry busy.tree z.name)) (sym d) h in
-        absurd (elim k [ inl q ↦ omega (arith, q) | inr j ↦ j ])
+        let k : In 13 (ancestry busy.tree 1) = rw (← d) at h in
+        absurd (elim k [ inl q ↦ omega arith | inr j ↦ j ])
     to (suc (suc i)) r h e = e
 
     back : (i : ℕ) (r : Occupant) → In 13 (ancestry alone.tree r.name) → runs_on alone i ≡ Some r
@@ -94,7 +94,7 @@ busy_left : IsLeaving 13 busy (E.Trap 0 64 0 0)
 busy_left = record { faults = refl; below = inl refl; leaves = tt }
 
 alone_left : IsLeaving 13 alone (E.Trap 0 64 0 0)
-alone_left = record { faults = refl; below = inl refl; leaves = λ i. elim i [ inl e ↦ omega (arith, e) | inr j ↦ j ] }
+alone_left = record { faults = refl; below = inl refl; leaves = λ i. elim i [ inl e ↦ omega arith | inr j ↦ j ] }
 
 pub outcomes_of_inside : OutcomesDepend IsInside
 outcomes_of_inside w v p e s s' ev m g i = (inside_same w v p e s s' ev m g i).outcome
@@ -128,7 +128,7 @@ polls_are_not_apart law =
     let g = law (line 0) 13 0 (line_sound 0 (omega arith)) (inr (inl refl)) not_root in
     let runs = g.runs 0 child (inl refl) refl in
     let name : ◌≡◌ {A = ℕ} 1 13 = ap occupant_name runs in
-    omega (arith, name)
+    omega arith
 
 -- ---- the premises of the law of interrupts: line 0 or line 1 takes the processor from 13
 

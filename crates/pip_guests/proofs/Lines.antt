@@ -43,14 +43,14 @@ pub line_name : (t : Tree) (q n : ℕ) → In n (ancestry t q) → IsName t q
 line_name t q n i = line_of t.root t.others q n i
 
 pub no_line : (t : Tree) → IsSound t → (n : ℕ) → In n (ancestry t 0) → ⊥
-no_line t s n i = let h = name_positive t s 0 (line_name t 0 n i) in absurd (omega (arith, h))
+no_line t s n i = let h = name_positive t s 0 (line_name t 0 n i) in absurd (omega arith)
 
 module _ (t : Tree) (s : IsSound t) where
   -- the node of a name, from its line
   pub line_node : (n q : ℕ) → In n (ancestry t q)
       → In (node t q) (nodes t) × ((node t q).name ≡ q) × In n (ancestry t (node t q).name)
   line_node n q h = let f = node_found t q (line_name t q n h) in
-      (f.0, f.1, subst (λ v. In n (ancestry t v)) (sym f.1) h)
+      (f.0, f.1, rw f.1 h)
 
   -- and so is a name on a line
   pub line_top : (n q : ℕ) → In n (ancestry t q) → IsName t n
@@ -60,25 +60,25 @@ module _ (t : Tree) (s : IsSound t) where
       subst (IsName t) e (name_in z (nodes t) j)
 
   pub own_line : (q : ℕ) → IsName t q → In q (ancestry t q)
-  own_line q n = let f = node_found t q n in subst (λ v. In v (ancestry t v)) f.1 (own_ancestry t s (node t q) f.0)
+  own_line q n = let f = node_found t q n in rw (← f.1) (own_ancestry t s (node t q) f.0)
 
   pub line_trans : (n m q : ℕ) → In n (ancestry t m) → In m (ancestry t q) → In n (ancestry t q)
   line_trans n m q k h = let f = line_node m q h in
-      subst (λ v. In n (ancestry t v)) f.1 (ancestry_trans t s (node t q) f.0 n m f.2 k)
+      rw (← f.1) (ancestry_trans t s (node t q) f.0 n m f.2 k)
 
   -- on the root's line is the root alone
   pub top_alone : (n : ℕ) → In n (ancestry t t.root.name) → n ≡ t.root.name
   top_alone n h = let (z, j, e) = In-map_from (λ z. z.name) n (chain t t.root.name) h in
-      e ∙ ap (λ z. z.name) (root_alone t s z j)
+      rw (e, root_alone t s z j)
 
   pub root_line : (q : ℕ) → IsName t q → In t.root.name (ancestry t q)
-  root_line q n = let f = node_found t q n in subst (λ v. In t.root.name (ancestry t v)) f.1
+  root_line q n = let f = node_found t q n in rw (← f.1)
       (over_ancestry t s t.root (node t q) (inl refl) (root_is_top t s (node t q) f.0))
 
   -- the line of a node that is not the root, by its parent's
   pub line_parent : (n : ℕ) (x : Node) → In x t.others → In n (ancestry t x.name)
       → (n ≡ x.name) ⊎ In n (ancestry t x.up)
-  line_parent n x i h = subst (In n) (ap names_of (chain-node t s x i)) h
+  line_parent n x i h = rw (chain-node t s x i) at h
 
   -- the parent of a partition that is not the root
   pub parent_line : (p : ℕ) → IsName t p → p ≢ t.root.name
@@ -90,13 +90,12 @@ module _ (t : Tree) (s : IsSound t) where
       let u : IsName t (node t p).up = subst (IsName t) (sym e) (name_in y (nodes t) j) in (
         i,
         u,
-        subst (λ q. In (node t p).up (ancestry t q)) f.1
-            (subst (In (node t p).up) (sym (ap names_of (chain-node t s (node t p) i)))
+        rw f.1 at (subst (In (node t p).up) (sym (ap names_of (chain-node t s (node t p) i)))
             (inr (own_line (node t p).up u))),
       )
     where
       other : In (node t p) (nodes t) → (node t p).name ≡ p → In (node t p) t.others
-      other (inl e) q = absurd (m (sym q ∙ ap (λ z. z.name) e))
+      other (inl e) q = absurd (m (rw (← q, e)))
       other (inr i) q = i
 
   -- of two names on one line one is above the other
@@ -112,9 +111,10 @@ module _ (t : Tree) (s : IsSound t) where
   rows_up p q g h i =
       let f = line_node p q h in
       let (z, j, e, o) = ancestry_over t s (node t q) f.0 p f.2 in
-      subst (λ x. In g (row_pages x)) (sym (named_node t p s z j e)) (elim o [
+      rw (named_node t p s z j e) (elim o [
         | inl d ↦ subst (λ x. In g (row_pages x)) (sym d) i
-        | inr v ↦ holds_up t g s z (node t q) v (In-append_right g (config (node t q)) (row_pages (node t q)) i)
+        | inr v ↦
+            holds_up t g s z (node t q) v (In-append_right g (config (node t q)) (row_pages (node t q)) i)
       ])
 
   -- of two with a common page in rows one is above the other
@@ -125,16 +125,16 @@ module _ (t : Tree) (s : IsSound t) where
       let k = node_found t q m in
       elim (holders-related t g s (node t p) (node t q) f.0 k.0 (In-append_right g (config (node t p))
       (row_pages (node t p)) i) (In-append_right g (config (node t q)) (row_pages (node t q)) j)) [
-        | inl e ↦ inl (subst (λ v. In v (ancestry t q)) (sym k.1 ∙ ap (λ x. x.name) (sym e) ∙ f.1) (own_line q m))
-        | inr (inl c) ↦ inl (subst (λ v. In v (ancestry t q)) f.1
-            (subst (λ v. In (node t p).name (ancestry t v)) k.1 (over_ancestry t s (node t p) (node t q) f.0 (inr c))))
-        | inr (inr c) ↦ inr (subst (λ v. In v (ancestry t p)) k.1
-            (subst (λ v. In (node t q).name (ancestry t v)) f.1 (over_ancestry t s (node t q) (node t p) k.0 (inr c))))
+        | inl e ↦ inl (rw (← f.1, e, k.1) (own_line q m))
+        | inr (inl c) ↦ inl (rw (← f.1) (subst (λ v. In (node t p).name (ancestry t v)) k.1
+            (over_ancestry t s (node t p) (node t q) f.0 (inr c))))
+        | inr (inr c) ↦ inr (rw (← k.1) (subst (λ v. In (node t q).name (ancestry t v)) f.1
+            (over_ancestry t s (node t q) (node t p) k.0 (inr c))))
       ]
 
 -- no partition but the root is the root in another tree
 pub not_top : (t u : Tree) → IsSound t → IsSound u → (p : ℕ) → p ≢ t.root.name → p ≢ u.root.name
-not_top t u s r p n e = n (e ∙ root_is_one u r ∙ sym (root_is_one t s))
+not_top t u s r p n e = n (rw (e, root_is_one u r, ← root_is_one t s))
 
 -- ---- two trees that agree below p
 
@@ -151,7 +151,7 @@ module _ (t u : Tree) (p : ℕ) (s : IsSound t) (r : IsSound u) (a : AgreeTrees 
 
     pub agree_below : AgreeTrees q t u
     agree_below = let f = line_node t s p q h in
-        subst (λ v. AgreeTrees v t u) f.1 (agree_down t u p s r (line_top t s p q h) a (node t q) there)
+        rw (← f.1) (agree_down t u p s r (line_top t s p q h) a (node t q) there)
 
 pub agree_sym : (t u : Tree) (p : ℕ) → IsSound t → IsSound u → IsName t p → AgreeTrees p t u → AgreeTrees p u t
 agree_sym t u p s r n a = let g : Agreeing p t u = record { sound = s; sound' = r; name = n; trees = a } in
@@ -167,7 +167,7 @@ pub agree_trans : (t u v : Tree) (p : ℕ) → IsSound t → IsSound u → IsNam
 agree_trans t u v p s r n a b = record {
   to = λ x h. b.to x (a.to x h);
   from = λ x h. a.from x (b.from x h);
-  words = λ g i j l. b.words g i (subst (λ x. In g (row_pages x)) (node_same t u p s r n a) j) l ∙ a.words g i j l;
+  words = λ g i j l. b.words g i (rw (← node_same t u p s r n a) j) l ∙ a.words g i j l;
 }
 
 -- ---- a change below q
@@ -177,13 +177,13 @@ module _ (q : ℕ) (t u : Tree) (s : IsSound t) (r : IsSound u) (l : LeavesTree 
   pub stays_out : (p : ℕ) → IsName t p → (In q (ancestry t p) → ⊥) → node u p ≡ node t p
   stays_out p i h =
       let f = node_found t p i in
-      let o = (l.outside (node t p)).0 (f.0, (λ k. h (subst (λ v. In q (ancestry t v)) f.1 k))) in
+      let o = (l.outside (node t p)).0 (f.0, (λ k. h (rw (← f.1) k))) in
       named_node u p r (node t p) o.0 f.1
 
   pub out_name : (p : ℕ) → IsName t p → (In q (ancestry t p) → ⊥) → IsName u p
   out_name p i h =
       let f = node_found t p i in
-      let o = (l.outside (node t p)).0 (f.0, (λ k. h (subst (λ v. In q (ancestry t v)) f.1 k))) in
+      let o = (l.outside (node t p)).0 (f.0, (λ k. h (rw (← f.1) k))) in
       subst (IsName u) f.1 (name_in (node t p) (nodes u) o.0)
 
 -- a change below q is a change below all above q
@@ -201,7 +201,7 @@ leaves_up p q t u s r h l = record {
   own = elim (cases_Bool (has (ancestry t p) q)) [
     | inl e ↦
         let z : p ≡ q = lines_same t s p q h (has_in q _ e) in
-        subst (λ v. record (node t v) { masked = false } ≡ record (node u v) { masked = false }) (sym z) l.own
+        cc
     | inr e ↦ ap {A = Node} (λ x. record x { masked = false })
         (sym (stays_out q t u s r l p n (λ k. let j = in_has q _ k in absurd (grind (arith, e, j)))))
   ];

@@ -32,9 +32,9 @@ guests = with_running (with_running deaf 0 (Some (guest 13))) 1 (Some (guest 22)
 guests_sound : IsSoundWorld guests
 guests_sound =
     let one = cpu_runs deaf 0 (guest 13) deaf_sound (inr (inr (inl refl)))
-    (inl (λ i. elim i [ inl e ↦ omega (arith, e) | inr j ↦ j ])) (context 0xfffff000 (omega arith)) in
+    (inl (λ i. elim i [ inl e ↦ omega arith | inr j ↦ j ])) (context 0xfffff000 (omega arith)) in
     cpu_runs (with_running deaf 0 (Some (guest 13))) 1 (guest 22) one (inr (inl refl))
-    (inl (λ i. elim i [ inl e ↦ omega (arith, e) | inr j ↦ j ])) (context 0xfffff000 (omega arith))
+    (inl (λ i. elim i [ inl e ↦ omega arith | inr j ↦ j ])) (context 0xfffff000 (omega arith))
 
 guests_aside : IsAside guests.tree 13 22
 guests_aside = record { there = inr (inl refl); not_below = off_22; not_above = off_13 }

@@ -29,7 +29,7 @@ machines_depend_on_guests m n m2 n2 e o o2 p takes takes2 is w w2 s s2 not_root 
     let (told, then) = takes w s in
     let (told2, then2) = takes2 w2 s2 in
     let z = inside_same w w2 p e s.bare.sound s2.bare.sound is not_root same inside in (
-      told ∙ z.outcome ∙ sym told2,
+      cc (z.outcome),
       record {
         left = (event w e).world;
         right = (event w2 e).world;
@@ -44,7 +44,7 @@ machines_are_left_alike m n m2 n2 e o o2 p takes takes2 is w w2 s s2 not_root sa
     let (told, then) = takes w s in
     let (told2, then2) = takes2 w2 s2 in
     let z = guests_are_left_alike w w2 p e s.bare.sound s2.bare.sound is not_root same leaving in (
-      subst (Leaves w2.tree p) (sym told2) z.leaving.leaves,
+      rw told2 z.leaving.leaves,
       record {
         left = (event w e).world;
         right = (event w2 e).world;
@@ -64,20 +64,19 @@ machines_leave_guests_alone m n e o p takes is w stands there not_root elsewhere
 -- what the guest learns in the model is what it learns of the machine's answers, which are the model's
 told_are_all : (p : ℕ) (w : World) (es : List Event) → told_all p w es (outcomes w es) ≡ learns_all p w es
 told_are_all p w [] = refl
-told_are_all p w (e ∷ es) = ap (λ os. learns p w e ∷ os) (told_are_all p (event w e).world es)
+told_are_all p w (e ∷ es) = rw (told_are_all p (event w e).world es)
 
 told_are_own : (p : ℕ) (w : World) (es : List Event) → told_own p w es (outcomes w es) ≡ learns_own p w es
 told_are_own p w [] = refl
 told_are_own p w (e ∷ es) =
-    ap (λ os. cond (is_of_guest p w e) (learns p w e ∷ os) os) (told_are_own p (event w e).world es)
+    rw (told_are_own p (event w e).world es)
 
 pub machines_keep_guests_apart : MachinesKeepGuestsApart
 machines_keep_guests_apart w p es m n m2 n2 os os2 s s2 all few there not_root are fit =
     let (told, last) = runs_are_the_models m n es os all w s in
     let (told2, last2) = runs_are_the_models m2 n2 (only_guest p w es) os2 few w s2 in
     let (same, guest) = others_do_not_matter_to_guests w p es s.bare.sound there not_root are fit in (
-      ap (told_own p w es) told ∙ told_are_own p w es ∙ same
-          ∙ sym (ap (told_all p w (only_guest p w es)) told2 ∙ told_are_all p w (only_guest p w es)),
+      rw (told, told_are_own p w es, same, ← told_are_all p w (only_guest p w es), ← told2),
       record {
         left = after w es;
         right = after w (only_guest p w es);
@@ -108,7 +107,7 @@ machines_depend_on_inputs w v p es fs m n m2 n2 os os2 s s2 all all2 there not_r
     let (told2, last2) = runs_are_the_models m2 n2 fs os2 all2 v s2 in
     let (learnt, guest) =
     guests_depend_on_inputs w v p es fs s.bare.sound s2.bare.sound there not_root same are are2 alike in (
-      ap (told_own p w es) told ∙ told_are_own p w es ∙ learnt ∙ sym (ap (told_own p v fs) told2 ∙ told_are_own p v fs),
+      rw (told, told_are_own p w es, learnt, ← told_are_own p v fs, ← told2),
       record { left = after w es; right = after v fs; stands_left = last; stands_right = last2; guest = guest },
     )
 
@@ -124,8 +123,8 @@ machines_run_on_inputs w v p plans plans2 ss rs m n m2 n2 os os2 s s2 all all2 t
       record {
         left = after_acts w (all_steps plans w ss);
         right = after_acts v (all_steps plans2 v rs);
-        stands_left = subst (StandsAs n) (sym (after-events w (all_steps plans w ss))) last;
-        stands_right = subst (StandsAs n2) (sym (after-events v (all_steps plans2 v rs))) last2;
+        stands_left = rw (after-events w (all_steps plans w ss)) last;
+        stands_right = rw (after-events v (all_steps plans2 v rs)) last2;
         guest = guest;
       },
     )

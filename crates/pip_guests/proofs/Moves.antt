@@ -60,9 +60,8 @@ record Acts (r : Occupant) (here : ℕ) (w v : World) : Type 0 where
 acts_still : (w : World) (cpu : ℕ) (r : Occupant) → IsSoundWorld w → runs_on w cpu ≡ Some r → Acts r cpu w w
 acts_still w cpu r s k = record {
   moves = record { leaves = leaves_same r.name w.tree; cpus = λ i n. refl; count = refl };
-  goes = λ z e. let j : Some z ≡ Some r = sym e ∙ k in let d : z ≡ r = cc in
-      inl (subst (λ n. In n (ancestry w.tree r.name)) (ap (λ z. z.name) (sym d))
-      (own_line w.tree s.tree r.name (s.names_nodes r.name (runs_named w cpu r s k))));
+  goes = λ z e. let j : Some z ≡ Some r = cc in let d : z ≡ r = cc in
+      inl (rw d (own_line w.tree s.tree r.name (s.names_nodes r.name (runs_named w cpu r s k))));
 }
 
 -- the processor runs another partition, or nothing
@@ -71,15 +70,14 @@ acts_put : (w : World) (cpu : ℕ) (r : Occupant) (t : Tree) (o : Option Occupan
     → Acts r cpu w (with_running (record w { tree = t }) cpu o)
 acts_put w cpu r t o k l g = record {
   moves = record { leaves = l; cpus = λ i n. at_set_other o w.cpus cpu i n; count = length-set w.cpus cpu o };
-  goes = λ z e. g z (sym (at_set_here o w.cpus cpu r k) ∙ e);
+  goes = λ z e. g z (rw (← at_set_here o w.cpus cpu r k) e);
 }
 
 -- it runs r as before, with another context
 acts_on : (w : World) (cpu : ℕ) (r q : Occupant) (t : Tree) → IsSoundWorld w → runs_on w cpu ≡ Some r → q.name ≡ r.name
     → LeavesTree r.name w.tree t → Acts r cpu w (with_running (record w { tree = t }) cpu (Some q))
 acts_on w cpu r q t s k n l = acts_put w cpu r t (Some q) k l (λ z e. let d : q ≡ z = cc in
-    inl (subst (λ n. In n (ancestry w.tree r.name)) (sym n ∙ ap (λ z. z.name) d)
-    (own_line w.tree s.tree r.name (s.names_nodes r.name (runs_named w cpu r s k)))))
+    inl (rw (← d, n) (own_line w.tree s.tree r.name (s.names_nodes r.name (runs_named w cpu r s k)))))
 
 -- ---- saves
 
@@ -90,8 +88,7 @@ saved_same t p c q g own out = go (t.words g)
     one : (q : Reached) → IsOwnPlace t p q → (w : ℕ → ℕ) → Some (λ j. written_block c g q w j) ≡ Some w
     one (Faulted f) o w = refl
     one (Place h i) o w =
-        ap (λ b. Some (λ j. cond (b && (nat_le i j && nat_lt j (i + 17))) (context_word c (j - i)) (w j)))
-        (ne_eqb h g (λ e. out (subst (λ v. In v (row_pages (node t p))) e (o.row h i refl))))
+        rw (ne_eqb h g (λ e. out (subst (λ v. In v (row_pages (node t p))) e (o.row h i refl))))
 
     go : (o : Option (ℕ → ℕ)) → option_map (λ old. written_block c g q old) o ≡ o
     go None = refl
@@ -116,7 +113,7 @@ among_in w k born (q ∷ qs) y e = go (has (running w) q.name) (handler w.tree q
     go : (b : Bool) (h : Option Ctx) → taker_or b h q born (nearest_among w k q.born qs) ≡ Some y
         → (nearest_among w k q.born qs ≡ Some y → In y.to (names_of qs)) → In y.to (names_of (q ∷ qs))
     go false (Some h) z f = let d : record { to = q.name; handler = h; born = born } ≡ y = cc in
-        inl (ap (λ y. y.to) (sym d))
+        inl (rw (← d))
     go false None z f = inr (f z)
     go true (Some h) z f = inr (f z)
     go true None z f = inr (f z)
@@ -140,7 +137,7 @@ deliver_acts w cpu r k a b e = go (nearest_taker w r.name k) refl
     go (Some y) q = acts_put w cpu r (save w.tree r.name 63 r.ctx)
         (Some (record { name = y.to; ctx = handler_context y.handler k a b y.born })) e saved
         (λ z d. let u : record { name = y.to; ctx = handler_context y.handler k a b y.born } ≡ z = cc in
-        inl (subst (λ n. In n (ancestry w.tree r.name)) (ap (λ z. z.name) u) (taker_in w r.name k y q)))
+        inl (rw (← u) (taker_in w r.name k y q)))
 
 -- ---- yields
 
@@ -175,7 +172,7 @@ target_goes t p d s n m = go (d == 0) (d == 1)
     parent : (b : Bool) → Goes t p (node_name (cond b None (Some (node t (node t p).up))))
     parent true = inr (inr refl)
     parent false = let u = parent_line t s p n m in
-        inl (subst (λ q. In q (ancestry t p)) (sym (node_found t (node t p).up u.1).1) u.2)
+        inl (rw (← sym (node_found t (node t p).up u.1).1) u.2)
 
     child : (o : Option Node) → child_at t p d ≡ o → Goes t p (node_name o)
     child None e = inr (inr refl)
@@ -183,7 +180,7 @@ target_goes t p d s n m = go (d == 0) (d == 1)
 
     go : (a b : Bool) → Goes t p (node_name (cond a (parent_of t p) (cond b (Some (node t p)) (child_at t p d))))
     go true b = parent (p == t.root.name)
-    go false true = inl (subst (λ q. In q (ancestry t p)) (sym (node_found t p n).1) (own_line t s p n))
+    go false true = inl (rw (← sym (node_found t p n).1) (own_line t s p n))
     go false false = child (child_at t p d) refl
 
 module _ (w : World) (cpu : ℕ) (r : Occupant) (s : IsSoundWorld w) (k : runs_on w cpu ≡ Some r)
@@ -203,12 +200,12 @@ module _ (w : World) (cpu : ℕ) (r : Occupant) (s : IsSoundWorld w) (k : runs_o
           acts_on w cpu r (record r { ctx = record r.ctx { regs = with_reply (status_number st) 0 r.ctx.regs } }) w.tree
           s k refl (leaves_same r.name w.tree)
       go None None = acts_still w cpu r s k
-      go None (Some c) = subst (λ t. Acts r cpu w (enter (record w { tree = t }) cpu (node_name q) c))
-          (sym (yielded_same w.tree r a.x2 s.tree d))
-          (acts_put w cpu r _ (Some (record { name = node_name q; ctx = c })) k (saved_leaves w.tree r.name
-          (with_zeros r.ctx) (yield_place w.tree r.name a.x2) (yield_own w.tree r.name a.x2))
-          (λ z e. let u : record { name = node_name q; ctx = c } ≡ z = cc in
-          subst (Goes w.tree r.name) (ap (λ z. z.name) u) (target_goes w.tree r.name a.x0 s.tree is_name d)))
+      go None (Some c) = rw (yielded_same w.tree r a.x2 s.tree d)
+          (acts_put w cpu r _ (Some (record { name = node_name q; ctx = c })) k
+          (saved_leaves w.tree r.name (with_zeros r.ctx) (yield_place w.tree r.name a.x2)
+          (yield_own w.tree r.name a.x2)) (λ z e. let u : record { name = node_name q; ctx = c } ≡ z = cc in
+          subst (Goes w.tree r.name) (ap (λ z. z.name) u)
+          (target_goes w.tree r.name a.x0 s.tree is_name d)))
 
   call_acts : (c : CallName) (a : Five) → Acts r cpu w (call c w cpu r a).world
   call_acts (OnMemory c) a =
@@ -240,52 +237,50 @@ module _ (w : World) (cpu : ℕ) (r : Occupant) (s : IsSoundWorld w) (k : runs_o
 module _ (w : World) (r : Occupant) where
   pub load_by : (cpu va : ℕ) (z : Size) → runs_on w cpu ≡ Some r
       → what_happens w (E.Load cpu va z) ≡ load_happens w cpu r va Load z (reach w.tree r.name va Load z)
-  load_by cpu va z k = ap (λ o. on_running w cpu o (λ r. load_happens w cpu r va Load z
-      (reach w.tree r.name va Load z))) k
+  load_by cpu va z k = rw k
 
   pub store_by : (cpu va : ℕ) (z : Size) (x : ℕ) → runs_on w cpu ≡ Some r
       → what_happens w (E.Store cpu va z x) ≡ wrote w cpu r va z x (reach w.tree r.name va Store z)
-  store_by cpu va z x k = ap (λ o. on_running w cpu o (λ r. wrote w cpu r va z x (reach w.tree r.name va Store z))) k
+  store_by cpu va z x k = rw k
 
   pub fetch_by : (cpu : ℕ) → runs_on w cpu ≡ Some r
       → what_happens w (E.Fetch cpu) ≡ load_happens w cpu r r.ctx.pc Fetch Word
       (reach w.tree r.name r.ctx.pc Fetch Word)
   fetch_by cpu k =
-      ap (λ o. on_running w cpu o (λ r. load_happens w cpu r r.ctx.pc Fetch Word
-      (reach w.tree r.name r.ctx.pc Fetch Word))) k
+      rw k
 
   pub trap_by : (cpu v a b : ℕ) → runs_on w cpu ≡ Some r → what_happens w (E.Trap cpu v a b) ≡ deliver w cpu r v a b
-  trap_by cpu v a b k = ap (λ o. on_running w cpu o (λ r. deliver w cpu r v a b)) k
+  trap_by cpu v a b k = rw k
 
   pub call_by : (cpu number : ℕ) (a : Five) → runs_on w cpu ≡ Some r
       → what_happens w (E.Call cpu number a) ≡ call (call_named number) w cpu r a
-  call_by cpu number a k = ap (λ o. on_running w cpu o (λ r. call (call_named number) w cpu r a)) k
+  call_by cpu number a k = rw k
 
   pub set_by : (cpu : ℕ) (c : Ctx) → runs_on w cpu ≡ Some r
       → what_happens w (E.SetContext cpu c) ≡ done (with_running w cpu (Some (record r { ctx = c })))
-  set_by cpu c k = ap (λ o. on_running w cpu o (λ r. done (with_running w cpu (Some (record r { ctx = c }))))) k
+  set_by cpu c k = rw k
 
 own_acts : (w : World) (e : Event) (r : Occupant) → IsSoundWorld w → is_own e ≡ true → runs_on w (cpu_of e) ≡ Some r
     → r.name ≢ w.tree.root.name → Acts r (cpu_of e) w (what_happens w e).world
-own_acts w (E.Load cpu va z) r s o k d = subst (λ h. Acts r cpu w h.world) (sym (load_by w r cpu va z k))
+own_acts w (E.Load cpu va z) r s o k d = rw (load_by w r cpu va z k)
     (loaded_acts w cpu r s k d va Load z (reach w.tree r.name va Load z))
-own_acts w (E.Store cpu va z x) r s o k d = subst (λ h. Acts r cpu w h.world) (sym (store_by w r cpu va z x k))
+own_acts w (E.Store cpu va z x) r s o k d = rw (store_by w r cpu va z x k)
     (wrote_acts w cpu r s k d va z x (reach w.tree r.name va Store z) refl)
-own_acts w (E.Fetch cpu) r s o k d = subst (λ h. Acts r cpu w h.world) (sym (fetch_by w r cpu k))
+own_acts w (E.Fetch cpu) r s o k d = rw (fetch_by w r cpu k)
     (loaded_acts w cpu r s k d r.ctx.pc Fetch Word (reach w.tree r.name r.ctx.pc Fetch Word))
 own_acts w (E.Trap cpu v a b) r s o k d =
-    subst (λ h. Acts r cpu w h.world) (sym (trap_by w r cpu v a b k)) (deliver_acts w cpu r v a b k)
+    rw (trap_by w r cpu v a b k) (deliver_acts w cpu r v a b k)
 own_acts w (E.Call cpu number a) r s o k d =
-    subst (λ h. Acts r cpu w h.world) (sym (call_by w r cpu number a k)) (call_acts w cpu r s k d (call_named number) a)
+    rw (call_by w r cpu number a k) (call_acts w cpu r s k d (call_named number) a)
 own_acts w (E.Raise j) r s o k d = cc
 own_acts w (E.Poll cpu) r s o k d = cc
-own_acts w (E.SetContext cpu c) r s o k d = subst (λ h. Acts r cpu w h.world) (sym (set_by w r cpu c k))
+own_acts w (E.SetContext cpu c) r s o k d = rw (set_by w r cpu c k)
     (acts_on w cpu r (record r { ctx = c }) w.tree s k refl (leaves_same r.name w.tree))
 
 module _ (w : World) (e : Event) (r : Occupant) (s : IsSoundWorld w)
     (o : is_own e ≡ true) (k : runs_on w (cpu_of e) ≡ Some r) (d : r.name ≢ w.tree.root.name) where
   pub event_moves : Moves r.name (cpu_of e) w (event w e).world
-  event_moves = let m = (own_acts w e r s o k d).moves in record { leaves = m.leaves; cpus = m.cpus; count = m.count }
+  event_moves = let m = (own_acts w e r s o k d).moves in assumption
 
   pub event_goes : (z : Occupant) → runs_on (event w e).world (cpu_of e) ≡ Some z → Goes w.tree r.name z.name
   event_goes = (own_acts w e r s o k d).goes

@@ -42,21 +42,21 @@ module _ (cpu t r : ℕ) where
   there = record { step = r; cpu = cpu }
 
   heads : (x : List ℕ) → drop (length (head t cpu)) (head t cpu ++ x) ≡ drop (length (head r cpu)) (head r cpu ++ x)
-  heads x = drop-append_seam (head t cpu) x ∙ sym (drop-append_seam (head r cpu) x)
+  heads x = cc (drop-append_seam (head t cpu) x, drop-append_seam (head r cpu) x)
 
   -- two lines, each a head and one rest, are equal after their heads
   heads_of : (x y rest : List ℕ) → x ≡ head t cpu ++ rest → y ≡ head r cpu ++ rest
       → drop (length (head t cpu)) x ≡ drop (length (head r cpu)) y
-  heads_of x y rest e f = ap (drop (length (head t cpu))) e ∙ heads rest ∙ sym (ap (drop (length (head r cpu))) f)
+  heads_of x y rest e f = rw (e, heads rest, ← f)
 
   abbrev no_line : List ℕ
   no_line = []
 
   no_heads : drop (length (head t cpu)) no_line ≡ drop (length (head r cpu)) no_line
-  no_heads = drop-nil {A = ℕ} (length (head t cpu)) ∙ sym (drop-nil {A = ℕ} (length (head r cpu)))
+  no_heads = cc (drop-nil {A = ℕ} (length (head t cpu)), drop-nil {A = ℕ} (length (head r cpu)))
 
   writes : {x y : List ℕ} → x ≡ y → ◌≡◌ {A = List Act} (Writes x ∷ []) (Writes y ∷ [])
-  writes e = ap (λ l. Writes l ∷ []) e
+  writes e = rw e
 
   moved_bare : (o : Outcome) → map (without_head here) (move_acts t cpu o) ≡ map (without_head there)
       (move_acts r cpu o)
@@ -107,17 +107,17 @@ module _ (cpu t r : ℕ) where
   effect_bare w x (F.Goes pc) = refl
   effect_bare w x (F.Links a pc) = refl
   effect_bare w x (F.Loads a va z) =
-      ap (λ l. Makes (E.Load cpu va z) ∷ l) (load_bare x a (outcome_of w (E.Load cpu va z)))
+      rw (load_bare x a (outcome_of w (E.Load cpu va z)))
   effect_bare w x (F.Stores va n z) =
-      ap (λ l. Makes (E.Store cpu va z n) ∷ l) (store_bare x (outcome_of w (E.Store cpu va z n)))
+      rw (store_bare x (outcome_of w (E.Store cpu va z n)))
   effect_bare w x (F.Traps k a b) =
-      ap (λ l. Makes (E.Trap cpu k a b) ∷ l) (moved_bare (outcome_of w (E.Trap cpu k a b)))
-  effect_bare w x (F.Interrupts k) = ap (λ l. Makes (E.SetContext cpu (at_next x)) ∷ Makes (E.Trap cpu k 0 0)
-      ∷ l) (moved_bare (outcome_of (world_of w (E.SetContext cpu (at_next x))) (E.Trap cpu k 0 0)))
-  effect_bare w x (F.Calls n) = ap (λ l. Makes (E.SetContext cpu (at_next x)) ∷ Makes (E.Call cpu n (arguments x))
-      ∷ l) (call_bare n (outcome_of (world_of w (E.SetContext cpu (at_next x))) (E.Call cpu n (arguments x))))
-  effect_bare w x (F.Shows n) = ap (λ l. Writes l ∷ Makes (E.SetContext cpu (at_next x))
-      ∷ []) (heads_of _ _ _ (after_head_3 (head t cpu) (codes " out ") (word_text n) (codes "\n"))
+      rw (moved_bare (outcome_of w (E.Trap cpu k a b)))
+  effect_bare w x (F.Interrupts k) = rw (moved_bare
+      (outcome_of (world_of w (E.SetContext cpu (at_next x))) (E.Trap cpu k 0 0)))
+  effect_bare w x (F.Calls n) =
+      rw (call_bare n (outcome_of (world_of w (E.SetContext cpu (at_next x))) (E.Call cpu n (arguments x))))
+  effect_bare w x (F.Shows n) = rw (heads_of _ _ _
+      (after_head_3 (head t cpu) (codes " out ") (word_text n) (codes "\n"))
       (after_head_3 (head r cpu) (codes " out ") (word_text n) (codes "\n")))
 
   word_bare : (w : World) (u : ℕ) (o : Option Occupant)
@@ -137,7 +137,7 @@ module _ (cpu t r : ℕ) where
   pub fetch_bare : (w : World)
       → map (without_head here) (fetch_acts w t cpu) ≡ map (without_head there) (fetch_acts w r cpu)
   fetch_bare w =
-      ap (λ l. Makes (E.Fetch cpu) ∷ l) (fetched_bare (world_of w (E.Fetch cpu)) (outcome_of w (E.Fetch cpu)))
+      rw (fetched_bare (world_of w (E.Fetch cpu)) (outcome_of w (E.Fetch cpu)))
 
   polled_bare : (w : World) (o : Outcome)
       → map (without_head here) (acts_after_poll w t cpu o) ≡ map (without_head there) (acts_after_poll w r cpu o)
@@ -149,12 +149,12 @@ module _ (cpu t r : ℕ) where
   polled_bare w (O.Parked from k) = fetch_bare w
 
   pub turn_bare : (w : World) → map (without_head here) (turn w cpu t) ≡ map (without_head there) (turn w cpu r)
-  turn_bare w = ap (λ l. Makes (E.Poll cpu) ∷ l) (polled_bare (world_of w (E.Poll cpu)) (outcome_of w (E.Poll cpu)))
+  turn_bare w = rw (polled_bare (world_of w (E.Poll cpu)) (outcome_of w (E.Poll cpu)))
 
 -- without their heads the events are the same
 pub bare_events : (s : Slot) (acts : List Act) → events_made (map (without_head s) acts) ≡ events_made acts
 bare_events s [] = refl
-bare_events s (Makes e ∷ acts) = ap (λ es. e ∷ es) (bare_events s acts)
+bare_events s (Makes e ∷ acts) = rw (bare_events s acts)
 bare_events s (Writes line ∷ acts) = bare_events s acts
 
 pub turn_after : (w : World) (cpu t r : ℕ) → after_acts w (turn w cpu t) ≡ after_acts w (turn w cpu r)
@@ -173,5 +173,4 @@ steps_do_not_matter w (s ∷ ss) (r ∷ rs) e =
     let others : map (λ s. s.cpu) ss ≡ map (λ s. s.cpu) rs = cc in
     ap₂ (λ x y. x ++ y) (turn_bare s.cpu s.step r.step w
     ∙ ap (λ c. map (without_head (record { step = r.step; cpu = c })) (turn w c r.step)) same)
-    (ap (λ v. bare_turns v ss) (turn_after w s.cpu s.step r.step ∙ ap (λ c. after_acts w (turn w c r.step)) same)
-    ∙ steps_do_not_matter (after_acts w (turn_of w r)) ss rs others)
+    (rw (turn_after w s.cpu s.step r.step, same, steps_do_not_matter (after_acts w (turn_of w r)) ss rs others))

@@ -41,8 +41,7 @@ on_inputs p _ _ _ _ (own {w = w} {v = v} {is = is} {js = js} x i vain vain' rest
     x.step s n m vain i) (not_top w.tree (after_acts w (turn_of w x)).tree s.tree sw.tree p m) z.guest in
     record {
       turns = ap₂ (λ x y. x ++ y) z.acts h.turns;
-      guest = subst (λ y. IsSameGuest p y (after_acts v (acts_of v (Turn x ∷ js)))) (sym (after-append w (turn_of w x)
-          (acts_of (after_acts w (turn_of w x)) is)))
+      guest = rw (after-append w (turn_of w x) (acts_of (after_acts w (turn_of w x)) is))
           (subst (IsSameGuest p (after_acts (after_acts w (turn_of w x)) (acts_of (after_acts w (turn_of w x)) is)))
           (sym (after-append v (turn_of v x) (acts_of (after_acts v (turn_of v x)) js))) h.guest);
     }
@@ -56,13 +55,12 @@ on_inputs p _ _ _ _ (alike {w = w} {v = v} {is = is} {js = js} x i rest) s s' n 
     let z = guests_depend_on_inputs w v p (events_made (turn_of w x)) (events_made (turn_of v x)) s s' n m g all all'
     i.events in
     let same = subst (λ y. IsSameGuest p y (after_acts v (turn_of v x))) (sym one)
-    (subst (IsSameGuest p (after w (events_made (turn_of w x)))) (sym two) z.1) in
+    (rw two z.1) in
     let h = on_inputs p (after_acts w (turn_of w x)) is (after_acts v (turn_of v x)) js rest sw sv i.name
     (not_top w.tree (after_acts w (turn_of w x)).tree s.tree sw.tree p m) same in
     record {
       turns = ap₂ (λ x y. x ++ y) i.acts h.turns;
-      guest = subst (λ y. IsSameGuest p y (after_acts v (acts_of v (Turn x ∷ js)))) (sym (after-append w (turn_of w x)
-          (acts_of (after_acts w (turn_of w x)) is)))
+      guest = rw (after-append w (turn_of w x) (acts_of (after_acts w (turn_of w x)) is))
           (subst (IsSameGuest p (after_acts (after_acts w (turn_of w x)) (acts_of (after_acts w (turn_of w x)) is)))
           (sym (after-append v (turn_of v x) (acts_of (after_acts v (turn_of v x)) js))) h.guest);
     }
@@ -70,19 +68,19 @@ on_inputs p _ _ _ _ (input {w = w} {v = v} {is = is} {js = js} e f ev ev' i rest
     let sw = event-sound w e s ev in
     let h = on_inputs p (event w e).world is (event v f).world js rest sw (event-sound v f s' ev') i.name
     (not_top w.tree (event w e).world.tree s.tree sw.tree p m) i.guest in
-    record { turns = h.turns; guest = h.guest }
+    assumption
 on_inputs p _ _ _ _ (first {w = w} {v = v} {is = is} {js = js} e ev i rest) s s' n m g =
     let sw = event-sound w e s ev in
     let n' = name_kept w (event w e).world p s sw n i.same in
     let back = same_trans p (event w e).world w v sw s s' n' (same_sym p w (event w e).world s sw n i.same) g in
     let h = on_inputs p (event w e).world is v js rest sw s' n'
     (not_top w.tree (event w e).world.tree s.tree sw.tree p m) back in
-    record { turns = h.turns; guest = h.guest }
+    assumption
 on_inputs p _ _ _ _ (second {w = w} {v = v} {is = is} {js = js} f ev i rest) s s' n m g =
     let sv = event-sound v f s' ev in
     let h =
     on_inputs p w is (event v f).world js rest s sv n m (same_trans p w v (event v f).world s s' sv n g i.same) in
-    record { turns = h.turns; guest = h.guest }
+    assumption
 
 pub programs_depend_on_inputs : ProgramsDependOnInputs
 programs_depend_on_inputs w v p is js s s' n m g r = let h = on_inputs p w is v js r s s' n m g in (h.turns, h.guest)
@@ -125,7 +123,7 @@ others_turn w (e ∷ es) = others_turn (event w e).world es
 
 -- the acts of others lead where they lead
 acts_others : (w : World) (acts : List Act) → world_after w (as_others (events_made acts)) ≡ after_acts w acts
-acts_others w acts = others_lead w (events_made acts) ∙ sym (after-events w acts)
+acts_others w acts = cc (others_lead w (events_made acts), after-events w acts)
 
 -- what a turn is as items: the guest's turn, or the events of another's
 abbrev item_or : Bool → World → Slot → List Item
@@ -137,8 +135,8 @@ turn_leads false w s = acts_others w (turn_of w s)
 
 turn_turns : (b : Bool) (w : World) (s : Slot) (more : List Act)
     → turns_among w (item_or b w s) ++ more ≡ cond b (turn_of w s ++ more) more
-turn_turns true w s more = ap (λ l. l ++ more) (append-nil (turn_of w s))
-turn_turns false w s more = ap (λ l. l ++ more) (others_turn w (events_made (turn_of w s)))
+turn_turns true w s more = cc (append-nil (turn_of w s))
+turn_turns false w s more = rw (others_turn w (events_made (turn_of w s)))
 
 module _ (plans : List Plan) (p : ℕ) where
   abbrev own_turn : World → Slot → Bool
@@ -193,7 +191,6 @@ steps_depend_on_inputs w v p plans plans2 ss rs s s' n m g r =
     let h = on_inputs p w (items_of plans p w ss) v (items_of plans2 p v rs) r s s' n m g in
     let one = steps_are_items plans p w ss in
     let two = steps_are_items plans2 p v rs in (
-      sym one.0 ∙ h.turns ∙ two.0,
-      subst (λ y. IsSameGuest p y (after_acts v (all_steps plans2 v rs))) one.1
-          (subst (IsSameGuest p (after_acts w (acts_of w (items_of plans p w ss)))) two.1 h.guest),
+      cc (one.0, h.turns, two.0),
+      rw (← one.1) (subst (IsSameGuest p (after_acts w (acts_of w (items_of plans p w ss)))) two.1 h.guest),
     )

@@ -76,7 +76,7 @@ pair = with_running (with_running made 0 (Some (guest 13))) 1 (Some (guest 22))
 -- ---- the world is sound
 
 pub words : (n : ℕ) → n < 4096 → IsWord n
-words n l = omega (arith, l)
+words n l = omega arith
 
 pub context : (pc : ℕ) → IsWord pc → IsContext (ctx pc)
 context pc l =
@@ -100,21 +100,21 @@ born_are : (a : ℕ) → a < 0x500000 → AllByRecursion IsEvent (born a)
 born_are a l = (
   (
     w 0 (omega arith),
-    (omega (arith, l), (omega (arith, l), (omega (arith, l), (omega (arith, l), (omega (arith, l), tt))))),
+    (omega arith, (omega arith, (omega arith, (omega arith, (omega arith, tt))))),
   ),
   (
-    (omega (arith, l), omega (arith, l)),
+    (omega arith, omega arith),
     (
-      (omega (arith, l), omega (arith, l)),
+      (omega arith, omega arith),
       (
         (
           w 3 (omega arith),
-          (omega (arith, l), (omega arith, (omega (arith, l), (w 0 (omega arith), (w 0 (omega arith), tt))))),
+          (omega arith, (omega arith, (omega arith, (w 0 (omega arith), (w 0 (omega arith), tt))))),
         ),
         (
           (
             w 5 (omega arith),
-            (omega (arith, l), (omega (arith, l), (omega arith, (w 7 (omega arith), (w 0 (omega arith), tt))))),
+            (omega arith, (omega arith, (omega arith, (w 7 (omega arith), (w 0 (omega arith), tt))))),
           ),
           tt,
         ),
@@ -143,15 +143,15 @@ made_sound =
 pub pair_sound : IsSoundWorld pair
 pair_sound =
     let one = cpu_runs made 0 (guest 13) made_sound (inr (inr (inl refl)))
-    (inl (λ i. elim i [ inl e ↦ omega (arith, e) | inr j ↦ j ])) (context 0xfffff000 (omega arith)) in
+    (inl (λ i. elim i [ inl e ↦ omega arith | inr j ↦ j ])) (context 0xfffff000 (omega arith)) in
     cpu_runs (with_running made 0 (Some (guest 13))) 1 (guest 22) one (inr (inl refl))
-    (inl (λ i. elim i [ inl e ↦ omega (arith, e) | inr j ↦ j ])) (context 0xfffff000 (omega arith))
+    (inl (λ i. elim i [ inl e ↦ omega arith | inr j ↦ j ])) (context 0xfffff000 (omega arith))
 
 pub off_22 : In {A = ℕ} 13 (22 ∷ 1 ∷ []) → ⊥
-off_22 i = elim i [ inl e ↦ omega (arith, e) | inr j ↦ elim j [ inl e ↦ omega (arith, e) | inr k ↦ k ] ]
+off_22 i = elim i [ inl e ↦ omega arith | inr j ↦ elim j [ inl e ↦ omega arith | inr k ↦ k ] ]
 
 pub off_13 : In {A = ℕ} 22 (13 ∷ 1 ∷ []) → ⊥
-off_13 i = elim i [ inl e ↦ omega (arith, e) | inr j ↦ elim j [ inl e ↦ omega (arith, e) | inr k ↦ k ] ]
+off_13 i = elim i [ inl e ↦ omega arith | inr j ↦ elim j [ inl e ↦ omega arith | inr k ↦ k ] ]
 
 pub aside : IsAside pair.tree 13 22
 aside = record { there = inr (inl refl); not_below = off_22; not_above = off_13 }
@@ -183,7 +183,7 @@ inside_13 = (
         stays 13 _ _ (refl, inl refl, tt, (λ h. h)),
         (
           stays 13 _ _ (refl, inl refl, tt, (λ h. h)),
-          (stays 13 _ _ (refl, inl refl, inl refl, (λ h. omega (arith, h.2))), tt),
+          (stays 13 _ _ (refl, inl refl, inl refl, (λ h. omega arith)), tt),
         ),
       );
     },
@@ -205,7 +205,7 @@ inside_22 = (
         stays 22 _ _ (refl, inl refl, tt, (λ h. h)),
         (
           stays 22 _ _ (refl, inl refl, tt, (λ h. h)),
-          (stays 22 _ _ (refl, inl refl, inl refl, (λ h. omega (arith, h.2))), tt),
+          (stays 22 _ _ (refl, inl refl, inl refl, (λ h. omega arith)), tt),
         ),
       );
     },
@@ -253,7 +253,7 @@ same_13 = record {
     nodes = λ x. ((λ h. h), (λ h. h));
     words = λ g i j l. elim j [
       | inl e ↦
-          subst (λ g. word_of (other.tree.words g) i ≡ word_of (made.tree.words g) i) (sym e) refl
+          cc
       | inr k ↦ absurd k
     ];
   };
@@ -263,9 +263,9 @@ same_13 = record {
   where
     off : (i : ℕ) (r : Occupant) → In 13 (ancestry made.tree r.name) → runs_on made i ≡ Some r → ⊥
     off zero r h e =
-        let n : ◌≡◌ {A = ℕ} 1 r.name = ap occupant_name e in
+        let n : ◌≡◌ {A = ℕ} 1 r.name = cc in
         let k : In {A = ℕ} 13 (1 ∷ []) = subst (λ n. In 13 (ancestry made.tree n)) (sym n) h in
-        elim k [ inl q ↦ omega (arith, q) | inr j ↦ j ]
+        elim k [ inl q ↦ omega arith | inr j ↦ j ]
     off (suc zero) r h e = cc
     off (suc (suc i)) r h e = cc
 
@@ -290,10 +290,10 @@ stores_to : (w : World) → actor w gives ≡ 1 → w.tree.root.name ≡ 1 → a
     → reach w.tree 1 0x409008 Store Word ≡ Place 21 2 → StoresTo 13 21 2 w 0 0x409008 Word 5
 stores_to w who root line place = record {
   outside = λ h.
-      let k : In {A = ℕ} 13 (1 ∷ []) = subst (In 13) (ap (ancestry w.tree) who ∙ line) h in
-      elim k [ inl q ↦ omega (arith, q) | inr j ↦ j ];
-  runs = inl (who ∙ sym root);
-  place = ap (λ r. reach w.tree r 0x409008 Store Word) who ∙ place;
+      let k : In {A = ℕ} 13 (1 ∷ []) = rw (who, line) at h in
+      elim k [ inl q ↦ omega arith | inr j ↦ j ];
+  runs = inl (cc);
+  place = cc;
 }
 
 made_stores : StoresTo 13 21 2 made 0 0x409008 Word 5
@@ -304,7 +304,7 @@ other_stores = stores_to other refl refl refl refl
 
 gives_13 : IsInput 13 gives gives made other
 gives_13 = stores_are_inputs made other 13 21 2 0 0 0x409008 0x409008 Word 5 made_sound other_sound gives_are gives_are
-    refl (inr (inr (inl refl))) (λ e. omega (arith, e)) same_13 made_stores other_stores
+    refl (inr (inr (inl refl))) (λ e. omega arith) same_13 made_stores other_stores
 
 -- an entry that saves nothing
 enters_13 : (w : World) → actor w (E.Call 0 8 enters) ≡ 1 → ancestry w.tree 1 ≡ 1 ∷ [] → In 13 (ancestry w.tree 13)
@@ -312,10 +312,10 @@ enters_13 : (w : World) → actor w (E.Call 0 8 enters) ≡ 1 → ancestry w.tre
 enters_13 w who line there comes = record {
   yields = refl;
   outside = λ h.
-      let k : In {A = ℕ} 13 (1 ∷ []) = subst (In 13) (ap (ancestry w.tree) who ∙ line) h in
-      elim k [ inl q ↦ omega (arith, q) | inr j ↦ j ];
+      let k : In {A = ℕ} 13 (1 ∷ []) = rw (who, line) at h in
+      elim k [ inl q ↦ omega arith | inr j ↦ j ];
   target = there;
-  switched = comes ∙ ap (λ r. O.Switched r 13 64) (sym who);
+  switched = rw (comes, ← who);
   saved = λ g i e h. cc;
 }
 
@@ -332,7 +332,7 @@ enters_are = let z = words 0 (omega arith) in
 enters_same : IsInput 13 (E.Call 0 8 enters) (E.Call 0 8 enters) (given made) (given other)
 enters_same = entries_are_inputs (given made) (given other) 13 13 64 0 8 8 enters enters
     (event-sound made gives made_sound gives_are) (event-sound other gives other_sound gives_are) enters_are enters_are
-    (λ e. omega (arith, e)) gives_13.guest made_enters other_enters
+    (λ e. omega arith) gives_13.guest made_enters other_enters
 
 -- 13 masks itself then, by call 10
 abbrev last : Event
@@ -362,7 +362,7 @@ learns_13 = refl
 learns_same : learns_own 13 made (gives ∷ E.Call 0 8 enters ∷ last ∷ [])
     ≡ learns_own 13 made (writes ∷ gives ∷ E.Call 0 8 enters ∷ last ∷ [])
 learns_same = (guests_depend_on_inputs made made 13 _ _ made_sound made_sound (inr (inr (inl refl)))
-    (λ e. omega (arith, e)) (same_world 13 made) (gives_are, (enters_are, (last_is, tt))) (
+    (λ e. omega arith) (same_world 13 made) (gives_are, (enters_are, (last_is, tt))) (
       (omega arith, omega arith),
       (gives_are, (enters_are, (last_is, tt))),
     ) alike).0
@@ -377,8 +377,8 @@ calls_on : (w : World) → actor w (E.Call 0 6 takes) ≡ 1 → ancestry w.tree 
 calls_on w who line root name = record {
   plain = λ z. z;
   outside = λ h.
-      let k : In {A = ℕ} 13 (1 ∷ []) = subst (In 13) (ap (ancestry w.tree) who ∙ line) h in
-      elim k [ inl q ↦ omega (arith, q) | inr j ↦ j ];
+      let k : In {A = ℕ} 13 (1 ∷ []) = rw (who, line) at h in
+      elim k [ inl q ↦ omega arith | inr j ↦ j ];
   runs = subst (λ n. In n (names_of (nodes w.tree))) (sym who) root;
   name = name;
 }
@@ -413,14 +413,14 @@ lent_by : (w : World) → actor w (E.Call 0 5 lends) ≡ 1 → ancestry w.tree 1
 lent_by w who line root child page accepted = record {
   adds = refl;
   outside = λ h.
-      let k : In {A = ℕ} 13 (1 ∷ []) = subst (In 13) (ap (ancestry w.tree) who ∙ line) h in
-      elim k [ inl q ↦ omega (arith, q) | inr j ↦ j ];
+      let k : In {A = ℕ} 13 (1 ∷ []) = rw (who, line) at h in
+      elim k [ inl q ↦ omega arith | inr j ↦ j ];
   runs = subst (λ n. In n (names_of (nodes w.tree))) (sym who) root;
-  child = ap (λ n. child_name w.tree n 0x401000) who ∙ child;
-  page = ap (λ n. page_of w.tree n 0x413000) who ∙ page;
+  child = rw (who, child);
+  page = cc;
   address = refl;
   rights_are = refl;
-  accepted = ap (λ n. first_met (add_refusals w.tree n 0x413000 0x401000 0xffffe000 7)) who ∙ accepted;
+  accepted = cc;
 }
 
 made_lends : LendsPage 13 31 0xffffe000 7 made 0 5 lends

@@ -111,8 +111,7 @@ next_turn p q s w u v b vain vain' i =
           [ inl a ↦ b.aside.not_below a | inr a ↦ b.aside.not_above a ]);
       acts = sym k.acts;
       inside = k.inside;
-      both = subst (λ x. Both p q x (after_acts u (turn_of u s)) v) (sym two)
-          (subst (λ x. Both p q (after w es) x v) (sym one) n);
+      both = rw two (subst (λ x. Both p q (after w es) x v) (sym one) n);
     }
 
 -- what runs where the first has its turn, in the world of both, too
@@ -142,10 +141,9 @@ module _ (plans : List Plan) where
       → turn_of (ready plans w s) s ≡ turn_of u s → RunAlone p (next_world plans w s) (after_acts u (turn_of u s)) ss xs
       → RunAlone p w u (s ∷ ss) (s ∷ xs)
   own_turn p s ss xs w u own same h = record {
-    acts = ap (λ b. cond b (turn_of (ready plans w s) s ++ own_turns plans p (next_world plans w s) ss)
-        (own_turns plans p (next_world plans w s) ss)) own ∙ ap₂ (λ x l. x ++ l) same h.acts;
-    guest = subst (λ x. IsSameGuest p x (after_acts u (turns u (s ∷ xs)))) (sym (after_step w s ss))
-        (subst (IsSameGuest p (after_acts (next_world plans w s) (all_steps plans (next_world plans w s) ss)))
+    acts = rw (own, ap₂ (λ x l. x ++ l) same h.acts);
+    guest = rw (after_step w s ss) (subst (IsSameGuest p
+        (after_acts (next_world plans w s) (all_steps plans (next_world plans w s) ss)))
         (sym (after-append u (turn_of u s) (turns (after_acts u (turn_of u s)) xs))) h.guest);
   }
 
@@ -153,9 +151,8 @@ module _ (plans : List Plan) where
       → has (ancestry (ready plans w s).tree (actor (ready plans w s) (E.Poll s.cpu))) p ≡ false
       → RunAlone p (next_world plans w s) u ss xs → RunAlone p w u (s ∷ ss) xs
   other_turn p s ss xs w u others h = record {
-    acts = ap (λ b. cond b (turn_of (ready plans w s) s ++ own_turns plans p (next_world plans w s) ss)
-        (own_turns plans p (next_world plans w s) ss)) others ∙ h.acts;
-    guest = subst (λ x. IsSameGuest p x (after_acts u (turns u xs))) (sym (after_step w s ss)) h.guest;
+    acts = rw (others, h.acts);
+    guest = rw (after_step w s ss) h.guest;
   }
 
 -- why polls are in vain: I holds of the world and the slots to come. While it does raises are events, and a poll is in
@@ -206,18 +203,10 @@ module _ (plans : List Plan) (I : World → List Slot → Type 0)
   both_run : (p q : ℕ) (w : World) (ss xs ys : List Slot) → AreTwoGuests p q w ss xs ys → I w ss
       → IsRunAsAlone plans p w ss xs × IsRunAsAlone plans q w ss ys
   both_run p q w ss xs ys g z =
-      let b : Both p q w w w = record {
-        sound = g.sound;
-        left_sound = g.sound;
-        right_sound = g.sound;
-        name = g.name;
-        aside = g.aside;
-        left_guest = same_world p w;
-        right_guest = same_world q w;
-      } in
+      let b : Both p q w w w = assumption in
       let (h, k) = run_together p q ss xs ys g.among w w w b z g.pending g.pending g.first g.second in (
-        record { acts = h.acts; text = ap text_of h.acts; guest = h.guest },
-        record { acts = k.acts; text = ap text_of k.acts; guest = k.guest },
+        search,
+        search,
       )
 
 -- ---- runs
@@ -237,13 +226,14 @@ runs_go_on w plans seed c (suc m) n t =
     let v = after_acts w first in
     let count : suc m + n ≡ suc (m + n) = omega arith in
     let number : t + 1 + m ≡ t + suc m = omega arith in
-    ap (λ k. steps w plans seed c k t) count
-    ∙ ap (λ acts. first ++ acts) (runs_go_on v plans seed c m n (t + 1) ∙ ap (λ u. steps v plans seed c m (t + 1)
-    ++ steps (after_acts v (steps v plans seed c m (t + 1))) plans seed c n u) number)
-    ∙ sym (append_assoc first (steps v plans seed c m
-    (t + 1)) (steps (after_acts v (steps v plans seed c m (t + 1))) plans seed c n (t + suc m)))
-    ∙ ap (λ x. (first ++ steps v plans seed c m (t + 1)) ++ steps x plans seed c n (t + suc m))
-    (sym (after-append w first (steps v plans seed c m (t + 1))))
+    rw (
+      count,
+      runs_go_on v plans seed c m n (t + 1),
+      number,
+      ← append_assoc first (steps v plans seed c m (t + 1))
+          (steps (after_acts v (steps v plans seed c m (t + 1))) plans seed c n (t + suc m)),
+      ← after-append w first (steps v plans seed c m (t + 1)),
+    )
 
 -- no line is pending, and none is due
 abbrev IsQuiet : List Plan → World → List Slot → Type 0
@@ -255,11 +245,11 @@ programs_run_as_alone plans p q w ss xs ys g due =
   where
     are : (w : World) (s : Slot) (ss : List Slot) → IsQuiet plans w (s ∷ ss)
         → AllByRecursion IsEvent (events_made (raises plans s.step))
-    are w s ss z = subst (λ rs. AllByRecursion IsEvent (events_made rs)) (sym z.1.0) tt
+    are w s ss z = rw z.1.0 tt
 
     still : (w : World) (s : Slot) (ss : List Slot) → IsQuiet plans w (s ∷ ss)
         → (ready plans w s).tree.root.pending ≡ []
-    still w s ss z = ap (λ rs. (after_acts w rs).tree.root.pending) z.1.0 ∙ z.0
+    still w s ss z = rw (z.1.0, z.0)
 
     now : (w : World) (s : Slot) (ss : List Slot) (r : Occupant) → IsQuiet plans w (s ∷ ss)
         → runs_on (ready plans w s) s.cpu ≡ Some r → PollsInVain (ready plans w s) s.cpu
@@ -297,7 +287,7 @@ apart_list p (e ∷ es) w s n m h =
 pub apart_acts : (p : ℕ) (acts : List Act) (w : World) → IsSoundWorld w → IsName w.tree p → p ≢ w.tree.root.name
     → AllStayApart p w (events_made acts) → KeptList p w (after_acts w acts)
 apart_acts p acts w s n m h =
-    subst (KeptList p w) (sym (after-events w acts)) (apart_list p (events_made acts) w s n m h)
+    rw (after-events w acts) (apart_list p (events_made acts) w s n m h)
 
 pub raises_apart : (p : ℕ) (plans : List Plan) (t : ℕ) (w : World) → IsSoundWorld w → IsName w.tree p
     → p ≢ w.tree.root.name
@@ -326,8 +316,7 @@ on_own_slot : (plans : List Plan) (p : ℕ) (s : Slot) (ss : List Slot) (w v : W
     → has (ancestry (ready plans w s).tree (actor (ready plans w s) (E.Poll s.cpu))) p ≡ b → RunAlone plans p w v
     (s ∷ ss) (cond b (s ∷ own_slots plans p (next_world plans w s) ss) (own_slots plans p (next_world plans w s) ss))
     → RunAlone plans p w v (s ∷ ss) (own_slots plans p w (s ∷ ss))
-on_own_slot plans p s ss w v b e h = subst (λ b. RunAlone plans p w v (s ∷ ss) (cond b
-    (s ∷ own_slots plans p (next_world plans w s) ss) (own_slots plans p (next_world plans w s) ss))) (sym e) h
+on_own_slot plans p s ss w v b e h = rw e h
 
 others_out : (plans : List Plan) (p : ℕ) (ss : List Slot) (w v : World) → IsSoundWorld w → IsSoundWorld v
     → IsName w.tree p → p ≢ w.tree.root.name → IsSameGuest p w v → v.tree.root.pending ≡ [] → AllByRecursion (λ x.
@@ -399,7 +388,7 @@ turn_apart q p cpu t w s n a vain i =
 pub other_turns_do_not_matter : OtherTurnsDoNotMatter
 other_turns_do_not_matter plans p w ss s n m quiet lines fit =
     let h = others_out plans p ss w w s s n m (same_world p w) quiet lines fit in
-    record { acts = h.acts; text = ap text_of h.acts; guest = h.guest }
+    search
 
 -- ---- lines that are not taken
 

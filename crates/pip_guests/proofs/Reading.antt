@@ -25,13 +25,13 @@ words_alike : (n : ℕ) (x y : ℕ → ℕ) (i : ℕ) → i + n ≤ 1024 → ((j
     → words_from n x i ≡ words_from n y i
 words_alike zero x y i l h = refl
 words_alike (suc n) x y i l h =
-    ap₂ (λ z zs. z ∷ zs) (sym (h i (omega (arith, l)))) (words_alike n x y (i + 1) (omega (arith, l)) h)
+    ap₂ (λ z zs. z ∷ zs) (sym (h i (omega arith))) (words_alike n x y (i + 1) (omega arith) h)
 
 context_alike : (x y : ℕ → ℕ) (i : ℕ) → i + 17 ≤ 1024 → ((j : ℕ) → j < 1024 → y j ≡ x j)
     → context_in x i ≡ context_in y i
 context_alike x y i l h =
-    let pc = sym (h i (omega (arith, l))) in
-    let regs = words_alike 16 x y (i + 1) (omega (arith, l)) h in
+    let pc = sym (h i (omega arith)) in
+    let regs = words_alike 16 x y (i + 1) (omega arith) h in
     λ n. record { pc = pc n; regs = regs n }
 
 -- a save over words that are the same
@@ -39,7 +39,7 @@ pub written_alike : (c : Ctx) (g : ℕ) (q : Reached) (x y : ℕ → ℕ) (j : �
     → written_block c g q y j ≡ written_block c g q x j
 written_alike c g (Faulted f) x y j h = h
 written_alike c g (Place k i) x y j h =
-    ap (cond ((k == g) && (nat_le i j && nat_lt j (i + 17))) (context_word c (j - i))) h
+    rw h
 
 module _ (t u : Tree) (p : ℕ) (s : IsSound t) (r : IsSound u) (n : IsName t p) (a : AgreeTrees p t u) where
   pub reach_alike : (va : ℕ) (c : Access) (z : Size) → reach t p va c z ≡ reach u p va c z
@@ -47,47 +47,45 @@ module _ (t u : Tree) (p : ℕ) (s : IsSound t) (r : IsSound u) (n : IsName t p)
 
   -- a word that is loaded
   word_alike : (va : ℕ) → word_reached t (reach t p va Load Word) ≡ word_reached u (reach u p va Load Word)
-  word_alike va = at (reach t p va Load Word) refl ∙ ap (word_reached u) (reach_alike va Load Word)
+  word_alike va = rw (at (reach t p va Load Word) refl, reach_alike va Load Word)
     where
       at : (q : Reached) → reach t p va Load Word ≡ q → word_reached t q ≡ word_reached u q
       at (Faulted f) e = refl
       at (Place g i) e =
-          ap Some (sym (a.words g i (reached_row t p va g i Load Word e) (reached_small t p va g i Load Word e)))
+          rw (← a.words g i (reached_row t p va g i Load Word e) (reached_small t p va g i Load Word e))
 
   pub block_alike : (k : ℕ) → block t p k ≡ block u p k
-  block_alike k = at (word_reached t (reach t p (0xfffff000 + 4 * k) Load Word))
-      ∙ ap (block_at u p) (word_alike (0xfffff000 + 4 * k))
+  block_alike k = rw (at (word_reached t (reach t p (0xfffff000 + 4 * k) Load Word)), word_alike (0xfffff000 + 4 * k))
     where
       at : (o : Option ℕ) → block_at t p o ≡ block_at u p o
       at None = refl
-      at (Some b) = ap (λ q. cond ((b % 4 == 0 && nat_le (b % 4096) 4028) && is_reached q) (Some b) None)
-          (reach_alike b Load Word)
+      at (Some b) = rw (reach_alike b Load Word)
 
   pub handler_alike : (k : ℕ) → handler t p k ≡ handler u p k
-  handler_alike k = at (block t p k) refl ∙ ap (handler_at u p) (block_alike k)
+  handler_alike k = rw (at (block t p k) refl, block_alike k)
     where
       of : (b : ℕ) (q : Reached) → b % 4096 ≤ 4028 → reach t p b Load Word ≡ q
           → context_reached t q ≡ context_reached u q
       of b (Faulted f) l e = refl
       of b (Place g i) l e =
           let x = reached_index t p b g i Load Word e in
-          ap Some (context_alike (word_of (t.words g)) (word_of (u.words g)) i
-          (omega (arith, l, x)) (λ j m. a.words g j (reached_row t p b g i Load Word e) m))
+          rw (context_alike (word_of (t.words g)) (word_of (u.words g)) i (omega (arith, l, x))
+          (λ j m. a.words g j (reached_row t p b g i Load Word e) m))
 
       at : (o : Option ℕ) → block t p k ≡ o → handler_at t p o ≡ handler_at u p o
       at None e = refl
       at (Some b) e =
-          of b (reach t p b Load Word) (block_room t p k b e) refl ∙ ap (context_reached u) (reach_alike b Load Word)
+          rw (of b (reach t p b Load Word) (block_room t p k b e) refl, reach_alike b Load Word)
 
   pub save_place_alike : (k : ℕ) → save_place t p k ≡ save_place u p k
-  save_place_alike k = at (block t p k) ∙ ap (store_at u p) (block_alike k)
+  save_place_alike k = rw (at (block t p k), block_alike k)
     where
       at : (o : Option ℕ) → store_at t p o ≡ store_at u p o
       at None = refl
       at (Some b) = reach_alike b Store Word
 
   pub yield_place_alike : (k : ℕ) → yield_place t p k ≡ yield_place u p k
-  yield_place_alike k = ap (λ q. cond (nat_lt k 256) q (Faulted Unmapped)) (save_place_alike k)
+  yield_place_alike k = rw (save_place_alike k)
 
 -- a save of one context to one place keeps trees agreeing
 pub saved_agree : (t u : Tree) (p : ℕ) (c : Ctx) (q : Reached) → AgreeTrees p t u

@@ -43,10 +43,9 @@ module _ (w v : World) (p : ℕ) (s : IsSoundWorld w) (s' : IsSoundWorld v) (g :
   pub runs_alike : (n : ℕ) → In p (ancestry w.tree n) → has (running w) n ≡ has (running v) n
   runs_alike n h = tests_agree _ _
       (λ q. let (i, r, e, d) = cpu_of_name w.cpus n (has_in n _ q) in
-      in_has n _ (subst (λ k. In k (running v)) d
-      (runs_named v i r s' (g.runs i r (subst (λ k. In p (ancestry w.tree k)) (sym d) h) e))))
+      in_has n _ (rw (← d) (runs_named v i r s' (g.runs i r (subst (λ k. In p (ancestry w.tree k)) (sym d) h) e))))
       (λ q. let (i, r, e, d) = cpu_of_name v.cpus n (has_in n _ q) in
-      in_has n _ (subst (λ k. In k (running w)) d (runs_named w i r s (g.runs_back i r
+      in_has n _ (rw (← d) (runs_named w i r s (g.runs_back i r
       (subst (λ k. In p (ancestry v.tree k)) (sym d) (line_alike w.tree v.tree p s.tree s'.tree trees n h)) e))))
 
   pub handlers : (n k : ℕ) → In p (ancestry w.tree n) → handler w.tree n k ≡ handler v.tree n k
@@ -63,7 +62,7 @@ module _ (w v : World) (p : ℕ) (s : IsSoundWorld w) (s' : IsSoundWorld v) (g :
       n = line_name w.tree q p h
 
       m' : q ≢ v.tree.root.name
-      m' e = m (e ∙ root_is_one v.tree s'.tree ∙ sym (root_is_one w.tree s.tree))
+      m' e = m (rw (e, root_is_one v.tree s'.tree, ← root_is_one w.tree s.tree))
 
       same : node w.tree q ≡ node v.tree q
       same = node_alike w.tree v.tree p s.tree s'.tree trees q h
@@ -74,7 +73,7 @@ module _ (w v : World) (p : ℕ) (s : IsSoundWorld w) (s' : IsSoundWorld v) (g :
 
       up : (q ≡ p → ⊥) → In p (ancestry w.tree (node w.tree q).up)
       up k = elim (line_parent w.tree s.tree p (node w.tree q) f.0 (line_node w.tree s.tree p q h).2) [
-        | inl e ↦ absurd (k (sym (node_found w.tree q n).1 ∙ sym e))
+        | inl e ↦ absurd (k (cc (sym (node_found w.tree q n).1)))
         | inr j ↦ j
       ]
 
@@ -83,7 +82,7 @@ module _ (w v : World) (p : ℕ) (s : IsSoundWorld w) (s' : IsSoundWorld v) (g :
           ap (λ b. cond b None (Some (node w.tree (node w.tree q).up))) (ne_eqb q w.tree.root.name m)
           ∙ ap Some (node_alike w.tree v.tree p s.tree s'.tree trees (node w.tree q).up (up k)
           ∙ ap (λ x. node v.tree x.up) same)
-          ∙ sym (ap (λ b. cond b None (Some (node v.tree (node v.tree q).up))) (ne_eqb q v.tree.root.name m'))
+          ∙ sym (rw (ne_eqb q v.tree.root.name m'))
 
       kid : Agreeing q w.tree v.tree
       kid = record {
@@ -96,7 +95,7 @@ module _ (w v : World) (p : ℕ) (s : IsSoundWorld w) (s' : IsSoundWorld v) (g :
       go : (a b : Bool) → (d == 0) ≡ a → cond a (parent_of w.tree q) (cond b (Some (node w.tree q))
           (child_at w.tree q d)) ≡ cond a (parent_of v.tree q) (cond b (Some (node v.tree q)) (child_at v.tree q d))
       go true b e = parents (λ k. asks k (eqb-true d 0 e))
-      go false true e = ap Some same
+      go false true e = rw same
       go false false e = child-same kid d
 
   pub target_below : (q d : ℕ) (x : Node) → In p (ancestry w.tree q) → q ≢ w.tree.root.name → (q ≡ p → d ≡ 0 → ⊥)
@@ -112,7 +111,7 @@ module _ (w v : World) (p : ℕ) (s : IsSoundWorld w) (s' : IsSoundWorld v) (g :
 
       up : (q ≡ p → ⊥) → In p (ancestry w.tree (node w.tree q).up)
       up k = elim (line_parent w.tree s.tree p (node w.tree q) f.0 (line_node w.tree s.tree p q h).2) [
-        | inl e ↦ absurd (k (sym (node_found w.tree q n).1 ∙ sym e))
+        | inl e ↦ absurd (k (cc (sym (node_found w.tree q n).1)))
         | inr j ↦ j
       ]
 
@@ -121,19 +120,18 @@ module _ (w v : World) (p : ℕ) (s : IsSoundWorld w) (s' : IsSoundWorld v) (g :
       parents true k z = cc
       parents false k z =
           let y : node w.tree (node w.tree q).up ≡ x = cc in
-          subst (λ a. In p (ancestry w.tree a)) (sym (node_found w.tree (node w.tree q).up f.1).1 ∙ ap (λ z. z.name) y)
-          (up k)
+          rw (← y, ← sym (node_found w.tree (node w.tree q).up f.1).1) (up k)
 
       go : (a b : Bool) → (d == 0) ≡ a → cond a (parent_of w.tree q)
           (cond b (Some (node w.tree q)) (child_at w.tree q d)) ≡ Some x → In p (ancestry w.tree x.name)
       go true b i z = parents (q == w.tree.root.name) (λ k. asks k (eqb-true d 0 i)) z
       go false true i z = let y : node w.tree q ≡ x = cc in
-          subst (λ a. In p (ancestry w.tree a)) (sym (node_found w.tree q n).1 ∙ ap (λ z. z.name) y) h
+          rw (← y, ← sym (node_found w.tree q n).1) h
       go false false i z =
           let k = child_found w.tree q d x z in
           let g = node_found w.tree q n in
           ancestry_down w.tree s.tree x (node w.tree q) k.0 (k.1 ∙ sym g.1) p
-          (subst (λ a. In p (ancestry w.tree a)) (sym g.1) h)
+          (rw g.1 h)
 
   -- ---- faults and traps
 
@@ -141,13 +139,13 @@ module _ (w v : World) (p : ℕ) (s : IsSoundWorld w) (s' : IsSoundWorld v) (g :
   pub above_out : (z : Node) → In z w.tree.others → z.name ≡ p → (n : ℕ) → In n (ancestry w.tree z.up)
       → In p (ancestry w.tree n) → ⊥
   above_out z i e n j k =
-      let l : In n (ancestry w.tree z.name) = subst (In n) (sym (ap names_of (chain-node w.tree s.tree z i))) (inr j) in
-      let d : p ≡ n = lines_same w.tree s.tree p n k (subst (λ a. In n (ancestry w.tree a)) e l) in
-      let o : In p (ancestry w.tree z.up) = subst (λ a. In a (ancestry w.tree z.up)) (sym d) j in
-      let up : In z.up (ancestry w.tree z.name) = subst (In z.up) (sym (ap names_of (chain-node w.tree s.tree z i)))
+      let l : In n (ancestry w.tree z.name) = rw (chain-node w.tree s.tree z i) (inr j) in
+      let d : p ≡ n = lines_same w.tree s.tree p n k (rw (← e) l) in
+      let o : In p (ancestry w.tree z.up) = rw d j in
+      let up : In z.up (ancestry w.tree z.name) = rw (chain-node w.tree s.tree z i)
       (inr (own_line w.tree s.tree z.up (line_name w.tree z.up p o))) in
-      let q : p ≡ z.up = lines_same w.tree s.tree p z.up o (subst (λ a. In z.up (ancestry w.tree a)) e up) in
-      not_own_parent w.tree s.tree z i (sym q ∙ sym e)
+      let q : p ≡ z.up = lines_same w.tree s.tree p z.up o (rw (← e) up) in
+      not_own_parent w.tree s.tree z i (cc)
 
   module _ (k : ℕ) (y : Taker) (below : In p (ancestry w.tree y.to)) (m : p ≢ w.tree.root.name) where
     -- one node of the subtree, and those above it
@@ -155,11 +153,13 @@ module _ (w v : World) (p : ℕ) (s : IsSoundWorld w) (s' : IsSoundWorld v) (g :
         (chain w.tree x.up) ≡ Some y → nearest_among v k x.born (chain v.tree x.up) ≡ Some y) → (born : ℕ)
         → nearest_among w k born (chain w.tree x.name) ≡ Some y → nearest_among v k born (chain v.tree x.name) ≡ Some y
     step x i h rest born e =
-        ap (nearest_among v k born) (chain-node v.tree s'.tree x i')
-        ∙ ap₂ (λ b o. taker_or b o x born (nearest_among v k x.born (chain v.tree x.up))) (sym (runs_alike x.name h))
-        (sym (handlers x.name k h))
-        ∙ go (has (running w) x.name) (handler w.tree x.name k)
-        (sym (ap (nearest_among w k born) (chain-node w.tree s.tree x i)) ∙ e)
+        rw (
+          chain-node v.tree s'.tree x i',
+          ap₂ (λ b o. taker_or b o x born
+              (nearest_among v k x.born (chain v.tree x.up))) (sym (runs_alike x.name h)) (sym (handlers x.name k h)),
+          go (has (running w) x.name) (handler w.tree x.name k)
+              (sym (ap (nearest_among w k born) (chain-node w.tree s.tree x i)) ∙ e),
+        )
       where
         i' : In x v.tree.others
         i' = other_in w.tree v.tree s.tree s'.tree x i (trees.to x (inr i, h)).0
@@ -175,7 +175,7 @@ module _ (w v : World) (p : ℕ) (s : IsSoundWorld w) (s' : IsSoundWorld v) (g :
     base : IsName w.tree p → (born : ℕ) → nearest_among w k born (chain w.tree (node w.tree p).name) ≡ Some y
         → nearest_among v k born (chain v.tree (node w.tree p).name) ≡ Some y
     base n = let x = node w.tree p in let f = node_found w.tree p n in let i = (parent_line w.tree s.tree p n m).0 in
-        step x i (subst (λ a. In p (ancestry w.tree a)) (sym f.1) (own_line w.tree s.tree p n))
+        step x i (rw f.1 (own_line w.tree s.tree p n))
         (λ z. absurd (above_out x i f.1 y.to (among_in w k x.born (chain w.tree x.up) y z) below))
 
     is_other : (t : Tree) (a b : Node) → Above t a b → In b t.others
@@ -184,14 +184,13 @@ module _ (w v : World) (p : ℕ) (s : IsSoundWorld w) (s' : IsSoundWorld v) (g :
 
     tail : IsName w.tree p → (x : Node) → Above w.tree (node w.tree p) x
         → nearest_among w k x.born (chain w.tree x.up) ≡ Some y → nearest_among v k x.born (chain v.tree x.up) ≡ Some y
-    tail n x (parent i j e) z = subst (λ a. nearest_among v k x.born (chain v.tree a) ≡ Some y) (sym e)
-        (base n x.born (subst (λ a. nearest_among w k x.born (chain w.tree a) ≡ Some y) e z))
+    tail n x (parent i j e) z = rw e (base n x.born
+        (subst (λ a. nearest_among w k x.born (chain w.tree a) ≡ Some y) e z))
     tail n x (further {z = q} i j e a) z =
         let f = node_found w.tree p n in
-        let h : In p (ancestry w.tree q.name) = subst (λ b. In b (ancestry w.tree q.name)) f.1
+        let h : In p (ancestry w.tree q.name) = rw (← f.1)
         (over_ancestry w.tree s.tree (node w.tree p) q f.0 (inr a)) in
-        subst (λ b. nearest_among v k x.born (chain v.tree b) ≡ Some y) (sym e)
-        (step q (is_other w.tree (node w.tree p) q a) h (tail n q a) x.born
+        rw e (step q (is_other w.tree (node w.tree p) q a) h (tail n q a) x.born
         (subst (λ b. nearest_among w k x.born (chain w.tree b) ≡ Some y) e z))
 
     -- a taker in the subtree is the taker in both
@@ -212,7 +211,7 @@ module _ (w v : World) (p : ℕ) (s : IsSoundWorld w) (s' : IsSoundWorld v) (g :
         n = line_top w.tree s.tree p q h
 
         not_top : q ≢ w.tree.root.name
-        not_top d = m (top_alone w.tree s.tree p (subst (λ a. In p (ancestry w.tree a)) d h))
+        not_top d = m (top_alone w.tree s.tree p (rw d at h))
 
         i : In x w.tree.others
         i = (parent_line w.tree s.tree q (line_name w.tree q p h) not_top).0
@@ -226,7 +225,7 @@ module _ (w v : World) (p : ℕ) (s : IsSoundWorld w) (s' : IsSoundWorld v) (g :
             let (b, j, d, o) = ancestry_over w.tree s.tree x f.0 p f.2 in
             let same : node w.tree p ≡ b = named_node w.tree p s.tree b j d in
             elim o [
-              | inl c ↦ absurd (above_out x i (ap (λ a. a.name) (sym c) ∙ d) y.to
+              | inl c ↦ absurd (above_out x i (rw (← c, d)) y.to
                   (among_in w k x.born (chain w.tree x.up) y z) below)
-              | inr a ↦ tail n x (subst (λ a. Above w.tree a x) (sym same) a) z
+              | inr a ↦ tail n x (rw same a) z
             ]

@@ -55,7 +55,7 @@ learned_inside : (t : Tree) (p : ℕ) (o : Outcome) → StaysBelow t p o → gue
 learned_inside t p (O.Word x) h = refl
 learned_inside t p O.Done h = refl
 learned_inside t p (O.Reply s x) h = refl
-learned_inside t p (O.Switched from to k) h = ap (λ b. cond b (Some (O.Switched from to k)) None) (in_has p _ h)
+learned_inside t p (O.Switched from to k) h = rw (in_has p _ h)
 learned_inside t p (O.Parked from k) h = absurd h
 learned_inside t p O.Idle h = absurd h
 
@@ -64,7 +64,7 @@ learned_left t p (O.Word x) h = absurd h
 learned_left t p O.Done h = absurd h
 learned_left t p (O.Reply s x) h = absurd h
 learned_left t p (O.Switched from to k) h =
-    ap (λ b. cond b (Some (O.Switched from to k)) None) (false_from_ne_true _ (λ z. h (has_in p _ z)))
+    rw (false_from_ne_true _ (λ z. h (has_in p _ z)))
 learned_left t p (O.Parked from k) h = refl
 learned_left t p O.Idle h = absurd h
 
@@ -100,9 +100,9 @@ module _ (w : World) (p : ℕ) (e : Event) (s : IsSoundWorld w) (ev : IsEvent e)
   step_leaves =
       let b = guest_below w p e i in
       let (r, k, q) = actor_runs w p e s b in
-      let h : In p (ancestry w.tree r.name) = subst (λ a. In p (ancestry w.tree a)) q b in
+      let h : In p (ancestry w.tree r.name) = rw (← q) b in
       let d : r.name ≢ w.tree.root.name =
-      λ z. m (top_alone w.tree s.tree p (subst (λ a. In p (ancestry w.tree a)) z h)) in
+      λ z. m (top_alone w.tree s.tree p (rw z at h)) in
       leaves_up p r.name w.tree (event w e).world.tree s.tree (event-sound w e s ev).tree h
       (event_moves w e r s (guest_own w p e i) k d).leaves
 
@@ -124,7 +124,7 @@ record Step (p : ℕ) (e : Event) (es : List Event) (w v : World) (b : Bool) : T
 
 on : (p : ℕ) (e : Event) (es : List Event) (w v : World) (b : Bool) → is_of_guest p w e ≡ b → Step p e es w v b
     → Runs p w v (e ∷ es)
-on p e es w v b q h = let k = subst (Step p e es w v) (sym q) h in record { answers = k.answers; guest = k.guest }
+on p e es w v b q h = let k = subst (Step p e es w v) (sym q) h in assumption
 
 runs : (p : ℕ) (es : List Event) (w v : World) → IsSoundWorld w → IsSoundWorld v → IsName w.tree p
     → p ≢ w.tree.root.name → IsSameGuest p w v → AllByRecursion IsEvent es → AreOwnOrApart p w es → Runs p w v es
@@ -144,7 +144,7 @@ runs p (e ∷ es) w v s s' n m g all fit = elim fit.0 [
       let back = same_trans p (event w e).world w v sw s s' n' (same_sym p w (event w e).world s sw n i.same) g in
       let h = runs p es (event w e).world v sw s' n' (not_top w.tree (event w e).world.tree s.tree sw.tree p m) back
       all.1 fit.1 in
-      on p e es w v false i.others (record { answers = h.answers; guest = h.guest })
+      on p e es w v false i.others (assumption)
 ]
 
 pub others_do_not_matter_to_guests : OthersDoNotMatterToGuests
@@ -185,7 +185,7 @@ pub name_there : (q : ℕ) (v w : World) → IsSoundWorld v → IsSoundWorld w �
 name_there q v w s r n g =
     let f = node_found w.tree q n in
     let b = (g.below.nodes (node w.tree q)).1
-    (f.0, subst (λ a. In q (ancestry w.tree a)) (sym f.1) (own_line w.tree r.tree q n)) in
+    (f.0, rw f.1 (own_line w.tree r.tree q n)) in
     subst (IsName v.tree) f.1 (name_in (node w.tree q) (nodes v.tree) b.0)
 
 -- two guests in a world w, the first the same as in a world u of its own, the second as in v
@@ -213,7 +213,7 @@ turned p q w u v b = record {
 -- neither of the two is the root
 pub no_root : (p q : ℕ) (w u v : World) → Both p q w u v → p ≢ w.tree.root.name
 no_root p q w u v b e =
-    b.aside.not_below (subst (λ a. In a (ancestry w.tree q)) (sym e) (root_line w.tree b.sound.tree q b.aside.there))
+    b.aside.not_below (rw e (root_line w.tree b.sound.tree q b.aside.there))
 
 pub record Next (p q : ℕ) (e : Event) (w u v : World) : Type 0 where
   pub own : is_of_guest p w e ≡ true
@@ -262,16 +262,14 @@ record Alone (p : ℕ) (w u : World) (es xs : List Event) : Type 0 where
 on_own : (p : ℕ) (e : Event) (es xs : List Event) (w u : World) → is_of_guest p w e ≡ true → learns p w e ≡ learns p u e
     → Alone p (event w e).world (event u e).world es xs → Alone p w u (e ∷ es) (e ∷ xs)
 on_own p e es xs w u own out h = record {
-  answers = ap (λ b. cond b (learns p w e ∷ learns_own p (event w e).world es) (learns_own p (event w e).world es)) own
-      ∙ ap₂ (λ x l. x ∷ l) out h.answers;
+  answers = rw (own, ap₂ (λ x l. x ∷ l) out h.answers);
   guest = h.guest;
 }
 
 on_other : (p : ℕ) (e : Event) (es xs : List Event) (w u : World) → is_of_guest p w e ≡ false
     → Alone p (event w e).world u es xs → Alone p w u (e ∷ es) xs
 on_other p e es xs w u others h = record {
-  answers = ap (λ b. cond b (learns p w e ∷ learns_own p (event w e).world es) (learns_own p (event w e).world es))
-      others ∙ h.answers;
+  answers = rw (others, h.answers);
   guest = h.guest;
 }
 
@@ -311,4 +309,4 @@ guests_run_as_alone w p q es xs ys s n a all am i j =
       right_guest = same_world q w;
     } in
     let (h, k) = together p q es xs ys am w w w b all i j in
-    (record { answers = h.answers; guest = h.guest }, record { answers = k.answers; guest = k.guest })
+    (assumption, assumption)

@@ -59,7 +59,7 @@ turns_are = fit pair (at 0 0) (at 1 1) pair_polls inside_13.0 refl shown_apart
 
 own_turn_13 : own_turns [] 13 pair (at 0 0 ∷ at 1 1 ∷ []) ≡ turns pair (own_slots [] 13 pair (at 0 0 ∷ at 1 1 ∷ []))
 own_turn_13 = (other_turns_do_not_matter [] 13 pair (at 0 0 ∷ at 1 1 ∷ []) pair_sound (inr (inr (inl refl)))
-    (λ e. omega (arith, e)) refl tt turns_are).acts
+    (λ e. omega arith) refl tt turns_are).acts
 
 -- ---- a turn on inputs
 
@@ -72,7 +72,7 @@ masks_are = let z = words 0 (omega arith) in (words 10 (omega arith), (z, (z, (z
 
 masks_apart : IsApart 13 pair masks
 masks_apart = others_leave_guests_alone pair 13 masks pair_sound masks_are (inr (inr (inl refl)))
-    (λ e. omega (arith, e)) (inr aside)
+    (λ e. omega arith) (inr aside)
 
 on_inputs : RunOnInputs 13 pair (Turn (at 0 0) ∷ []) pair (Other masks ∷ Turn (at 0 0) ∷ [])
 on_inputs = in_turn pair pair masks masks_are masks_apart inside_13.0 pair_polls
@@ -84,7 +84,7 @@ on_inputs = in_turn pair pair masks masks_are masks_apart inside_13.0 pair_polls
 
 same_turns : turns_among pair (Turn (at 0 0) ∷ []) ≡ turns_among pair (Other masks ∷ Turn (at 0 0) ∷ [])
 same_turns = (programs_depend_on_inputs pair pair 13 _ _ pair_sound pair_sound (inr (inr (inl refl)))
-    (λ e. omega (arith, e)) (same_world 13 pair) on_inputs).0
+    (λ e. omega arith) (same_world 13 pair) on_inputs).0
 
 -- ---- events of others left out, and two guests side by side: 13 masks itself, and then 22 does
 
@@ -106,7 +106,7 @@ own_mask_after = record { own = refl; below = inl refl; stays = tt; asks = λ h.
 left_out : (learns_own 13 pair (masks ∷ own_mask ∷ [])
     ≡ learns_all 13 pair (only_guest 13 pair (masks ∷ own_mask ∷ [])))
 left_out = (others_do_not_matter_to_guests pair 13 (masks ∷ own_mask ∷ []) pair_sound (inr (inr (inl refl)))
-    (λ e. omega (arith, e)) (masks_are, (own_mask_is, tt)) (inr masks_apart, (inl (inl own_mask_after), tt))).0
+    (λ e. omega arith) (masks_are, (own_mask_is, tt)) (inr masks_apart, (inl (inl own_mask_after), tt))).0
 
 side_by_side : IsAsAlone 13 pair (own_mask ∷ masks ∷ []) (own_mask ∷ [])
     × IsAsAlone 22 pair (own_mask ∷ masks ∷ []) (masks ∷ [])

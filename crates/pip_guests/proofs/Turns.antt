@@ -48,7 +48,7 @@ use Rattle.pip_guests.proofs.Together.{step_leaves, step_name}
 root_kept : (t u : Tree) (p : ℕ) → IsSound t → IsSound u → p ≢ t.root.name → LeavesTree p t u → u.root ≡ t.root
 root_kept t u p s r m l =
     let o = (l.outside t.root).0 (inl refl, (λ h. m (top_alone t s p h))) in
-    same_name u u.root t.root r (inl refl) o.0 (root_is_one u r ∙ sym (root_is_one t s))
+    same_name u u.root t.root r (inl refl) o.0 (cc (root_is_one u r, root_is_one t s))
 
 pub record SameList (p : ℕ) (es : List Event) (w v : World) : Type 0 where
   pub there : AllStayInside p v es
@@ -77,16 +77,16 @@ list_same p (e ∷ es) w v s s' m g all i =
 -- where the root has a handler for no pending line a poll changes nothing
 pub poll_leaves : (w : World) (cpu : ℕ) (r : Occupant) → runs_on w cpu ≡ Some r
     → lowest_line w w.tree.root.pending ≡ None → PollsInVain w cpu
-poll_leaves w cpu r k e = ap (with_caches w.caches) (go (may_take w cpu (runs_on w cpu)) ∙ ap (none_taken w) k)
+poll_leaves w cpu r k e = rw (go (may_take w cpu (runs_on w cpu)), k)
   where
     go : (b : Bool) → cond b (poll_line w cpu (runs_on w cpu) (lowest_line w w.tree.root.pending))
         (none_taken w (runs_on w cpu)) ≡ none_taken w (runs_on w cpu)
-    go true = ap (poll_line w cpu (runs_on w cpu)) e
+    go true = rw e
     go false = refl
 
 -- so where none is pending
 pub poll_vain : QuietPolls
-poll_vain w cpu r k e = poll_leaves w cpu r k (ap (lowest_line w) e)
+poll_vain w cpu r k e = poll_leaves w cpu r k (rw e)
 
 -- after such a poll a turn goes on to its fetch
 pub turn_fetches : (w : World) (cpu t : ℕ) → PollsInVain w cpu → turn w cpu t ≡ Makes (E.Poll cpu) ∷ fetch_acts w t cpu
@@ -137,20 +137,18 @@ module _ (p cpu t : ℕ) where
   effect_same w v x (F.Interrupts k) s s' m g all i =
       let a = E.SetContext cpu (at_next x) in
       let e = E.Trap cpu k 0 0 in
-      ap (λ o. Makes a ∷ Makes e ∷ move_acts t cpu o) (second_same w v p a e s s' m g all.0 all.1.0 i.0 i.1.0)
+      rw (second_same w v p a e s s' m g all.0 all.1.0 i.0 i.1.0)
   effect_same w v x (F.Calls n) s s' m g all i =
       let a = E.SetContext cpu (at_next x) in
       let e = E.Call cpu n (arguments x) in
-      ap (λ o. Makes a ∷ Makes e ∷ Writes (call_line t cpu n o)
-      ∷ []) (second_same w v p a e s s' m g all.0 all.1.0 i.0 i.1.0)
+      rw (second_same w v p a e s s' m g all.0 all.1.0 i.0 i.1.0)
 
   -- the fetch, and what comes after it
   pub fetch_same : (w v : World) (r : Occupant) → runs_on w cpu ≡ Some r → In p (ancestry w.tree r.name)
       → IsSoundWorld w → IsSoundWorld v → p ≢ w.tree.root.name → IsSameGuest p w v
       → AllByRecursion IsEvent (events_made (fetch_acts w t cpu)) → AllStayInside p w (events_made (fetch_acts w t cpu))
       → fetch_acts w t cpu ≡ fetch_acts v t cpu
-  fetch_same w v r k h s s' m g all i = ap (λ l. Makes (E.Fetch cpu)
-      ∷ l) (go (outcome_of w (E.Fetch cpu)) refl all.1 i.1 ∙ ap (acts_after_fetch there t cpu) z.outcome)
+  fetch_same w v r k h s s' m g all i = rw (go (outcome_of w (E.Fetch cpu)) refl all.1 i.1, z.outcome)
     where
       here : World
       here = world_of w (E.Fetch cpu)
@@ -167,17 +165,15 @@ module _ (p cpu t : ℕ) where
           ≡ acts_after_fetch there t cpu o
       go (O.Word u) q all i =
           let stays = fetch_stays w cpu u r k q in
-          let k1 : runs_on here cpu ≡ Some r = ap (λ x. runs_on x cpu) stays ∙ k in
-          let h1 : In p (ancestry here.tree r.name) = subst (λ x. In p (ancestry x.tree r.name)) (sym stays) h in
+          let k1 : runs_on here cpu ≡ Some r = cc in
+          let h1 : In p (ancestry here.tree r.name) = rw (← stays) at h in
           let k2 : runs_on there cpu ≡ Some r = z.guest.runs cpu r h1 k1 in
           let sw = event-sound w (E.Fetch cpu) s tt in
           let sv = event-sound v (E.Fetch cpu) s' tt in
           let all1 = subst (λ o. AllByRecursion IsEvent (events_made (word_acts here t cpu u o))) k1 all in
           let i1 = subst (λ o. AllStayInside p here (events_made (word_acts here t cpu u o))) k1 i in
-          ap (word_acts here t cpu u) k1
-          ∙ effect_same here there r.ctx (word_effect r.ctx u (instr_of u)) sw sv
-          (not_top w.tree here.tree s.tree sw.tree p m) z.guest all1 i1
-          ∙ sym (ap (word_acts there t cpu u) k2)
+          cc (effect_same here there r.ctx (word_effect r.ctx u (instr_of u)) sw sv
+          (not_top w.tree here.tree s.tree sw.tree p m) z.guest all1 i1)
       go O.Done q all i = refl
       go (O.Reply a b) q all i = refl
       go (O.Switched a b c) q all i = refl
@@ -189,7 +185,7 @@ pub turn_runs : (w : World) (p cpu t : ℕ) → IsSoundWorld w → IsInsideTurn 
     → (r : Occupant) × (runs_on w cpu ≡ Some r) × In p (ancestry w.tree r.name)
 turn_runs w p cpu t s i =
     let (r, k, q) = actor_runs w p (E.Poll cpu) s i.below in
-    (r, k, subst (λ a. In p (ancestry w.tree a)) q i.below)
+    (r, k, rw (← q) i.below)
 
 pub turn_same : TurnsDependOnGuests
 turn_same w v p cpu t s s' m g vain vain' i =
@@ -200,14 +196,12 @@ turn_same w v p cpu t s s' m g vain vain' i =
     let one = after_turn w cpu t vain in
     let two = after_turn v cpu t vain' ∙ ap (λ acts. after v (events_made acts)) (sym same) in
     record {
-      acts = turn_fetches w cpu t vain ∙ ap (λ acts. Makes (E.Poll cpu) ∷ acts) same ∙ sym (turn_fetches v cpu t vain');
+      acts = rw (turn_fetches w cpu t vain, same, ← turn_fetches v cpu t vain');
       inside = record {
-        below = subst (λ o. In p (ancestry v.tree (occupant_name o))) (sym k')
-            (line_alike w.tree v.tree p s.tree s'.tree (to_trees p w v g.below) r.name h);
+        below = rw k' (line_alike w.tree v.tree p s.tree s'.tree (to_trees p w v g.below) r.name h);
         inside = subst (λ acts. AllStayInside p v (events_made acts)) same l.there;
       };
-      guest = subst (λ x. IsSameGuest p x (after_acts v (turn v cpu t))) (sym one)
-          (subst (IsSameGuest p (after w (events_made (fetch_acts w t cpu)))) (sym two) l.guest);
+      guest = rw one (subst (IsSameGuest p (after w (events_made (fetch_acts w t cpu)))) (sym two) l.guest);
     }
 
 -- where no line is pending, none is pending after the turn either
@@ -216,12 +210,12 @@ pub quiet_after : (w : World) (p cpu t : ℕ) → IsSoundWorld w → p ≢ w.tre
 quiet_after w p cpu t s m e i =
     let (r, k, h) = turn_runs w p cpu t s i in
     let l = list_same p (events_made (fetch_acts w t cpu)) w w s s m (same_world p w) (fetch_are w cpu t s) i.inside in
-    ap (λ x. x.tree.root.pending) (after_turn w cpu t (poll_vain w cpu r k e)) ∙ ap (λ x. x.pending) l.root ∙ e
+    rw (after_turn w cpu t (poll_vain w cpu r k e), l.root, e)
 
 -- a turn that stays inside keeps the world sound, and the guest in it
 pub turn_sound : (w : World) (p : ℕ) (cpu t : ℕ) → IsSoundWorld w → PollsInVain w cpu → IsInsideTurn p w cpu t
     → IsSoundWorld (after_acts w (turn w cpu t))
-turn_sound w p cpu t sound vain i = subst IsSoundWorld (sym (after_turn w cpu t vain))
+turn_sound w p cpu t sound vain i = rw (after_turn w cpu t vain)
     (after-sound w (events_made (fetch_acts w t cpu)) sound (fetch_are w cpu t sound))
 
 pub turn_name : (w : World) (p : ℕ) (cpu t : ℕ) → IsSoundWorld w → IsName w.tree p → p ≢ w.tree.root.name
@@ -229,4 +223,4 @@ pub turn_name : (w : World) (p : ℕ) (cpu t : ℕ) → IsSoundWorld w → IsNam
 turn_name w p cpu t sound n m vain i =
     let l = list_same p (events_made (fetch_acts w t cpu)) w w sound sound m (same_world p w) (fetch_are w cpu t sound)
     i.inside in
-    subst (λ y. IsName y.tree p) (sym (after_turn w cpu t vain)) (l.name n)
+    rw (after_turn w cpu t vain) (l.name n)

@@ -101,13 +101,11 @@ module _ (p cpu t : ℕ) where
   effect_events w v x (F.Loads a va z) s s' m g all i =
       let e = E.Load cpu va z in
       let same = (step_same w v p e s s' all.0 m g i.0).answer in
-      ap (λ l. e ∷ l) (loads w.tree x a (outcome_of w e) ∙ ap (loaded_events x a) same
-      ∙ sym (loads v.tree x a (outcome_of v e)))
+      rw (loads w.tree x a (outcome_of w e), same, ← loads v.tree x a (outcome_of v e))
   effect_events w v x (F.Stores va n z) s s' m g all i =
       let e = E.Store cpu va z n in
       let same = (step_same w v p e s s' all.0 m g i.0).answer in
-      ap (λ l. e ∷ l) (stores w.tree x (outcome_of w e) ∙ ap (stored_events x) same
-      ∙ sym (stores v.tree x (outcome_of v e)))
+      rw (stores w.tree x (outcome_of w e), same, ← stores v.tree x (outcome_of v e))
 
   -- nothing follows a fetch that leaves
   left_events : (w : World) (u : Tree) (o : Outcome) → Leaves u p o → events_made (acts_after_fetch w t cpu o) ≡ []
@@ -124,8 +122,7 @@ module _ (p cpu t : ℕ) where
       → events_made (fetch_acts w t cpu) ≡ events_made (fetch_acts v t cpu)
   fetch_events w v r k h s s' m g i = ap (λ l. E.Fetch cpu ∷ l) (elim i.0 [
     | inl j ↦ let z = inside_same w v p (E.Fetch cpu) s s' tt m g j in
-        go z.guest (outcome_of w (E.Fetch cpu)) refl (fetch_are w cpu t s).1 i.1
-        ∙ ap (λ o. events_made (acts_after_fetch there t cpu o)) z.outcome
+        rw (go z.guest (outcome_of w (E.Fetch cpu)) refl (fetch_are w cpu t s).1 i.1, z.outcome)
     | inr j ↦ let z = guests_are_left_alike w v p (E.Fetch cpu) s s' tt m g j in
         left_events here w.tree (outcome_of w (E.Fetch cpu)) j.leaves
         ∙ sym (left_events there v.tree (outcome_of v (E.Fetch cpu)) z.leaving.leaves)
@@ -143,17 +140,15 @@ module _ (p cpu t : ℕ) where
           → events_made (acts_after_fetch here t cpu o) ≡ events_made (acts_after_fetch there t cpu o)
       go same (O.Word u) q all i =
           let stays = fetch_stays w cpu u r k q in
-          let k1 : runs_on here cpu ≡ Some r = ap (λ x. runs_on x cpu) stays ∙ k in
-          let h1 : In p (ancestry here.tree r.name) = subst (λ x. In p (ancestry x.tree r.name)) (sym stays) h in
+          let k1 : runs_on here cpu ≡ Some r = cc in
+          let h1 : In p (ancestry here.tree r.name) = rw (← stays) at h in
           let k2 : runs_on there cpu ≡ Some r = same.runs cpu r h1 k1 in
           let sw = event-sound w (E.Fetch cpu) s tt in
           let sv = event-sound v (E.Fetch cpu) s' tt in
           let all1 = subst (λ o. AllByRecursion IsEvent (events_made (word_acts here t cpu u o))) k1 all in
           let i1 = subst (λ o. AllStayOrLeave p here (events_made (word_acts here t cpu u o))) k1 i in
-          ap (λ o. events_made (word_acts here t cpu u o)) k1
-          ∙ effect_events here there r.ctx (word_effect r.ctx u (instr_of u)) sw sv
-          (not_top w.tree here.tree s.tree sw.tree p m) same all1 i1
-          ∙ sym (ap (λ o. events_made (word_acts there t cpu u o)) k2)
+          cc (effect_events here there r.ctx (word_effect r.ctx u (instr_of u)) sw sv
+          (not_top w.tree here.tree s.tree sw.tree p m) same all1 i1)
       go same O.Done q all i = refl
       go same (O.Reply a b) q all i = refl
       go same (O.Switched a b c) q all i = refl
@@ -163,20 +158,17 @@ module _ (p cpu t : ℕ) where
 pub turns_leave_alike : TurnsLeaveAlike
 turns_leave_alike w v p cpu t s s' m g vain vain' i =
     let (r, k, q) = actor_runs w p (E.Poll cpu) s i.below in
-    let h : In p (ancestry w.tree r.name) = subst (λ a. In p (ancestry w.tree a)) q i.below in
+    let h : In p (ancestry w.tree r.name) = rw (← q) i.below in
     let k' = g.runs cpu r h k in
     let same = fetch_events p cpu t w v r k h s s' m g i.fits in
     let l = steps_same p (events_made (fetch_acts w t cpu)) w v s s' m g (fetch_are w cpu t s) i.fits in
     let one = after_turn w cpu t vain in
     let two = after_turn v cpu t vain' ∙ ap (after v) (sym same) in
     record {
-      events = ap events_made (turn_fetches w cpu t vain) ∙ ap (λ es. E.Poll cpu ∷ es) same
-          ∙ sym (ap events_made (turn_fetches v cpu t vain'));
+      events = cc (turn_fetches w cpu t vain, turn_fetches v cpu t vain');
       there = record {
-        below = subst (λ o. In p (ancestry v.tree (occupant_name o))) (sym k')
-            (line_alike w.tree v.tree p s.tree s'.tree (to_trees p w v g.below) r.name h);
+        below = rw k' (line_alike w.tree v.tree p s.tree s'.tree (to_trees p w v g.below) r.name h);
         fits = subst (AllStayOrLeave p v) same l.there;
       };
-      guest = subst (λ x. IsSameGuest p x (after_acts v (turn v cpu t))) (sym one)
-          (subst (IsSameGuest p (after w (events_made (fetch_acts w t cpu)))) (sym two) l.guest);
+      guest = rw one (subst (IsSameGuest p (after w (events_made (fetch_acts w t cpu)))) (sym two) l.guest);
     }

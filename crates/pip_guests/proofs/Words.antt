@@ -62,7 +62,7 @@ set_context x pc a v k p w =
     record { pc = p; count = length-set x.regs a v ∙ k.count; regs = words_set x.regs a v w k.regs }
 
 pub pc_context : (x : Ctx) (pc : ℕ) → IsContext x → IsWord pc → IsContext (record x { pc = pc })
-pc_context x pc k p = record { pc = p; count = k.count; regs = k.regs }
+pc_context x pc k p = assumption
 
 -- ---- effects
 
@@ -100,7 +100,7 @@ divides x c e k h = go (c == 0)
     go false = h
 
 below : (a b : ℕ) → a ≤ b → IsWord b → IsWord a
-below a b l h = omega (arith, l, h)
+below a b l h = omega arith
 
 shifts : (a s : ℕ) → IsWord a → IsWord (shift_signed a s)
 shifts a s h = go (signed_word a) refl
@@ -240,7 +240,7 @@ all_rows =
 
 row_of : (os : List Opcode) (i : ℕ) (o : Opcode) → AllByRecursion Reads os → slice_get os i ≡ Some o → Reads o
 row_of [] i o h e = cc
-row_of (p ∷ os) zero o h e = let d : p ≡ o = cc in subst Reads d h.0
+row_of (p ∷ os) zero o h e = let d : p ≡ o = cc in rw (← d) h.0
 row_of (p ∷ os) (suc i) o h e = row_of os i o h.1 e
 
 pub words_read : (x : Ctx) (u : ℕ) → IsContext x → IsWord u → HasWords (word_effect x u (instr_of u))
@@ -265,11 +265,11 @@ words_read x u k h = go (opcode_at (opcode_of u)) refl
 loaded_word : (w : World) (cpu : ℕ) (r : Occupant) (va : ℕ) (c : Access) (z : Size) (q : Reached) (v : ℕ)
     → IsSoundWorld w → reach w.tree r.name va c z ≡ q → (load_happens w cpu r va c z q).outcome ≡ O.Word v → IsWord v
 loaded_word w cpu r va c z (Faulted f) v s e o = absurd (deliver-fails w cpu r (fault_vector f) va
-    (16 * access_number c + fault_number f) (subst Succeeded (sym o) tt))
+    (16 * access_number c + fault_number f) (rw o tt))
 loaded_word w cpu r va c z (Place g i) v s e o =
     let m = word_of (w.tree.words g) i in
     let d : read_of va z m ≡ v = cc in
-    subst IsWord d (part z m (word_found w.tree r.name va c z m s.tree (ap (word_reached w.tree) e)))
+    rw (← d) (part z m (word_found w.tree r.name va c z m s.tree (ap (word_reached w.tree) e)))
   where
     part : (z : Size) (m : ℕ) → IsWord m → IsWord (read_of va z m)
     part Word m h = h
@@ -283,9 +283,9 @@ load_word w cpu va z v s e = go (runs_on w cpu) refl
     go None k = let d =
         ap (λ o. (on_running w cpu o (λ r. load_happens w cpu r va Load z (reach w.tree r.name va Load z))).outcome) k
         in
-        let idle : O.Idle ≡ O.Word v = sym d ∙ e in cc
+        let idle : O.Idle ≡ O.Word v = cc in cc
     go (Some r) k = loaded_word w cpu r va Load z (reach w.tree r.name va Load z) v s refl
-        (ap (λ h. h.outcome) (sym (load_by w r cpu va z k)) ∙ e)
+        (rw (← load_by w r cpu va z k, e))
 
 fetch_word : (w : World) (cpu v : ℕ) → IsSoundWorld w → outcome_of w (E.Fetch cpu) ≡ O.Word v → IsWord v
 fetch_word w cpu v s e = go (runs_on w cpu) refl
@@ -293,9 +293,9 @@ fetch_word w cpu v s e = go (runs_on w cpu) refl
     go : (o : Option Occupant) → runs_on w cpu ≡ o → IsWord v
     go None k = let d = ap (λ o. (on_running w cpu o
         (λ r. load_happens w cpu r r.ctx.pc Fetch Word (reach w.tree r.name r.ctx.pc Fetch Word))).outcome) k in
-        let idle : O.Idle ≡ O.Word v = sym d ∙ e in cc
+        let idle : O.Idle ≡ O.Word v = cc in cc
     go (Some r) k = loaded_word w cpu r r.ctx.pc Fetch Word (reach w.tree r.name r.ctx.pc Fetch Word) v s refl
-        (ap (λ h. h.outcome) (sym (fetch_by w r cpu k)) ∙ e)
+        (rw (← fetch_by w r cpu k, e))
 
 module _ (w : World) (cpu t : ℕ) (x : Ctx) (s : IsSoundWorld w) (k : IsContext x) where
   loads_are : (a va : ℕ) (z : Size) (o : Outcome) → outcome_of w (E.Load cpu va z) ≡ o

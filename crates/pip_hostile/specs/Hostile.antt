@@ -140,10 +140,10 @@ TurnsHaveChoices = (own : List ℕ) (blind : ℕ → ℕ → Bool) (g : Menu) (w
     → cpu < g.scope.cpus → LooksAway own blind g m.world cpu
     → (RunsHostile g m.world cpu → TurnKeepsToMenu own blind g w cpu) → HasChoice own blind g w cpu m
 
--- ---- which events are on a menu
+-- ---- which events are on a menu: a trap of its vector and words; one that no partition takes, with any words; an
+-- access that faults, for a trap of its fault, address and kind; a call with its arguments
 
--- a deed is on the menu, of what runs there: a trap of its vector and words; one that no partition takes, with any
--- words; an access that faults, for a trap of its fault, address and kind; a call with its arguments
+-- the menu has this deed, of what runs there
 pub record HasDeed (g : Menu) (w : World) (cpu : ℕ) (d : Deed) : Type 0 where
   pub place : ℕ
   pub may : May

@@ -12,10 +12,3 @@ take_filled t n k buf new h i =
     ap (λ m. take (m + n) (take t buf ++ (new ++ post_of t k buf))) (sym e)
     ∙ take-append-add (take t buf) (new ++ post_of t k buf) n
     ∙ ap (λ r. take t buf ++ r) (take-append-le n new (post_of t k buf) i)
-
--- the front stays
-pub take_kept : (t k : ℕ) (buf new : List ℕ) → t ≤ length buf → take t (put_mid t k buf new) ≡ take t buf
-take_kept t k buf new h =
-    let e = length-take-le t buf h in
-    take-append-le t (take t buf) (new ++ post_of t k buf) (subst (λ m. t ≤ m) (sym e) (omega arith))
-    ∙ ap (λ m. take m (take t buf)) (sym e) ∙ take-length (take t buf)

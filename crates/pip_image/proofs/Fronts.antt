@@ -8,9 +8,6 @@ pub drop_front : (a b : List ℕ) → drop (length a) (a ++ b) ≡ b
 drop_front [] b = refl
 drop_front (x ∷ a) b = drop_front a b
 
-drop_at : (k : ℕ) (a b : List ℕ) → length a ≡ k → drop k (a ++ b) ≡ b
-drop_at k a b e = ap (λ k. drop k (a ++ b)) (sym e) ∙ drop_front a b
-
 pub drop_less : (k : ℕ) (a b : List ℕ) → k ≤ length a → drop k (a ++ b) ≡ drop k a ++ b
 drop_less zero a b h = refl
 drop_less (suc k) [] b h = absurd (omega (arith, h))

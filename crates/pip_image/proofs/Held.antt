@@ -17,9 +17,6 @@ use Rattle.pip_image.proofs.SameWords.{lays_same}
 abbrev pub is_held : ℕ → List Page → ℕ → Bool
 is_held n ps g = list_any (λ p. is_frame g (frame_of_root n p.vpage)) ps
 
-held_step : (b c : Bool) (x y z : ℕ) → b ≡ false → cond c y (cond b x z) ≡ cond c y z
-held_step b c x y z e = ap (λ k. cond c y (cond k x z)) e
-
 -- a page after others in whose frame none of them is
 pub held_more : (n : ℕ) (ps : List Page) (q : Page) (g i : ℕ)
     → (is_frame g (frame_of_root n q.vpage) ≡ true → is_held n ps g ≡ false)

@@ -44,10 +44,6 @@ loads_page n t u v a b c seen m k q least most row unseen small wrote l x =
       small = small_page l.pages q l.small small;
     }
 
-pub loads_none : (n : ℕ) (t : List ℕ → PartsRead) (a : Option (List ℕ)) (seen : List ℕ) (m : List (List ℕ)) → seen ≡ []
-    → LaysOut (boot_tree n) m → Loads n t t a a seen m
-loads_none n t a seen m e h = record { pages = []; took = takes_none t a; vpages = sym e; laid = h; small = tt }
-
 pub loads_all : (n : ℕ) (t u : List ℕ → PartsRead) (a b c : Option (List ℕ)) (seen : List ℕ) (m : List (List ℕ))
     → Loads n t u a b seen m → EndsInput u b c → LoadsAll n t a c m
 loads_all n t u a b c seen m l e = let w = takes_whole t u (map Holds l.pages) a b c l.took e in

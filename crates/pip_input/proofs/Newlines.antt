@@ -123,14 +123,3 @@ over before count a b left left' is none some short plain r =
       short = short;
       plain = plain;
     }
-
-pub plain_still : (count : ℕ) (a b : Held) (left left' : Option (List ℕ)) → HasNoNewline a.bytes
-    → ReadsOn count a b left left'
-    → HasNoNewline (take (length a.bytes) b.bytes)
-plain_still count a b left left' plain r =
-    subst HasNoNewline (sym (ap (take (length a.bytes)) r.bytes ∙ take-append_seam a.bytes r.more)) plain
-
-pub more_held : (count : ℕ) (a b : Held) (left left' : Option (List ℕ)) → ReadsOn count a b left left'
-    → length b.bytes ≡ length a.bytes + count
-more_held count a b left left' r = ap length r.bytes ∙ length-append a.bytes r.more
-    ∙ ap (λ k. length a.bytes + k) r.size

@@ -19,9 +19,6 @@ between_front xs p e n few =
 pub between_size : (xs : List ℕ) (s e : ℕ) → e ≤ length xs → length (between xs s e) ≡ e - s
 between_size xs s e fits = let d = length-drop s xs in length-take-le (e - s) (drop s xs) (omega arith)
 
-pub between_none : (xs : List ℕ) (s e : ℕ) → s ≡ e → between xs s e ≡ []
-between_none xs s e same = let none : e - s ≡ 0 = omega arith in rw none
-
 -- a part whose buffer stayed as it was up to its end
 pub between_same : (xs ys : List ℕ) (s e : ℕ) → s ≤ e → take e xs ≡ take e ys → between xs s e ≡ between ys s e
 between_same xs ys s e order same =

@@ -40,17 +40,6 @@ part_after (Some xs) (Some ys) (Some zs) a b t u p q = (
   q.4,
 )
 
-part_more : (x y : Option (List ℕ)) (a t more : List ℕ) → GrowsInPart x y (a ++ t) → GrowsInPart x y (a ++ (t ++ more))
-part_more None y a t more p = tt
-part_more (Some xs) None a t more p = absurd p
-part_more (Some xs) (Some ys) a t more p = (
-  p.0,
-  p.1 ++ more,
-  p.2,
-  rw (← append_assoc p.0 p.1 more, p.3, append_assoc a t more),
-  left_more p.1 more p.4,
-)
-
 part_taken : (x y : Option (List ℕ)) (a b front rest : List ℕ) → Sends x y (a ++ front) b → rest ≢ []
     → GrowsInPart x y (a ++ (front ++ rest))
 part_taken None y a b front rest p some = tt
@@ -95,10 +84,6 @@ SendsPart-after a b c t u p q = record {
       p.sends q.grows;
 }
 
--- a part of a longer text
-pub SendsPart-more : (a b : Taken) (t more : List ℕ) → SendsPart a b t → SendsPart a b (t ++ more)
-SendsPart-more a b t more p = record { grows = part_more a.out b.out a.buffered t more p.grows }
-
 -- a part was taken
 pub part_sent : (a b : Taken) (t : List ℕ) → AppendsPart a b t → SendsPart a b t
 part_sent a b t p =
@@ -119,35 +104,11 @@ past_part (Some xs) (Some ys) (Some zs) a b t u p none q = (
   rw (q.2, p.1, append_assoc xs p.0 q.0, ← append-nil p.0, ← none, p.2),
 )
 
-past_after : (x y z : Option (List ℕ)) (a b t u : List ℕ) → Sends x y (a ++ t) b → GrowsPast y z (b ++ u)
-    → GrowsPast x z (a ++ (t ++ u))
-past_after None y z a b t u p q = tt
-past_after (Some xs) None z a b t u p q = absurd p
-past_after (Some xs) (Some ys) None a b t u p q = absurd q
-past_after (Some xs) (Some ys) (Some zs) a b t u p q = (
-  q.0,
-  rw (
-    q.1,
-    p.1,
-    append_assoc xs p.0 ((b ++ u) ++ q.0),
-    ← append_assoc p.0 (b ++ u) q.0,
-    ← append_assoc p.0 b u,
-    p.2,
-    append_assoc a t u,
-  ),
-)
-
 -- a part of a text went out after one that had gone out whole
 pub past_sent : (a b c : Taken) (t u : List ℕ) → Appends a b t → b.buffered ≡ [] → SendsPart b c u → SendsPast a c t
 past_sent a b c t u p none q = record {
   grows = past_part a.out b.out c.out a.buffered b.buffered t u p.sends
       none q.grows;
-}
-
-pub SendsPast-after : (a b c : Taken) (t u : List ℕ) → Appends a b t → SendsPast b c u → SendsPast a c (t ++ u)
-SendsPast-after a b c t u p q = record {
-  grows = past_after a.out b.out c.out a.buffered b.buffered t u
-      p.sends q.grows;
 }
 
 -- a fact serves where it is asked at an error alone
@@ -201,18 +162,5 @@ grown : (x : Option (List ℕ)) (a bytes piece : List ℕ) → Sends x x ((a ++ 
 grown None a bytes piece = tt
 grown (Some xs) a bytes piece = ([], sym (append-nil xs), sym (append_assoc a bytes piece))
 
--- there are more bytes
-pub over_grown : (a : Taken) (bytes piece bytes' : List ℕ) → bytes' ≡ bytes ++ piece
-    → Appends (over a bytes) (over a bytes') piece
-over_grown a bytes piece bytes' same =
-    rw same (record { sends = grown a.out a.buffered bytes piece })
-
--- there are none
-pub over_none : (buffered bytes : List ℕ) → buffered ≡ [] → bytes ≡ [] → buffered ++ bytes ≡ []
-over_none buffered bytes h b = rw (h, b)
-
 pub over_some : (buffered bytes : List ℕ) → bytes ≢ [] → buffered ++ bytes ≢ []
 over_some buffered bytes some = more_left buffered bytes some
-
-pub under_some : (buffered bytes : List ℕ) → buffered ≢ [] → buffered ++ bytes ≢ []
-under_some buffered bytes some = left_more buffered bytes some

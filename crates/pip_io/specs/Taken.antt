@@ -1,12 +1,12 @@
--- What a sink took: what of it went out, and what the sink holds after that.
+-- What a sink took: what of it went out, and what is buffered after that.
 use Rattle.std.specs.Prelude.{◌≡◌, ◌≢◌, ℕ, List, [], ◌++◌, take, Option, Some, None, Result, MatchResult}
 
--- the bytes that went out, where the sink tells them, and those that it took and holds
+-- the bytes that went out, where the sink's history has them, and those that are buffered
 pub record Taken : Type 0 where
   pub out : Option (List ℕ)
   pub buffered : List ℕ
 
--- a sink that holds nothing
+-- a sink that buffers nothing
 abbrev pub plain : Option (List ℕ) → Taken
 plain out = record { out = out; buffered = [] }
 
@@ -58,6 +58,6 @@ GrowsPast (Some xs) (Some ys) all = (more : List ℕ) × (ys ≡ xs ++ (all ++ m
 pub record SendsPast (a b : Taken) (text : List ℕ) : Type 0 where
   pub grows : GrowsPast a.out b.out (a.buffered ++ text)
 
--- what a sink over another took: after what that one holds stand bytes that it was not given yet
+-- what a sink over another took: after what that one buffers come bytes that it was not given yet
 abbrev pub over : Taken → List ℕ → Taken
 over inner bytes = record { out = inner.out; buffered = inner.buffered ++ bytes }

@@ -1,9 +1,10 @@
 -- Frames that are taken back.
-use Rattle.std.proofs.Common.{◌≡◌, ℕ, zero, suc, ◌+◌, ◌/◌, ◌<◌, ◌≤◌, Bool, true, false, List, [], length, sym, ap}
+use Rattle.std.proofs.Common.{◌≡◌, ℕ, zero, suc, ◌+◌, ◌/◌, ◌<◌, ◌≤◌, Bool, true, false, List, [], length, take, sym, ap}
 use Rattle.std.proofs.Common.{get_or, ◌∙◌, arith, inl, inr, refl, subst}
 use Rattle.std.proofs.Math.ListN.{replicate, set}
 use Rattle.std.proofs.lemmas.Bool.{cases_eq, cases_lt}
-use Rattle.std.proofs.lemmas.List.{ext_get_or, get_or_default, get_or-set_other, get_or-set_same}
+use Rattle.std.proofs.lemmas.List.{ext_get_or, get_or_default, get_or_past, get_or-set_other, get_or-set_same}
+use Rattle.std.proofs.lemmas.List.{get_or-take, length-take}
 use Rattle.std.proofs.Math.Logic.{∥∥₁_elim}
 use Rattle.std.proofs.Math.Nat.{ℕ_set}
 use Rattle.std.specs.Prelude.{slice_index_or}
@@ -11,7 +12,7 @@ use Rattle.std.specs.Coded.{coded_list, coded_ℕ}
 use base.Stored.{Coded-set}
 use Rattle.pip_base.specs.Memory.{Memory, frame_at}
 use Rattle.pip_journal.specs.Opening.{all_opened, all_true}
-use Rattle.pip_journal.specs.Tracks.{Tracks, TracksParts, TracksWords}
+use Rattle.pip_journal.specs.Tracks.{StaysFrom, Tracks, TracksParts, TracksWords}
 
 -- a frame that was not opened is as it was
 pub tracked : (a m : Memory) (os : List Bool) (f : ℕ) → ∥ Tracks a m os ∥₁ → slice_index_or os f true ≡ false
@@ -73,11 +74,17 @@ pub closed_at_next : (a m n : Memory) (f k : ℕ) → k ≡ f → n ≡ set m k 
 closed_at_next a m n f k same is fi before = closed_more a m n f (subst (λ j. n ≡ set m j (frame_at a j)) same is) fi
     before
 
--- places that are shut in a list are shut in the same list
-pub shut_in : (os some : List Bool) (p q : ℕ) → some ≡ os
-    → ((k : ℕ) → p ≤ k → k < q → slice_index_or some k true ≡ false)
+-- places that are shut in the first of a list are shut in the list
+pub shut_in : (os some : List Bool) (n p q : ℕ) → some ≡ os → q ≤ n
+    → ((k : ℕ) → p ≤ k → k < q → slice_index_or (take n some) k true ≡ false)
     → (k : ℕ) → p ≤ k → k < q → slice_index_or os k true ≡ false
-shut_in os some p q is h = subst (λ v. (k : ℕ) → p ≤ k → k < q → slice_index_or v k true ≡ false) is h
+shut_in os some n p q is le h k low high =
+    ap (λ v. slice_index_or v k true) (sym is)
+    ∙ (sym (get_or-take n some k true (omega (arith, le, high))) ∙ h k low high)
+
+-- as many are the first of a list, at most
+pub end_in : (some : List Bool) (n q : ℕ) → q ≤ length (take n some) → q ≤ n
+end_in some n q le = omega (arith, le, length-take n some)
 
 -- frames that were not opened are as at first
 pub shut_frames : (a first m : Memory) (os : List Bool) (p q : ℕ) → first ≡ a → ∥ Tracks first m os ∥₁
@@ -94,3 +101,33 @@ closed_to a first m os p q is t shut before k lt = elim (cases_lt k p) [
   | inl small ↦ before k small
   | inr large ↦ shut_frames a first m os p q is t shut k large lt
 ]
+
+-- frames that are the same are tracked by any flags
+pub same_tracked : (a m : Memory) (os : List Bool) → m ≡ a → Tracks a m os
+same_tracked a m os is f h = ap (λ v. frame_at v f) is
+
+pub same_parts_tracked : (a m : Memory) (ps : List (List Bool)) → m ≡ a → TracksParts a m ps
+same_parts_tracked a m ps is f j ji h = ap (λ v. slice_index_or (frame_at v f) j 0) is
+
+pub same_below : (a m : Memory) (top : ℕ) → m ≡ a → StaysFrom a m top
+same_below a m top is f le = ap (λ v. frame_at v f) is
+
+-- after the last frame there is none
+pub none_above : (a m : Memory) (top : ℕ) → length a ≡ top → length m ≡ top → StaysFrom a m top
+unfolding frame_at
+none_above a m top a_is m_is f le = get_or_past m f [] (omega (arith, m_is, le))
+    ∙ sym (get_or_past a f [] (omega (arith, a_is, le)))
+
+-- the frames from one on that was not opened
+pub below_at : (a m : Memory) (top f : ℕ) → ∥ StaysFrom a m top ∥₁ → top ≤ f → frame_at m f ≡ frame_at a f
+below_at a m top f h le =
+    ∥∥₁_elim h (Coded-set (coded_list coded_ℕ) (frame_at m f) (frame_at a f)) (λ x. x f le)
+
+-- all frames are as they were, those from one on since none of them was opened
+pub all_back : (a base m : Memory) (f top : ℕ) → base ≡ a → length m ≡ length base
+    → ((k : ℕ) → k < f → frame_at m k ≡ frame_at a k) → ∥ StaysFrom base m top ∥₁
+    → ((k : ℕ) → f ≤ k → k < length m → top ≤ k) → m ≡ base
+all_back a base m f top is count before below above = all_closed base base m refl count (λ k lt. elim (cases_lt k f) [
+  | inl small ↦ before k small ∙ ap (λ v. frame_at v k) (sym is)
+  | inr large ↦ below_at base m top k below (above k large lt)
+])

@@ -1,6 +1,6 @@
 -- Changes are found place by place.
 use Rattle.std.proofs.Common.{◌≡◌, ℕ, zero, suc, ◌+◌, ◌*◌, ◌/◌, ◌%◌, ◌<◌, ◌≤◌, List, [], ◌∷◌, ◌++◌, length}
-use Rattle.std.proofs.Common.{if◌then◌else◌, refl, sym, ap, subst, ◌∙◌, arith, inl, inr, append_assoc}
+use Rattle.std.proofs.Common.{if◌then◌else◌, refl, sym, ap, subst, ◌∙◌, arith, inl, inr}
 use Rattle.std.proofs.lemmas.Bool.{cases_eq, cases_lt, eq-eqb, ne_eqb}
 use Rattle.std.proofs.lemmas.Bool.Decides.{eqb_tells}
 use Rattle.std.proofs.lemmas.List.{append-nil}
@@ -8,14 +8,13 @@ use Rattle.pip_base.specs.Memory.{IsMemory, Memory, put_word, word_at}
 use Rattle.pip_base.proofs.Memory.{word_at-put_same, word_at-put_frame, word_at-put_index, length-put_word}
 use Rattle.pip_base.proofs.Memory.{IsMemory-put, same_words}
 use Rattle.pip_switch.specs.Rewinding.{ArePlaces, rewritten}
-use Rattle.pip_journal.specs.Changes.{AddsChanges, AreChanges, AppendsChanges, HasChanges, IsMixed, changes_at, changes}
-use Rattle.pip_journal.specs.Changes.{changes_below, word_at_place}
+use Rattle.pip_journal.specs.Changes.{AreChanges, IsMixed, changes, changes_at, changes_below, word_at_place}
 
-no_change : (a m : Memory) (place : ℕ) → word_at_place m place ≡ word_at_place a place → changes_at a m place ≡ []
+pub no_change : (a m : Memory) (place : ℕ) → word_at_place m place ≡ word_at_place a place → changes_at a m place ≡ []
 no_change a m place e = ap (λ b. if b then [] else place ∷ word_at_place m place ∷ [])
     (eq-eqb (word_at_place m place) (word_at_place a place) e)
 
-one_change : (a m : Memory) (place : ℕ) → (word_at_place m place ≡ word_at_place a place → ⊥)
+pub one_change : (a m : Memory) (place : ℕ) → (word_at_place m place ≡ word_at_place a place → ⊥)
     → changes_at a m place ≡ place ∷ word_at_place m place ∷ []
 one_change a m place n = ap (λ b. if b then [] else place ∷ word_at_place m place ∷ [])
     (ne_eqb (word_at_place m place) (word_at_place a place) n)
@@ -145,74 +144,9 @@ put_change a m f i ws h fi ii other =
           (mixed_put a m (rewritten a ws) f i h.mixed fi ii);
     }
 
-pub grew_none : (a m : Memory) (k l : ℕ) (bs xs : List ℕ) → l ≡ k → AreChanges a m k bs
-    → AppendsChanges a m l bs xs xs
-grew_none a m k l bs xs is h = record {
-  more = [];
-  whole = sym (append-nil xs);
-  changes = subst (λ v. AreChanges a m l v) (sym (append-nil bs)) (subst (λ v. AreChanges a m v bs) (sym is) h);
-}
-
-pub grew_same : (a m : Memory) (k l : ℕ) (bs xs ys : List ℕ) → AppendsChanges a m k bs xs ys → k ≤ l
-    → ((g j : ℕ) → j < 1024 → k ≤ 1024 * g + j → 1024 * g + j < l → word_at m g j ≡ word_at a g j)
-    → AppendsChanges a m l bs xs ys
-grew_same a m k l bs xs ys h le same = record {
-  more = h.more;
-  whole = h.whole;
-  changes = record {
-    are = h.changes.are ∙ sym (changes_same a m k l le same);
-    places = h.changes.places;
-    mixed = mixed_same a m (rewritten a (bs ++ h.more)) k l
-        h.changes.mixed le same;
-  };
-}
-
-pub grew_put : (a m : Memory) (k l f i place word : ℕ) (bs xs ys zs : List ℕ) → AppendsChanges a m k bs xs ys
-    → k ≡ 1024 * f + i
-    → l ≡ suc k → f < length a → i < 1024 → (word_at m f i ≡ word_at a f i → ⊥) → place ≡ 1024 * f + i
-    → word ≡ word_at m f i → zs ≡ ys ++ (place ∷ word ∷ []) → AppendsChanges a m l bs xs zs
-grew_put a m k l f i place word bs xs ys zs h at next fi ii other place_is word_is zs_is =
-    let pair : List ℕ = (1024 * f + i) ∷ word_at m f i ∷ [] in
-    let here : AreChanges a m (1024 * f + i) (bs ++ h.more) = subst (λ v. AreChanges a m v (bs ++ h.more)) at
-    h.changes in
-    let after : AreChanges a m (suc (1024 * f + i)) ((bs ++ h.more) ++ pair) = put_change a m f i (bs ++ h.more) here
-    fi ii other in
-    let there : l ≡ suc (1024 * f + i) = next ∙ ap suc at in
-    let two : (place ∷ word ∷ []) ≡ pair = ap (λ v. v ∷ word ∷ []) place_is ∙ ap (λ v. (1024 * f + i) ∷ v ∷ [])
-    word_is in
-    record {
-      more = h.more ++ pair;
-      whole = zs_is ∙ (ap (λ v. ys ++ v) two ∙ (ap (λ v. v ++ pair) h.whole ∙ append_assoc xs h.more pair));
-      changes = subst (λ v. AreChanges a m v (bs ++ (h.more ++ pair))) (sym there)
-          (subst (λ v. AreChanges a m (suc (1024 * f + i)) v) (append_assoc bs h.more pair) after);
-    }
-
-pub grew_more : (a m : Memory) (k n l : ℕ) (bs xs ys zs : List ℕ) → AppendsChanges a m k bs xs ys
-    → AddsChanges a m k n ys zs
-    → l ≡ k + n → AppendsChanges a m l bs xs zs
-grew_more a m k n l bs xs ys zs h adds at =
-    let more : AppendsChanges a m (k + n) (bs ++ h.more) ys zs = adds (bs ++ h.more) h.changes in
-    record {
-      more = h.more ++ more.more;
-      whole = more.whole ∙ (ap (λ v. v ++ more.more) h.whole ∙ append_assoc xs h.more more.more);
-      changes = subst (λ v. AreChanges a m v (bs ++ (h.more ++ more.more))) (sym at)
-          (subst (λ v. AreChanges a m (k + n) v) (append_assoc bs h.more more.more) more.changes);
-    }
-
 no_changes : (a m : Memory) → IsMemory a → AreChanges a m 0 []
 unfolding changes_below
 no_changes a m shape = record { are = refl; places = tt; mixed = mixed_start a m shape }
-
-pub all_changes : (a m : Memory) (n : ℕ) (xs ys : List ℕ) → IsMemory a → length m ≡ length a → n ≡ 1024 * length a
-    → AddsChanges a m 0 n xs ys → HasChanges a m xs ys
-all_changes a m n xs ys shape count end adds =
-    let zero_more : 0 + n ≡ n = omega arith in
-    let h : AppendsChanges a m n [] xs ys = subst (λ v. AppendsChanges a m v [] xs ys) zero_more
-    (adds [] (no_changes a m shape)) in
-    record {
-      whole = h.whole ∙ ap (λ v. xs ++ v) (h.changes.are ∙ ap (λ v. changes_below a m v) end);
-      count = count;
-    }
 
 -- the changes at one place more
 change_more : (a m : Memory) (k : ℕ) → k < 1024 * length a → AreChanges a m k (changes_below a m k)
@@ -261,8 +195,3 @@ pub changes_written : (a m : Memory) → IsMemory a → IsMemory m → length m 
 changes_written a m shape other count =
     let h : AreChanges a m (1024 * length a) (changes a m) = changes_to a m (1024 * length a) shape (omega arith) in
     (h.places, mixed_end a m (rewritten a (changes a m)) h.mixed other count)
-
-pub grew_more_at : (a m : Memory) (k at n l : ℕ) (bs xs ys zs vs : List ℕ) → AppendsChanges a m k bs xs ys → k ≡ at
-    → AddsChanges a m at n ys zs → l ≡ at + n → vs ≡ zs → AppendsChanges a m l bs xs vs
-grew_more_at a m k at n l bs xs ys zs vs h is adds end same = subst (λ v. AppendsChanges a m l bs xs v) (sym same)
-    (grew_more a m at n l bs xs ys zs (subst (λ v. AppendsChanges a m v bs xs ys) is h) adds end)

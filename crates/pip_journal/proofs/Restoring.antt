@@ -4,7 +4,7 @@ use Rattle.std.proofs.Common.{true, slice_index_or, take, drop, get_or, sym, ap,
 use Rattle.std.proofs.lemmas.Bool.{cases_lt}
 use Rattle.std.proofs.lemmas.List.{ext_get_or, get_or-append_right, get_or-drop, get_or-take, get_or_append_left}
 use Rattle.std.proofs.lemmas.List.{length-append, length-drop, length-take-le}
-use Rattle.pip_journal.specs.Tracks.{TracksWords}
+use Rattle.pip_journal.specs.Tracks.{SameWords, TracksWords}
 
 -- the parts before p are as they were at first, and so are all that were not opened
 pub record IsRestored (from to : List ℕ) (parts : List Bool) (p : ℕ) : Type 0 where
@@ -123,3 +123,30 @@ pub all_restored : (from to : List ℕ) (parts : List Bool) (p : ℕ) → length
     → IsRestored from to parts p → to ≡ from
 all_restored from to parts p count end h = ext_get_or 0 to from (h.count ∙ sym count)
     (λ j lt. h.below j (omega (arith, lt, h.count, end)))
+
+-- words in a part that is the same
+pub part_same : (xs ys : List ℕ) (s n j : ℕ) → take n (drop s xs) ≡ take n (drop s ys) → s ≤ j → j < s + n
+    → get_or xs j 0 ≡ get_or ys j 0
+part_same xs ys s n j same low high =
+    let at : s + (j - s) ≡ j = omega (arith, low) in
+    let small : j - s < n = omega (arith, low, high) in
+    ap (λ k. get_or xs k 0) (sym at) ∙ (sym (get_or-drop s xs (j - s) 0)
+    ∙ (sym (get_or-take n (drop s xs) (j - s) 0 small) ∙ (ap (λ v. get_or v (j - s) 0) same
+    ∙ (get_or-take n (drop s ys) (j - s) 0 small ∙ (get_or-drop s ys (j - s) 0 ∙ ap (λ k. get_or ys k 0) at)))))
+
+-- parts that were not opened have the same words
+pub same_passed : (base now : List ℕ) (parts : List Bool) (from p q : ℕ) → q ≤ 32 → TracksWords base now parts
+    → ((k : ℕ) → p ≤ k → k < q → slice_index_or parts k true ≡ false) → SameWords base now from p
+    → SameWords base now from q
+same_passed base now parts from p q end t shut h j low high = elim (cases_lt j (32 * p)) [
+  | inl small ↦ h j low small
+  | inr large ↦ t j (omega (arith, high, end)) (shut (j / 32) (omega (arith, large)) (omega (arith, high)))
+]
+
+-- and so does a part that was found so
+pub same_part : (base now : List ℕ) (from p q : ℕ) → SameWords base now from p → SameWords base now p q
+    → SameWords base now from q
+same_part base now from p q h more j low high = elim (cases_lt j (32 * p)) [
+  | inl small ↦ h j low small
+  | inr large ↦ more j large high
+]

@@ -1,6 +1,6 @@
 -- The words of a memory that are others than those of a first one.
-use Rattle.std.specs.Prelude.{◌≡◌, ℕ, zero, suc, ◌+◌, ◌*◌, ◌/◌, ◌%◌, ◌<◌, ◌≤◌, ◌==◌, if◌then◌else◌, List, [], ◌∷◌, ◌++◌}
-use Rattle.std.specs.Prelude.{length}
+use Rattle.std.specs.Prelude.{◌≡◌, ℕ, zero, suc, ◌+◌, ◌*◌, ◌/◌, ◌%◌, ◌<◌, ◌≤◌, ◌==◌}
+use Rattle.std.specs.Prelude.{if◌then◌else◌, length, List, [], ◌∷◌, ◌++◌, ltb}
 use Rattle.pip_base.specs.Memory.{IsMemory, Memory, word_at}
 use Rattle.pip_switch.specs.Rewinding.{ArePlaces, rewritten}
 
@@ -34,15 +34,28 @@ pub record AreChanges (a m : Memory) (k : ℕ) (words : List ℕ) : Type 0 where
   pub places : ArePlaces (length a) words
   pub mixed : IsMixed a m k (rewritten a words)
 
--- a list grew by words that, with those before, are the changes at the places below k
-pub record AppendsChanges (a m : Memory) (k : ℕ) (before old new : List ℕ) : Type 0 where
-  pub more : List ℕ
-  pub whole : new ≡ old ++ more
-  pub changes : AreChanges a m k (before ++ more)
+-- those of n places from k on
+unfoldable pub changes_from : Memory → Memory → ℕ → ℕ → List ℕ
+changes_from a m k zero = []
+changes_from a m k (suc n) = changes_at a m k ++ changes_from a m (suc k) n
 
--- with the changes at the places below k it grows to those at n places more
-abbrev pub AddsChanges : Memory → Memory → ℕ → ℕ → List ℕ → List ℕ → Type 0
-AddsChanges a m k n old new = (before : List ℕ) → AreChanges a m k before → AppendsChanges a m (k + n) before old new
+-- how many words come before the first place that isn't below p, where each follows its place
+unfoldable pub words_below : ℕ → List ℕ → ℕ
+words_below p [] = 0
+words_below p (q ∷ []) = 0
+words_below p (q ∷ w ∷ rest) = if ltb q p then suc (suc (words_below p rest)) else 0
+
+-- places, from p on, rise, and after each follows another word than that of a
+abbrev pub AreOther : Memory → ℕ → List ℕ → Type 0
+AreOther a p [] = Unit {0}
+AreOther a p (q ∷ []) = ⊥
+AreOther a p (q ∷ w ∷ rest) = (p ≤ q) × ((w ≡ word_at_place a q → ⊥) × AreOther a (suc q) rest)
+
+-- a memory is another one with such words over it
+pub record IsRewritten (a m : Memory) (words : List ℕ) : Type 0 where
+  pub is : m ≡ rewritten a words
+  pub places : ArePlaces (length a) words
+  pub other : AreOther a 0 words
 
 -- a list grew by all of them
 pub record HasChanges (a m : Memory) (old new : List ℕ) : Type 0 where

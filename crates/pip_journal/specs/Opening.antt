@@ -1,12 +1,12 @@
 -- A frame or a part that is opened may be written, and the others are tracked as before.
-use Rattle.std.proofs.Common.{◌≡◌, ℕ, suc, zero, ◌/◌, Bool, true, false, List, [], ◌∷◌, length, refl, sym, ap}
-use Rattle.std.proofs.Common.{subst, ◌∙◌, ◌<◌, slice_index_or, inl, inr}
+use Rattle.std.proofs.Common.{◌≡◌, ℕ, suc, zero, ◌/◌, ◌+◌, ◌≤◌, max, arith, Bool, false, true}
+use Rattle.std.proofs.Common.{List, [], ◌∷◌, length, refl, sym, ap, subst, ◌∙◌, ◌<◌, slice_index_or, inl, inr}
 use Rattle.std.proofs.Math.ListN.{replicate, set}
 use Rattle.std.proofs.Math.Logic.{∥∥₁_map}
 use Rattle.std.proofs.lemmas.List.{length-set, get_or-set_other, get_or-set_same}
 use Rattle.std.proofs.lemmas.Bool.{cases_eq}
 use Rattle.pip_base.specs.Memory.{Memory, frame_at, put_word}
-use Rattle.pip_journal.specs.Tracks.{IsRewound, Tracks, TracksParts}
+use Rattle.pip_journal.specs.Tracks.{StaysFrom, IsRewound, Tracks, TracksParts}
 
 -- a list has as many elements after a write
 pub length_set : {A : Type 0} (xs : List A) (k : ℕ) (x : A) (n : ℕ) → length xs ≡ n → length (set xs k x) ≡ n
@@ -173,6 +173,38 @@ parts_closed_at a m n ps f k row same is fi t = subst (λ v. ∥ TracksParts a v
     (subst (λ j. ∥ TracksParts a (set m f (frame_at a f)) (set ps j row) ∥₁) (sym same)
     (∥∥₁_map t (λ h. parts_close a m ps f row fi h)))
 
+below_more : (a m : Memory) (f top : ℕ) (ws : List ℕ) → StaysFrom a m top → StaysFrom a (set m f ws) (max top (f + 1))
+unfolding frame_at
+below_more a m f top ws h g le =
+    let other : g ≡ f → ⊥ = λ e. omega (arith, le, e) in
+    get_or-set_other m f g ws [] other ∙ h g (omega (arith, le))
+
+-- the frames after one that is written stay as they were, also by a number that is the same
+pub opens_below : (a m n : Memory) (f k top next : ℕ) (ws : List ℕ) → k ≡ f → next ≡ max top (k + 1) → n ≡ set m f ws
+    → ∥ StaysFrom a m top ∥₁ → ∥ StaysFrom a n next ∥₁
+opens_below a m n f k top next ws same at is h = subst (λ v. ∥ StaysFrom a v next ∥₁) (sym is)
+    (subst (λ t. ∥ StaysFrom a (set m f ws) t ∥₁) (sym (at ∙ ap (λ j. max top (j + 1)) same))
+    (∥∥₁_map h (λ t. below_more a m f top ws t)))
+
+-- also though it isn't written
+pub stays_below : (a m : Memory) (k top next : ℕ) → next ≡ max top (k + 1) → ∥ StaysFrom a m top ∥₁
+    → ∥ StaysFrom a m next ∥₁
+stays_below a m k top next at h = ∥∥₁_map h (λ t g le. t g (omega (arith, le, at)))
+
+below_close : (a m : Memory) (f top : ℕ) → f < length m → StaysFrom a m top → StaysFrom a (set m f (frame_at a f)) top
+unfolding frame_at
+below_close a m f top fi h g le = elim (cases_eq g f) [
+  | inl e ↦ ap (λ k. slice_index_or (set m f (slice_index_or a f [])) k [])
+      e ∙ (get_or-set_same m f (slice_index_or a f []) [] fi ∙ ap (λ k. slice_index_or a k []) (sym e))
+  | inr n ↦ get_or-set_other m f g (slice_index_or a f []) [] n ∙ h g le
+]
+
+-- and where one is as it was
+pub closes_below : (a m n : Memory) (f top : ℕ) → n ≡ set m f (frame_at a f) → f < length m → ∥ StaysFrom a m top ∥₁
+    → ∥ StaysFrom a n top ∥₁
+closes_below a m n f top is fi h = subst (λ v. ∥ StaysFrom a v top ∥₁) (sym is)
+    (∥∥₁_map h (λ t. below_close a m f top fi t))
+
 -- frames that were written aren't as they were taken back
-pub not_rewound : (a m : Memory) (ws : List ℕ) → ∥ IsRewound a m ws false ∥₁
-not_rewound a m ws = ∣ (λ e. absurd (cc)) ∣₁
+pub not_rewound : (a m : Memory) → ∥ IsRewound a m false ∥₁
+not_rewound a m = ∣ (λ e. absurd (cc)) ∣₁

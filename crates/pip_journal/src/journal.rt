@@ -1,53 +1,60 @@
 //! Frames that keep their first words.
 ghost use Rattle.std.specs.Prelude.{◌≡◌, ◌<◌, length, IfOk, IsTrue, slice_set};
 ghost use Rattle.pip_base.specs.Memory.{IsMemory, frame_at};
-ghost use Rattle.pip_journal.specs.Changes.{HasChanges};
+ghost use Rattle.pip_journal.specs.Changes.{HasChanges, IsRewritten};
 ghost use Rattle.pip_switch.specs.Rewinding.{ArePlaces, rewritten};
-ghost use Rattle.pip_journal.specs.Tracks.{IsRewound, Tracks, TracksParts};
+ghost use Rattle.pip_journal.specs.Tracks.{StaysFrom, IsRewound, Tracks, TracksParts};
 
-use crate::changes::add_frame;
+use crate::changes::{add_below, add_frame};
 use crate::first::First;
-use crate::frames::restore_frame;
+use crate::frames::{are_other, copied_uncounted, restore_frame, take_back, write_both};
 use crate::opened::{PART, Parts, all_frames, all_parts, next_opened};
 use pip_base::{Frame, Steps};
 use pip_frames::{Frames, RawFrames};
 use pip_switch::Rewind;
 use std::alloc::{AllocError, Global};
-use std::marker::PhantomData;
-use std::sync::ledger::Ledger;
+use std::marker::{Brand, PhantomData};
+use std::sync::ledger::{Blank, Ledger};
 
-/// How many words of a rewinding are kept.
-const NOTED: usize = 4096;
+/// For how many words there is room from the start. An empty list without room has no address, and to compare such a
+/// one takes long.
+const FIRST_ROOM: usize = 64;
 
-/// Frames beside their first words. A frame, or a part of one, that wasn't opened since the last rewinding has its
-/// first words. In a new journal all are opened. The words of a rewinding, if there are at most 4096, are known while
-/// nothing is written after it.
+/// Frames beside their first words, and beside those to which they were taken back last. A frame, or a part of one,
+/// that wasn't opened since then has the latter. In a new journal all are opened.
 #[derive(Drop)]
 pub struct Journal<F: First> {
     frames: RawFrames,
     first: RawFrames,
+    // The first words with those of the last rewinding over them, which are none where they weren't changes alone.
+    base: RawFrames,
+    words: Vec<u32>,
     opened: Vec<bool>,
     parts: Vec<Parts>,
-    // The words of the last rewinding, and whether the frames are still as it left them.
-    words: Vec<u32>,
+    // Whether nothing was written since the last rewinding, and a frame from which on none was.
     still: bool,
+    top: usize,
     of: PhantomData<F>,
     ghost first_is: { first.block.frames ≡ F.words },
     ghost count: { length frames.block.frames ≡ length first.block.frames },
+    ghost base_count: { length base.block.frames ≡ length first.block.frames },
+    ghost kept: { ∥ IsRewritten first.block.frames base.block.frames words.items ∥₁ },
     ghost each: { length opened.items ≡ length first.block.frames },
     ghost rows: { length parts.items ≡ length first.block.frames },
-    ghost tracks: { ∥ Tracks first.block.frames frames.block.frames opened.items ∥₁ },
-    ghost tracks_parts: { ∥ TracksParts first.block.frames frames.block.frames parts.items ∥₁ },
-    ghost rewound: { ∥ IsRewound first.block.frames frames.block.frames words.items still ∥₁ },
+    ghost tracks: { ∥ Tracks base.block.frames frames.block.frames opened.items ∥₁ },
+    ghost tracks_parts: { ∥ TracksParts base.block.frames frames.block.frames parts.items ∥₁ },
+    ghost below: { ∥ StaysFrom base.block.frames frames.block.frames top ∥₁ },
+    ghost rewound: { ∥ IsRewound base.block.frames frames.block.frames still ∥₁ },
 }
 
 impl<F: First> Frames for Journal<F> {
     ghost use Rattle.std.proofs.Common.{refl};
-    ghost use Rattle.std.specs.Prelude.{false, true};
+    ghost use Rattle.std.specs.Prelude.{◌+◌, false, max, true};
     ghost use Rattle.std.specs.Vec.{with_item};
     ghost use Rattle.pip_frames.specs.Lending.{block_with_frame};
     ghost use Rattle.pip_frames.specs.RawBounds.{raw_bounds};
-    ghost use Rattle.pip_journal.specs.Opening.{all_opened, length_set, not_rewound, opens_frame, opens_parts};
+    ghost use Rattle.pip_journal.specs.Opening.{all_opened, length_set, not_rewound, opens_below, opens_frame};
+    ghost use Rattle.pip_journal.specs.Opening.{opens_parts};
 
     ghost memory = { λ m. m.frames.block.frames };
 
@@ -56,12 +63,14 @@ impl<F: First> Frames for Journal<F> {
       opened = with_item m.opened f true;
       parts = with_item m.parts f all_opened;
       still = false;
+      top = max m.top (f + 1);
       count = length_set m.frames.block.frames f ws _ m.count;
       each = length_set m.opened.items f true _ m.each;
       rows = length_set m.parts.items f all_opened _ m.rows;
-      tracks = opens_frame m.first.block.frames m.frames.block.frames m.opened.items f ws m.tracks;
-      tracks_parts = opens_parts m.first.block.frames m.frames.block.frames m.parts.items f ws m.tracks_parts;
-      rewound = not_rewound m.first.block.frames _ m.words.items;
+      tracks = opens_frame m.base.block.frames m.frames.block.frames m.opened.items f ws m.tracks;
+      tracks_parts = opens_parts m.base.block.frames m.frames.block.frames m.parts.items f ws m.tracks_parts;
+      below = opens_below m.base.block.frames m.frames.block.frames _ f f m.top _ ws refl refl refl m.below;
+      rewound = not_rewound m.base.block.frames _;
     } };
 
     ghost puts = { λ m f ws. refl };
@@ -79,6 +88,7 @@ impl<F: First> Frames for Journal<F> {
     fn set_word(&mut self, f: Frame, i: u32, w: u32) {
         self.still = false;
         self.opened[f.number() as usize] = true;
+        self.top = self.top.max(f.number() as usize + 1);
         self.parts[f.number() as usize][i as usize / PART] = true;
         self.frames.set_word(f, i, w);
     }
@@ -86,6 +96,7 @@ impl<F: First> Frames for Journal<F> {
     fn zero(&mut self, f: Frame) {
         self.still = false;
         self.opened[f.number() as usize] = true;
+        self.top = self.top.max(f.number() as usize + 1);
         self.parts[f.number() as usize] = all_parts(true);
         self.frames.zero(f);
     }
@@ -97,6 +108,7 @@ impl<F: First> Frames for Journal<F> {
     fn frame_mut<L: Ledger>(&mut self, f: Frame, steps: &mut Steps<L>) -> &mut [u32; 1024] {
         self.still = false;
         self.opened[f.number() as usize] = true;
+        self.top = self.top.max(f.number() as usize + 1);
         self.parts[f.number() as usize] = all_parts(true);
         self.frames.frame_mut(f, steps)
     }
@@ -109,33 +121,40 @@ impl<F: First> Frames for Journal<F> {
     ) -> (&[u32; 1024], &mut [u32; 1024]) {
         self.still = false;
         self.opened[write.number() as usize] = true;
+        self.top = self.top.max(write.number() as usize + 1);
         self.parts[write.number() as usize] = all_parts(true);
         self.frames.pair(read, write, steps)
     }
 }
 
 impl<F: First> Journal<F> {
-    // Takes a frame back to its first words.
+    // Takes a frame back to its words after the last rewinding.
     fn restore<L: Ledger>(&mut self, frame: Frame, steps: &mut Steps<L>)
         requires { frame < length F.words }
-        ensures { self.new.frames.block.frames ≡ slice_set self.old.frames.block.frames frame (frame_at F.words frame) }
+        ensures frames { self.new.frames.block.frames
+            ≡ slice_set self.old.frames.block.frames frame (frame_at self.old.base.block.frames frame) }
+        ensures base { self.new.base.block.frames ≡ self.old.base.block.frames }
+        ensures top { self.new.top ≡ self.old.top }
     {
         self.still = false;
         let parts = &self.parts[frame.number() as usize];
-        restore_frame(&self.first, &mut self.frames, frame, parts, steps);
+        restore_frame(&self.base, &mut self.frames, frame, parts, steps);
         self.parts[frame.number() as usize] = all_parts(false);
         self.opened[frame.number() as usize] = false;
     }
 
-    // Takes all frames back to their first words.
+    // Takes all frames back to their words after the last rewinding.
     fn close<L: Ledger>(&mut self, steps: &mut Steps<L>)
-        ensures { self.new.frames.block.frames ≡ F.words }
+        ensures { self.new.frames.block.frames ≡ self.new.base.block.frames }
     {
-        let mut f = next_opened(&self.opened, 0);
-        while f < self.opened.len() {
+        let end = self.top.min(self.opened.len());
+        let mut f = next_opened(&self.opened[..end], 0);
+        while f < end {
             self.restore(Frame::new(f as u32), steps);
-            f = next_opened(&self.opened, f + 1);
+            f = next_opened(&self.opened[..end], f + 1);
         }
+        self.top = 0;
+        self.still = true;
     }
 
     // Writes words, each of which comes after its place.
@@ -152,21 +171,30 @@ impl<F: First> Journal<F> {
         }
     }
 
-    // Notes that the frames have their first words with these over them, where there is room for these. It takes no
-    // memory.
-    fn note(&mut self, words: &[u32])
-        requires { self.old.frames.block.frames ≡ rewritten F.words words.now }
-        ensures { self.new.frames ≡ self.old.frames }
+    // Takes the frames to their first words with these over them. It keeps the words where they are changes alone, and
+    // there is memory for them.
+    fn go_to<L: Ledger>(&mut self, words: &[u32], steps: &mut Steps<L>)
+        requires places { ArePlaces (length F.words) words.now }
+        requires closed { self.old.frames.block.frames ≡ self.old.base.block.frames }
+        ensures { self.new.frames.block.frames ≡ rewritten F.words words.now }
     {
-        self.still = false;
-        if words.len() <= self.words.capacity() {
-            self.words.clear();
-            self.still = self.words.extend_from_slice(words).is_ok();
+        take_back(
+            &self.first,
+            &mut self.base,
+            &mut self.frames,
+            &self.words,
+            steps,
+        );
+        self.words.clear();
+        if are_other(&self.first, words, steps) && self.words.extend_from_slice(words).is_ok() {
+            write_both(&mut self.base, &mut self.frames, words);
+        } else {
+            self.write(words);
         }
     }
 
     /// Whether nothing was written since the frames were taken back with these words over their first ones. It may
-    /// answer no where there are more than 4096 words.
+    /// answer no where a word is the first one, places don't rise, or memory was out.
     pub fn is_at(&self, words: &[u32]) -> bool
         ensures { IsTrue result → ⟦<Journal<F> as Frames>⟧.memory self.now ≡ rewritten F.words words.now }
     {
@@ -181,15 +209,18 @@ impl<F: First> Journal<F> {
         ensures { IfOk result (λ j. ⟦<Journal<F> as Frames>⟧.memory j ≡ ⟦<RawFrames as Frames>⟧.memory frames) }
     {
         let count = frames.count() as usize;
+        let base = copied_uncounted::<Brand>(alloc, &first, Blank::new(1))?;
         let opened = vec![in alloc; true; count]?;
         let parts = all_frames(alloc, count)?;
         Ok(Journal {
             frames,
             first,
+            base,
+            words: Vec::with_capacity(alloc, FIRST_ROOM)?,
             opened,
             parts,
-            words: Vec::with_capacity(alloc, NOTED)?,
             still: false,
+            top: count,
             of: PhantomData,
         })
     }
@@ -204,13 +235,19 @@ impl<F: First> Journal<F> {
         ensures { IfOk result (λ _. IsMemory F.words →
             HasChanges F.words (⟦<Journal<F> as Frames>⟧.memory self.now) to.old.items to.new.items) }
     {
-        let mut f = next_opened(&self.opened, 0);
-        while f < self.opened.len() {
-            let now = self.frames.frame(Frame::new(f as u32), steps);
-            let first = self.first.frame(Frame::new(f as u32), steps);
-            add_frame(now, first, &self.parts[f], f as u32, to)?;
-            f = next_opened(&self.opened, f + 1);
+        let end = self.top.min(self.opened.len());
+        let mut f = next_opened(&self.opened[..end], 0);
+        let mut rest = add_below(&self.words, f as u32 * 1024, to)?;
+        while f < end {
+            let frame = Frame::new(f as u32);
+            let now = self.frames.frame(frame, steps);
+            let base = self.base.frame(frame, steps);
+            let first = self.first.frame(frame, steps);
+            rest = add_frame(now, base, first, &self.parts[f], f as u32, rest, to)?;
+            f = next_opened(&self.opened[..end], f + 1);
+            rest = add_below(rest, f as u32 * 1024, to)?;
         }
+        to.extend_from_slice(rest)?;
         Ok(())
     }
 }
@@ -223,7 +260,8 @@ impl<F: First> Rewind for Journal<F> {
             return;
         }
         self.close(steps);
-        self.write(words);
-        self.note(words);
+        if self.words.as_slice() != words {
+            self.go_to(words, steps);
+        }
     }
 }

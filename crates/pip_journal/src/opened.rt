@@ -1,5 +1,7 @@
 //! Which parts of a frame were opened.
-ghost use Rattle.std.specs.Prelude.{◌≡◌, ◌<◌, ◌≤◌, ℕ, IfOk, IsTrue, false, length, replicate, slice_index_or, true};
+ghost use Rattle.pip_journal.specs.Tracks.{SameWords, TracksWords};
+ghost use Rattle.std.specs.Prelude.{◌≡◌, ◌+◌, ◌<◌, ◌≤◌, ℕ, IfOk, IsTrue, false, length, replicate};
+ghost use Rattle.std.specs.Prelude.{slice_index_or, true};
 
 use std::alloc::{AllocError, Global};
 
@@ -14,6 +16,11 @@ pub(crate) fn all_parts(opened: bool) -> Parts
     ensures { result ≡ replicate 32 opened }
 {
     [opened; 32]
+}
+
+/// Whether all parts were opened.
+pub(crate) fn are_all(parts: &Parts) -> bool {
+    *parts == [true; 32]
 }
 
 /// All parts of `count` frames, opened. The only error is that memory is out.
@@ -66,4 +73,49 @@ pub(crate) fn next_opened(opened: &[bool], from: usize) -> usize
         at += 1;
     }
     at
+}
+
+// Whether the words of some parts from `part` on are the same.
+fn are_same(now: &[u32; 1024], base: &[u32; 1024], part: usize, count: usize) -> bool
+    requires { part + count ≤ 32 }
+    ensures { IsTrue result → SameWords base.now now.now part (part + count) }
+{
+    let start = part * PART;
+    let end = start + count * PART;
+    now[start..end] == base[start..end]
+}
+
+// How many parts are compared at once, where they may be the same.
+const PARTS_AT_ONCE: usize = 8;
+
+// How many parts from `part` on have the same words: 0, 1 or `PARTS_AT_ONCE`. There may be more.
+fn count_same(now: &[u32; 1024], base: &[u32; 1024], part: usize) -> usize
+    requires { part < 32 }
+    ensures end { part + result ≤ 32 }
+    ensures same { SameWords base.now now.now part (part + result) }
+{
+    if part % PARTS_AT_ONCE == 0 && are_same(now, base, part, PARTS_AT_ONCE) {
+        return PARTS_AT_ONCE;
+    }
+    if are_same(now, base, part, 1) { 1 } else { 0 }
+}
+
+/// The first part from `from` on that was opened and has other words than `base`, or the end where there is none. The
+/// words differ in opened parts only.
+pub(crate) fn next_other(now: &[u32; 1024], base: &[u32; 1024], parts: &Parts, from: usize) -> usize
+    requires from { from ≤ 32 }
+    requires parts { TracksWords base.now now.now parts.now }
+    ensures from { from ≤ result }
+    ensures end { result ≤ 32 }
+    ensures same { SameWords base.now now.now from result }
+{
+    let mut part = next_opened(parts, from);
+    while part < parts.len() {
+        let same = count_same(now, base, part);
+        if same == 0 {
+            break;
+        }
+        part = next_opened(parts, part + same);
+    }
+    part
 }

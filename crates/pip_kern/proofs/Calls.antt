@@ -34,7 +34,7 @@ none_of (Some x) e = cc
 -- one that is missing gives the status that was named for it
 pub missing_status : {A : Type 0} (o : Option A) (q status : Status) → o ≡ None → Err q ≡ ok_or o status → q ≡ status
 missing_status {A} o q status none e = let bad : Err q ≡ ok_or {T = A} None status =
-    e ∙ ap (λ z. ok_or z status) none in cc
+    rw (e, none) in cc
 
 -- one that is taken away where a test holds
 pub some_kept : {A : Type 0} (on : Bool) (o : Option A) (a : A) → cond on None o ≡ Some a → (on ≡ false) × (o ≡ Some a)
@@ -44,14 +44,14 @@ some_kept false o a e = (refl, e)
 -- what was looked up is what the tree has
 pub looked_up : (f : SpaceRow → FullRow) (o p : Option SpaceRow) (r : Option FullRow) → option_map f o ≡ r → o ≡ p
     → r ≡ option_map f p
-looked_up f o p r e is = sym e ∙ ap (option_map f) is
+looked_up f o p r e is = rw (← e, is)
 
 -- ---- the child
 
 -- the child that was found
 pub the_child : (t : Tree) (p d child : ℕ) (o : Option ℕ) → o ≡ Some child
     → o ≡ option_map (λ (y : Node). y.name) (child_at t p d) → (y : Node) × (child_at t p d ≡ Some y) × (child ≡ y.name)
-the_child t p d child o some e = go (child_at t p d) refl (sym some ∙ e)
+the_child t p d child o some e = go (child_at t p d) refl (cc)
   where
     go : (o : Option Node) → child_at t p d ≡ o → Some child ≡ option_map (λ (y : Node). y.name) o
         → (y : Node) × (child_at t p d ≡ Some y) × (child ≡ y.name)
@@ -61,7 +61,7 @@ the_child t p d child o some e = go (child_at t p d) refl (sym some ∙ e)
 -- is a node of the tree
 pub child_node : (t : Tree) → IsSound t → (p d child : ℕ) (y : Node) → child_at t p d ≡ Some y → child ≡ y.name
     → find_node t child ≡ Some y
-child_node t s p d child y is name = ap (find_node t) name ∙ other_found t s y.name y (child_back t s p d y is).0
+child_node t s p d child y is name = cc (other_found t s y.name y (child_back t s p d y is).0)
 
 -- the node of the child at an address
 pub named_child : (t : Tree) → IsSound t → (p d c : ℕ) → IsChildAt t p d c
@@ -71,10 +71,10 @@ named_child t s p d c e = let (y, is, name) = the_child t p d c (Some c) refl (s
 
 -- it is what calls speak of
 pub child_of_is : (t : Tree) (p d : ℕ) (y : Node) → child_at t p d ≡ Some y → child_of t p d ≡ y
-child_of_is t p d y e = ap (λ o. unwrap_or o nobody) e
+child_of_is t p d y e = rw e
 
 pub child_name_is : (t : Tree) (p d : ℕ) (y : Node) → child_at t p d ≡ Some y → child_name t p d ≡ y.name
-child_name_is t p d y e = ap (λ o. unwrap_or (option_map (λ (x : Node). x.name) o) 0) e
+child_name_is t p d y e = rw e
 
 -- so it is there
 pub child_stands : (m : Memory) (p d child : ℕ) (o : Option ℕ) → o ≡ Some child → (s : HasPartition m p)
@@ -96,8 +96,8 @@ pub refused-does : (p : ℕ) (call : Tree → Answer) (m : Memory) (q : Status) 
     → Does call p q 0 m m
 refused-does p call m q is = record {
   answer = λ t x s lays found.
-      (sym (ap (λ a. a.status) (is t x s lays found)), sym (ap (λ a. a.value) (is t x s lays found)));
-  tree = λ t x s lays found. subst (λ u. IsHeld u m) (sym (ap (λ a. a.tree) (is t x s lays found))) (s, lays);
+      (cc (is t x s lays found), cc (is t x s lays found));
+  tree = λ t x s lays found. rw (is t x s lays found) (s, lays);
   refused = λ ne. refl;
   count = refl;
 }
@@ -108,10 +108,10 @@ pub accepted-does : (p : ℕ) (call : Tree → Answer) (v : ℕ) (u : Tree → T
     → InEach m p (λ t x. LaysOut (u t) n) → Does call p S.Ok v m n
 accepted-does p call v u m n count is sound laid = record {
   answer = λ t x s lays found.
-      (sym (ap (λ a. a.status) (is t x s lays found)), sym (ap (λ a. a.value) (is t x s lays found)));
+      (cc (is t x s lays found), cc (is t x s lays found));
   tree = λ t x s lays found. (
     sound t x s lays found,
-    subst (λ k. LaysOut k n) (sym (ap (λ a. a.tree) (is t x s lays found))) (laid t x s lays found),
+    rw (is t x s lays found) (laid t x s lays found),
   );
   refused = λ ne. absurd (ne refl);
   count = count;
@@ -128,7 +128,7 @@ abbrev pub has_ok : List (Bool × Status) → Bool
 has_ok cs = list_any (λ c. is_ok c.1) cs
 
 ok_is : (q : Status) → q ≡ S.Ok → is_ok q ≡ true
-ok_is q e = ap is_ok e
+ok_is q e = rw e
 
 -- so none of them answers Ok
 pub refusal-never_ok : (cs : List (Bool × Status)) (q : Status) → has_ok cs ≡ false → first_met cs ≡ Some q → q ≢ S.Ok
@@ -139,7 +139,7 @@ refusal-never_ok (c ∷ cs) q off e = go (is_ok c.1) c.0 refl off e (refusal-nev
         → (has_ok cs ≡ false → first_met cs ≡ Some q → q ≢ S.Ok) → q ≢ S.Ok
     go true b is none met rest = cc
     go false false is none met rest = rest none met
-    go false true is none met rest = λ z. let same : c.1 ≡ q = cc in let on = ok_is c.1 (same ∙ z) in
+    go false true is none met rest = λ z. let same : c.1 ≡ q = cc in let on = ok_is c.1 (cc) in
         both_ways (is_ok c.1) is on
 
 -- a call with a value that is refused
@@ -147,4 +147,4 @@ pub refused-answer : (t : Tree) (cs : List (Bool × Status)) (a : Answer) (q : S
     → first_met cs ≡ Some q → IsAnswer (Err q) (answer_unless t (first_met cs) a)
 unfolding refusal-never_ok
 refused-answer t cs a q off e =
-    (ap (λ o. (answer_unless t o a).status) e, refusal-never_ok cs q off e, ap (λ o. (answer_unless t o a).value) e)
+    (rw e, refusal-never_ok cs q off e, rw e)

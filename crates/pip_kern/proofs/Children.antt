@@ -20,28 +20,28 @@ module _ (t : Tree) (s : IsSound t) (p d : ℕ) (x : Node) (x_is : find_node t p
   child_there r is given_so =
       let (q, at, same) = full_back t x (d / 4096) r (sym is) in
       let given : given_word t p q.frame % 4096 ≡ 1 =
-      ap (λ a. given_word t a q.frame % 4096) (sym name_is) ∙ (ap (λ z. z.given % 4096) (sym same) ∙ given_so) in
+      ap (λ a. given_word t a q.frame % 4096) (sym name_is) ∙ (cc) in
       let (y, child, name) = row_child t s p d x q x_is place at given in
-      ap (λ z. Some z.frame) same ∙ (ap Some (sym name) ∙ sym (ap (option_map (λ (y : Node). y.name)) child))
+      ap (λ z. Some z.frame) same ∙ (ap Some (sym name) ∙ sym (rw child))
 
   -- any other isn't
   pub child_other : (r : FullRow) → Some r ≡ full_rows t x (d / 4096) → r.given % 4096 ≢ 1
       → None ≡ option_map (λ (y : Node). y.name) (child_at t p d)
   child_other r is given_so = elim (cases_option (child_at t p d)) [
-    | inl none ↦ sym (ap (option_map (λ (y : Node). y.name)) none)
+    | inl none ↦ cc
     | inr y ↦
         let (q, at, frame, word) = child_row t s p d x y.0 x_is y.1 in
         let here : Some r ≡ Some (filled t x q) = is ∙ full-at t x (d / 4096) (Some q) at in
         let same : r ≡ filled t x q = cc in
         let given : r.given ≡ d / 4096 * 4096 + 1 =
-        ap (λ z. z.given) same ∙ (ap (λ a. given_word t a q.frame) name_is ∙ (ap (given_word t p) frame ∙ word)) in
+        simp (same, name_is, frame, word) in
         absurd (given_so (omega arith))
   ]
 
   -- nor is there a child where there is no row
   pub child_none_there : None ≡ full_rows t x (d / 4096) → None ≡ option_map (λ (y : Node). y.name) (child_at t p d)
   child_none_there is = elim (cases_option (child_at t p d)) [
-    | inl none ↦ sym (ap (option_map (λ (y : Node). y.name)) none)
+    | inl none ↦ cc
     | inr y ↦
         let (q, at, frame, word) = child_row t s p d x y.0 x_is y.1 in
         let bad : None ≡ Some (filled t x q) = is ∙ full-at t x (d / 4096) (Some q) at in
@@ -52,10 +52,10 @@ module _ (t : Tree) (s : IsSound t) (p d : ℕ) (x : Node) (x_is : find_node t p
   pub child_by_word : (o : Option FullRow) → o ≡ full_rows t x (d / 4096) → (w : ℕ) → w ≡ row_word Shadow1 o
       → w % 4096 ≡ 1 → (q : Option ℕ) → q ≡ option_map (λ (r : FullRow). r.frame) o
       → q ≡ option_map (λ (y : Node). y.name) (child_at t p d)
-  child_by_word None is w word one q page = absurd (omega (arith, word, one))
-  child_by_word (Some r) is w word one q page = page ∙ child_there r is (ap (λ k. k % 4096) (sym word) ∙ one)
+  child_by_word None is w word one q page = absurd (omega arith)
+  child_by_word (Some r) is w word one q page = cc (child_there r is (ap (λ k. k % 4096) (sym word) ∙ one))
 
   pub no_child_by_word : (o : Option FullRow) → o ≡ full_rows t x (d / 4096) → (w : ℕ) → w ≡ row_word Shadow1 o
       → w % 4096 ≢ 1 → None ≡ option_map (λ (y : Node). y.name) (child_at t p d)
   no_child_by_word None is w word other = child_none_there is
-  no_child_by_word (Some r) is w word other = child_other r is (λ e. other (ap (λ k. k % 4096) word ∙ e))
+  no_child_by_word (Some r) is w word other = child_other r is (λ e. other (rw (word, e)))

@@ -31,8 +31,7 @@ pub up_word : (t : Tree) → IsSound t → (m : Memory) → LaysOut t m → (a :
     → word_at m a 11 ≡ p.up
 up_word t s m lays a p is =
     let x = laid_space t s m lays a p is in
-    subst (λ k. word_at m k 11 ≡ p.up) (found_name t a p is)
-    (read_descriptor m p (cells_of (full_rows t p)) x.node 11 (omega arith))
+    rw (← found_name t a p is) (read_descriptor m p (cells_of (full_rows t p)) x.node 11 (omega arith))
 
 -- which is there, too
 pub parent_stands : (m : Memory) (a : ℕ) → HasPartition m a → HasPartition m (word_at m a 11)
@@ -43,7 +42,7 @@ parent_stands m a s =
       node = q.0;
       sound = s.sound;
       laid = s.laid;
-      found = ap (find_node s.tree) (up_word s.tree s.sound m s.laid a s.node s.found) ∙ q.1;
+      found = cc (up_word s.tree s.sound m s.laid a s.node s.found, q.1);
     }
 
 -- ---- the climb
@@ -63,43 +62,36 @@ climb_start t part top p is =
 pub climb_on : (t : Tree) → IsSound t → (part top at up steps : ℕ) (c : Climb t part top at steps) → (at ≡ top → ⊥)
     → up ≡ c.x.up → (up ≡ at → ⊥) → Climb t part top up (steps + 1)
 climb_on t s part top at up steps c not_top up_is moved = elim (root_or_other t at c.x c.x_is) [
-  | inl root ↦ absurd (moved (up_is ∙ ap (λ z. z.up) root ∙ root_up t s ∙ sym (ap (λ z. z.name) root)
-      ∙ found_name t at c.x c.x_is))
+  | inl root ↦ absurd (moved (rw (up_is, root, root_up t s, ← root, found_name t at c.x c.x_is)))
   | inr o ↦
       let q = up_found t s at c.x c.x_is in
       let low = depth_up t s at c.x o in
       let long = c.long in
-      let same : depth t up ≡ depth t c.x.up = ap (depth t) up_is in
+      let same : depth t up ≡ depth t c.x.up = rw up_is in
       record {
         x = q.0;
-        x_is = ap (find_node t) up_is ∙ q.1;
-        from_part = subst (λ k. OnChain t k part) (sym up_is)
-            (chain-trans t c.x.up at part (chain_parent t at c.x o) c.from_part);
+        x_is = cc (q.1);
+        from_part = rw up_is (chain-trans t c.x.up at part (chain_parent t at c.x o) c.from_part);
         long = omega arith;
-        passed = λ r. subst (OnChain t top) (sym up_is)
-            (elim (chain_up t top at c.x o (c.passed r)) [ inl e ↦ absurd (not_top (sym e)) | inr u ↦ u ]);
+        passed = λ r. rw up_is (elim (chain_up t top at c.x o (c.passed r))
+            [ inl e ↦ absurd (not_top (sym e)) | inr u ↦ u ]);
       }
 ]
 
 -- no climb takes as many steps as there are frames
 pub climb_full : (t : Tree) → IsSound t → (part top at steps : ℕ) → Climb t part top at steps → steps ≡ t.frames → ⊥
-climb_full t s part top at steps c e = let few = few_nodes t s in let long = c.long in
-    let all = depth_few t part in let some = depth_some t s at c.x c.x_is in omega arith
+climb_full t s part top at steps c e = omega (arith, few_nodes t s, depth_few t part, depth_some t s at c.x c.x_is)
 
 -- nor more than there are partitions from here up to the root
 pub climb_chain : (t : Tree) → IsSound t → (part top at steps : ℕ) → Climb t part top at steps
     → steps + 1 ≤ length (chain t part)
 unfolding depth
-climb_chain t s part top at steps c = let long = c.long in let some = depth_some t s at c.x c.x_is in omega arith
-
--- where top is met, it is on the chain
-pub climb_met : (t : Tree) (part top at steps : ℕ) → Climb t part top at steps → at ≡ top → OnChain t top part
-climb_met t part top at steps c e = subst (λ k. OnChain t k part) e c.from_part
+climb_chain t s part top at steps c = omega (arith, depth_some t s at c.x c.x_is)
 
 -- where the root is passed, it isn't
 pub climb_past : (t : Tree) → IsSound t → (part top at steps : ℕ) (c : Climb t part top at steps) → (at ≡ top → ⊥)
     → c.x.up ≡ at → OnChain t top part → ⊥
 climb_past t s part top at steps c not_top up_is r =
     let root = own_parent t s at c.x c.x_is up_is in
-    let at_root : at ≡ t.root.name = sym (found_name t at c.x c.x_is) ∙ ap (λ z. z.name) root in
-    not_top (at_root ∙ sym (root_chain t s top (subst (OnChain t top) at_root (c.passed r))))
+    let at_root : at ≡ t.root.name = rw (← found_name t at c.x c.x_is, root) in
+    not_top (cc (root_chain t s top (subst (OnChain t top) at_root (c.passed r))))

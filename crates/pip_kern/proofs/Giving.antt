@@ -38,7 +38,7 @@ can_mark t y v w g c = record {
 
 -- a page that can be given can be hidden
 pub give_can_hide : (m : Memory) (caller v w : ℕ) → CanGivePage m caller v w → CanSetUser m caller v
-give_can_hide m caller v w c = subst (λ p. CanSetUser m p v) c.up (can_set c.tree c.child.up v c.frame
+give_can_hide m caller v w c = rw (← c.up) (can_set c.tree c.child.up v c.frame
     (can_mark c.tree c.child v w c.frame c.can) (tree_rows c.tree) false (given_to c.child) c.given m c.midway)
 
 -- and then named
@@ -59,18 +59,20 @@ give_gives m n l caller v w t y gs g can up k =
     subst (λ p. SetsUser p v false m n → NameSays n l p v w → OthersSay n l p → HasGiven t y (gs ++ g ∷ []) m l) up
     (λ says named others. page_marked t y.up v g (can_mark t y v w g can) (tree_rows t) false (given_to y) gs m k n
     (set_said t y.up v g (can_mark t y v w g can) (tree_rows t) false (given_to y) gs m k n (says t)) l
-    (subst (NameSays n l y.up v) can.word named) others)
+    (rw (← can.word) named) others)
 
 -- within a bound on the steps
 pub gives_in : (m : Memory) (caller v w before hidden after : ℕ)
     → OnEachChain m caller v (λ t rows r. hidden ≤ before + 7 * length (chain t caller)) → after ≤ hidden + 2
     → GivesPageIn caller v w m before after
 gives_in m caller v w before hidden after says then t y gs g can up k =
-    let one = subst (λ p. OnEachChain m p v (λ t rows r. hidden ≤ before + 7 * length (chain t p))
-    → hidden ≤ before + 7 * length (chain t p)) up
-    (λ on. said t y.up v g (can_mark t y v w g can) (tree_rows t) false (given_to y) gs m k
-    (hidden ≤ before + 7 * length (chain t y.up)) (on t)) says in
-    omega (arith, one, then)
+    omega (
+      arith,
+      subst (λ p. OnEachChain m p v (λ t rows r. hidden ≤ before + 7 * length (chain t p)) → hidden ≤ before
+          + 7 * length (chain t p)) up (λ on. said t y.up v g (can_mark t y v w g can) (tree_rows t) false (given_to y)
+          gs
+          m k (hidden ≤ before + 7 * length (chain t y.up)) (on t)) says,
+    )
 
 -- ---- pages one after another
 
@@ -79,8 +81,8 @@ module _ (m n : Memory) (caller born : ℕ) (ps : List Pair) (i v : ℕ) (p : Pa
     (so_far : GivesFurtherPages caller born ps (pair_frames (take i ps)) m n) where
   can_next : (t : Tree) (y : Node) → CanGiveEach t y born ps
       → CanGive t y v (shadow1_word as_configuration born) p.frame
-  can_next t y each = subst (λ k. CanGive t y k (shadow1_word as_configuration born) p.frame) (sym place)
-      (subst (λ q. CanGive t y (vpage q.va) (shadow1_word as_configuration born) q.frame) (sym at) (each i p low))
+  can_next t y each = rw place (subst (λ q. CanGive t y (vpage q.va) (shadow1_word as_configuration born) q.frame)
+      (sym at) (each i p low))
 
   -- the next page can be given
   pub next_can : CanGivePages m caller born ps → CanGivePage n caller v (shadow1_word as_configuration born)
@@ -119,4 +121,4 @@ module _ (m n : Memory) (caller born : ℕ) (ps : List Pair) (i v : ℕ) (p : Pa
 pub all_given : (m n : Memory) (caller born : ℕ) (ps : List Pair) (i : ℕ) → length ps ≤ i → GivesFurtherPages caller
     born ps (pair_frames (take i ps)) m n → GivesFurtherPages caller born ps (pair_frames ps) m n
 all_given m n caller born ps i high says =
-    subst (λ qs. GivesFurtherPages caller born ps (pair_frames qs) m n) (take_all i ps high) says
+    rw (take_all i ps high) at says

@@ -40,7 +40,7 @@ midway_same t m rows more k same = record {
   shape = k.shape;
   count = k.count;
   each = λ a x e. Space-same m x (rows a) (more a) (λ v. same a x v e) (k.each a x e);
-  like = λ a x v e. subst (λ o. Like o (full_rows t x v)) (same a x v e) (k.like a x v e);
+  like = λ a x v e. rw (← same a x v e) (k.like a x v e);
 }
 
 -- ---- before the first page
@@ -68,7 +68,7 @@ or_true false = refl
 
 -- one more page is among those marked
 has_more : (gs : List ℕ) (g f : ℕ) → has (gs ++ g ∷ []) f ≡ (has gs f || (g == f))
-has_more gs g f = list_any-append (λ k. k == f) gs (g ∷ []) ∙ ap (λ b. has gs f || b) (or_false (g == f))
+has_more gs g f = rw (list_any-append (λ k. k == f) gs (g ∷ []), or_false (g == f))
 
 module _ (user : Bool) (word : ℕ → ℕ) where
   -- the page of a row stays
@@ -85,7 +85,7 @@ module _ (user : Bool) (word : ℕ → ℕ) where
   marked_other gs g own r ne =
       let same : has gs r.frame ≡ has (gs ++ g ∷ []) r.frame = sym (has_more gs g r.frame
       ∙ (ap (λ b. has gs r.frame || b) (ne_eqb g r.frame (λ e. ne (sym e))) ∙ or_false (has gs r.frame))) in
-      ap (λ on. cond on (record r { user = user; given = cond own (word r.frame) r.given }) r) same
+      rw same
 
   -- the row of this page is marked
   marked_here : (gs : List ℕ) (g : ℕ) (own : Bool) (r : FullRow) → r.frame ≡ g
@@ -93,8 +93,7 @@ module _ (user : Bool) (word : ℕ → ℕ) where
   marked_here gs g own r e =
       let on : has (gs ++ g ∷ []) r.frame ≡ true = has_more gs g r.frame
       ∙ (ap (λ b. has gs r.frame || b) (eq-eqb g r.frame (sym e)) ∙ or_true (has gs r.frame)) in
-      ap (λ f. record r { user = user; given = cond own (word f) r.given }) (sym e)
-      ∙ sym (ap (λ b. cond b (record r { user = user; given = cond own (word r.frame) r.given }) r) on)
+      cc
 
   -- a row of somebody else, and one of its own
   set_other : (gs : List ℕ) (r : FullRow)
@@ -156,7 +155,7 @@ module _ (t : Tree) (p v g : ℕ) (can : CanMark t p v g) (base : ℕ → ℕ �
   row_now : (r : FullRow) × (rows p v ≡ Some r) × (r.frame ≡ g)
   unfolding full_row
   row_now =
-      let z = like_back (rows p v) (filled t x can.row) (subst (Like (rows p v)) full_row (k.like p x v can.found)) in
+      let z = like_back (rows p v) (filled t x can.row) (rw (← full_row) (k.like p x v can.found)) in
       (z.0, z.1, z.2 ∙ can.page)
 
   abbrev now : FullRow
@@ -173,8 +172,7 @@ module _ (t : Tree) (p v g : ℕ) (can : CanMark t p v g) (base : ℕ → ℕ �
   pub set_said : (n : Memory) → ((rows : ℕ → ℕ → Option FullRow) (z : Node) (r : FullRow) → IsSound t
       → MidwayOnChain m t p rows → find_node t p ≡ Some z → rows p v ≡ Some r → UserSet t rows p r.frame user m n)
       → UserSet t rows p g user m n
-  set_said n says = subst (λ f. UserSet t rows p f user m n) row_now.2
-      (says rows x now can.sound (midway_chain m t p rows k) can.found row_now.1)
+  set_said n says = rw (← row_now.2) (says rows x now can.sound (midway_chain m t p rows k) can.found row_now.1)
 
   -- and anything else that it says
   pub said : (S : Type 0) → ((rows : ℕ → ℕ → Option FullRow) (z : Node) (r : FullRow) → IsSound t
@@ -207,7 +205,7 @@ module _ (t : Tree) (p v g : ℕ) (can : CanMark t p v g) (base : ℕ → ℕ �
         (set.each p x can.found here).node.shape set.each set.rest
 
     set_now : set_rows p v ≡ Some (record now { user = user })
-    set_now = ap (user_at g user) row_now.1 ∙ user_at_same g user now row_now.2
+    set_now = rw (row_now.1, user_at_same g user now row_now.2)
 
     -- then it can be named
     pub can_name : HasRow n p v
@@ -233,22 +231,21 @@ module _ (t : Tree) (p v g : ℕ) (can : CanMark t p v g) (base : ℕ → ℕ �
       | inl e ↦
           let from = marked_from user word gs (p == p) (base p v) now row_now.1 in
           let frame : from.0.frame ≡ g =
-          sym (marked_frame user word gs (p == p) from.0) ∙ (sym (ap (λ z. z.frame) from.2) ∙ row_now.2) in
+          rw (← marked_frame user word gs (p == p) from.0, ← from.2, row_now.2) in
           let same : now ≡ row_marked user word gs true from.0 =
-          from.2 ∙ ap (λ b. row_marked user word gs b from.0) own in
+          simp (from.2, own) in
           rw (eq-eqb u v e) (ap (λ (z : FullRow). Some (record z { user = user; given = word g })) same
           ∙ (ap Some (set_own user word gs (word g) from.0 ∙ marked_here user word gs g true from.0 frame)
           ∙ sym (ap (λ z. option_map (row_marked user word (gs ++ g ∷ []) true) (base p z)) e
           ∙ ap (option_map (row_marked user word (gs ++ g ∷ []) true)) from.1)))
       | inr ne ↦ rw (ne_eqb u v ne) (elim (cases_option (base p u)) [
-        | inl none ↦ ap (λ o. user_at g user (option_map (row_marked user word gs (p == p)) o)) none
-            ∙ sym (ap (option_map (row_marked user word (gs ++ g ∷ []) true)) none)
+        | inl none ↦ rw (none, ← none)
         | inr r ↦
             let there : rows p u ≡ Some (row_marked user word gs (p == p) r.0) =
-            ap (option_map (row_marked user word gs (p == p))) r.1 in
+            rw r.1 in
             let apart : r.0.frame ≢ g = λ page. ne (one_like t can.sound p x can.found (rows p)
             (λ w. k.like p x w can.found) u v (row_marked user word gs (p == p) r.0) now there row_now.1
-            (marked_frame user word gs (p == p) r.0 ∙ (page ∙ sym row_now.2))) in
+            (cc (marked_frame user word gs (p == p) r.0, row_now.2))) in
             ap (λ o. user_at g user (option_map (row_marked user word gs (p == p)) o)) r.1
             ∙ (ap (λ b. user_at g user (Some (row_marked user word gs b r.0))) own
             ∙ (user_at_other g user (row_marked user word gs true r.0)
@@ -273,14 +270,10 @@ module _ (t : Tree) (p v g : ℕ) (can : CanMark t p v g) (base : ℕ → ℕ �
     unfolding own own_row other_row
     all_rows a u = elim (cases_eq a p) [
       | inl e ↦
-          ap (λ b. cond b named_rows (set_rows a) u) (eq-eqb a p e)
-          ∙ (own_row u ∙ (ap (λ b. option_map (row_marked user word (gs ++ g ∷ []) b) (base p u)) (sym own)
-          ∙ ap (λ z. rows_marked base p user word (gs ++ g ∷ []) z u) (sym e)))
+          rw (eq-eqb a p e, own_row u, ← own, ← e)
       | inr ne ↦
           let off : (p == a) ≡ false = ne_eqb p a (λ e. ne (sym e)) in
-          ap (λ b. cond b named_rows (set_rows a) u) (ne_eqb a p ne)
-          ∙ (ap (λ b. user_at g user (option_map (row_marked user word gs b) (base a u))) off
-          ∙ (other_row (base a u) ∙ ap (λ b. option_map (row_marked user word (gs ++ g ∷ []) b) (base a u)) (sym off)))
+          rw (ne_eqb a p ne, off, other_row (base a u), ← off)
     ]
 
     -- both writes make the middle of a call with one page more marked
@@ -311,8 +304,7 @@ module _ (t : Tree) (p v g : ℕ) (can : CanMark t p v g) (base : ℕ → ℕ �
 pub frames_more : (ps : List Pair) (i : ℕ) (p : Pair) → i < length ps → p ≡ get_or ps i p
     → pair_frames (take (i + 1) ps) ≡ pair_frames (take i ps) ++ p.frame ∷ []
 frames_more ps i p low at =
-    ap pair_frames (take_more ps i p low) ∙ (map_append (λ q. q.frame) (take i ps) (get_or ps i p ∷ [])
-    ∙ ap (λ q. pair_frames (take i ps) ++ q.frame ∷ []) (sym at))
+    rw (take_more ps i p low, map_append (λ q. q.frame) (take i ps) (get_or ps i p ∷ []), ← at)
 
 -- one page more is marked
 pub one_more : (t : Tree) (rows : ℕ → ℕ → Option FullRow) (p : ℕ) (user : Bool) (word : ℕ → ℕ) (gs : List ℕ)
@@ -322,9 +314,9 @@ pub one_more : (t : Tree) (rows : ℕ → ℕ → Option FullRow) (p : ℕ) (use
     → HasMarked t rows p user word (gs ++ pair_frames (take (i + 1) ps)) m l
 one_more t rows p user word gs ps i q m n l low at old new =
     let list : (gs ++ pair_frames (take i ps)) ++ q.frame ∷ [] ≡ gs ++ pair_frames (take (i + 1) ps) =
-    append_assoc gs (pair_frames (take i ps)) (q.frame ∷ []) ∙ ap (λ fs. gs ++ fs) (sym (frames_more ps i q low at)) in
+    rw (append_assoc gs (pair_frames (take i ps)) (q.frame ∷ []), ← frames_more ps i q low at) in
     record {
-      midway = subst (λ fs. Midway l t (rows_marked rows p user word fs)) list new.midway;
+      midway = rw (← list) new.midway;
       stay = PagesStay-trans t m n l old.stay new.stay;
     }
 

@@ -39,15 +39,15 @@ zero_more m n k f f_is k_in is so_far g low =
 pub all_zero : (m : Memory) (n : ℕ) → length m ≡ n → AreZero m n → m ≡ replicate n (zeros 1024)
 unfolding frame_at
 all_zero m n count each =
-    same_lists m (replicate n (zeros 1024)) (count ∙ sym (length-replicate n (zeros 1024))) (λ k d k_in.
-    get_or_default m k d [] k_in ∙ (each k (omega arith) ∙ sym (get_or-replicate n k (zeros 1024) d (omega arith))))
+    same_lists m (replicate n (zeros 1024)) (cc (length-replicate n (zeros 1024))) (λ k d k_in.
+    cc (get_or_default m k d [] k_in, each k (omega arith), get_or-replicate n k (zeros 1024) d (omega arith)))
 
 -- ---- the descriptor
 
 put_here : (m : Memory) (f i w j old : ℕ) → IsMemory m → f < length m → i < 1024 → word_at m f j ≡ old
     → word_at (put_word m f i w) f j ≡ (if j == i then w else old)
 put_here m f i w j old ok f_in i_in is =
-    rw (word_at-put m f i w f j ok f_in i_in, eq-eqb f f refl) (ap (λ k. if j == i then w else k) is)
+    rw (word_at-put m f i w f j ok f_in i_in, eq-eqb f f refl) (rw is)
 
 -- all words after the pending lines are 0
 high_words : (n j : ℕ) → 16 ≤ j → (if j == 11 then 1 else if j == 9 then 5 else if j == 7 then 4 else if j == 5 then 3
@@ -216,15 +216,15 @@ module _ (n : ℕ) (least : 16 ≤ n) (most : n ≤ 4096) where
   each : (f i : ℕ) (r : Role) → role (root_with n []) f ≡ Some r
       → word_at m6 f i ≡ role_word (root_with n []) (cells_of no_rows) r i
   unfolding role_word
-  each f i DescriptorPage is = ap (λ k. word_at m6 k i) (descriptor_role_back (root_with n []) f is) ∙ descriptor_here i
+  each f i DescriptorPage is = rw (descriptor_role_back (root_with n []) f is, descriptor_here i)
   each f i (DirectoryPage l) is =
-      zero_far f i (λ e. directory_far l (sym (directory_role_back (root_with n []) l f is) ∙ e))
+      zero_far f i (λ e. directory_far l (rw (← directory_role_back (root_with n []) l f is) e))
   each f i (TablePage l d) is = absurd (table_role_back (root_with n []) l d f is).1
   each f i (ListPage k) is =
       let (k_in, at) = list_role_back (root_with n []) k f is in
       let k_is : k ≡ 0 = omega arith in
-      let page : f ≡ 5 = at ∙ ap (λ q. (list_page (root_with n []) q).frame) k_is in
-      zero_far f i (λ e. omega arith) ∙ sym (word_none [] (slots []) k i refl (λ q h. slots-none q))
+      let page : f ≡ 5 = rw (at, k_is) in
+      cc (zero_far f i (λ e. omega arith), word_none [] (slots []) k i refl (λ q h. slots-none q))
 
   whole : HoldsRoot n 1 6 [] no_rows m6
   whole = record {
@@ -232,8 +232,8 @@ module _ (n : ℕ) (least : 16 ≤ n) (most : n ≤ 4096) where
     space = record {
       node = record {
         shape = fine6.shape;
-        small = let c = fine6.count in omega arith;
-        inside = λ f i. let c = fine6.count in let h = five f i in omega arith;
+        small = omega (arith, fine6.count);
+        inside = λ f i. omega (arith, fine6.count, five f i);
         once = once;
         dirs = tt;
         small_dirs = λ b i. absurd i;
@@ -251,4 +251,4 @@ module _ (n : ℕ) (least : 16 ≤ n) (most : n ≤ 4096) where
 
   -- the six words make the root of zeros
   pub start : (m k : Memory) → m ≡ replicate n (zeros 1024) → k ≡ with_root m → HoldsRoot n 1 6 [] no_rows k
-  start m k clean is = subst (HoldsRoot n 1 6 [] no_rows) (sym (is ∙ ap with_root clean)) whole
+  start m k clean is = rw (is, clean) whole

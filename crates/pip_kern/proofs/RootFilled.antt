@@ -46,17 +46,15 @@ module _ (n i g : ℕ) (ts : List Table) (m : Memory) (h : HoldsRoot n i g ts no
 
   can : CanInstall m x b []
   can = record {
-    new = λ on. let (t, there, e) = In-map_from (λ (t : Table). t.index) j ts on in let low = h.indexes t there in
-        omega arith;
-    inside = λ p on. let f = new_page p.frame (In-map (λ (p : Pair). p.frame) p (table_pairs b) on) in
-        let c = h.count in omega (arith, f.1);
-    further = λ f on old. let new = new_page f on in let low = h.pages f old in omega (arith, new.0, low.1);
+    new = λ on. let (t, there, e) = In-map_from (λ (t : Table). t.index) j ts on in omega arith;
+    inside = λ p on. omega (arith, new_page p.frame (In-map (λ (p : Pair). p.frame) p (table_pairs b) on));
+    further = λ f on old. omega (arith, new_page f on, h.pages f old);
     differ = (
       λ e. elim e [ inl a ↦ omega arith | inr e ↦ elim e [ inl a ↦ omega arith | inr none ↦ none ] ],
       (λ e. elim e [ inl a ↦ omega arith | inr none ↦ none ], (λ none. none, tt)),
     );
-    listed = let few = h.few in omega arith;
-    given = let few = h.few in omega arith;
+    listed = omega arith;
+    given = omega arith;
   }
 
   -- what the call asks for
@@ -78,14 +76,14 @@ module _ (n i g : ℕ) (ts : List Table) (m : Memory) (h : HoldsRoot n i g ts no
   after k (space, stay) = record {
     count = stay.count ∙ h.count;
     space = space;
-    few = let few = h.few in let l = length-append ts (b ∷ []) in omega arith;
+    few = omega (arith, length-append ts (b ∷ []));
     indexes = λ t on. elim (In-append_cases t ts (b ∷ []) on) [
-      | inl old ↦ let low = h.indexes t old in omega arith
-      | inr new ↦ elim new [ inl e ↦ let q = ap (λ (t : Table). t.index) e in omega arith | inr none ↦ absurd none ]
+      | inl old ↦ omega arith
+      | inr new ↦ elim new [ inl e ↦ omega (arith, ap (λ (t : Table). t.index) e) | inr none ↦ absurd none ]
     ];
     pages = pages;
     zeros = λ f w out. stay.words f w (λ on. let p = pages f on in
-        elim out [ inl a ↦ omega (arith, p.0) | inr c ↦ omega (arith, p.1) ])
+        elim out [ inl a ↦ omega arith | inr c ↦ omega arith ])
         ∙ h.zeros f w (elim out [ inl a ↦ inl a | inr c ↦ inr (omega arith) ]);
   }
     where
@@ -94,9 +92,9 @@ module _ (n i g : ℕ) (ts : List Table) (m : Memory) (h : HoldsRoot n i g ts no
           let (p, i, e) = In-map_from (λ (p : Pair). p.frame) f (pairs (root_with n (ts ++ b ∷ []))) on in
           elim (pairs_with p x b [] i) [
             | inl old ↦ let low = h.pages p.frame (In-map (λ (p : Pair). p.frame) p (pairs x) old) in
-                (omega (arith, low.0), omega (arith, low.1))
+                (omega arith, omega arith)
             | inr new ↦ let low = new_page p.frame (In-map (λ (p : Pair). p.frame) p (table_pairs b) new) in
-                let some = h.pages 1 (inl refl) in (omega (arith, low.0, some.1), omega (arith, low.1))
+                let some = h.pages 1 (inl refl) in (omega arith, omega arith)
           ]
 
   -- what it makes
@@ -117,7 +115,7 @@ module _ (n : ℕ) (least : 16 ≤ n) (most : n ≤ 4096) (rows : ℕ → Option
   pub has_room : (part u : ℕ) → part ≡ 1 → v ≡ u → HasTableFor m part u
   has_room part u name place = record {
     held = record { node = boot_root n; cells = cells_of rows; is_in = h.space.node; name = sym name };
-    tabled = subst (λ k. has_table (boot_root n) k ≡ true) place (root_room n least most v f (sym at));
+    tabled = rw (← place) (root_room n least most v f (sym at));
   }
 
   -- what it makes
@@ -131,14 +129,13 @@ module _ (n : ℕ) (least : 16 ≤ n) (most : n ≤ 4096) (rows : ℕ → Option
       record {
         count = stay.count ∙ h.count;
         space = Space-same k (boot_root n) (put_row rows v (Some (user_row f))) more same
-            (subst (λ w. Space k (boot_root n) (put_row rows w (Some (user_row f)))) (sym place)
-            (subst (λ w. Space k (boot_root n) (put_row rows u (Some w))) row
+            (rw place (subst (λ w. Space k (boot_root n) (put_row rows u (Some w))) row
             (says (boot_root n) rows h.space (sym name))));
         few = h.few;
         indexes = h.indexes;
         pages = h.pages;
         zeros = λ g w out. stay.words g w (λ on. let p = h.pages g on in
-            elim out [ inl a ↦ omega (arith, p.0) | inr c ↦ omega (arith, p.1) ]) ∙ h.zeros g w out;
+            elim out [ inl a ↦ omega arith | inr c ↦ omega arith ]) ∙ h.zeros g w out;
       }
 
 -- ---- pages one after another
@@ -148,7 +145,7 @@ pages_at : (g count v f : ℕ) → 1024 ≤ v → v < 1024 + count → f ≡ g +
     → pages_from g count v ≡ Some (user_row f)
 pages_at g count v f low high e =
     let on : (nat_le 1024 v && nat_lt v (1024 + count)) ≡ true = grind (arith, nat_tests) in
-    rw on (ap (λ k. Some (user_row k)) (sym e))
+    rw on (rw (← e))
 
 -- and at others
 pages_off : (g count v : ℕ) → (v < 1024) ⊎ (1024 + count ≤ v) → pages_from g count v ≡ None
@@ -166,7 +163,7 @@ pub no_pages : (n count : ℕ) (m : Memory) → count ≡ 0 → HoldsRoot n 1024
 no_pages n count m e h = record {
   count = h.count;
   space = Space-same m (boot_root n) no_rows (pages_from (first_user n) count)
-      (λ v. pages_none (first_user n) v ∙ ap (λ k. pages_from (first_user n) k v) (sym e)) h.space;
+      (λ v. cc (pages_none (first_user n) v)) h.space;
   few = h.few;
   indexes = h.indexes;
   pages = h.pages;
@@ -179,11 +176,11 @@ pub pages_more : (g count v f : ℕ) → v ≡ 1024 + count → f ≡ g + count 
 pages_more g count v f place page w = elim (cases_eq w v) [
   | inl e ↦ rw (eq-eqb w v e) (sym (pages_at g (count + 1) w f (omega arith) (omega arith) (omega arith)))
   | inr ne ↦ rw (ne_eqb w v ne) (elim (cases_lt w 1024) [
-    | inl low ↦ pages_off g count w (inl low) ∙ sym (pages_off g (count + 1) w (inl low))
+    | inl low ↦ cc (pages_off g count w (inl low), pages_off g (count + 1) w (inl low))
     | inr high ↦ elim (cases_lt w (1024 + count)) [
       | inl old ↦ pages_at g count w (g + (w - 1024)) high old refl
           ∙ sym (pages_at g (count + 1) w (g + (w - 1024)) high (omega arith) refl)
-      | inr off ↦ pages_off g count w (inr off) ∙ sym (pages_off g (count + 1) w (inr (omega arith)))
+      | inr off ↦ cc (pages_off g count w (inr off), pages_off g (count + 1) w (inr (omega arith)))
     ]
   ])
 ]
@@ -199,17 +196,17 @@ module _ (n : ℕ) (least : 16 ≤ n) (most : n ≤ 4096) where
   pub pages_all : (v f count : ℕ) → v ≡ 1048575 → f ≡ n - 1 → count ≡ n - 1 - first_user n → (w : ℕ)
       → put_row (pages_from (first_user n) count) v (Some (user_row f)) w ≡ full_rows (boot_tree n) (boot_root n) w
   pages_all v f count place page all w = elim (cases_eq w v) [
-    | inl e ↦ rw (eq-eqb w v e) (root_row n least most w f (sym (root-frame_last n w f least most (e ∙ place) page)))
+    | inl e ↦ rw (eq-eqb w v e) (root_row n least most w f (sym (root-frame_last n w f least most (cc) page)))
     | inr ne ↦ rw (ne_eqb w v ne) (elim (cases_lt w 1024) [
       | inl low ↦ pages_off (first_user n) count w (inl low) ∙ root_no_row n least most w
-          (sym (root-frame_none n (tables_of_root n) w refl (λ z. ne (z ∙ sym place)) (inl low)))
+          (sym (root-frame_none n (tables_of_root n) w refl (λ z. ne (cc)) (inl low)))
       | inr high ↦ elim (cases_lt w (1024 + count)) [
         | inl on ↦
             pages_at (first_user n) count w (first_user n + (w - 1024)) high on refl
             ∙ root_row n least most w (first_user n + (w - 1024)) (sym (root-frame_between n (tables_of_root n) w
             (first_user n + (w - 1024)) refl high (omega arith) refl))
         | inr off ↦ pages_off (first_user n) count w (inr off) ∙ root_no_row n least most w
-            (sym (root-frame_none n (tables_of_root n) w refl (λ z. ne (z ∙ sym place)) (inr (omega arith))))
+            (sym (root-frame_none n (tables_of_root n) w refl (λ z. ne (cc)) (inr (omega arith))))
       ]
     ])
   ]
@@ -219,11 +216,10 @@ module _ (n : ℕ) (least : 16 ≤ n) (most : n ≤ 4096) where
       (full_rows (boot_tree n) (boot_root n)) m → LaysOut (boot_tree n) m
   boot_done m h = lays_sound (boot_tree n) (boot-sound n least most) m h.space.node.shape h.count
       (λ a x e. elim (found_in (boot_tree n) a x e) [
-        | inl same ↦ subst (λ y.
-            NodeIn m y (cells_of (full_rows (boot_tree n) y))) (sym same) h.space.node
+        | inl same ↦ rw same h.space.node
         | inr none ↦ absurd none
       ])
-      (λ f i w e i_in. let (high, zero) = boot_page n f w e in h.zeros f i (inr high) ∙ sym (ap (λ k. k i) zero))
+      (λ f i w e i_in. let (high, zero) = boot_page n f w e in h.zeros f i (inr high) ∙ sym (rw zero))
       (λ i i_in. h.zeros 0 i (inl refl))
 
 -- where the boot tree is laid out, its root is there
@@ -234,5 +230,5 @@ root_stands n least most m lays part is = record {
   node = boot_root n;
   sound = boot-sound n least most;
   laid = lays;
-  found = ap (find_node (boot_tree n)) is;
+  found = rw is;
 }

@@ -53,8 +53,7 @@ takes_in m caller v before shown after says then t rows gs g can k =
 module _ (m n : Memory) (caller : ℕ) (ps : List Pair) (i v : ℕ) (q : Pair) (low : i < length ps) (at : q
     ≡ get_or ps i q) (place : v ≡ vpage q.va) (so_far : TakesPages caller ps (pair_frames (take i ps)) m n) where
   can_next : (t : Tree) → CanTakeEach t caller ps → CanTake t caller v q.frame
-  can_next t each = subst (λ k. CanTake t caller k q.frame) (sym place)
-      (subst (λ z. CanTake t caller (vpage z.va) z.frame) (sym at) (each i q low))
+  can_next t each = rw place (subst (λ z. CanTake t caller (vpage z.va) z.frame) (sym at) (each i q low))
 
   -- the next page can be taken back
   pub next_can : CanTakePages m caller ps → CanTakePage n caller v
@@ -89,4 +88,4 @@ module _ (m n : Memory) (caller : ℕ) (ps : List Pair) (i v : ℕ) (q : Pair) (
 -- in the end all are
 pub all_taken : (m n : Memory) (caller : ℕ) (ps : List Pair) (i : ℕ) → length ps ≤ i
     → TakesPages caller ps (pair_frames (take i ps)) m n → TakesPages caller ps (pair_frames ps) m n
-all_taken m n caller ps i high says = subst (λ qs. TakesPages caller ps (pair_frames qs) m n) (take_all i ps high) says
+all_taken m n caller ps i high says = rw (take_all i ps high) at says

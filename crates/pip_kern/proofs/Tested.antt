@@ -61,12 +61,11 @@ module _ (t : Tree) (s : IsSound t) (p : ℕ) (x : Node) (found : find_node t p 
   -- a page is mapped where there is a row
   pub mapped-row : (v : ℕ) → is_mapped t p v ≡ is_some (full_rows t x v)
   mapped-row v =
-      ap (λ z. is_some (row_at z.rows v)) (node_is t p x found)
-      ∙ (some_full (row_at x.rows v) ∙ sym (ap is_some (full-at t x v (row_at x.rows v) refl)))
+      rw (node_is t p x found, some_full (row_at x.rows v), ← full-at t x v (row_at x.rows v) refl)
 
   none_given : (g : ℕ) → is_none (holder t p g) ≡ (given_word t p g == 0)
   none_given g = elim (cases_option (holder t p g)) [
-    | inl none ↦ ap is_none none ∙ sym (eq-eqb (given_word t p g) 0 (given_none t p g none))
+    | inl none ↦ rw (none, ← eq-eqb (given_word t p g) 0 (given_none t p g none))
     | inr y ↦ ap is_none y.1 ∙ sym (ne_eqb (given_word t p g) 0 (λ z. let none = given_free t s p g z in
         let bad : None ≡ Some y.0 = sym none ∙ y.1 in cc))
   ]
@@ -77,8 +76,7 @@ module _ (t : Tree) (s : IsSound t) (p : ℕ) (x : Node) (found : find_node t p 
   free-row v r e =
       let (q, at, same) = full_back t x v r e in
       ap (λ z. is_free_row t p (row_at z.rows v)) (node_is t p x found)
-      ∙ (ap (is_free_row t p) at ∙ (none_given q.frame
-      ∙ (ap (λ n. given_word t n q.frame == 0) (sym (found_name t p x found)) ∙ ap (λ z. z.given == 0) (sym same))))
+      ∙ (ap (is_free_row t p) at ∙ (cc (none_given q.frame, found_name t p x found)))
 
   -- its rights are those of the row
   pub writable-row : (v : ℕ) (r : FullRow) → full_rows t x v ≡ Some r → writable t p v ≡ is_writable r
@@ -87,11 +85,10 @@ module _ (t : Tree) (s : IsSound t) (p : ℕ) (x : Node) (found : find_node t p 
       ap (λ z. bit_and 3 (unwrap_or (option_map (λ (w : Row). w.rights) (row_at z.rows v)) 0)
       == 3) (node_is t p x found)
       ∙ (ap (λ o. bit_and 3 (unwrap_or (option_map (λ (w : Row). w.rights) o) 0) == 3) at
-      ∙ (ap (λ z. bit_and 3 z.rights == 3) (sym same) ∙ ap (λ n. n == 3) (and_comm 3 r.rights)))
+      ∙ (cc (and_comm 3 r.rights)))
 
   -- and its page is the row's
   pub page_of-row : (a : ℕ) (r : FullRow) → full_rows t x (vpage a) ≡ Some r → page_of t p a ≡ r.frame
   page_of-row a r e =
       let (q, at, same) = full_back t x (vpage a) r e in
-      ap (λ z. unwrap_or (option_map (λ (w : Row). w.frame) (row_at z.rows (vpage a))) 0) (node_is t p x found)
-      ∙ (ap (λ o. unwrap_or (option_map (λ (w : Row). w.frame) o) 0) at ∙ ap (λ z. z.frame) (sym same))
+      cc (node_is t p x found)

@@ -66,7 +66,7 @@ can_set_again m n caller v b c set = record {
   sound = c.sound;
   midway = user_set_chain m n c.tree caller c.row.frame b c.rows c.midway set;
   found = c.found;
-  at = ap (user_at c.row.frame b) c.at ∙ user_at_same c.row.frame b c.row refl;
+  at = rw (c.at, user_at_same c.row.frame b c.row refl);
 }
 
 -- ---- one partition
@@ -85,11 +85,11 @@ up_small t s a x x_is =
 pub parent_word : (m : Memory) (x : Node) (rows : ℕ → Option FullRow) → Space m x rows → (part : ℕ) → x.name ≡ part
     → word_at m part 11 ≡ x.up
 parent_word m x rows k part name =
-    subst (λ f. word_at m f 11 ≡ x.up) name (read_descriptor m x (cells_of rows) k.node 11 (omega arith))
+    rw (← name) (read_descriptor m x (cells_of rows) k.node 11 (omega arith))
 
 -- a partition with a row is named by a frame of the memory
 pub row_frame : (m : Memory) (part v : ℕ) → HasRow m part v → part < length m
-row_frame m part v h = subst (λ f. f < length m) h.name (name_inside m h.node (cells_of h.rows) h.is_in.node)
+row_frame m part v h = rw (← h.name) (name_inside m h.node (cells_of h.rows) h.is_in.node)
 
 -- where the page is one level up by the words that were read, it is by the node and its row
 pub above_is : (m : Memory) (x : Node) (rows : ℕ → Option FullRow) → Space m x rows → (part : ℕ) → x.name ≡ part
@@ -100,7 +100,7 @@ above_is m x rows k part name v r r_is from word o h = subst (λ z. IsAbove z r.
 
 -- a node with a row has rows
 pub row_rows : (m : Memory) (part v : ℕ) → HasRow m part v → HasRows m part
-row_rows m part v h = record { node = h.node; rows = h.rows; is_in = h.is_in; name = h.name }
+row_rows m part v h = search
 
 -- ---- the climb
 
@@ -150,8 +150,7 @@ setting_full t s rows caller g b old m at v steps h e = let few = few_nodes t s 
 pub setting_chain : (t : Tree) → IsSound t → (rows : ℕ → ℕ → Option FullRow) (caller g : ℕ) (b : Bool)
     (old m : Memory) (at v steps : ℕ) → Setting t rows caller g b old m at v steps → steps + 1 ≤ length (chain t caller)
 unfolding depth
-setting_chain t s rows caller g b old m at v steps h = let long = h.long in
-    let some = depth_some t s at h.x h.x_is in omega arith
+setting_chain t s rows caller g b old m at v steps h = omega (arith, depth_some t s at h.x h.x_is)
 
 module _ (t : Tree) (s : IsSound t) (rows : ℕ → ℕ → Option FullRow)
     (caller g : ℕ) (b : Bool) (old : Memory) (k : MidwayOnChain old t caller rows) where
@@ -181,11 +180,11 @@ module _ (t : Tree) (s : IsSound t) (rows : ℕ → ℕ → Option FullRow)
     set_here : (a : ℕ) (y : Node) → find_node t a ≡ Some y → a ≡ at → Space n y (put_user (rows a) g b)
     unfolding like_here
     set_here a y y_is e =
-        let same : h.x ≡ y = same_found t at h.x y h.x_is (subst (λ z. find_node t z ≡ Some y) e y_is) in
+        let same : h.x ≡ y = same_found t at h.x y h.x_is (cc) in
         let own : Space n h.x (put_user (rows at) h.r.frame b) =
         Space-same n h.x (put_row (rows at) v (Some (record (h.r) { user = b }))) (put_user (rows at) h.r.frame b)
         (user_row t s at h.x h.x_is (rows at) like_here v h.r b h.r_is) set.space in
-        subst (λ z. Space n z (put_user (rows a) g b)) same (subst (λ z. Space n h.x (put_user (rows z) g b)) (sym e)
+        rw (← same) (subst (λ z. Space n h.x (put_user (rows z) g b)) (sym e)
         (subst (λ f. Space n h.x (put_user (rows at) f b)) h.page own))
 
     -- the others stay
@@ -205,14 +204,13 @@ module _ (t : Tree) (s : IsSound t) (rows : ℕ → ℕ → Option FullRow)
     unfolding like_here
     is_root from = elim (root_or_other t at h.x h.x_is) [
       | inl root ↦ root
-      | inr o ↦ let q = up_place t s at h.x h.x_is (rows at) like_here o v h.r h.r_is in let place = q.6 in
-          absurd (omega arith)
+      | inr o ↦ let q = up_place t s at h.x h.x_is (rows at) like_here o v h.r h.r_is in absurd (omega arith)
     ]
 
     is_other : (w : ℕ) → h.r.from ≡ shadow2_word w → find_other t at ≡ Some h.x
     unfolding like_here
     is_other w from = elim (root_or_other t at h.x h.x_is) [
-      | inl root ↦ let none = root_from t s at h.x h.x_is (rows at) like_here root v h.r h.r_is in absurd (omega arith)
+      | inl root ↦ absurd (omega (arith, root_from t s at h.x h.x_is (rows at) like_here root v h.r h.r_is))
       | inr o ↦ o
     ]
 
@@ -228,10 +226,10 @@ module _ (t : Tree) (s : IsSound t) (rows : ℕ → ℕ → Option FullRow)
     }
       where
         at_root : at ≡ t.root.name
-        at_root = sym (found_name t at h.x h.x_is) ∙ ap (λ z. z.name) (is_root from)
+        at_root = rw (← found_name t at h.x h.x_is, is_root from)
 
         top : (a : ℕ) → OnChain t a at → a ≡ at
-        top a on = root_chain t s a (subst (OnChain t a) at_root on) ∙ sym at_root
+        top a on = root_chain t s a (rw at_root at on) ∙ sym at_root
 
     -- else the parent has a row with the page at the place that the second shadow says
     row_above : (w : ℕ) → h.r.from ≡ shadow2_word w → OnChain t h.x.up caller
@@ -242,10 +240,10 @@ module _ (t : Tree) (s : IsSound t) (rows : ℕ → ℕ → Option FullRow)
         up_place t s at h.x h.x_is (rows at) like_here (is_other w from) v h.r h.r_is in
         let same : u ≡ w = omega arith in
         let there : full_rows t y w ≡ Some (filled t y q) =
-        full-at t y w (Some q) (ap (row_at y.rows) (sym same) ∙ q_is) in
+        full-at t y w (Some q) (cc) in
         let z =
-        like_back (rows h.x.up w) (filled t y q) (subst (Like (rows h.x.up w)) there (k.like h.x.up y w y_is on)) in
-        (y, y_is, z.0, z.1, z.2 ∙ (page ∙ h.page))
+        like_back (rows h.x.up w) (filled t y q) (rw (← there) (k.like h.x.up y w y_is on)) in
+        (y, y_is, z.0, z.1, cc (z.2, h.page))
 
     -- and the climb goes on there
     pub setting_on : (p w : ℕ) → p ≡ h.x.up → h.r.from ≡ shadow2_word w
@@ -257,23 +255,23 @@ module _ (t : Tree) (s : IsSound t) (rows : ℕ → ℕ → Option FullRow)
         let (y, y_is, r, r_is, page) = row_above w from on in
         let low = depth_up t s at h.x o in
         let long = h.long in
-        let same : depth t p ≡ depth t h.x.up = ap (depth t) p_is in
+        let same : depth t p ≡ depth t h.x.up = rw p_is in
         record {
           x = y;
-          x_is = ap (find_node t) p_is ∙ y_is;
-          above = subst (λ z. OnChain t z caller) (sym p_is) on;
+          x_is = cc;
+          above = rw p_is on;
           long = omega arith;
           r = r;
-          r_is = ap (λ z. rows z w) p_is ∙ r_is;
+          r_is = rw p_is r_is;
           page = page;
           todo = λ a y y_is up_to.
-              let higher : OnChain t a h.x.up = subst (OnChain t a) p_is up_to in
+              let higher : OnChain t a h.x.up = rw (← p_is) up_to in
               stays a y (rows a) y_is (chain_differs t s a at h.x o higher)
               (h.todo a y y_is (chain-trans t a h.x.up at higher (chain_parent t at h.x o)));
           done = λ a y y_is below off. elim (cases_eq a at) [
             | inl e ↦ set_here a y y_is e
             | inr ne ↦ stays a y (put_user (rows a) g b) y_is ne (h.done a y y_is below (λ up_to. elim (chain_up t a at
-                h.x o up_to) [ inl e ↦ ne e | inr higher ↦ off (subst (OnChain t a) (sym p_is) higher) ]))
+                h.x o up_to) [ inl e ↦ ne e | inr higher ↦ off (rw p_is higher) ]))
           ];
           rest = rest_stays;
         }

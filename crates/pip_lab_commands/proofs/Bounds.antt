@@ -16,7 +16,7 @@ use Rattle.pip_lab_commands.specs.Words.{later_command, numbered_slot, part_word
 use Rattle.pip_lab_commands.specs.Words.{slots_in}
 use Rattle.pip_lab_commands.specs.Words.{slots_words, start_words, starts_at, lab_three_words, turn_words}
 use Rattle.pip_lab_commands.specs.Words.{lab_two_words}
-use Rattle.pip_searches.specs.declared.start.Start.{Start}
+use Rattle.pip_search_commands.specs.declared.start.Start.{Start}
 use Rattle.pip_lab_commands.specs.declared.words.LabCommand.{LabCommand}
 use Rattle.pip_lab_commands.specs.declared.words.LabCommand.TheVariants as C
 

@@ -16,16 +16,16 @@ use Rattle.pip_slots.specs.Slots.{after_slot, closing, next_step, opening, plan_
 use Rattle.pip_slots.specs.Slots.{slot_acts, slot_entry, slot_texts, slot_turn, slot_turns}
 use Rattle.pip_slots.proofs.Images.{images_separate_slots, plan_words}
 use Rattle.pip_slots.proofs.Texts.{texts_count, texts_joined}
-use Rattle.pip_watch.specs.Watching.{addresses, built_from, ready_world, root_runs}
+use Rattle.pip_native_run.specs.Watching.{addresses, built_from, ready_world, root_runs}
 use Rattle.pip_children.specs.Dues.{IsChildrenAnswer, IsRoomy}
 use Rattle.pip_lab_commands.specs.Dues.{slots_due}
-use Rattle.pip_due.specs.EndsBy.{Response}
-use Rattle.pip_searches.specs.EveryLaw.{IsLineAt}
-use Rattle.pip_searches.specs.RunLaw.{AreLinesOf}
+use Rattle.pip_command_contracts.specs.EndsBy.{Response}
+use Rattle.pip_search_commands.specs.EveryLaw.{IsLineAt}
+use Rattle.pip_search_commands.specs.RunLaw.{AreLinesOf}
 use Rattle.pip_lab_commands.specs.SlotsLaw.{AreSlotTexts, ChildrenAreSeparate}
 use Rattle.arrayvec.specs.ArrayVec.{ArrayVec}
-use Rattle.pip_due.proofs.Accepted.{IsAccepted, accepted}
-use Rattle.pip_searches.proofs.EveryLines.{call_at, lines_are_of_runs, moved_at}
+use Rattle.pip_command_contracts.proofs.Accepted.{IsAccepted, accepted}
+use Rattle.pip_search_commands.proofs.EveryLines.{call_at, lines_are_of_runs, moved_at}
 
 some_same : {A : Type 0} {x y : A} → Some x ≡ Some y → x ≡ y
 some_same e = cc

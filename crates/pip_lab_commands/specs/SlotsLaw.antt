@@ -10,10 +10,10 @@ use Rattle.pip_slots.specs.Images.{AgreeOnChild, round_plan, round_steps}
 use Rattle.pip_slots.specs.Slots.{plan_steps}
 use Rattle.pip_slots.specs.declared.time_slot.RoundSlot.{RoundSlot}
 use Rattle.pip_slots.specs.declared.time_slot.TimeSlot.{TimeSlot}
-use Rattle.pip_watch.specs.Watching.{addresses, built_from, fresh}
+use Rattle.pip_native_run.specs.Watching.{addresses, built_from, fresh}
 use Rattle.pip_lab_commands.specs.Dues.{slots_due}
-use Rattle.pip_due.specs.EndsBy.{Response}
-use Rattle.pip_searches.specs.RunLaw.{AreLinesOf}
+use Rattle.pip_command_contracts.specs.EndsBy.{Response}
+use Rattle.pip_search_commands.specs.RunLaw.{AreLinesOf}
 
 -- a text of n children with that many rounds of slots, cut into what its slots write: after the image line and the
 -- lines of the children the texts of all slots, in which each line is of a step of its slot, and then the last line

@@ -7,7 +7,7 @@ use Rattle.pip_model.specs.Grammar.{number_of}
 use Rattle.arrayvec.specs.ArrayVec.{ArrayVec}
 use Rattle.pip_slots.specs.Images.{in_turn, round_steps}
 use Rattle.pip_slots.specs.declared.time_slot.RoundSlot.{RoundSlot}
-use Rattle.pip_searches.specs.declared.start.Start.{Start}
+use Rattle.pip_search_commands.specs.declared.start.Start.{Start}
 use Rattle.pip_lab_commands.specs.declared.words.LabCommand.{LabCommand}
 use Rattle.pip_lab_commands.specs.declared.words.LabCommand.TheVariants as C
 

@@ -2,14 +2,14 @@
 ghost use Rattle.std.specs.Prelude.{map, string_bytes};
 ghost use Rattle.pip_lab_commands.specs.Dues.{lab_due_of};
 ghost use Rattle.pip_lab_commands.specs.Words.{lab_command_of};
-ghost use Rattle.pip_due.specs.Commands.{Fulfils, MayStart};
+ghost use Rattle.pip_command_contracts.specs.Commands.{Fulfils, MayStart};
 
 use crate::commands::slots::slots;
 use crate::words::{LabCommand, read_words};
-use pip_certificates::{merge, part};
-use pip_due::Ended;
+use pip_certificate_commands::{merge, part};
+use pip_command_contracts::Ended;
 use pip_io::{Sink, Source};
-use pip_searches::{against, apart, every};
+use pip_search_commands::{against, apart, every};
 use pip_words::show_usage;
 use std::alloc::Global;
 

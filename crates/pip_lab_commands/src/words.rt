@@ -12,7 +12,7 @@ use arrayvec::ArrayVec;
 use pip_base::MAX_STEPS;
 use pip_children::MAX_CHILDREN;
 use pip_script::read_number;
-use pip_searches::Start;
+use pip_search_commands::Start;
 use pip_slots::{RoundSlot, in_turn};
 
 /// What the words ask for (README, "Commands").

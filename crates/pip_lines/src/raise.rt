@@ -2,6 +2,7 @@
 ghost use Rattle.std.specs.Prelude.{◌≡◌, ◌<◌, [], ◌∷◌};
 ghost use Rattle.std.specs.List.{AllByRecursion};
 ghost use Rattle.pip_model.specs.Acts.{after_acts};
+ghost use Rattle.pip_model.specs.Port.{TakesNoMore};
 ghost use Rattle.pip_model.specs.Run.{raises};
 ghost use Rattle.pip_model.specs.Worlds.{World};
 
@@ -21,6 +22,7 @@ pub fn raise_due<P: Port, F: Callback, L: Ledger>(
 )
     requires below { AllByRecursion (λ p. p.line < 16) lines.now }
     ensures acts { (w : World) → P.stands port.old w → P.stands port.new (after_acts w (raises lines.now t)) }
+    ensures work { TakesNoMore (P.stands port.old) (λ w. raises lines.now t) steps.old steps.new }
     ensures count { P.count port.new ≡ P.count port.old }
 {
     for line in lines {
@@ -38,6 +40,7 @@ fn raise_one<P: Port, F: Callback, L: Ledger>(
 )
     requires { line.now.line < 16 }
     ensures acts { (w : World) → P.stands port.old w → P.stands port.new (after_acts w (raises (line.now ∷ []) t)) }
+    ensures work { TakesNoMore (P.stands port.old) (λ w. raises (line.now ∷ []) t) steps.old steps.new }
     ensures count { P.count port.new ≡ P.count port.old }
 {
     if line.is_due(t) {

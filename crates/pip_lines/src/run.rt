@@ -3,6 +3,7 @@ ghost use Rattle.std.specs.Prelude.{◌≡◌, ◌≢◌, ℕ, ◌<◌};
 ghost use Rattle.std.specs.List.{AllByRecursion};
 ghost use Rattle.pip_cpu.specs.Made.{Acts};
 ghost use Rattle.pip_io.specs.Causes.{HasCause};
+ghost use Rattle.pip_model.specs.Port.{TakesNoMore};
 ghost use Rattle.pip_model.specs.Run.{steps as run_steps};
 
 use crate::callback::Callback;
@@ -32,6 +33,8 @@ pub fn run_lines<P: Port, K: Sink, F: Callback, L: Ledger>(
         (λ w. run_steps w lines.now seed (P.count port.old) count 0) }
     ensures cause { HasCause (K.history sink.old).faults (K.history sink.new).faults result }
     ensures count { P.count port.new ≡ P.count port.old }
+    ensures work { TakesNoMore (P.stands port.old) (λ w. run_steps w lines.now seed (P.count port.old) count 0)
+        steps.old steps.new }
 {
     let cpus = port.cpus();
     if cpus == 1 {
@@ -57,6 +60,8 @@ fn run_scheduled<P: Port, K: Sink, F: Callback, S: Schedule, L: Ledger>(
         (λ w. run_steps w lines.now seed (P.count port.old) count 0) }
     ensures cause { HasCause (K.history sink.old).faults (K.history sink.new).faults result }
     ensures count { P.count port.new ≡ P.count port.old }
+    ensures work { (seed : ℕ) → S.is_at schedule.old seed 0 → TakesNoMore (P.stands port.old)
+        (λ w. run_steps w lines.now seed (P.count port.old) count 0) steps.old steps.new }
 {
     for i in 0..count {
         let t = i as u64;

@@ -31,12 +31,9 @@ learned_nothing c part v (Some r) f = refl
 -- where the tables say nothing there is no row
 no_row : (t : Tree) (x : Node) (o : Option Row) → Empty ≡ leaf_of (full_row t x o) → o ≡ None
 no_row t x None e = refl
-no_row t x (Some r) e = absurd (cc)
+no_row t x (Some r) e = absurd cc
 
 module _ (t : Tree) (part va : ℕ) (x : Node) (a : Access) (found : find_node t part ≡ Some x) (c : Places) where
-  rows_is : row_at (node t part).rows (vpage va) ≡ row_at x.rows (vpage va)
-  rows_is = ap (λ y. row_at y.rows (vpage va)) (node_is t part x found)
-
   pub fault_left : (f : Fault) → Faulted f ≡ reach t part va a Byte
       → c ≡ filled_on_miss c part (vpage va) None (row_at (node t part).rows (vpage va)) (reach t part va a Byte)
   fault_left f e = sym (ap (filled_on_miss c part (vpage va) None (row_at (node t part).rows (vpage va))) (sym e)
@@ -60,7 +57,7 @@ fill_at : (t : Tree) (x : Node) (c : Places) (part v : ℕ) (o : Option Row)
     → with_new_entry c (record { part = part; vpage = v; page = frame; rights = rights })
     ≡ filled_on_miss c part v None o (Place g i)
 unfolding frame_in rights_in
-fill_at t x c part v None frame user rights g i e = absurd (cc)
+fill_at t x c part v None frame user rights g i e = absurd cc
 fill_at t x c part v (Some r) frame user rights g i e =
     λ k. with_new_entry c (record { part = part; vpage = v; page = frame_in (e k); rights = rights_in (e k) })
 
@@ -95,17 +92,17 @@ agrees_filled t c e old new k y h = elim (set_get c.at (e.vpage % 64) k (Some e)
 user_of : (va : ℕ) (a : Access) (frame : ℕ) (user : Bool) (rights : Rights) (g i : ℕ)
     → Place g i ≡ through_leaf va a (Page frame user rights) → user ≡ true
 user_of va a frame true rights g i e = refl
-user_of va a frame false rights g i e = absurd (cc)
+user_of va a frame false rights g i e = absurd cc
 
 shown : (h : Bool) → true ≡ not h → h ≡ false
-shown true e = absurd (cc)
+shown true e = absurd cc
 shown false e = refl
 
 usable_at : (t : Tree) (x : Node) (part v : ℕ) (found : find_node t part ≡ Some x) (o : Option Row)
     → row_at x.rows v ≡ o → (frame : ℕ) (rights : Rights) → Page frame true rights ≡ leaf_of (full_row t x o)
     → IsUsable t (record { part = part; vpage = v; page = frame; rights = rights })
 unfolding frame_in user_in rights_in
-usable_at t x part v found None at frame rights e = absurd (cc)
+usable_at t x part v found None at frame rights e = absurd cc
 usable_at t x part v found (Some r) at frame rights e = record {
   node = x;
   found = found;
@@ -145,15 +142,15 @@ held t part v x found e frame rights u true true p q h =
     at_entry t part v x found e frame rights u (eqb-true e.part part (sym p)) (eqb-true e.vpage v (sym q))
     (ap (λ (o : Option (ℕ × Rights)). (unwrap_or o (frame, rights)).0) h)
     (ap (λ (o : Option (ℕ × Rights)). (unwrap_or o (frame, rights)).1) h)
-held t part v x found e frame rights u true false p q h = absurd (cc)
-held t part v x found e frame rights u false true p q h = absurd (cc)
-held t part v x found e frame rights u false false p q h = absurd (cc)
+held t part v x found e frame rights u true false p q h = absurd cc
+held t part v x found e frame rights u false true p q h = absurd cc
+held t part v x found e frame rights u false false p q h = absurd cc
 
 pub hit_leaf : (t : Tree) (part v : ℕ) (x : Node) → find_node t part ≡ Some x
     → (o : Option Entry) (frame : ℕ) (rights : Rights) → ((e : Entry) → o ≡ Some e → IsUsable t e)
     → Some (frame, rights) ≡ option_map page_and_rights (of_page part v o)
     → Page frame true rights ≡ leaf_of (full_rows t x v)
-hit_leaf t part v x found None frame rights u h = absurd (cc)
+hit_leaf t part v x found None frame rights u h = absurd cc
 hit_leaf t part v x found (Some e) frame rights u h =
     held t part v x found e frame rights (u e refl) (e.part == part) (e.vpage == v) refl refl h
 
@@ -170,13 +167,3 @@ usable_stored t va size x (Place g i) e u =
     record { node = u.node; found = u.found; row = u.row; at = u.at; page = u.page; rights = u.rights; seen = u.seen }
 
 -- ---- on a processor
-
--- the caches after an access are those with the processor's as the access leaves it
-pub accessed_is : (t : Tree) (cs : List Places) (cpu p va : ℕ) (a : Access) (size : Size)
-    → slice_set cs cpu (after_access t (cache_at cs cpu) p va a size) ≡ places_after_access t cs cpu p va a size
-accessed_is t cs cpu p va a size = at_once (is_misaligned va size)
-  where
-    at_once : (b : Bool) → slice_set cs cpu (cond b (cache_at cs cpu) (cache_after_access t (cache_at cs cpu) p va a))
-        ≡ cond b cs (slice_set cs cpu (cache_after_access t (cache_at cs cpu) p va a))
-    at_once true = set-get_or cs cpu no_places
-    at_once false = refl

@@ -7,3 +7,4 @@ pub mod Unseen
 pub mod Outcomes
 pub mod GiveBack
 pub mod Saves
+pub mod Working

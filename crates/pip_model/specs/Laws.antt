@@ -1,7 +1,8 @@
 -- What the laws on soundness, reach and layout say. Each is the contract of a function of this crate.
-use Rattle.std.specs.Prelude.{◌≡◌, ◌≢◌, ◌↔◌, ℕ, ◌≤◌, ◌⊎◌, List}
+use Rattle.std.specs.Prelude.{◌≡◌, ◌≢◌, ◌↔◌, ℕ, ◌*◌, ◌≤◌, ◌⊎◌, List, flat_map, length}
 use Rattle.pip_base.specs.declared.types.Access.{Access}
 use Rattle.pip_base.specs.declared.types.Size.{Size}
+use Rattle.pip_model.specs.Acts.{events_made}
 use Rattle.pip_model.specs.Ancestors.{Above}
 use Rattle.pip_model.specs.Dump.{tree_text}
 use Rattle.pip_model.specs.Events.{Event, IsEvent}
@@ -11,7 +12,9 @@ use Rattle.pip_model.specs.Lists.{In}
 use Rattle.pip_model.specs.Partitions.{IsHeld}
 use Rattle.pip_model.specs.Reach.{Place, reach}
 use Rattle.pip_model.specs.Sound.{ArePageWords, HasNumbers, IsSound}
-use Rattle.pip_model.specs.Tree.{Node, Tree, ancestry, config, held_pages, nodes, row_pages}
+use Rattle.pip_model.specs.Tree.{Node, Tree, ancestry, below, chain, config, held_pages, nodes, row_pages}
+use Rattle.pip_model.specs.Work.{event_work, events_work, most_event_work, most_turn_work}
+use Rattle.pip_model.specs.Turn.{turn}
 use Rattle.pip_model.specs.Worlds.{Happened, IsCached, IsSoundWorld, World, boot_world_with}
 use Rattle.pip_model.specs.Cache.{Places}
 use Rattle.std.specs.List.{AllByRecursion}
@@ -53,6 +56,29 @@ pub record DiffersInCaches (h k : Happened) : Type 0 where
 abbrev pub CachesTellNothing : Type 0
 CachesTellNothing = (w : World) (cs : List Places) (e : Event)
     → DiffersInCaches (event (record w { caches = cs }) e) (event w e)
+
+-- Work. No event changes how many frames there are
+abbrev pub EventsKeepFrames : Type 0
+EventsKeepFrames = (w : World) (e : Event) → (event w e).world.tree.frames ≡ w.tree.frames
+
+-- and by that number alone, no event takes more steps than this
+abbrev pub EventsTakeAtMost : Type 0
+EventsTakeAtMost = (w : World) (e : Event) → IsSoundWorld w → event_work w e ≤ most_event_work w.tree.frames
+
+-- nor does a list of events, for each of them
+abbrev pub RunsTakeAtMost : Type 0
+RunsTakeAtMost = (w : World) (es : List Event) → IsSoundWorld w → AllByRecursion IsEvent es
+    → events_work w es ≤ length es * most_event_work w.tree.frames
+
+-- nor does any turn
+abbrev pub TurnsTakeAtMost : Type 0
+TurnsTakeAtMost = (w : World) (cpu t : ℕ) → IsSoundWorld w
+    → events_work w (events_made (turn w cpu t)) ≤ most_turn_work w.tree.frames
+
+-- no chain has more partitions than there are frames, and no subtree more pages of configuration
+abbrev pub TreesAreSmall : Type 0
+TreesAreSmall = (t : Tree) (p : ℕ) → IsSound t → (length (chain t p) ≤ t.frames)
+    × (length (flat_map config (below t p)) ≤ t.frames)
 
 -- Reach. A place that an access reaches is in no page of any partition's configuration
 abbrev pub PlacesAreOpen : Type 0

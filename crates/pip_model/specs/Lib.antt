@@ -26,6 +26,7 @@ pub mod Switching
 pub mod Poll
 pub mod Happens
 pub mod Due
+pub mod Work
 -- Frames: the words that lay a tree out
 pub mod NodeWords
 pub mod FullRows

@@ -2,9 +2,10 @@
 ghost use Rattle.pip_model.specs.Audit.{FoundAreLayouts, LayoutsAreFound};
 ghost use Rattle.pip_model.specs.GiveBack.{GivesBack};
 ghost use Rattle.pip_model.specs.Laws.{AncestorsAreInLine, BootIsCached, BootIsSound, CachesTellNothing};
-ghost use Rattle.pip_model.specs.Laws.{CommonPagesRelate, ConfigStandsAbove, EventsKeepCaches, EventsKeepSound};
-ghost use Rattle.pip_model.specs.Laws.{FramesTellTree, LayoutTellsTree, NumbersAreWords, PlacesAreOpen, RunsKeepSound};
-ghost use Rattle.pip_model.specs.Laws.{TreesShowAlike};
+ghost use Rattle.pip_model.specs.Laws.{CommonPagesRelate, ConfigStandsAbove, EventsKeepCaches, EventsKeepFrames};
+ghost use Rattle.pip_model.specs.Laws.{EventsKeepSound, EventsTakeAtMost, FramesTellTree, LayoutTellsTree};
+ghost use Rattle.pip_model.specs.Laws.{NumbersAreWords, PlacesAreOpen, RunsKeepSound, RunsTakeAtMost, TreesAreSmall};
+ghost use Rattle.pip_model.specs.Laws.{TreesShowAlike, TurnsTakeAtMost};
 ghost use Rattle.pip_model.specs.Local.{DependsOnBelow, LeavesOthersAlone, OthersDoNotMatter};
 
 /// Events lead to sound worlds only.
@@ -20,6 +21,15 @@ pub fn law_caches()
     ensures boot { BootIsCached }
     ensures event { EventsKeepCaches }
     ensures told { CachesTellNothing }
+{}
+
+/// At most how many steps events take, by the number of frames.
+pub fn law_work()
+    ensures frames { EventsKeepFrames }
+    ensures trees { TreesAreSmall }
+    ensures event { EventsTakeAtMost }
+    ensures run { RunsTakeAtMost }
+    ensures turn { TurnsTakeAtMost }
 {}
 
 /// Who may reach which pages.

@@ -16,7 +16,7 @@
 //!
 //! All that runs on the kernel is written over the trait [`Port`]. A port represents worlds; for each event it promises
 //! `Follows`: for every world that it represents, the outcome is the model's, and then it represents the model's next
-//! world.
+//! world. `TakesAtMost` (specs/Work): the event takes no more steps than in each of these worlds it may.
 #![tactic(auto)]
 
 mod assembly;
@@ -46,7 +46,9 @@ pub use effect::Effect;
 pub use form::Form;
 pub use image::ImageError;
 pub use instr::Instr;
-pub use laws::{law_audit, law_caches, law_give_back, law_layout, law_local, law_reach, law_sound};
+pub use laws::{
+    law_audit, law_caches, law_give_back, law_layout, law_local, law_reach, law_sound, law_work,
+};
 pub use level::Level;
 pub use list_pages::lists;
 pub use operands::{Register, Shift, Vector};

@@ -2,7 +2,7 @@
 ghost use Rattle.std.specs.Prelude.{◌≡◌, ℕ, ◌<◌, Option, length, option_map, slice_set};
 ghost use Rattle.pip_model.specs.Events as E;
 ghost use Rattle.pip_model.specs.Events.{below_of};
-ghost use Rattle.pip_model.specs.Port.{Changes, Follows, StandsForSome};
+ghost use Rattle.pip_model.specs.Port.{Changes, Follows, StandsForSome, TakesAtMost};
 ghost use Rattle.pip_model.specs.Answers.{five_of};
 ghost use Rattle.pip_model.specs.Views.{peek_word};
 ghost use Rattle.pip_model.specs.Worlds.{IsSoundWorld, World, runs_on};
@@ -12,7 +12,8 @@ use pip_base::{Ctx, Outcome, Size, Steps};
 use std::sync::ledger::Ledger;
 
 /// A machine, by the events that happen to it. It stands for worlds of the model: for each of them, an event has the
-/// model's outcome, and the machine then stands for the model's next world.
+/// model's outcome, and the machine then stands for the model's next world. `steps` rises by no more than the event's
+/// work there (docs/GUARANTEES.md, "How long an event can take").
 pub trait Port {
     /// The worlds that it stands for: one, up to the order of the partitions.
     ghost stands: { Self → World → Type 0 };
@@ -28,6 +29,7 @@ pub trait Port {
     fn load<L: Ledger>(&mut self, cpu: u32, va: u32, size: Size, steps: &mut Steps<L>) -> Outcome
         requires { cpu < count self.old }
         ensures event { Follows (stands self.old) (stands self.new) (E.Load cpu va size) result }
+        ensures work { TakesAtMost (stands self.old) (E.Load cpu va size) steps.old steps.new }
         ensures count { count self.new ≡ count self.old };
 
     /// It writes a word, or a byte below 256.
@@ -42,12 +44,14 @@ pub trait Port {
         requires cpu { cpu < count self.old }
         requires fits { word < below_of size }
         ensures event { Follows (stands self.old) (stands self.new) (E.Store cpu va size word) result }
+        ensures work { TakesAtMost (stands self.old) (E.Store cpu va size word) steps.old steps.new }
         ensures count { count self.new ≡ count self.old };
 
     /// It fetches the word at its program counter.
     fn fetch<L: Ledger>(&mut self, cpu: u32, steps: &mut Steps<L>) -> Outcome
         requires { cpu < count self.old }
         ensures event { Follows (stands self.old) (stands self.new) (E.Fetch cpu) result }
+        ensures work { TakesAtMost (stands self.old) (E.Fetch cpu) steps.old steps.new }
         ensures count { count self.new ≡ count self.old };
 
     /// It raises a vector below 256, with two words for whoever handles it.
@@ -62,6 +66,7 @@ pub trait Port {
         requires cpu { cpu < count self.old }
         requires vector { vector < 256 }
         ensures event { Follows (stands self.old) (stands self.new) (E.Trap cpu vector a b) result }
+        ensures work { TakesAtMost (stands self.old) (E.Trap cpu vector a b) steps.old steps.new }
         ensures count { count self.new ≡ count self.old };
 
     /// It calls the kernel.
@@ -74,18 +79,21 @@ pub trait Port {
     ) -> Outcome
         requires { cpu < count self.old }
         ensures event { Follows (stands self.old) (stands self.new) (E.Call cpu no (five_of args.now)) result }
+        ensures work { TakesAtMost (stands self.old) (E.Call cpu no (five_of args.now)) steps.old steps.new }
         ensures count { count self.new ≡ count self.old };
 
     /// An interrupt line below 16 becomes pending in the root.
     fn raise<L: Ledger>(&mut self, line: u32, steps: &mut Steps<L>)
         requires { line < 16 }
         ensures event { Follows (stands self.old) (stands self.new) (E.Raise line) Outcome.Done }
+        ensures work { TakesAtMost (stands self.old) (E.Raise line) steps.old steps.new }
         ensures count { count self.new ≡ count self.old };
 
     /// The root takes a pending line on a processor, where it can.
     fn poll<L: Ledger>(&mut self, cpu: u32, steps: &mut Steps<L>) -> Outcome
         requires { cpu < count self.old }
         ensures event { Follows (stands self.old) (stands self.new) (E.Poll cpu) result }
+        ensures work { TakesAtMost (stands self.old) (E.Poll cpu) steps.old steps.new }
         ensures count { count self.new ≡ count self.old };
 
     /// The context of what runs on a processor. None exactly where it runs nothing.

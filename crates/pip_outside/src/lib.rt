@@ -1,5 +1,5 @@
-//! What partitions outside depend on in a partition whose pages they don't read. They compute nothing: what each says
-//! is its contract.
+//! What partitions outside depend on in a partition whose pages they don't read. The functions here compute nothing:
+//! each is a law, which its contract says.
 #![tactic(auto)]
 
 ghost use Rattle.pip_outside.specs.Exits.{ConfinedAlike, ConfinedStaysOrExits, FewPagesCreateNone, SoundConfines};

@@ -53,10 +53,6 @@ reads_first cpus {name} {left = left} e w = record {
 }
 
 module _ {cpus : ℕ} {name ns : List ℕ} {left all : List (List ℕ)} (r : Reads cpus name ns left all) where
-  pub reads_all : left ≡ [] → form cpus name ns ≡ phrase cpus all
-  reads_all e = ap (form cpus name) (sym (append-nil ns))
-      ∙ ap (λ ws. option_and_then (λ ms. form cpus name (ns ++ ms)) (numbers_of ws)) (sym e) ∙ r.same
-
   -- a word is left, and then further ones
   module _ {w : List ℕ} {ws : List (List ℕ)} (first : left ≡ w ∷ ws) where
     taken : (o : Option ℕ) → o ≡ number_of w

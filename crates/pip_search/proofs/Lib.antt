@@ -22,6 +22,7 @@ pub mod Done
 pub mod Once
 pub mod Certified
 pub mod Parting
+pub mod Portioning
 pub mod Following
 pub mod Answered
 pub mod Rising

@@ -161,7 +161,7 @@ module _ (m : Model) (vs : List Keyed) (label targets : List ℕ) (cut : AreCutE
 -- ---- in the other order
 
 pub in_reverse : (xs : List ℕ) (p x : ℕ) → slice_get xs p ≡ Some x → (q : ℕ) × (slice_get (reverse xs) q ≡ Some x)
-in_reverse [] p x e = absurd (cc)
+in_reverse [] p x e = absurd cc
 in_reverse (y ∷ xs) zero x e = let same : y ≡ x = cc in (
   length (reverse xs),
   ap (λ ys. slice_get ys (length (reverse xs))) (reverse-append (y ∷ []) xs) ∙ get-new (reverse xs) y ∙ ap Some same,
@@ -218,11 +218,3 @@ cut_is m vs key label c to t false edge shows other end here =
     inr (subst (IsEdge m vs key c) (sym (here refl)) edge, other refl)
 
 -- ---- one choice of a walk more
-
-pub walk_more : (targets : List ℕ) (width j : ℕ) (xs : List ℕ) (i k t c : ℕ) → i < length xs → c ≡ slice_index xs i
-    → IsWalk targets width j (reverse (take i xs)) k → c < width → k * width + c < length targets
-    → slice_index targets (k * width + c) ≡ t → t ≢ 0xffffffff → IsWalk targets width j (reverse (take (i + 1) xs)) t
-walk_more targets width j xs i k t c inside is walk low less there ne =
-    let more : reverse (take (i + 1) xs) ≡ c ∷ reverse (take i xs) = ap reverse (take_more xs i 0 inside)
-    ∙ reverse-append (take i xs) (slice_index xs i ∷ []) ∙ ap (λ d. d ∷ reverse (take i xs)) (sym is) in
-    subst (λ zs. IsWalk targets width j zs t) (sym more) (k, (walk, (low, (less, (there, ne)))))

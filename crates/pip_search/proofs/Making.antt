@@ -334,10 +334,6 @@ module _ (m : Model) (start : List ℕ) (vs : List Keyed) (fs : List Found) (i c
       → Grew vs ws key i c d r → Told fs gs shown i c d → IsExploring m start ws gs i (c + 1)
   grown_and_told ws gs q g t = told_then ws gs (reached ws g) q t
 
-  -- where there was no room nothing changed
-  pub not_made : (ws : List Keyed) → ws ≡ vs → IsExploring m start ws fs i c
-  not_made ws e = subst (λ y. IsExploring m start y fs i c) (sym e) h
-
 -- a visit stays where it stands
 pub grew_same : (vs ws : List Keyed) (key : List ℕ) (parent choice depth run i : ℕ) (v : Keyed)
     → slice_get vs i ≡ Some v → Grew vs ws key parent choice depth run → slice_get ws i ≡ slice_get vs i

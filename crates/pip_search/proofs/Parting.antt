@@ -205,21 +205,6 @@ module _ (m : Model) (start : List ℕ) (p q : Part) (i c : ℕ) (h : IsGrowing 
     named = named;
   }
 
--- all choices at one key were made
-pub grown_on : (m : Model) (start : List ℕ) (p : Part) (i c : ℕ) → IsGrowing m start p i c → c ≡ m.choices
-    → IsGrowing m start p (i + 1) 0
-grown_on m start p i c h whole = record {
-  before = λ j d y low e can. elim (cases_lt j i) [
-    | inl less ↦ h.before j d y less e can
-    | inr most ↦
-        let same : j ≡ i = omega arith in
-        h.here d y (omega arith) (subst (λ k. slice_get (stops p.keys.items) k ≡ Some y) same e)
-  ];
-  here = λ d y low e. absurd (omega arith);
-  reached = h.reached;
-  named = h.named;
-}
-
 -- ---- keys that were reached
 
 -- a key of a part stands for a state
@@ -256,7 +241,7 @@ first_grows m start p x reached keys none named = record {
   where
     only : (s : m.State) → m.stands start s → (j : ℕ) (y : Stop) → slice_get (x ∷ []) j ≡ Some y → IsReachedBy m s y
     only s stands zero y e = let same : x ≡ y = cc in subst (λ z. IsReachedBy m s z) same (reached s stands)
-    only s stands (suc j) y e = absurd (cc)
+    only s stands (suc j) y e = absurd cc
 
 -- a part all of whose choices were made is closed, but for what it asks
 pub all_closed : (m : Model) (start : List ℕ) (p : Part) (i : ℕ) → IsGrowing m start p i 0 → length p.keys.items ≤ i

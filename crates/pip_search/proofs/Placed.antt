@@ -11,11 +11,6 @@ use Rattle.pip_search.specs.declared.hash_table.HashTable.{HashTable}
 
 -- ---- homes and tags
 
--- a hash of 32 bits has its home among the cells
-pub home_low : (hash n : ℕ) → hash < 2 ^ 32 → 0 < n → home hash n < n
-home_low hash n low some = let most = mul-le hash n (2 ^ 32 - 1) n (omega arith) (omega arith) in
-    div_below (hash * n) (2 ^ 32) n (omega arith) (omega arith)
-
 -- a product with a power of two leaves as much room as that power
 tag_fits : (hash j k : ℕ) → hash * 2 ^ k % 2 ^ (j + k) + 2 ^ k ≤ 2 ^ (j + k)
 tag_fits hash j k =
@@ -113,14 +108,6 @@ pub none_placed : (hashes cells : List ℕ) (n : ℕ) → cells ≡ replicate n 
 none_placed hashes cells n zeros = record {
   placed = λ j below. absurd (omega arith);
   few = let u = none_used n in let same = ap cells_used zeros in omega arith;
-}
-
-pub have_more : (hashes more cells : List ℕ) → HaveCells hashes cells (length hashes)
-    → HaveCells (hashes ++ more) cells (length hashes)
-have_more hashes more cells h = record {
-  placed = λ j below. subst (λ hash. IsPlaced cells (length cells) hash j)
-      (sym (get_or-append hashes more 0 j below)) (h.placed j below);
-  few = h.few;
 }
 
 pub sized_by : (cells : List ℕ) (power : ℕ) → power ≤ 32 → length cells ≡ 2 ^ power → IsSized cells

@@ -7,21 +7,6 @@ use Rattle.pip_search.specs.Naming.{AreNamed, AreUnlike, IsAbsent, IsUnlike, has
 use Rattle.pip_search.specs.declared.hash_table.HashTable.{HashTable}
 use Rattle.pip_search.proofs.Places.{get-below}
 
--- one more cell is unlike
-pub unlike_more : (names : List (List ℕ)) (name : List ℕ) (tag : ℕ) (cells : List ℕ) (from at : ℕ)
-    → AreUnlike names name tag cells from at → get_or cells at 0 ≢ 0 → IsUnlike names name tag (get_or cells at 0)
-    → AreUnlike names name tag cells from (at + 1)
-unlike_more names name tag cells from at u full unlike = record {
-  full = λ c a b. elim (cases_lt c at) [
-    | inl less ↦ u.full c a less
-    | inr most ↦ let same : at ≡ c = omega arith in subst (λ k. get_or cells k 0 ≢ 0) same full
-  ];
-  unlike = λ c a b. elim (cases_lt c at) [
-    | inl less ↦ u.unlike c a less
-    | inr most ↦ let same : at ≡ c = omega arith in subst (λ k. IsUnlike names name tag (get_or cells k 0)) same unlike
-  ];
-}
-
 module _ (names : List (List ℕ)) (x : HashTable) (name : List ℕ) (hash from own size : ℕ) (n : AreNamed names x)
     (is : hash ≡ hash_of x.seed name) (counted : size ≡ length x.cells.items) (begins : from ≡ home hash size)
     (tagged : own ≡ tag hash size) where

@@ -22,12 +22,6 @@ pub record AreRising (keys : List Reached) (n : ℕ) : Type 0 where
   pub packed : (k : ℕ) (v : Reached) → k < n → slice_get keys k ≡ Some v
       → packed_key (unpacked_key v.key.items) ≡ v.key.items
 
-pub none_rise : (keys : List Reached) → AreRising keys 0
-none_rise keys = record {
-  rise = λ i k u v low few. absurd (omega arith);
-  packed = λ k v few. absurd (omega arith);
-}
-
 -- one more, after the one before it, if there is one
 pub one_more : (keys : List Reached) (n : ℕ) (w : Reached) → AreRising keys n → slice_get keys n ≡ Some w
     → packed_key (unpacked_key w.key.items) ≡ w.key.items

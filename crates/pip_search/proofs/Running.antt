@@ -1,8 +1,10 @@
 -- Runs of equal choices.
 use Rattle.std.proofs.Common.{◌≡◌, ◌≢◌, ℕ, zero, suc, ◌+◌, ◌-◌, ◌<◌, inl, inr, List, [], ◌∷◌, ◌++◌, length, replicate}
-use Rattle.std.proofs.Common.{Some, slice_get, refl, ap, sym, subst, ◌∙◌, arith, append_assoc}
+use Rattle.std.proofs.Common.{Some, slice_get, refl, ap, sym, subst, ◌∙◌, arith, append_assoc, reverse, take}
+use Rattle.std.specs.Prelude.{slice_index}
 use Rattle.std.proofs.lemmas.Bool.{cases_eq}
 use Rattle.std.proofs.lemmas.Bool.Decides.{nat_tests}
+use Rattle.std.proofs.lemmas.List.{reverse-append, reverse-reverse, take_more}
 use Rattle.pip_search.specs.Ways.{AreRuns, AreTraced, run_before, run_of, runs_of, choices_of, way_to}
 use Rattle.pip_search.specs.declared.visits.Visit.{Visit}
 use Rattle.pip_search.specs.declared.found.Found.{Found}
@@ -71,6 +73,40 @@ runs_replicate (suc (suc n)) c cs some = runs_more c (replicate (suc n) c ++ cs)
 
 pub runs_first : (c : ℕ) (cs : List ℕ) → run_before (run_of c 1) (runs_of cs) ≡ runs_of (c ∷ cs)
 runs_first c cs = sym (runs_more c cs)
+
+-- ---- a choice more, where the last run stands last
+
+-- of the choice of the last
+pub last_longer : (front : List Run) (q : Run) (c n : ℕ) → q.choice ≡ c → n ≡ q.count + 1
+    → reverse (front ++ run_of c n ∷ []) ≡ run_before (run_of c 1) (reverse (front ++ q ∷ []))
+last_longer front q c n same more =
+    reverse-append front (run_of c n ∷ [])
+    ∙ ap (λ k. run_of c k ∷ reverse front) (let e : n ≡ 1 + q.count = omega (arith, more) in e)
+    ∙ sym (ap (run_before (run_of c 1)) (reverse-append front (q ∷ []))
+    ∙ before_same (run_of c 1) q (reverse front) (sym same))
+
+-- of another
+pub last_other : (front : List Run) (q : Run) (c : ℕ) → (q.choice ≡ c → ⊥)
+    → reverse ((front ++ q ∷ []) ++ run_of c 1 ∷ []) ≡ run_before (run_of c 1) (reverse (front ++ q ∷ []))
+last_other front q c other =
+    reverse-append (front ++ q ∷ []) (run_of c 1 ∷ [])
+    ∙ ap (λ rs. run_of c 1 ∷ rs) (reverse-append front (q ∷ []))
+    ∙ sym (ap (run_before (run_of c 1)) (reverse-append front (q ∷ []))
+    ∙ before_other (run_of c 1) q (reverse front) (λ e. other (sym e)))
+
+-- the runs of the first choices, and one more
+pub runs_along_more : (cs : List ℕ) (i : ℕ) (rs more : List Run) → i < length cs
+    → rs ≡ reverse (runs_of (reverse (take i cs)))
+    → reverse more ≡ run_before (run_of (slice_index cs i) 1) (reverse rs)
+    → more ≡ reverse (runs_of (reverse (take (i + 1) cs)))
+runs_along_more cs i rs more inside is step =
+    let taken : reverse (take (i + 1) cs) ≡ slice_index cs i ∷ reverse (take i cs) =
+    ap reverse (take_more cs i 0 inside) ∙ reverse-append (take i cs) (slice_index cs i ∷ []) in
+    sym (reverse-reverse more)
+    ∙ ap reverse (step
+    ∙ ap (run_before (run_of (slice_index cs i) 1)) (ap reverse is
+    ∙ reverse-reverse (runs_of (reverse (take i cs))))
+    ∙ runs_first (slice_index cs i) (reverse (take i cs)) ∙ ap runs_of (sym taken))
 
 -- ---- they are runs of this list
 
@@ -148,16 +184,6 @@ module _ (vs : List Visit) (fs : List Found) (t : AreTraced vs fs) (done : List 
       ∙ append_assoc done (own ∷ []) (run_before (run_of u.choice back.count) rest)
       ∙ ap (λ x. done ++ x) (join_other own (run_of u.choice back.count) rest other)
       ∙ ap (λ x. done ++ run_before own x) (sym whole) ∙ h
-
-  pub run_place : u.run < length vs
-  run_place = let l = back.low in let b : j < length vs = get-below vs j u at in omega arith
-
-  pub run_low : u.run < j
-  run_low = back.low
-
-  pub run_shallow : (w : Visit) → slice_get vs u.run ≡ Some w → w.depth < u.depth
-  run_shallow w e = let depth : back.start.depth ≡ w.depth = ap (λ y. y.depth) (start_is w e) in
-      let deep = back.depth in let many = back.some in omega arith
 
 -- at the first visit all runs are there
 pub all_joined : (vs : List Visit) (fs : List Found) → AreTraced vs fs → (done : List Run) (choice end j : ℕ)

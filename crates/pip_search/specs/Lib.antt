@@ -16,6 +16,7 @@ pub mod Reached
 pub mod Summary
 pub mod Ways
 pub mod Certificates
+pub mod Portions
 pub mod Parts
 pub mod Merging
 pub mod Graphs

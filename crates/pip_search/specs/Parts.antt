@@ -1,10 +1,11 @@
 -- A part of a certificate while it is checked.
-use Rattle.std.specs.Prelude.{◌≡◌, ℕ, ◌<◌, ◌⊎◌, List, [], ◌∷◌, ◌++◌, map, Some, slice_get}
+use Rattle.std.specs.Prelude.{◌≡◌, ℕ, ◌<◌, ◌⊎◌, Bool, List, [], ◌∷◌, ◌++◌, length, map, min, Some, slice_get}
 use Rattle.pip_search.specs.Certificates.{IsMet, IsReachedBy, IsReachedPart, Portion, Stop}
 use Rattle.pip_search.specs.Keys.{labels}
 use Rattle.pip_search.specs.Naming.{AreNamed}
-use Rattle.pip_search.specs.Packing.{unpacked_key}
-use Rattle.pip_search.specs.Systems.{Model}
+use Rattle.pip_search.specs.Packing.{packed_key, unpacked_key}
+use Rattle.pip_search.specs.Portions.{AreAllMoves, AreLed, Move, walk_on, walk_rows, with_move}
+use Rattle.pip_search.specs.Systems.{LeadsOn, Model}
 use Rattle.pip_search.specs.declared.parts.Part.{Part}
 use Rattle.pip_search.specs.declared.stops.Reached.{Reached}
 
@@ -44,3 +45,36 @@ pub record IsGrowing (m : Model) (start : List ℕ) (p : Part) (i c : ℕ) : Typ
   pub here : (d : ℕ) (x : Stop) → d < c → slice_get (stops p.keys.items) i ≡ Some x → IsMet m (portion_of p) x d
   pub reached : (s : m.State) → m.stands start s → IsReachedPart m s (portion_of p)
   pub named : AreNamed (labels p.found.items) p.labels
+
+-- keys are kept as the bytes of their words
+abbrev pub ArePacked : List Reached → Type 0
+ArePacked xs =
+    (j : ℕ) (x : Reached) → slice_get xs j ≡ Some x → packed_key (unpacked_key x.key.items) ≡ x.key.items
+
+-- a choice at a key was made, by its mark
+pub record HasMoved (m : Model) (x : Stop) (choice : ℕ) (own : Bool) (p q : Portion) : Type 0 where
+  pub move : Move
+  pub leads : LeadsOn m x.key choice move.next move.shown
+  pub is : q ≡ with_move p x own move
+
+-- all choices at the keys before i were made, by the marks before a place
+pub record IsWalked (m : Model) (marks : List ℕ) (from : Stop) (p : Portion) (i at : ℕ) : Type 0 where
+  pub rows : List (List Move)
+  pub are : AreAllMoves m marks from rows
+  pub count : length rows ≡ i
+  pub is : p ≡ (walk_rows marks from rows).portion
+  pub place : at ≡ min (walk_rows marks from rows).used (length marks)
+
+-- and the first c at key i
+pub record IsWalkedOn (m : Model) (marks : List ℕ) (from : Stop) (p : Portion) (i c at : ℕ) : Type 0 where
+  pub rows : List (List Move)
+  pub are : AreAllMoves m marks from rows
+  pub count : length rows ≡ i
+  pub stop : Stop
+  pub here : slice_get (walk_rows marks from rows).portion.keys i ≡ Some stop
+  pub row : List Move
+  pub led : AreLed m stop.key row
+  pub made : length row ≡ c
+  pub stays : slice_get p.keys i ≡ Some stop
+  pub is : p ≡ (walk_on marks stop (walk_rows marks from rows) row).portion
+  pub place : at ≡ min (walk_on marks stop (walk_rows marks from rows) row).used (length marks)

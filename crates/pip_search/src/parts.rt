@@ -1,12 +1,14 @@
 //! Parts of certificates: states whose choices are made by themselves.
 ghost use Rattle.std.specs.Prelude.{◌≡◌, ℕ, List, ◌<◌, ◌≤◌, ◌+◌, ◌-◌, ◌^◌, ◌∷◌, ◌++◌, ◌⊎◌, [], false};
-ghost use Rattle.std.specs.Prelude.{All, IfOk, IsSome, IsTrue, Some, length, slice_get, vec_len};
+ghost use Rattle.std.specs.Prelude.{All, IfOk, IsSome, IsTrue, Some, length, min, slice_get, vec_len};
 ghost use Rattle.pip_search.specs.Certificates.{HasStop, IsClosedPart, IsReachedPart, Stop};
 ghost use Rattle.pip_search.specs.Naming.{AreNamed};
 ghost use Rattle.pip_search.specs.Packing.{packed_key, unpacked_key};
-ghost use Rattle.pip_search.specs.Parts.{AddsAtMostOne, AreWordsAt, IsGrowing, IsReachedFrom, portion_of, stop_at};
-ghost use Rattle.pip_search.specs.Parts.{stop_of, stops};
-ghost use Rattle.pip_search.specs.Systems.{IsKey};
+ghost use Rattle.pip_search.specs.Parts.{AddsAtMostOne, ArePacked, AreWordsAt, IsGrowing, IsReachedFrom, IsWalked};
+ghost use Rattle.pip_search.specs.Parts.{HasMoved, portion_of, stop_at, stop_of, stops};
+ghost use Rattle.pip_search.specs.Portions.{IsPortionOf, SayOnePortion, asked_with, is_next_own, keys_with};
+ghost use Rattle.pip_search.specs.Systems.{IsKey, LeadsAlong};
+ghost use Rattle.std.specs.Str.{bytes_eq};
 ghost use Rattle.pip_search.specs.declared.parts.Part.{Part};
 
 use crate::found::{Found, tell};
@@ -44,6 +46,7 @@ fn add(list: &mut Vec<Reached>, alloc: Global, bytes: &[u8], depth: u32) -> Resu
     ensures added { IfOk result (λ _. stops list.new.items
         ≡ stops list.old.items ++ stop_at (unpacked_key bytes.now) depth ∷ []) }
     ensures count { IfOk result (λ _. vec_len list.new ≡ vec_len list.old + 1) }
+    ensures kept { IfOk result (λ _. ArePacked list.old.items → ArePacked list.new.items) }
 {
     let key = kept(alloc, bytes)?;
     list.push(Reached { key, depth })?;
@@ -63,6 +66,13 @@ fn settle(
     requires packed { packed_key (unpacked_key bytes.now) ≡ bytes.now }
     requires place { i < vec_len part.old.keys }
     requires depth { (x : Stop) → slice_get (stops part.old.keys.items) i ≡ Some x → x.depth + 1 ≡ depth }
+    requires kept { ArePacked part.old.keys.items }
+    ensures kept { IfOk result (λ _. ArePacked part.new.keys.items) }
+    ensures own { IfOk result (λ _. stops part.new.keys.items
+        ≡ keys_with own (stops part.old.keys.items) (stop_at (unpacked_key bytes.now) depth)) }
+    ensures asks { IfOk result (λ _. (x : Stop) → slice_get (stops part.old.keys.items) i ≡ Some x
+        → stops part.new.asked.items ≡ asked_with own (bytes_eq x.key (unpacked_key bytes.now))
+        (stops part.old.asked.items) (stop_at (unpacked_key bytes.now) depth)) }
     ensures met { IfOk result (λ _. HasStop (stops part.new.keys.items) (unpacked_key bytes.now) depth
         ⊎ HasStop (stops part.new.asked.items) (unpacked_key bytes.now) depth) }
     ensures keys { IfOk result (λ _. AddsAtMostOne (stops part.old.keys.items) (stops part.new.keys.items)
@@ -102,6 +112,10 @@ fn meet<S: System>(
     requires place { i < vec_len part.old.keys }
     requires growing { IsGrowing (S.model (S.base system.old)) start.now part.old i choice }
     requires hand { AreWordsAt (stops part.old.keys.items) i buffers.old.from.items }
+    requires kept { ArePacked part.old.keys.items }
+    ensures kept { IfOk result (λ _. ArePacked part.new.keys.items) }
+    ensures moved { IfOk result (λ _. (x : Stop) → slice_get (stops part.old.keys.items) i ≡ Some x
+        → HasMoved (S.model (S.base system.old)) x choice own (portion_of part.old) (portion_of part.new)) }
     ensures growing { IfOk result (λ _. IsGrowing (S.model (S.base system.old)) start.now part.new i (choice + 1)) }
     ensures hand { IfOk result (λ _. AreWordsAt (stops part.new.keys.items) i buffers.new.from.items) }
     ensures keeps { IfOk result (λ _. (key : List ℕ) (n : ℕ) → HasStop (stops part.old.keys.items) key n
@@ -147,6 +161,8 @@ fn next_mark(marks: &[u8], at: usize) -> (bool, usize)
     ensures within { result.1 ≤ length marks.now }
     ensures least { at ≤ result.1 }
     ensures used { IsTrue result.0 → result.1 ≡ at + 1 }
+    ensures is { (n : ℕ) → at ≡ min n (length marks.now) → (result.0 ≡ is_next_own marks.now n)
+        × (result.1 ≡ min (n + 1) (length marks.now)) }
 {
     match marks.get(at) {
         Some(mark) => (*mark != 0, at + 1),
@@ -169,6 +185,12 @@ fn meet_all<S: System>(
     requires place { i < vec_len part.old.keys }
     requires growing { IsGrowing (S.model (S.base system.old)) start.now part.old i 0 }
     requires marks { first ≤ length marks.now }
+    requires kept { ArePacked part.old.keys.items }
+    ensures kept { IfOk result (λ _. ArePacked part.new.keys.items) }
+    ensures walked { IfOk result (λ n. (from : Stop)
+        → IsWalked (S.model (S.base system.old)) marks.now from (portion_of part.old) i first
+        → IsWalked (S.model (S.base system.old)) marks.now from (portion_of part.new) (i + 1) n) }
+    ensures least { IfOk result (λ _. vec_len part.old.keys ≤ vec_len part.new.keys) }
     ensures growing { IfOk result (λ _. IsGrowing (S.model (S.base system.old)) start.now part.new (i + 1) 0) }
     ensures keeps { IfOk result (λ _. (key : List ℕ) (n : ℕ) → HasStop (stops part.old.keys.items) key n
         → HasStop (stops part.new.keys.items) key n) }
@@ -199,6 +221,9 @@ fn walk<S: System>(
     ensures reached { IfOk result (λ can. IsTrue can → IsReachedFrom (S.model (S.base system.old)) start.now
         (stop_at buffers.new.from.items (length way.now))) }
     ensures stays { IfOk result (λ _. way.now ≡ [] → buffers.new.from.items ≡ start.now) }
+    ensures leads { IfOk result (λ can. IsTrue can
+        → LeadsAlong (S.model (S.base system.old)) start.now way.now buffers.new.from.items) }
+    ensures exact { IfOk result (λ can. IsTrue can → All (λ c. c < (S.model (S.base system.old)).choices) way.now) }
     ensures can { IfOk result (λ can. All (λ c. c < (S.model (S.base system.old)).choices) way.now → IsTrue can) }
     ensures base { S.base system.new ≡ S.base system.old }
 {
@@ -226,6 +251,8 @@ fn first_part(
     ensures count { IfOk result (λ p. vec_len p.keys ≡ 1) }
     ensures found { IfOk result (λ p. p.found.items ≡ []) }
     ensures labels { IfOk result (λ p. AreNamed [] p.labels) }
+    ensures asked { IfOk result (λ p. stops p.asked.items ≡ []) }
+    ensures kept { IfOk result (λ p. ArePacked p.keys.items) }
 {
     pack(&buffers.from, &mut buffers.bytes)?;
     let mut keys = Vec::new(alloc);
@@ -241,8 +268,8 @@ fn first_part(
 /// Checks a part. Its first key is the one to which a way leads from the first state. All choices are made at each key
 /// of the part, in their order; for each of these there is a mark, which isn't 0 where the next key is to be one of the
 /// part, after those that it has, and is 0 where the part asks it of others. Where there are no more marks it asks.
-/// `None` only where the way has a choice that can't be made. The only error is that memory is out, as for keys to
-/// which 2^32 choices lead.
+/// `None` where the way has a choice that can't be made. The only error is that memory is out, as for keys to which
+/// 2^32 choices lead.
 pub fn check_part<S: System>(
     system: &mut S,
     alloc: Global,
@@ -254,6 +281,9 @@ pub fn check_part<S: System>(
     requires way { length way.now < 2 ^ 32 }
     requires marks { length marks.now < 2 ^ 32 - 1 }
     ensures can { IfOk result (λ r. All (λ c. c < (S.model (S.base system.old)).choices) way.now → IsSome r) }
+    ensures exact { IfOk result (λ r. IsSome r → All (λ c. c < (S.model (S.base system.old)).choices) way.now) }
+    ensures says { IfOk result (λ r. (p : Part) → r ≡ Some p
+        → IsPortionOf (S.model (S.base system.old)) start.now way.now marks.now (portion_of p)) }
     ensures closed { IfOk result (λ r. (p : Part) → r ≡ Some p
         → IsClosedPart (S.model (S.base system.old)) (portion_of p)) }
     ensures reached { IfOk result (λ r. (p : Part) (s : (S.model (S.base system.old)).State) → r ≡ Some p
@@ -276,3 +306,8 @@ pub fn check_part<S: System>(
     }
     Ok(Some(part))
 }
+
+/// A start, a way and marks say one part, where no state has two keys.
+pub fn law_portions<S: System>(_system: &S)
+    ensures { SayOnePortion (S.model (S.base _system.now)) }
+{}

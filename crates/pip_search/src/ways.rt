@@ -1,6 +1,6 @@
 //! The ways that lead to labels.
-ghost use Rattle.std.specs.Prelude.{◌≡◌, ◌<◌, ◌+◌, ◌∷◌, IfOk, Some, length, reverse, slice_get};
-ghost use Rattle.pip_search.specs.Ways.{AreRuns, AreTraced, choices_of, found_way, runs_of, way_to};
+ghost use Rattle.std.specs.Prelude.{◌≡◌, ◌<◌, ◌+◌, ◌∷◌, IfOk, OnOk, Some, length, reverse, slice_get};
+ghost use Rattle.pip_search.specs.Ways.{AreRuns, AreTraced, choices_of, found_way, run_before, run_of, runs_of, way_to};
 ghost use Rattle.pip_search.specs.declared.visits.Visit.{Visit};
 ghost use Rattle.pip_search.specs.declared.found.Found.{Found};
 
@@ -81,4 +81,41 @@ pub fn runs_to(alloc: Global, search: &Search, place: usize) -> Result<Vec<Run>,
     let visit = &search.visits[place];
     let runs = runs_with(alloc, search, visit.parent, visit.choice, visit.depth)?;
     Ok(runs)
+}
+
+/// The runs of these choices, in the order in which they are made. The only error is that memory is out.
+pub fn runs_along(alloc: Global, choices: &[u32]) -> Result<Vec<Run>, AllocError>
+    ensures { IfOk result (λ rs. rs.items ≡ reverse (runs_of (reverse choices.now))) }
+{
+    let mut runs = Vec::new(alloc);
+    for choice in choices {
+        add_choice(&mut runs, *choice)?;
+    }
+    Ok(runs)
+}
+
+// Adds a choice to runs: to the last of them, if it is of the same choice.
+fn add_choice(runs: &mut Vec<Run>, choice: u32) -> Result<(), AllocError>
+    ensures { OnOk result (reverse runs.new.items ≡ run_before (run_of choice 1) (reverse runs.old.items)) }
+{
+    let mut count = 1;
+    if let Some(last) = runs.pop() {
+        if last.choice == choice {
+            count = one_more(last.count)?;
+        } else {
+            runs.push(last)?;
+        }
+    }
+    runs.push(Run { choice, count })?;
+    Ok(())
+}
+
+// No memory holds a list of so many choices that this ends in an error.
+fn one_more(count: u32) -> Result<u32, AllocError>
+    ensures { IfOk result (λ n. n ≡ count + 1) }
+{
+    match count.checked_add(1) {
+        Some(more) => Ok(more),
+        None => Err(AllocError),
+    }
 }

@@ -16,13 +16,13 @@ use Rattle.pip_model.proofs.Trees.Ancestry.{named_node}
 use Rattle.pip_model.proofs.Trees.Children.{child_is}
 use Rattle.pip_model.proofs.Trees.Lookup.{in_other, root_found}
 use Rattle.pip_guests.specs.Guests.{IsSameGuest}
-use Rattle.pip_watch.specs.Watching.{addresses, fresh, page_address, ready_world, with_handlers}
-use Rattle.pip_watch.proofs.Beginning.{room_first}
+use Rattle.pip_native_run.specs.Watching.{addresses, fresh, page_address, ready_world, with_handlers}
+use Rattle.pip_native_run.proofs.Beginning.{room_first}
 use Rattle.pip_slots.specs.Images.{AgreeOnChild, HasRooms, ImagesBegin, ImagesSeparate, ImagesSeparateRounds}
 use Rattle.pip_slots.specs.Images.{ImagesSeparateSlots, placed, round_plan}
 use Rattle.pip_slots.specs.declared.time_slot.RoundSlot.{RoundSlot}
 use Rattle.pip_slots.specs.Slots.{IsBetweenSlots, IsRootsChild, IsSameInSlots, rounds}
-use Rattle.pip_watch.specs.Watching.{is_root}
+use Rattle.pip_native_run.specs.Watching.{is_root}
 use Rattle.pip_slots.specs.declared.time_slot.TimeSlot.{TimeSlot}
 use Rattle.pip_slots.proofs.Slots.{slots_separate}
 use Rattle.pip_slots.proofs.Stages.{Stage, stage_children, stage_handlers, stage_takes}

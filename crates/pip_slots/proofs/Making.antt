@@ -16,7 +16,7 @@ use Rattle.pip_model.specs.Turn.{call_line, moved_line, outcome_of, turn, world_
 use Rattle.pip_model.specs.Worlds.{World}
 use Rattle.pip_slots.specs.declared.time_slot.TimeSlot.{TimeSlot}
 use Rattle.pip_slots.specs.Slots.{closing, slot_entry, slot_turn, slot_turns, opening, polling, rest_acts}
-use Rattle.pip_watch.specs.Watching.{root_runs}
+use Rattle.pip_native_run.specs.Watching.{root_runs}
 use Rattle.pip_slots.specs.Slots.{slot_acts}
 
 -- an event, and the line of its outcome
@@ -31,24 +31,7 @@ pub opened : {T X : Type 0} (S : World → Type 0) (old new : Taken) (w : World)
     → MadeOrCut r S old new w (opening w d t)
 opened S old new w r d t o h a = event_line S old new w r (slot_entry d) (call_line t 0 8) o h a
 
--- nothing is made
-pub none_made : (S : World → Type 0) (old : Taken) (w : World) → S w → Made S old old w []
-none_made S old w s = record { world = s; text = Appends-nil old }
-
 module _ (w : World) (t : ℕ) (here : Bool) (is : here ≡ root_runs w) where
-  pub inner_none : (S : World → Type 0) (old : Taken) → here ≡ true → S w → Made S old old w (slot_turn w t)
-  inner_none S old e s =
-      subst (λ b. Made S old old w (cond b [] (turn w 0 t))) (sym e ∙ is) (none_made S old w s)
-
-  pub inner_turn : {T X : Type 0} (S : World → Type 0) (old new : Taken) (r : Result T X) → here ≡ false
-      → MadeOrCut r S old new w (turn w 0 t) → MadeOrCut r S old new w (slot_turn w t)
-  inner_turn S old new r e h = subst (λ b. MadeOrCut r S old new w (cond b [] (turn w 0 t))) (sym e ∙ is) h
-
-  pub closed_none : (S : World → Type 0) (old : Taken) → here ≡ true → S w → Made S old old w (closing w t)
-  closed_none S old e s =
-      subst (λ b. Made S old old w (cond b [] (Makes (E.Raise 0) ∷ polling (world_of w (E.Raise 0)) t))) (sym e ∙ is)
-      (none_made S old w s)
-
   pub closed_taken : {T X : Type 0} (S : World → Type 0) (old new : Taken) (r : Result T X) (o : Outcome)
       → here ≡ false → (o ≡ outcome_of (world_of w (E.Raise 0)) (E.Poll 0))
       × S (world_of (world_of w (E.Raise 0)) (E.Poll 0)) → Wrote r old new (moved_line t 0 o)

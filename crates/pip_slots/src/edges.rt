@@ -4,7 +4,7 @@ ghost use Rattle.pip_cpu.specs.Made.{Acts};
 ghost use Rattle.pip_io.specs.Causes.{HasCause};
 ghost use Rattle.pip_model.specs.Worlds.{World};
 ghost use Rattle.pip_slots.specs.Slots.{closing, slot_turn, opening};
-ghost use Rattle.pip_watch.specs.Watching.{root_runs};
+ghost use Rattle.pip_native_run.specs.Watching.{root_runs};
 
 use pip_base::Steps;
 use pip_cpu::{turn, write_call, write_moved};

@@ -6,7 +6,7 @@ use Rattle.pip_io.specs.Taken.{Taken, Appends, AppendsPart, Wrote}
 use Rattle.pip_base.specs.declared.outcome.Outcome.{Outcome}
 use Rattle.pip_dump.specs.Totals.{TotalsOf}
 use Rattle.pip_dump.specs.declared.numbers.Totals.{Totals}
-use Rattle.pip_dump.proofs.Pieces.{part_after, part_longer, wrote_after}
+use Rattle.pip_io.proofs.Piecewise.{part_after, part_longer, wrote_of}
 use Rattle.pip_model.specs.Dump.{numbers_from}
 use Rattle.pip_model.specs.Happens.{outcomes}
 use Rattle.pip_model.specs.Soak.{counted_text, is_reply, outcomes_text, soak_events, soak_start, soak_text, soak_world}
@@ -61,4 +61,4 @@ module _ (a b c : List ℕ) where
 
   pub all_of_three : {T E : Type 0} (old mid late new : Taken) (r : Result T E) → Appends old mid a → Appends mid late b
       → Wrote r late new c → Wrote r old new (a ++ b ++ c)
-  all_of_three old mid late new r h k l = wrote_after old late new (a ++ b) c r (Appends-trans old mid late a b h k) l
+  all_of_three old mid late new r h k l = wrote_of old late new (a ++ b) c r (Appends-trans old mid late a b h k) l

@@ -48,7 +48,7 @@ module _ (m m2 n : Memory) (x : Node) (cells : Level → ℕ → ℕ) (k : NodeI
 
   descriptor_is : (j : ℕ) → j < 1024 → word_at n x.base.descriptor.frame j ≡ descriptor_word y j
   descriptor_is j low = elim (cases_eq j 12) [
-    | inl at ↦ ap (word_at n x.base.descriptor.frame) at ∙ (e.tables ∙ ap (descriptor_word y) (sym at))
+    | inl at ↦ cc (e.tables)
     | inr ne ↦
         e.descriptor j ne
         ∙ (kept x.base.descriptor.frame j DescriptorPage (role_of_descriptor x k.once) (λ q h. cc)
@@ -59,8 +59,7 @@ module _ (m m2 n : Memory) (x : Node) (cells : Level → ℕ → ℕ) (k : NodeI
   directory_is : (l : Level) (j : ℕ) → j < 1024
       → word_at n (directory_of l x.base).frame j ≡ directory_entry l (table_at ts j)
   directory_is l j low = elim (cases_eq j i) [
-    | inl at ↦ ap (word_at n (directory_of l x.base).frame) at ∙ (e.entry l
-        ∙ sym (entry l j ∙ ap (λ b. if b then w l else directory_entry l (table_at x.tables j)) (eq-eqb j i at)))
+    | inl at ↦ cc (e.entry l, eq-eqb j i at, entry l j)
     | inr ne ↦
         e.entries l j ne
         ∙ (kept (directory_of l x.base).frame j (DirectoryPage l) (role_of_directory x k.once l) (λ q h. cc)
@@ -80,11 +79,11 @@ module _ (m m2 n : Memory) (x : Node) (cells : Level → ℕ → ℕ) (k : NodeI
 
   page_is : (f j : ℕ) (r : Role) → role y f ≡ Some r → j < 1024 → word_at n f j ≡ role_word y cells r j
   unfolding role_word
-  page_is f j DescriptorPage is low = ap (λ g. word_at n g j) (descriptor_role_back y f is) ∙ descriptor_is j low
-  page_is f j (DirectoryPage l) is low = ap (λ g. word_at n g j) (directory_role_back y l f is) ∙ directory_is l j low
+  page_is f j DescriptorPage is low = rw (descriptor_role_back y f is, descriptor_is j low)
+  page_is f j (DirectoryPage l) is low = rw (directory_role_back y l f is, directory_is l j low)
   page_is f j (TablePage l d) is low =
       let (b, b_in, index, frame) = table_role_back y l d f is in
-      ap (λ g. word_at n g j) (sym frame) ∙ (table_is l b b_in j low ∙ ap (λ q. cells l (1024 * q + j)) index)
+      rw (← frame, table_is l b b_in j low, index)
   page_is f j (ListPage q) is low =
       far f j (ListPage q) is (λ h. cc) (λ l h. cc) ∙ list_role_words m2 y list cells f q j is low
 
@@ -92,8 +91,8 @@ module _ (m m2 n : Memory) (x : Node) (cells : Level → ℕ → ℕ) (k : NodeI
   pub changed : NodeIn n y cells
   changed = record {
     shape = e.shape;
-    small = let c = e.count in let s = k.small in omega arith;
-    inside = λ f on. let c = e.count in let h = inside f on in omega arith;
+    small = omega arith;
+    inside = λ f on. omega (arith, inside f on);
     once = once;
     dirs = dirs;
     small_dirs = small_dirs;

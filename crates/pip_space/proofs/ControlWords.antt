@@ -54,8 +54,8 @@ module _ (m n : Memory) (x y : Node) (cells : Level → ℕ → ℕ) (k : NodeIn
       let configs : config y ≡ config x = ap config same in
       record {
         shape = shape;
-        small = let s = k.small in omega arith;
-        inside = λ f on. let low = k.inside f (subst (In f) configs on) in omega arith;
+        small = omega arith;
+        inside = λ f on. omega (arith, k.inside f (subst (In f) configs on));
         once = subst (λ z. Distinct z) (sym configs) k.once;
         dirs = subst (λ z. Distinct (map (λ t. t.index) z)) (ap (λ z. z.tables) (sym same)) k.dirs;
         small_dirs = λ t i. k.small_dirs t (subst (In t) (ap (λ z. z.tables) same) i);
@@ -63,14 +63,13 @@ module _ (m n : Memory) (x y : Node) (cells : Level → ℕ → ℕ) (k : NodeIn
         each = λ f i r is i_in. elim (role_cases r) [
           | inl d ↦
               let at : f ≡ x.name =
-              descriptor_role_back x f (sym (role_same x y same f) ∙ is ∙ ap Some d) ∙ sym k.is_named in
-              ap (λ g. word_at n g i) at ∙ words i i_in ∙ sym (descriptor_first y cells i)
-              ∙ ap (λ q. role_word y cells q i) (sym d)
+              descriptor_role_back x f (rw (← role_same x y same f, is, d)) ∙ sym k.is_named in
+              rw (at, words i i_in, ← descriptor_first y cells i, ← d)
           | inr ne ↦
-              let is_x : role x f ≡ Some r = sym (role_same x y same f) ∙ is in
-              let away : f ≢ x.name = λ e. ne (let both : Some DescriptorPage ≡ Some r = sym (name_role m x cells k)
-              ∙ ap (role x) (sym e) ∙ is_x in let one : DescriptorPage ≡ r = cc in sym one) in
-              rest f i away ∙ k.each f i r is_x i_in ∙ sym (word_same x y same cells r ne i)
+              let is_x : role x f ≡ Some r = rw (← role_same x y same f) is in
+              let away : f ≢ x.name = λ e. ne (let both : Some DescriptorPage ≡ Some r = cc (name_role m x cells k) in
+              let one : DescriptorPage ≡ r = cc in sym one) in
+              rw (rest f i away, k.each f i r is_x i_in, ← word_same x y same cells r ne i)
         ];
       }
 
@@ -82,12 +81,6 @@ module _ (m n : Memory) (x y : Node) (cells : Level → ℕ → ℕ) (k : NodeIn
   }
 
 -- ---- the words of a descriptor
-
-flags_there : (y : Node) → descriptor_word y 14 ≡ flag y.masked 1
-flags_there y = refl
-
-lines_there : (y : Node) → descriptor_word y 15 ≡ sum_by (λ j. 2 ^ j) y.pending
-lines_there y = refl
 
 pub masked_apart : (x : Node) (b : Bool) (i : ℕ) → i ≢ 14
     → descriptor_word (record x { masked = b }) i ≡ descriptor_word x i
@@ -108,10 +101,10 @@ flags_masked false = refl
 module _ (m : Memory) (x : Node) (cells : Level → ℕ → ℕ) (k : NodeIn m x cells)
     (part : ℕ) (name : x.name ≡ part) where
   pub control_frame : part < length m
-  control_frame = subst (λ p. p < length m) name (name_inside m x cells k)
+  control_frame = rw (← name) (name_inside m x cells k)
 
   read_there : (i : ℕ) → i < 1024 → word_at m part i ≡ descriptor_word x i
-  read_there i low = subst (λ p. word_at m p i ≡ descriptor_word x i) name (read_descriptor m x cells k i low)
+  read_there i low = rw (← name) (read_descriptor m x cells k i low)
 
   pub read_flags : word_at m part 14 ≡ flag x.masked 1
   read_flags = read_there 14 (omega arith)
@@ -122,23 +115,22 @@ module _ (m : Memory) (x : Node) (cells : Level → ℕ → ℕ) (k : NodeIn m x
   -- one word of the descriptor is written
   module _ (i w : ℕ) (low : i < 1024) (n : Memory) (is : n ≡ put_word m part i w) where
     put_shape : IsMemory n
-    put_shape = subst IsMemory (sym is) (IsMemory-put m part i w k.shape control_frame)
+    put_shape = rw is (IsMemory-put m part i w k.shape control_frame)
 
     put_count : length n ≡ length m
-    put_count = ap length is ∙ length-put_word m part i w
+    put_count = rw (is, length-put_word m part i w)
 
     put_rest : (g j : ℕ) → g ≢ x.name → word_at n g j ≡ word_at m g j
     put_rest g j ne =
-        ap (λ z. word_at z g j) is ∙ word_at-put_frame m part i w g j k.shape control_frame low (λ e. ne (e ∙ sym name))
+        rw (is, word_at-put_frame m part i w g j k.shape control_frame low (λ e. ne (e ∙ sym name)))
 
     put_words_are : (y : Node) → descriptor_word y i ≡ w → ((j : ℕ) → j ≢ i → descriptor_word y j ≡ descriptor_word x j)
         → (j : ℕ) → j < 1024 → word_at n x.name j ≡ descriptor_word y j
     put_words_are y here else j j_in =
         ap (λ p. word_at n p j) name ∙ ap (λ z. word_at z part j) is ∙ elim (cases_eq j i) [
-          | inl e ↦ subst (λ q. word_at (put_word m part i w) part q ≡ descriptor_word y q) (sym e)
-              (word_at-put_same m part i w k.shape control_frame low ∙ sym here)
+          | inl e ↦ rw e (word_at-put_same m part i w k.shape control_frame low ∙ sym here)
           | inr ne ↦
-              word_at-put_index m part i w part j k.shape control_frame low ne ∙ read_there j j_in ∙ sym (else j ne)
+              rw (word_at-put_index m part i w part j k.shape control_frame low ne, read_there j j_in, ← else j ne)
         ]
 
     pub put_node : (y : Node) → memory y ≡ memory x → descriptor_word y i ≡ w

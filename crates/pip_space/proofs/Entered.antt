@@ -42,7 +42,7 @@ pub record Entered (m n : Memory) (x : Node) (i : ℕ) (w : Level → ℕ) (c : 
 
 -- pages of different roles differ
 pub roles_apart : (x : Node) (f g : ℕ) (r q : Role) → role x f ≡ Some r → role x g ≡ Some q → (r ≡ q → ⊥) → f ≢ g
-roles_apart x f g r q f_is g_is ne e = let same : Some r ≡ Some q = sym f_is ∙ (ap (role x) e ∙ g_is) in
+roles_apart x f g r q f_is g_is ne e = let same : Some r ≡ Some q = rw (← f_is, e, g_is) in
     ne (let k : r ≡ q = cc in k)
 
 module _ (x : Node) (once : Distinct (config x)) where
@@ -57,11 +57,6 @@ module _ (x : Node) (once : Distinct (config x)) where
   top_apart_back : (l : Level) → (directory_of l x.base).frame ≢ x.base.descriptor.frame
   top_apart_back l e = top_apart l (sym e)
 
-  abbrev at_level : ℕ → ℕ → ℕ → Level → ℕ
-  at_level a b c Mmu = a
-  at_level a b c Shadow1 = b
-  at_level a b c Shadow2 = c
-
   module _ (m n1 n2 n3 n : Memory) (i a b c t : ℕ) (p1 : IsPut m n1 x.base.mmu.frame i a)
       (p2 : IsPut n1 n2 x.base.shadow1.frame i b) (p3 : IsPut n2 n3 x.base.shadow2.frame i c)
       (p4 : IsPut n3 n x.base.descriptor.frame 12 t) where
@@ -70,7 +65,7 @@ module _ (x : Node) (once : Distinct (config x)) where
     entry_at w e f g Mmu = p4.frame _ i (top_apart_back Mmu) ∙ (p3.frame _ i (dir_apart Mmu Shadow2 (λ e. cc))
         ∙ (p2.frame _ i (dir_apart Mmu Shadow1 (λ e. cc)) ∙ (p1.here ∙ e)))
     entry_at w e f g Shadow1 =
-        p4.frame _ i (top_apart_back Shadow1) ∙ (p3.frame _ i (dir_apart Shadow1 Shadow2 (λ e. cc)) ∙ (p2.here ∙ f))
+        rw (p4.frame _ i (top_apart_back Shadow1), p3.frame _ i (dir_apart Shadow1 Shadow2 (λ e. cc)), p2.here, f)
     entry_at w e f g Shadow2 = p4.frame _ i (top_apart_back Shadow2) ∙ (p3.here ∙ g)
 
     entries_at : (l : Level) (j : ℕ) → j ≢ i
@@ -85,7 +80,7 @@ module _ (x : Node) (once : Distinct (config x)) where
     entered_puts : (w : Level → ℕ) → a ≡ w Mmu → b ≡ w Shadow1 → c ≡ w Shadow2 → Entered m n x i w t
     entered_puts w e f g = record {
       shape = p4.shape;
-      count = p4.count ∙ (p3.count ∙ (p2.count ∙ p1.count));
+      count = rw (p4.count, p3.count, p2.count, p1.count);
       entry = entry_at w e f g;
       entries = entries_at;
       tables = p4.here;
@@ -114,4 +109,4 @@ module _ (x : Node) (once : Distinct (config x)) where
       let c3 = p3.count in
       let p4 = put_is (put_word (put_word (put_word m x.base.mmu.frame i a) x.base.shadow1.frame i b)
       x.base.shadow2.frame i c) x.base.descriptor.frame 12 t p3.shape (omega arith) (omega arith) in
-      subst (λ k. Entered m k x i w t) (sym written) (entered_puts m _ _ _ _ i a b c t p1 p2 p3 p4 w e f g)
+      rw written (entered_puts m _ _ _ _ i a b c t p1 p2 p3 p4 w e f g)

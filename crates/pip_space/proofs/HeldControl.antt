@@ -27,7 +27,7 @@ module _ (m : Memory) (part : ℕ) (t : Tree) (x : Node) (s : IsSound t) (laid :
 
   pub masked_told : (w : ℕ) → w ≡ word_at m part 14 → (w == 1) ≡ x.masked
   masked_told w is =
-      ap (λ k. k == 1) (is ∙ read_flags m x (cells_of (full_rows t x)) here part name) ∙ flags_masked x.masked
+      rw (is, read_flags m x (cells_of (full_rows t x)) here part name, flags_masked x.masked)
 
   -- masked or not
   pub masked_held : (b : Bool) (w : ℕ) (n : Memory) → n ≡ put_word m part 14 w → w ≡ flag b 1

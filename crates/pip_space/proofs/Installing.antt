@@ -41,12 +41,12 @@ use Rattle.pip_space.proofs.Entered.{Entered, entered}
 -- ---- a list with one more
 
 find_push_off : {A : Type 0} (p : A → Bool) (y : A) (xs : List A) → p y ≡ false → find p (xs ++ y ∷ []) ≡ find p xs
-find_push_off p y [] off = ap (λ b. if b then Some y else None) off
-find_push_off p y (x ∷ xs) off = ap (λ o. if p x then Some x else o) (find_push_off p y xs off)
+find_push_off p y [] off = rw off
+find_push_off p y (x ∷ xs) off = rw (find_push_off p y xs off)
 
 find_push_on : {A : Type 0} (p : A → Bool) (y : A) (xs : List A) → p y ≡ true → find p xs ≡ None
     → find p (xs ++ y ∷ []) ≡ Some y
-find_push_on p y [] on none = ap (λ b. if b then Some y else None) on
+find_push_on p y [] on none = rw on
 find_push_on p y (x ∷ xs) on none = go (p x) none (find_push_on p y xs on)
   where
     go : (b : Bool) → (if b then Some x else find p xs) ≡ None → (find p xs ≡ None → find p (xs ++ y ∷ []) ≡ Some y)
@@ -105,7 +105,7 @@ module _ (m : Memory) (x : Node) (cells : Level → ℕ → ℕ) (n : NodeIn m x
 
   zero_again : (k : Memory) (f g j : ℕ) → g < length k → word_at k g j ≡ 0 → word_at (zero_frame k f) g j ≡ 0
   zero_again k f g j inside is = elim (cases_eq g f) [
-    | inl e ↦ ap (λ h. word_at (zero_frame k h) g j) (sym e) ∙ word_at-zero_same k g j inside
+    | inl e ↦ rw (← e, word_at-zero_same k g j inside)
     | inr ne ↦ word_at-zero_frame k f g j ne ∙ is
   ]
 
@@ -135,19 +135,19 @@ module _ (m : Memory) (x : Node) (cells : Level → ℕ → ℕ) (n : NodeIn m x
   room = listed_room x can.listed
 
   full : length x.more + 1 ≡ lists (length x.tables)
-  full = let l = can.listed in omega arith
+  full = omega arith
 
   old_list : ListIn zeroed x.base.list.frame x.more x.tables
   old_list = node_list zeroed x cells zeroed_node room
 
   list_new : (p : Pair) → list ≡ Some p → In p (table_pairs b ++ page_list list)
   list_new p is =
-      In-append_right p (table_pairs b) (page_list list) (subst (λ o. In p (page_list o)) (sym is) (inl refl))
+      In-append_right p (table_pairs b) (page_list list) (rw is (inl refl))
 
   list_further : IsOutsideList x.base.list.frame x.more list
   list_further p is k k_in e =
       can.further p.frame (In-map (λ (g : Pair). g.frame) p (table_pairs b ++ page_list list) (list_new p is))
-      (role_config x p.frame (ListPage k) (ap (role x) (e ∙ node_page x k) ∙ role_of_list x n.once k k_in))
+      (role_config x p.frame (ListPage k) (rw (e, node_page x k, role_of_list x n.once k k_in)))
 
   can_add_page_here : CanAddPage zeroed x.base.list.frame (length x.tables) list
   can_add_page_here = record {
@@ -157,17 +157,17 @@ module _ (m : Memory) (x : Node) (cells : Level → ℕ → ℕ) (n : NodeIn m x
     count = refl;
     pages = full;
     further = list_further;
-    inside = λ p is. let i = can.inside p (list_new p is) in let c = zeroed_count in omega arith;
+    inside = λ p is. omega (arith, can.inside p (list_new p is), zeroed_count);
   }
 
   more_room : lists (length x.tables + 1) ≤ length (x.more ++ page_list list) + 1
-  more_room = let d = length-append x.more (page_list list) in let g = can.given in let f = full in omega arith
+  more_room = omega (arith, length-append x.more (page_list list), full)
 
   module _ (z : Memory) (first count : ℕ) (zeroed_is : z ≡ zeroed) (first_is : first
       ≡ x.base.list.frame) (count_is : count ≡ length x.tables) where
     moved : (P : Memory → ℕ → ℕ → Type 0) → P zeroed x.base.list.frame (length x.tables) → P z first count
-    moved P p = subst (λ k. P k first count) (sym zeroed_is)
-        (subst (λ f. P zeroed f count) (sym first_is) (subst (P zeroed x.base.list.frame) (sym count_is) p))
+    moved P p = rw zeroed_is (subst (λ f. P zeroed f count) (sym first_is)
+        (subst (P zeroed x.base.list.frame) (sym count_is) p))
 
     -- what the calls ask for
     pub can_add_page : CanAddPage z first count list
@@ -215,18 +215,17 @@ module _ (m : Memory) (x : Node) (cells : Level → ℕ → ℕ) (n : NodeIn m x
       let (g, i, e) = In-map_from (λ (g : Pair). g.frame) f (pairs y) on in
       let c = zeroed_count in
       elim (pairs_with g x b (page_list list) i) [
-        | inl old ↦ let h = n.inside g.frame (In-map (λ (g : Pair). g.frame) g (pairs x) old) in omega arith
-        | inr new ↦ let h = can.inside g new in omega arith
+        | inl old ↦ omega (arith, n.inside g.frame (In-map (λ (g : Pair). g.frame) g (pairs x) old))
+        | inr new ↦ omega arith
       ]
 
   -- pages of the node but its list keep their roles
   role_kept : (f : ℕ) (r : Role) → role x f ≡ Some r → ((q : ℕ) → r ≢ ListPage q) → role y f ≡ Some r
-  role_kept f DescriptorPage is other = ap (role y) (descriptor_role_back x f is) ∙ role_of_descriptor y once
-  role_kept f (DirectoryPage l) is other = ap (role y) (directory_role_back x l f is) ∙ role_of_directory y once l
+  role_kept f DescriptorPage is other = rw (descriptor_role_back x f is, role_of_descriptor y once)
+  role_kept f (DirectoryPage l) is other = rw (directory_role_back x l f is, role_of_directory y once l)
   role_kept f (TablePage l d) is other =
       let (t, i, index, frame) = table_role_back x l d f is in
-      ap (role y) (sym frame)
-      ∙ (role_of_table y once l t (In-append_left t x.tables (b ∷ []) i) ∙ ap (λ e. Some (TablePage l e)) index)
+      rw (← frame, role_of_table y once l t (In-append_left t x.tables (b ∷ []) i), index)
   role_kept f (ListPage k) is other = absurd (other k refl)
 
   no_table_at : (j : ℕ) → j ≡ b.index → table_at x.tables j ≡ None
@@ -234,8 +233,7 @@ module _ (m : Memory) (x : Node) (cells : Level → ℕ → ℕ) (n : NodeIn m x
     | inl e ↦ e
     | inr t ↦
         let f = find_in (λ t. t.index == j) t.0 x.tables t.1 in
-        absurd (can.new (subst (λ k. In k (map (λ t. t.index) x.tables))
-        (eqb-true t.0.index j f.1 ∙ at) (In-map (λ t. t.index) t.0 x.tables f.0)))
+        absurd (can.new (rw (← at, ← eqb-true t.0.index j f.1) (In-map (λ t. t.index) t.0 x.tables f.0)))
   ]
 
   entry_is : (l : Level) (j : ℕ) → directory_entry l (table_at (x.tables ++ b ∷ []) j)
@@ -244,13 +242,11 @@ module _ (m : Memory) (x : Node) (cells : Level → ℕ → ℕ) (n : NodeIn m x
     | inl at ↦
         let found : table_at (x.tables ++ b ∷ []) j ≡ Some b =
         find_push_on (λ t. t.index == j) b x.tables (eq-eqb b.index j (sym at)) (no_table_at j at) in
-        ap (directory_entry l) found ∙ sym (ap (λ q. if q then directory_word (table_page l b).frame
-        else directory_entry l (table_at x.tables j)) (eq-eqb j b.index at))
+        cc (eq-eqb j b.index at)
     | inr ne ↦
         let same : table_at (x.tables ++ b ∷ []) j ≡ table_at x.tables j =
         find_push_off (λ t. t.index == j) b x.tables (ne_eqb b.index j (λ e. ne (sym e))) in
-        ap (directory_entry l) same ∙ sym (ap (λ q. if q then directory_word (table_page l b).frame
-        else directory_entry l (table_at x.tables j)) (ne_eqb j b.index ne))
+        cc (ne_eqb j b.index ne)
   ]
 
   -- ---- the memory after the entries were written
@@ -267,11 +263,9 @@ module _ (m : Memory) (x : Node) (cells : Level → ℕ → ℕ) (n : NodeIn m x
     old_or_new empty t i = elim (In-append_cases t x.tables (b ∷ []) i) [
       | inl old ↦ inl old
       | inr new ↦ elim new [
-        | inl is ↦ inr (subst (λ (u : Table). (l : Level) (j : ℕ) → j < 1024
-            → word_at q (table_page l u).frame j ≡ cells l (1024 * u.index + j)) (sym is) (λ l j j_in.
-            other_roles y zeroed q once stays (table_page l b).frame j (TablePage l b.index)
-            (role_of_table y once l b (In-append_right b x.tables (b ∷ []) (inl refl))) (λ k h. cc)
-            ∙ (zeroed_table l j ∙ sym (empty l j j_in))))
+        | inl is ↦ inr (rw is (λ l j j_in. other_roles y zeroed q once stays (table_page l b).frame j
+            (TablePage l b.index) (role_of_table y once l b (In-append_right b x.tables (b ∷ []) (inl refl)))
+            (λ k h. cc) ∙ (zeroed_table l j ∙ sym (empty l j j_in))))
         | inr none ↦ absurd none
       ]
     ]
@@ -286,13 +280,13 @@ module _ (m : Memory) (x : Node) (cells : Level → ℕ → ℕ) (n : NodeIn m x
         let more = list_others y zeroed q once stays in
         let counts = zeroed_count in
         record {
-          count = e.count ∙ (stays.count ∙ counts);
+          count = cc (e.count, stays.count);
           words = λ f j off.
-              e.rest f j (λ h. off (role_config y f DescriptorPage (ap (role y) h ∙ role_of_descriptor y once)))
-              (λ l h. off (role_config y f (DirectoryPage l) (ap (role y) h ∙ role_of_directory y once l)))
+              e.rest f j (λ h. off (role_config y f DescriptorPage (rw (h, role_of_descriptor y once))))
+              (λ l h. off (role_config y f (DirectoryPage l) (rw (h, role_of_directory y once l))))
               ∙ (more.words f j off
               ∙ zeroed_same f j (λ l h. off (role_config y f (TablePage l b.index)
-              (ap (role y) h ∙ role_of_table y once l b (In-append_right b x.tables (b ∷ []) (inl refl))))));
+              (rw (h, role_of_table y once l b (In-append_right b x.tables (b ∷ []) (inl refl)))))));
         }
 
   -- the entries as they are written
@@ -303,14 +297,14 @@ module _ (m : Memory) (x : Node) (cells : Level → ℕ → ℕ) (n : NodeIn m x
       → Entered q n2 x b.index (λ l. directory_word (table_page l b).frame) (length (x.tables ++ b ∷ []))
   entries_done q n2 shape count h a i u v w t index u_is v_is w_is t_is written =
       let size = length-append x.tables (b ∷ []) in
-      let tables : t ≡ length (x.tables ++ b ∷ []) = let z = a.tables in omega arith in
+      let tables : t ≡ length (x.tables ++ b ∷ []) = omega arith in
       let part : h.part ≡ x.base.descriptor.frame = a.part ∙ n.is_named in
       let c1 = zeroed_count in
-      entered x n.once q n2 shape (λ f on. let k = n.inside f on in omega arith) b.index (directory_word u)
+      entered x n.once q n2 shape (λ f on. omega (arith, n.inside f on)) b.index (directory_word u)
       (directory_word v) (directory_word w) (length (x.tables ++ b ∷ [])) low
       (rw (← tables, index, ← part, ← a.mmu, ← a.shadow1, ← a.shadow2) written)
-      (λ l. directory_word (table_page l b).frame) (ap directory_word u_is) (ap directory_word v_is)
-      (ap directory_word w_is)
+      (λ l. directory_word (table_page l b).frame) (rw u_is) (rw v_is)
+      (rw w_is)
 
 -- where there is no table, there is no row
 pub no_row_at : (m : Memory) (x : Node) (rows : ℕ → Option FullRow) → Space m x rows → (i : ℕ)
@@ -325,7 +319,7 @@ no_row_at m x rows space i new l j low =
           absurd (new (subst (λ k. In k (map (λ (t : Table). t.index) x.tables))
           (eqb-true t.0.index (dir (1024 * i + j)) t.2 ∙ index) (In-map (λ (t : Table). t.index) t.0 x.tables t.1)))
     ] in
-    ap (row_word l) (no_table_no_row m x rows space (1024 * i + j) off) ∙ row_word-none l
+    rw (no_table_no_row m x rows space (1024 * i + j) off, row_word-none l)
 
 or_on : (a b : Bool) → a ≡ true → (a || b) ≡ true
 or_on true b e = refl
@@ -350,5 +344,5 @@ pub slot_pages : (m : Memory) (x : Node) (b : Table) (rest slot : List Pair) →
 slot_pages m x b rest slot can pages = record {
   table = b;
   pages = pages;
-  inside = λ g i. can.inside g (In-append_left g (table_pairs b) rest (subst (In g) (sym pages) i));
+  inside = λ g i. can.inside g (In-append_left g (table_pairs b) rest (rw (← pages) at i));
 }

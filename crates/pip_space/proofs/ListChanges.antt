@@ -26,7 +26,7 @@ module _ (m : Memory) (first : ℕ) (more : List Pair) (ts : List Table) (list :
   list_zero = record {
     pages = record {
       shape = IsMemory-zero m p.frame list.pages.shape;
-      inside = λ k h. let i = list.pages.inside k h in let n = length-zero_frame m p.frame in omega arith;
+      inside = λ k h. omega (arith, list.pages.inside k h, length-zero_frame m p.frame);
       apart = list.pages.apart;
       each = λ k i k_in i_in. word_at-zero_frame m p.frame (list_frame first more k) i (λ e. far k k_in (sym e))
           ∙ list.pages.each k i k_in i_in;
@@ -40,7 +40,7 @@ module _ (m : Memory) (first : ℕ) (more : List Pair) (ts : List Table) (list :
 
   pub zero_fresh : p.frame < length m → IsFresh (zero_frame m p.frame) first more p.frame
   zero_fresh inside = record {
-    inside = let n = length-zero_frame m p.frame in omega arith;
+    inside = omega (arith, length-zero_frame m p.frame);
     further = far;
     zeros = λ i low. word_at-zero_same m p.frame i inside;
   }
@@ -51,9 +51,9 @@ module _ (m : Memory) (first : ℕ) (more : List Pair) (ts : List Table) (list :
     count = stays.count ∙ length-zero_frame m p.frame;
     words = λ f i off.
         let long = length_more more p in
-        stays.words f i (λ k k_in e. off k (omega arith) (e ∙ sym (frame_old first more p k k_in)))
+        stays.words f i (λ k k_in e. off k (omega arith) (cc (frame_old first more p k k_in)))
         ∙ word_at-zero_frame m p.frame f i
-        (λ e. off (length more + 1) (omega arith) (e ∙ sym (frame_new first more p)));
+        (λ e. off (length more + 1) (omega arith) (cc (frame_new first more p)));
   }
 
 -- the memory after a page was appended, by what append_page says
@@ -65,11 +65,10 @@ pub page_added : (m z n : Memory) (first pages : ℕ) (more : List Pair) (ts : L
     → ListIn n first (more ++ page_list o) ts × ListStays first (more ++ page_list o) m n
 page_added m z n first pages more ts p o is list count far inside zeroed append =
     let off = far p is in
-    let done = append more ts (subst (λ k. ListIn k first more ts) (sym zeroed) (list_zero m first more ts list p off))
-    count (subst (λ k. IsFresh k first more p.frame) (sym zeroed) (zero_fresh m first more ts list p off inside)) in
-    let stays = zero_stays m first more ts list p off n (subst (λ k. ListStays first more k n) zeroed done.1) in
-    subst (λ q. ListIn n first (more ++ page_list q) ts × ListStays first (more ++ page_list q) m n) (sym is)
-    (done.0, stays)
+    let done = append more ts (rw zeroed (list_zero m first more ts list p off))
+    count (rw zeroed (zero_fresh m first more ts list p off inside)) in
+    let stays = zero_stays m first more ts list p off n (rw (← zeroed) done.1) in
+    rw is (done.0, stays)
 
 -- ---- a slot less
 
@@ -77,7 +76,7 @@ page_added m z n first pages more ts p o is list count far inside zeroed append 
 pub found_place : (ts : List Table) (b : Table) (k table : ℕ) (o : Option ℕ) → IsPlaceOfTable ts b k
     → b.mmu.frame ≡ table → o ≡ position (λ (t : Table). t.mmu.frame == table) ts → o ≡ Some k
 found_place ts b k table o place frame found =
-    found ∙ (ap (λ f. position (λ (t : Table). t.mmu.frame == f) ts) (sym frame) ∙ place.is_first)
+    rw (found, ← frame, place.is_first)
 
 -- the memory after the slot was taken, by what swap_remove says
 pub slot_taken : (m n : Memory) (first count : ℕ) (more : List Pair) (ts : List Table) (b : Table) (k : ℕ)
@@ -85,7 +84,7 @@ pub slot_taken : (m n : Memory) (first count : ℕ) (more : List Pair) (ts : Lis
     → ((more : List Pair) (us : List Table) (u : Table) → ListIn m first more (us ++ u ∷ []) → length us + 1 ≡ count
     → ListIn n first more (slice_set us k u) × ListStays first more m n)
     → ListIn n first more (swap_out b.index ts) × ListStays first more m n
-slot_taken m n first count more [] b k list long place swap = let inside = place.inside in absurd (omega arith)
+slot_taken m n first count more [] b k list long place swap = absurd (omega arith)
 slot_taken m n first count more (t ∷ ts) b k list long place swap =
     let split = last_split t ts in
     let us = split.0 in
@@ -93,10 +92,10 @@ slot_taken m n first count more (t ∷ ts) b k list long place swap =
     let e : t ∷ ts ≡ us ++ u ∷ [] = split.2 in
     let size = ap length e ∙ length-append us (u ∷ []) in
     let inside = place.inside in
-    let done = swap more us u (subst (ListIn m first more) e list) (omega arith) in
+    let done = swap more us u (rw (← e) list) (omega arith) in
     let out = swap_out-set us u k b.index (omega arith) (ap (λ ws. (slots ws k).index) (sym e) ∙ ap (λ (z : Table).
-    z.index) place.is_table) (λ j j_in z. place.before j j_in (ap (λ ws. (slots ws j).index) e ∙ z)) in
-    (subst (ListIn n first more) (sym out ∙ ap (swap_out b.index) (sym e)) done.0, done.1)
+    z.index) place.is_table) (λ j j_in z. place.before j j_in (rw (e, z))) in
+    (rw (← out, ← e) at done.0, done.1)
 
 -- ---- a list page less
 
@@ -123,47 +122,35 @@ shrunk m n first count p (g ∷ gs) ts less list long pages last pop =
     let size = ap length e ∙ length_more front q in
     let there = subst (λ ms. ListIn m first ms ts) e list in
     let less_is : nat_lt (lists count) (lists (count + 1)) ≡ true = lt-ltb (lists count) (lists (count + 1)) less in
-    let few : lists (length ts) ≤ length front + 1 = (let z = ap lists long in omega arith) in
+    let few : lists (length ts) ≤ length front + 1 = (omega arith) in
     let done = pop front q ts there (omega arith) few in
     let gone : page_gone count (g ∷ gs) ≡ q ∷ [] =
-    ap (λ (b : Bool). if b then last_pair (g ∷ gs) else []) less_is ∙ (ap last_pair e ∙ last_pair-append front q) in
-    let rest : less_pages count (g ∷ gs) ≡ front = ap (λ (b : Bool). if b then front_of (g ∷ gs) else (g ∷ gs)) less_is
-    ∙ (ap front_of e ∙ front_of-append front q) in (
-      ap (λ z. z ∷ []) (last front q ts there (omega arith)) ∙ sym gone,
-      subst (λ ms. ListIn n first ms ts) (sym rest) done.0,
+    cc (last_pair-append front q) in
+    let rest : less_pages count (g ∷ gs) ≡ front = cc (front_of-append front q) in (
+      rw (last front q ts there (omega arith), ← gone),
+      rw rest done.0,
       record {
         count = done.1.count;
         words = λ f i off. done.1.words f i (λ k k_in h. off k (omega arith)
-            (h ∙ (sym (frame_old first front q k k_in) ∙ ap (λ ms. list_frame first ms k) (sym e))));
+            (rw (h, ← frame_old first front q k k_in, ← e)));
       },
-    )
-
--- or where it wasn't
-pub not_shrunk : (m : Memory) (first count : ℕ) (more : List Pair) (ts : List Table) → lists (count + 1) ≤ lists count
-    → ListIn m first more ts
-    → ([] ≡ page_gone count more) × ListIn m first (less_pages count more) ts × ListStays first more m m
-not_shrunk m first count more ts same list =
-    let same_is : nat_lt (lists count) (lists (count + 1)) ≡ false = le-ltb (lists count) (lists (count + 1)) same in (
-      sym (ap (λ (b : Bool). if b then last_pair more else []) same_is),
-      subst (λ ms. ListIn m first ms ts) (sym (ap (λ (b : Bool). if b then front_of more else more) same_is)) list,
-      record { count = refl; words = λ f i off. refl },
     )
 
 -- ---- pages of a slot
 
 module _ (b : Table) (ps : List Pair) (e : table_pairs b ≡ ps) where
   pub slot_mmu : (none : Pair) → (slice_index_or ps 0 none).frame ≡ b.mmu.frame
-  slot_mmu none = ap (λ qs. (slice_index_or qs 0 none).frame) (sym e)
+  slot_mmu none = rw (← e)
 
   pub slot_shadow1 : (none : Pair) → (slice_index_or ps 1 none).frame ≡ b.shadow1.frame
-  slot_shadow1 none = ap (λ qs. (slice_index_or qs 1 none).frame) (sym e)
+  slot_shadow1 none = rw (← e)
 
   pub slot_shadow2 : (none : Pair) → (slice_index_or ps 2 none).frame ≡ b.shadow2.frame
-  slot_shadow2 none = ap (λ qs. (slice_index_or qs 2 none).frame) (sym e)
+  slot_shadow2 none = rw (← e)
 
 module _ (m : Memory) (ps : List Pair) (a : AreInPages m ps) where
   page_in : (g : Pair) → In g (table_pairs a.table) → g.frame < length m
-  page_in g i = a.inside g (subst (In g) a.pages i)
+  page_in g i = a.inside g (rw (← a.pages) i)
 
   pub slot_in_mmu : (none : Pair) → (slice_index_or ps 0 none).frame < length m
   slot_in_mmu none = rw (slot_mmu a.table ps a.pages none) (page_in a.table.mmu (inl refl))
@@ -187,8 +174,8 @@ pub shrunk_at : (m n : Memory) (first count pages : ℕ) (p : Pair) (more : List
     → lists (length ts) ≤ length more + 1 → ListIn n first more ts × ListStays first more m n)
     → (p ∷ [] ≡ page_gone count more) × ListIn n first (less_pages count more) ts × ListStays first more m n
 shrunk_at m n first count pages p more ts named less list long fits last pop =
-    shrunk m n first count p more ts less list long fits (λ us q vs l z. last us q vs l (z ∙ sym named))
-    (λ us q vs l z few. pop us q vs l (z ∙ sym named) few)
+    shrunk m n first count p more ts less list long fits (λ us q vs l z. last us q vs l (cc))
+    (λ us q vs l z few. pop us q vs l (cc) few)
 
 -- a page that may be none, as a slice
 pub page_list-slice : (o : Option Pair) (ps : List Pair) → MatchOption o (ps ≡ []) (λ p. ps ≡ p ∷ []) → ps ≡ page_list o

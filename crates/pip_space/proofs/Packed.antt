@@ -24,14 +24,13 @@ leaf_of (Some r) p = (Page r.frame r.user (record { 0 = r.rights }), (p.frame, p
 given_at : (w : ℕ) → IsFirstShadowWord w → (s : Sh1) × IsSh1 s × (packed_sh1 s ≡ w)
 given_at w (inl z) = (Free, tt, sym z)
 given_at w (inr h) = elim (cases_eq (w % 4096) 1) [
-  | inl one ↦ (Descriptor (w / 4096), (let b = h.1 in omega arith, λ z. let a = h.0 in omega arith), omega arith)
+  | inl one ↦ (Descriptor (w / 4096), (omega arith, λ z. omega arith), omega arith)
   | inr not_one ↦ elim (cases_eq (w % 4096) 2) [
-    | inl two ↦ (Config (w / 4096), (let b = h.1 in omega arith, λ z. let a = h.0 in omega arith), omega arith)
+    | inl two ↦ (Config (w / 4096), (omega arith, λ z. omega arith), omega arith)
     | inr not_two ↦ (
       Lent (w / 4096),
-      (let b = h.1 in omega arith, λ z. let a = h.0 in omega arith),
-      let c = h.2 in
-          let d = h.3 in omega arith,
+      (omega arith, λ z. omega arith),
+      omega arith,
     )
   ]
 ]
@@ -42,7 +41,7 @@ given_of (Some r) p = given_at r.given p.given
 
 from_at : (w : ℕ) → IsSecondShadowWord w → (s : Sh2) × IsSh2 s × (packed_sh2 s ≡ w)
 from_at w (inl z) = (NoPage, tt, sym z)
-from_at w (inr h) = (Of (w / 4096), (let b = h.0 in omega arith), let c = h.1 in omega arith)
+from_at w (inr h) = (Of (w / 4096), (omega arith), omega arith)
 
 pub from_of : (r : Option FullRow) → IsPacked r → (s : Sh2) × IsSh2 s × (packed_sh2 s ≡ row_word Shadow2 r)
 from_of None p = (NoPage, tt, refl)

@@ -50,7 +50,7 @@ first_in v (t ∷ ts) i = moved_in v t ts i
 -- the tables of other indexes stay
 out_keeps : (i : ℕ) (c : Table) (ts : List Table) → In c ts → c.index ≢ i → In c (swap_out i ts)
 out_keeps i c [] h ne = absurd h
-out_keeps i c (t ∷ ts) (inl e) ne = rw (ne_eqb t.index i (λ z. ne (ap (λ (u : Table). u.index) e ∙ z))) (inl e)
+out_keeps i c (t ∷ ts) (inl e) ne = rw (ne_eqb t.index i (λ z. ne (rw (e, z)))) (inl e)
 out_keeps i c (t ∷ ts) (inr h) ne = go (t.index == i) (out_keeps i c ts h ne)
   where
     go : (q : Bool) → In c (swap_out i ts) → In c (if q then last_first ts else t ∷ swap_out i ts)
@@ -63,11 +63,11 @@ out_gone i c [] d h e = h
 out_gone i c (t ∷ ts) d h e = elim (cases_eq t.index i) [
   | inl at ↦
       let there : In c (last_first ts) = rw (eq-eqb t.index i at) at h in
-      d.0 (subst (λ k. In k (map (λ t. t.index) ts)) (e ∙ sym at) (In-map (λ t. t.index) c ts (in_moved c ts there)))
+      d.0 (rw (at, ← e) (In-map (λ t. t.index) c ts (in_moved c ts there)))
   | inr ne ↦
       let there : In c (t ∷ swap_out i ts) = rw (ne_eqb t.index i ne) at h in
       elim there [
-        | inl same ↦ ne (ap (λ (u : Table). u.index) (sym same) ∙ e)
+        | inl same ↦ ne (rw (← same, e))
         | inr k ↦ out_gone i c ts d.1 k e
       ]
 ]
@@ -94,14 +94,11 @@ module _ (m : Memory) (x : Node) (cells : Level → ℕ → ℕ) (n : NodeIn m x
 
   shorter : length (swap_out i x.tables) + 1 ≡ length x.tables
   shorter =
-      let o = total_out (λ t. 1) i b x.tables has in
-      let p = total_length (swap_out i x.tables) in
-      let q = total_length x.tables in
-      omega (arith, o, p, q)
+      omega (arith, total_out (λ t. 1) i b x.tables has, total_length (swap_out i x.tables), total_length x.tables)
 
   -- the page that is found
   pub found_page : table_frame_at Mmu x i ≡ Some b.mmu.frame
-  found_page = ap (λ (o : Option Table). page_of o) has
+  found_page = rw has
     where
       page_of : Option Table → Option ℕ
       page_of None = None
@@ -109,7 +106,7 @@ module _ (m : Memory) (x : Node) (cells : Level → ℕ → ℕ) (n : NodeIn m x
 
   -- so it is the one that the code found
   pub same_page : (o : Option ℕ) (f : ℕ) → o ≡ Some f → o ≡ table_frame_at Mmu x i → f ≡ b.mmu.frame
-  same_page o f found is = let e : Some f ≡ Some b.mmu.frame = sym found ∙ (is ∙ found_page) in cc
+  same_page o f found is = let e : Some f ≡ Some b.mmu.frame = rw (← found, is, found_page) in cc
 
   -- ---- what the calls ask for and say
 
@@ -144,13 +141,13 @@ module _ (m : Memory) (x : Node) (cells : Level → ℕ → ℕ) (n : NodeIn m x
     place = node_place m x cells n b in_tables
 
     pub some_table : 1 ≤ count
-    some_table = let s = shorter in omega arith
+    some_table = omega (arith, shorter)
 
     pub can_take_slot : CanTakeSlot m first count page
     can_take_slot = record {
       more = x.more;
       tables = x.tables;
-      is_in = subst (λ f. ListIn m f x.more x.tables) (sym first_is) old_list;
+      is_in = rw first_is old_list;
       count = sym count_is;
       taken = b;
       place = place.0;
@@ -160,13 +157,11 @@ module _ (m : Memory) (x : Node) (cells : Level → ℕ → ℕ) (n : NodeIn m x
 
     take_done : (g : Memory) (slot : List Pair) → TakeSays g first count page slot
         → (slot ≡ table_pairs b) × ListIn g first x.more (swap_out i x.tables) × ListStays first x.more m g
-    take_done g slot take = subst (λ j. (slot ≡ table_pairs b) × ListIn g first x.more (swap_out j x.tables)
-        × ListStays first x.more m g) index_is
-        (take x.more x.tables b place.0 (subst (λ f. ListIn m f x.more x.tables) (sym first_is) old_list) (sym count_is)
-        (sym page_is) place.1)
+    take_done g slot take = rw (← index_is) (take x.more x.tables b place.0
+        (subst (λ f. ListIn m f x.more x.tables) (sym first_is) old_list) (sym count_is) (sym page_is) place.1)
 
     less : length (swap_out i x.tables) ≡ count - 1
-    less = let s = shorter in omega arith
+    less = omega (arith, shorter)
 
     pages : length x.more + 1 ≡ lists (count - 1 + 1)
     pages = let s = some_table in let l = listed in let e : lists (count - 1 + 1) ≡ lists (length x.tables) =
@@ -180,15 +175,14 @@ module _ (m : Memory) (x : Node) (cells : Level → ℕ → ℕ) (n : NodeIn m x
       is_in = (take_done g slot take).1;
       count = less;
       pages = pages;
-      few = let f = few_tables m x cells n in omega arith;
+      few = omega (arith, few_tables m x cells n);
     }
 
     falls_is : nat_lt (lists (count - 1)) (lists (count - 1 + 1)) ≡ falls x
     falls_is =
         let s = some_table in
         let same : count - 1 + 1 ≡ length x.tables = omega arith in
-        ap (λ c. nat_lt (lists (c - 1)) (lists (count - 1 + 1))) count_is
-        ∙ ap (λ c. nat_lt (lists (length x.tables - 1)) (lists c)) same
+        cc
 
     -- the list with the slot and the page taken, and these
     pub lists_done : (g q : Memory) (slot : List Pair) (gone : Option Pair) → TakeSays g first count page slot
@@ -200,9 +194,9 @@ module _ (m : Memory) (x : Node) (cells : Level → ℕ → ℕ) (n : NodeIn m x
         let two = shrink x.more (swap_out i x.tables) one.1 less pages in (
           ap (λ s. s ++ page_list gone) one.0 ∙ (ap (λ s. table_pairs b ++ s) (two.0
               ∙ ap (λ (c : Bool). if c then last_pair x.more else []) falls_is) ∙ ap (returned_pages x) (sym has)),
-          subst (λ f. ListIn q f y.more y.tables) first_is (subst (λ ms. ListIn q first ms y.tables)
+          rw (← first_is) (subst (λ ms. ListIn q first ms y.tables)
               (ap (λ (c : Bool). if c then front_of x.more else x.more) falls_is) two.1),
-          subst (λ f. ListStays f x.more m q) first_is (ListStays-trans first x.more m g q one.2 two.2),
+          rw (← first_is) (ListStays-trans first x.more m g q one.2 two.2),
         )
 
   -- ---- the node without the table
@@ -232,10 +226,10 @@ module _ (m : Memory) (x : Node) (cells : Level → ℕ → ℕ) (n : NodeIn m x
     | inr c ↦
         let f = table_found x.tables j c.0 c.1 in
         let there = in_table (swap_out i x.tables) bare_tables.differ c.0
-        (out_keeps i c.0 x.tables f.0 (λ z. ne (sym f.1 ∙ z))) in
-        ap (table_at (swap_out i x.tables)) (sym f.1) ∙ (there ∙ sym c.1)
+        (out_keeps i c.0 x.tables f.0 (λ z. ne (cc (f.1)))) in
+        cc (f.1, c.1)
     | inl none ↦ elim (cases_option (table_at (swap_out i x.tables) j)) [
-      | inl e ↦ e ∙ sym none
+      | inl e ↦ cc
       | inr c ↦
           let f = table_found (swap_out i x.tables) j c.0 c.1 in
           absurd (both_ways (c.0.index == j) (find_none (λ t. t.index == j) c.0 x.tables none
@@ -246,10 +240,8 @@ module _ (m : Memory) (x : Node) (cells : Level → ℕ → ℕ) (n : NodeIn m x
   entry_is : (l : Level) (j : ℕ) → directory_entry l (table_at (swap_out i x.tables) j)
       ≡ (if j == i then 0 else directory_entry l (table_at x.tables j))
   entry_is l j = elim (cases_eq j i) [
-    | inl at ↦ ap (directory_entry l) (table_gone j at)
-        ∙ sym (ap (λ (q : Bool). if q then 0 else directory_entry l (table_at x.tables j)) (eq-eqb j i at))
-    | inr ne ↦ ap (directory_entry l) (table_stays j ne)
-        ∙ sym (ap (λ (q : Bool). if q then 0 else directory_entry l (table_at x.tables j)) (ne_eqb j i ne))
+    | inl at ↦ cc (table_gone j at, eq-eqb j i at)
+    | inr ne ↦ cc (table_stays j ne, ne_eqb j i ne)
   ]
 
   module _ (q n2 : Memory) (new_list : ListIn q x.base.list.frame y.more y.tables)
@@ -265,8 +257,8 @@ module _ (m : Memory) (x : Node) (cells : Level → ℕ → ℕ) (n : NodeIn m x
         record {
           count = e.count ∙ stays.count;
           words = λ f j off.
-              e.rest f j (λ h. off (role_config x f DescriptorPage (ap (role x) h ∙ role_of_descriptor x n.once)))
-              (λ l h. off (role_config x f (DirectoryPage l) (ap (role x) h ∙ role_of_directory x n.once l)))
+              e.rest f j (λ h. off (role_config x f DescriptorPage (rw (h, role_of_descriptor x n.once))))
+              (λ l h. off (role_config x f (DirectoryPage l) (rw (h, role_of_directory x n.once l))))
               ∙ more.words f j off;
         }
 
@@ -276,9 +268,9 @@ module _ (m : Memory) (x : Node) (cells : Level → ℕ → ℕ) (n : NodeIn m x
       → Entered q n2 x i (λ l. 0) (length y.tables)
   entries_gone q n2 shape count h a t t_is written =
       let s = shorter in
-      let tables : t ≡ length y.tables = let z = a.tables in omega arith in
+      let tables : t ≡ length y.tables = omega arith in
       let part : h.part ≡ x.base.descriptor.frame = a.part ∙ n.is_named in
-      entered x n.once q n2 shape (λ f on. let k = n.inside f on in omega arith) i 0 0 0 (length y.tables) low
+      entered x n.once q n2 shape (λ f on. omega (arith, n.inside f on)) i 0 0 0 (length y.tables) low
       (rw (← tables, ← part, ← a.mmu, ← a.shadow1, ← a.shadow2) written)
       (λ l. 0) refl refl refl
 
@@ -290,9 +282,9 @@ module _ (m n : Memory) (x : Node) (i : ℕ) (rows : ℕ → Option FullRow) (s 
 
   beside_from : (v : ℕ) (r : FullRow) → rows_beside i rows v ≡ Some r → (dir v ≢ i) × (rows v ≡ Some r)
   beside_from v r is = elim (cases_eq (dir v) i) [
-    | inl e ↦ let bad : None ≡ Some r = sym (ap (λ (q : Bool). if q then None else rows v) (eq-eqb (dir v) i e)) ∙ is in
+    | inl e ↦ let bad : None ≡ Some r = cc (eq-eqb (dir v) i e) in
         absurd (let b = bad in cc)
-    | inr ne ↦ (ne, sym (beside_is v ne) ∙ is)
+    | inr ne ↦ (ne, rw (← beside_is v ne) is)
   ]
 
   -- of the cells those count that have a table
@@ -305,8 +297,8 @@ module _ (m n : Memory) (x : Node) (i : ℕ) (rows : ℕ → Option FullRow) (s 
   beside_word f j (TablePage l d) is low =
       let (b, on, at, page) = table_role_back (without_table i x) l d f is in
       let gone = out_gone i b x.tables (s.node.dirs) on in
-      let apart : dir (1024 * d + j) ≢ i = λ e. gone (at ∙ (let q : d ≡ dir (1024 * d + j) = omega arith in q ∙ e)) in
-      ap (row_word l) (sym (beside_is (1024 * d + j) apart))
+      let apart : dir (1024 * d + j) ≢ i = λ e. gone (at ∙ (let q : d ≡ dir (1024 * d + j) = omega arith in cc)) in
+      cc (beside_is (1024 * d + j) apart)
 
   pub removed_rows : Space n (without_table i x) (rows_beside i rows)
   unfolding beside_from beside_word
@@ -329,6 +321,6 @@ module _ (m n : Memory) (x : Node) (i : ℕ) (rows : ℕ → Option FullRow) (s 
         let f = table_found x.tables (dir v) t.0 t.1 in (
           old.0,
           any_some (λ (t : Table). t.index == dir v) t.0 (swap_out i x.tables)
-              (out_keeps i t.0 x.tables f.0 (λ z. ne (sym f.1 ∙ z))) (eq-eqb t.0.index (dir v) f.1),
+              (out_keeps i t.0 x.tables f.0 (λ z. ne (cc (f.1)))) (eq-eqb t.0.index (dir v) f.1),
         );
   }

@@ -16,39 +16,38 @@ use Rattle.pip_space.specs.declared.table_roots.TableRoots.{TableRoots}
 
 length-indexes : (ts : List Table) → length (map (λ t. t.index) ts) ≡ length ts
 length-indexes [] = refl
-length-indexes (t ∷ ts) = ap suc (length-indexes ts)
+length-indexes (t ∷ ts) = rw (length-indexes ts)
 
 module _ (m : Memory) (x : Node) (cells : Level → ℕ → ℕ) (n : NodeIn m x cells) where
   -- a node has at most 1024 tables
   pub few_tables : length x.tables ≤ 1024
   few_tables =
-      subst (λ k. k ≤ 1024) (length-indexes x.tables) (length-le_from_distinct_below (map (λ t. t.index) x.tables) 1024
+      rw (← length-indexes x.tables) (length-le_from_distinct_below (map (λ t. t.index) x.tables) 1024
       (distinct_by_test (map (λ t. t.index) x.tables) n.dirs) small)
     where
       small : (q : ℕ) → list_any (eqb q) (map (λ t. t.index) x.tables) ≡ true → q < 1024
       small q h =
           let (b, j, e) = In-map_from (λ t. t.index) q x.tables (any_member q (map (λ t. t.index) x.tables) h) in
-          subst (λ k. k < 1024) (sym e) (n.small_dirs b j)
+          rw e (n.small_dirs b j)
 
   module _ (part : ℕ) (name : x.name ≡ part) where
     pub part_inside : part < length m
-    part_inside = subst (λ p. p < length m) name (name_inside m x cells n)
+    part_inside = rw (← name) (name_inside m x cells n)
 
     pub read_list_frame : word_at m part 9 ≡ x.base.list.frame
-    read_list_frame = subst (λ p. word_at m p 9 ≡ x.base.list.frame) name (read_descriptor m x cells n 9 (omega arith))
+    read_list_frame = rw (← name) (read_descriptor m x cells n 9 (omega arith))
 
     pub read_tables : word_at m part 12 ≡ length x.tables
-    read_tables = subst (λ p. word_at m p 12 ≡ length x.tables) name (read_descriptor m x cells n 12 (omega arith))
+    read_tables = rw (← name) (read_descriptor m x cells n 12 (omega arith))
 
     pub list_small : word_at m part 9 < 2 ^ 20
-    list_small = let e = read_list_frame in let i = list_inside m x cells n 0 (omega arith) in let s = n.small in
-        omega arith
+    list_small = omega (arith, read_list_frame, list_inside m x cells n 0 (omega arith))
 
   -- they are frames of the memory
   pub roots_inside : (h : TableRoots) → AreTableRoots x h → AreInside m h
   roots_inside h a = record {
-    part = let e = a.part in let i = name_inside m x cells n in omega arith;
-    mmu = let e = a.mmu in let i = directory_inside m x cells n Mmu in omega arith;
-    shadow1 = let e = a.shadow1 in let i = directory_inside m x cells n Shadow1 in omega arith;
-    shadow2 = let e = a.shadow2 in let i = directory_inside m x cells n Shadow2 in omega arith;
+    part = omega (arith, name_inside m x cells n);
+    mmu = omega (arith, directory_inside m x cells n Mmu);
+    shadow1 = omega (arith, directory_inside m x cells n Shadow1);
+    shadow2 = omega (arith, directory_inside m x cells n Shadow2);
   }

@@ -56,8 +56,8 @@ module _ (m : Memory) (x : Node) (cells : Level → ℕ → ℕ) (n : NodeIn m x
       → word_at m part i ≡ (directory_of l x.base).frame
   read_place part name l i place =
       let low = place_below l in
-      subst (λ p. word_at m p i ≡ (directory_of l x.base).frame) name
-      (ap (word_at m x.name) place ∙ (read_descriptor m x cells n (descriptor_index l) low ∙ place_word x l))
+      rw (← name) (ap (word_at m x.name) place ∙ (read_descriptor m x cells n (descriptor_index l) low ∙ place_word x
+      l))
 
   module _ (level : Level) where
     abbrev pub top : ℕ
@@ -67,35 +67,35 @@ module _ (m : Memory) (x : Node) (cells : Level → ℕ → ℕ) (n : NodeIn m x
         → (b : Table) × (table_at x.tables i ≡ Some b) × (word_at m top i ≡ directory_word (table_page level b).frame)
     entry_table i h has =
         let e = read_directory m x cells n level i h in
-        let found = entry_found level x.tables i (λ z. has (e ∙ z)) in
+        let found = entry_found level x.tables i (λ z. has (cc)) in
         (found.0, found.1, e ∙ found.2)
 
     entry_role : (i : ℕ) → i < 1024 → HasTable m top i → role x (table_frame m top i) ≡ Some (TablePage level i)
     entry_role i h has =
         let b = entry_table i h has in
         let f = table_found x.tables i b.0 b.1 in
-        let frame : table_frame m top i ≡ (table_page level b.0).frame = let e = b.2 in omega arith in
-        ap (role x) frame ∙ (role_of_table x n.once level b.0 f.0 ∙ ap (λ d. Some (TablePage level d)) f.1)
+        let frame : table_frame m top i ≡ (table_page level b.0).frame = omega arith in
+        rw (frame, role_of_table x n.once level b.0 f.0, f.1)
 
     -- the directory of a level and its tables are a table of two levels
     pub is_table : IsDirectory m top
     is_table = record {
       shape = n.shape;
       inside = directory_inside m x cells n level;
-      packed = λ i h has. let b = entry_table i h has in let e = b.2 in omega arith;
+      packed = λ i h has. let b = entry_table i h has in omega arith;
       below = λ i h has. role_inside m x cells n (table_frame m top i) (TablePage level i) (entry_role i h has);
       beside = λ i h has e. let a : Some (TablePage level i) ≡ Some (DirectoryPage level) =
-          sym (entry_role i h has) ∙ (ap (role x) e ∙ role_of_directory x n.once level) in cc;
+          rw (← entry_role i h has, e, role_of_directory x n.once level) in cc;
       apart = λ i j h k has_i has_j e. let a : Some (TablePage level i) ≡ Some (TablePage level j) =
-          sym (entry_role i h has_i) ∙ (ap (role x) e ∙ entry_role j k has_j) in cc;
+          rw (← entry_role i h has_i, e, entry_role j k has_j) in cc;
     }
 
     -- what an entry of the directory names is the table's page
     pub entry_none : (i : ℕ) → i < 1024 → word_at m top i ≡ 0 → table_frame_at level x i ≡ None
     entry_none i h zero_is = elim (cases_option (table_at x.tables i)) [
-      | inl e ↦ ap (option_map (λ b. (table_page level b).frame)) e
+      | inl e ↦ rw e
       | inr b ↦ let w : word_at m top i ≡ directory_word (table_page level b.0).frame =
-          read_directory m x cells n level i h ∙ ap (directory_entry level) b.1 in absurd (omega arith)
+          rw (read_directory m x cells n level i h, b.1) in absurd (omega arith)
     ]
 
     pub entry_some : (i f : ℕ) → i < 1024 → word_at m top i ≡ directory_word f → table_frame_at level x i ≡ Some f
@@ -103,39 +103,35 @@ module _ (m : Memory) (x : Node) (cells : Level → ℕ → ℕ) (n : NodeIn m x
         let b = entry_table i h (λ z. absurd (omega arith)) in
         let w = b.2 in
         let same : (table_page level b.0).frame ≡ f = omega arith in
-        ap (option_map (λ b. (table_page level b).frame)) b.1 ∙ ap Some same
+        rw (b.1, same)
 
     -- the entry of a table that the node has
     entry_has : (i : ℕ) → i < 1024 → is_some (table_at x.tables i) ≡ true → HasTable m top i
     entry_has i h on zero_is = elim (cases_option (table_at x.tables i)) [
       | inl e ↦ let off = ap is_some e in cc
       | inr b ↦ let w : word_at m top i ≡ directory_word (table_page level b.0).frame =
-          read_directory m x cells n level i h ∙ ap (directory_entry level) b.1 in absurd (omega arith)
+          rw (read_directory m x cells n level i h, b.1) in absurd (omega arith)
     ]
 
     pub page_inside : (i f : ℕ) → table_frame_at level x i ≡ Some f → f < length m
     page_inside i f e =
         let b = page_table level x i f e in
         let t = table_found x.tables i b.0 b.1 in
-        let frame = b.2 in
-        let inside = table_inside m x cells n level b.0 t.0 in
-        omega arith
+        omega (arith, table_inside m x cells n level b.0 t.0)
 
     module _ (v f : ℕ) (small : v < 2 ^ 20) (e : table_frame_at level x (v / 1024) ≡ Some f) where
       -- the word of a table at a vpage
       pub page_word_is : word_at m f (v % 1024) ≡ cells level v
       page_word_is =
           let b = page_table level x (v / 1024) f e in
-          ap (λ k. word_at m k (v % 1024)) (sym b.2) ∙ read_cell m x cells n level v b.0 small b.1
+          rw (← b.2, read_cell m x cells n level v b.0 small b.1)
 
       -- writing it changes one cell of the node, and no frame of others
       pub page_put : (w : ℕ)
           → NodeIn (put_word m f (v % 1024) w) x (put_cell cells level v w) × OthersStay x m (put_word m f (v % 1024) w)
       page_put w =
           let b = page_table level x (v / 1024) f e in
-          subst (λ k. NodeIn (put_word m k (v % 1024) w) x (put_cell cells level v w)
-          × OthersStay x m (put_word m k (v % 1024) w)) b.2
-          (put_at m x cells n level v b.0 small b.1 w, put_others m x cells n level v b.0 small b.1 w)
+          rw (← b.2) (put_at m x cells n level v b.0 small b.1 w, put_others m x cells n level v b.0 small b.1 w)
 
 -- whether there is a table is known by any level's page
 pub no_page_no_table : (level : Level) (x : Node) (i : ℕ) → table_frame_at level x i ≡ None
@@ -143,31 +139,30 @@ pub no_page_no_table : (level : Level) (x : Node) (i : ℕ) → table_frame_at l
 no_page_no_table level x i e = elim (cases_option (table_at x.tables i)) [
   | inl none ↦ none
   | inr b ↦ absurd (not_both (table_frame_at level x i) (table_page level b.0).frame e
-      (ap (option_map (λ b. (table_page level b).frame)) b.1))
+      (rw b.1))
 ]
 
 -- the next tables by the next entry of the directory
 pub next_index : (m : Memory) (x : Node) (cells : Level → ℕ → ℕ) → NodeIn m x cells → (f : ℕ)
     → f ≡ (directory_of Mmu x.base).frame → (from : ℕ) (o : Option ℕ) → IsFirstTable m f from o → IsNextTables x from o
 next_index m x cells n f top from None h = λ i low high.
-    no_page_no_table Mmu x i (entry_none m x cells n Mmu i high (ap (λ k. word_at m k i) (sym top) ∙ h i low high))
+    no_page_no_table Mmu x i (entry_none m x cells n Mmu i high (rw (← top, h i low high)))
 next_index m x cells n f top from (Some k) h =
     let (high, some, zeros, low) = h in (
       low,
       high,
       elim (cases_option (table_at x.tables k)) [
-        | inr b ↦ ap is_some b.1
-        | inl none ↦ absurd (some (ap (λ q. word_at m q k) top
-            ∙ (read_directory m x cells n Mmu k high ∙ ap (directory_entry Mmu) none)))
+        | inr b ↦ rw b.1
+        | inl none ↦ absurd (some (rw (top, read_directory m x cells n Mmu k high, none)))
       ],
       λ i above below. no_page_no_table Mmu x i (entry_none m x cells n Mmu i
-          (omega (arith, below, high)) (ap (λ q. word_at m q i) (sym top) ∙ zeros i above below)),
+          (omega arith) (rw (← top, zeros i above below))),
     )
 
 -- a node of no tables has none at an index
 pub none_at_all : (ts : List Table) → 0 ≡ length ts → (i : ℕ) → table_at ts i ≡ None
 none_at_all [] e i = refl
-none_at_all (t ∷ ts) e i = absurd (omega (arith, e))
+none_at_all (t ∷ ts) e i = absurd (omega arith)
 
 -- the directory of a node that has tables for directory index i has an entry for them
 pub tables_entry : (m : Memory) (part i f : ℕ) → i < 1024 → HasTables m part i
@@ -175,23 +170,22 @@ pub tables_entry : (m : Memory) (part i f : ℕ) → i < 1024 → HasTables m pa
     → HasTable m f i
 tables_entry m part i f low t at =
     let n = t.held in
-    subst (λ k. HasTable m k i)
-    (sym (at n.node n.cells n.is_in n.name)) (entry_has m n.node n.cells n.is_in Mmu i low t.tabled)
+    rw (at n.node n.cells n.is_in n.name) (entry_has m n.node n.cells n.is_in Mmu i low t.tabled)
 
 -- whether there is a table is known by any level's page
 pub page_some : (level : Level) (x : Node) (i : ℕ)
     → is_some (table_frame_at level x i) ≡ is_some (table_at x.tables i)
 page_some level x i = elim (cases_option (table_at x.tables i)) [
-  | inl e ↦ ap (λ o. is_some (option_map (λ b. (table_page level b).frame) o)) e ∙ sym (ap is_some e)
-  | inr b ↦ ap (λ o. is_some (option_map (λ b. (table_page level b).frame) o)) b.1 ∙ sym (ap is_some b.1)
+  | inl e ↦ cc
+  | inr b ↦ cc (b.1, b.1)
 ]
 
 -- what has_table answers, of a vpage
 pub has_table_found : (x : Node) (v : ℕ) → has_table x v ≡ is_some (table_at x.tables (dir v))
 has_table_found x v = elim (cases_option (table_at x.tables (dir v))) [
-  | inr b ↦ table_has x v b.0 b.1 ∙ sym (ap is_some b.1)
+  | inr b ↦ cc (table_has x v b.0 b.1, b.1)
   | inl e ↦ elim (cases_Bool (has_table x v)) [
-    | inr off ↦ off ∙ sym (ap is_some e)
+    | inr off ↦ cc
     | inl on ↦ let b = table_some x v on in absurd (not_both (table_at x.tables (dir v)) b.0 e b.1)
   ]
 ]
@@ -200,7 +194,7 @@ has_table_found x v = elim (cases_option (table_at x.tables (dir v))) [
 pub page_for : (level : Level) (x : Node) (v : ℕ) → has_table x v ≡ true
     → (f : ℕ) × (table_frame_at level x (v / 1024) ≡ Some f)
 page_for level x v on = let b = table_some x v on in
-    ((table_page level b.0).frame, ap (option_map (λ b. (table_page level b).frame)) b.1)
+    ((table_page level b.0).frame, rw b.1)
 
 pub page_has : (level : Level) (x : Node) (v f : ℕ) → table_frame_at level x (v / 1024) ≡ Some f
     → has_table x v ≡ true
@@ -225,13 +219,12 @@ module _ (m : Memory) (x : Node) (rows : ℕ → Option FullRow) (space : Space 
   pub row_of_page : (level : Level) (v number f : ℕ) → number ≡ v → number < 2 ^ 20
       → table_frame_at level x (number / 1024) ≡ Some f → word_at m f (number % 1024) ≡ row_word level (rows v)
   row_of_page level v number f same small e =
-      page_word_is m x (cells_of rows) space.node level number f small e ∙ ap (cells_of rows level) same
+      rw (page_word_is m x (cells_of rows) space.node level number f small e, same)
 
   pub no_page_no_row : (level : Level) (v number : ℕ) → number ≡ v → table_frame_at level x (number / 1024) ≡ None
       → row_word level (rows v) ≡ 0
   no_page_no_row level v number same e =
-      ap (cells_of rows level) (sym same) ∙ (ap (row_word level)
-      (no_table_no_row m x rows space number (no_page level x number e)) ∙ row_word-none level)
+      rw (← same, no_table_no_row m x rows space number (no_page level x number e), row_word-none level)
 
   pub row_at_page : (level : Level) (v number f : ℕ) → number ≡ v → number < 2 ^ 20 → table_frame_at level x
       (v / 1024) ≡ Some f → (r : FullRow) → rows v ≡ Some r → word_at m f (number % 1024) ≡ row_word level (Some r)
@@ -258,7 +251,7 @@ module _ (m : Memory) (x : Node) (rows : ℕ → Option FullRow) (space : Space 
   word_no_row : (v : ℕ) → row_word Mmu (rows v) ≡ 0 → rows v ≡ None
   word_no_row v zero_is = elim (cases_option (rows v)) [
     | inl e ↦ e
-    | inr r ↦ absurd (leaf_not_zero r.0 (sym (ap (row_word Mmu) r.1) ∙ zero_is))
+    | inr r ↦ absurd (leaf_not_zero r.0 (cc (r.1)))
   ]
 
   -- so there is none where the table's word is 0
@@ -267,7 +260,7 @@ module _ (m : Memory) (x : Node) (rows : ℕ → Option FullRow) (space : Space 
     | inl e ↦ e
     | inr r ↦
         let small = (space.tabled v r.0 r.1).0 in
-        word_no_row v (sym (leaf_of_row Mmu v small) ∙ zero_is small)
+        word_no_row v (cc (leaf_of_row Mmu v small, zero_is small))
   ]
 
   -- a table is empty exactly where no row is in it
@@ -278,20 +271,17 @@ module _ (m : Memory) (x : Node) (rows : ℕ → Option FullRow) (space : Space 
       -- a word of the table
       word : (v : ℕ) → dir v ≡ i → word_at m (table_frame m f i) (v % 1024) ≡ row_word Mmu (rows v)
       word v e =
-          let at = subst (λ k. HasTable m k (dir v)) top (subst (HasTable m f) (sym e) has) in
-          sym (ap (λ o. unwrap_or o 0) (leaf_at-has m (directory_of Mmu x.base).frame v at) ∙ ap (λ k. word_at m
-          (table_frame m k (dir v)) (v % 1024)) (sym top) ∙ ap (λ k. word_at m (table_frame m f k) (v % 1024)) e)
-          ∙ leaf_of_row Mmu v (omega arith)
+          let at = subst (λ k. HasTable m k (dir v)) top (rw e has) in
+          cc (leaf_at-has m (directory_of Mmu x.base).frame v at, leaf_of_row Mmu v (omega arith))
 
       to : IsEmptyTable m f i → (v : ℕ) → dir v ≡ i → rows v ≡ None
-      to zeros v e = word_no_row v (sym (word v e) ∙ zeros (v % 1024) (omega arith))
+      to zeros v e = word_no_row v (cc (word v e, zeros (v % 1024) (omega arith)))
 
       from : ((v : ℕ) → dir v ≡ i → rows v ≡ None) → IsEmptyTable m f i
       from none j small =
           let e : dir (1024 * i + j) ≡ i = omega arith in
           let back : (1024 * i + j) % 1024 ≡ j = omega arith in
-          sym (ap (word_at m (table_frame m f i)) back) ∙ word (1024 * i + j) e
-          ∙ ap (row_word Mmu) (none (1024 * i + j) e)
+          rw (← back, word (1024 * i + j) e, none (1024 * i + j) e)
 
   -- the next row by the next word
   pub next_found : (f : ℕ) → f ≡ (directory_of Mmu x.base).frame → (after : Option ℕ) (v w : ℕ) (row : Row)
@@ -310,11 +300,11 @@ module _ (m : Memory) (x : Node) (rows : ℕ → Option FullRow) (space : Space 
       → IsNextLeaf m f after (Some (v, w)) → w ≡ row_word Mmu (rows v)
   next_word f top after v w next =
       let at = subst (λ k. IsNextLeaf m k after (Some (v, w))) top next in
-      sym (ap (λ o. unwrap_or o 0) at.2) ∙ leaf_of_row Mmu v at.1
+      cc (at.2, leaf_of_row Mmu v at.1)
 
   pub next_not_none : (f : ℕ) → f ≡ (directory_of Mmu x.base).frame → (after : Option ℕ) (v w : ℕ)
       → IsNextLeaf m f after (Some (v, w)) → None ≡ rows v → ⊥
-  next_not_none f top after v w next none = next.3 (next_word f top after v w next ∙ ap (row_word Mmu) (sym none))
+  next_not_none f top after v w next none = next.3 (rw (next_word f top after v w next, ← none))
 
 -- ---- writes
 
@@ -322,7 +312,7 @@ module _ (m : Memory) (x : Node) (rows : ℕ → Option FullRow) (space : Space 
 same_directory : (m : Memory) (x y : Node) (a b : Level → ℕ → ℕ) → NodeIn m x a → NodeIn m y b → x.name ≡ y.name
     → x.base.mmu.frame ≡ y.base.mmu.frame
 same_directory m x y a b n k same =
-    sym (read_place m x a n y.name same Mmu 3 refl) ∙ read_place m y b k y.name refl Mmu 3 refl
+    cc (read_place m x a n y.name same Mmu 3 refl, read_place m y b k y.name refl Mmu 3 refl)
 
 -- where one node of a name has a table, each has
 pub room_table : (m : Memory) (part v : ℕ) → v < 2 ^ 20 → HasTableFor m part v → (x : Node) (cells : Level → ℕ → ℕ)
@@ -330,18 +320,18 @@ pub room_table : (m : Memory) (part v : ℕ) → v < 2 ^ 20 → HasTableFor m pa
 room_table m part v small room x cells n name =
     let y = room.held.node in
     let low : v / 1024 < 1024 = omega arith in
-    let same = same_directory m x y cells room.held.cells n room.held.is_in (name ∙ sym room.held.name) in
+    let same = same_directory m x y cells room.held.cells n room.held.is_in (cc (room.held.name)) in
     let p = page_for Mmu y v room.tabled in
     let b = page_table Mmu y (v / 1024) p.0 p.1 in
     let word : word_at m y.base.mmu.frame (v / 1024) ≡ directory_word b.0.mmu.frame =
-    read_directory m y room.held.cells room.held.is_in Mmu (v / 1024) low ∙ ap (directory_entry Mmu) b.1 in
+    rw (read_directory m y room.held.cells room.held.is_in Mmu (v / 1024) low, b.1) in
     page_has Mmu x v b.0.mmu.frame
-    (entry_some m x cells n Mmu (v / 1024) b.0.mmu.frame low (ap (λ f. word_at m f (v / 1024)) same ∙ word))
+    (entry_some m x cells n Mmu (v / 1024) b.0.mmu.frame low (rw (same, word)))
 
 -- a vpage that has a row has a table
 pub room_of : (m : Memory) (part v : ℕ) → HasRow m part v → HasTableFor m part v
 room_of m part v r = record {
-  held = record { node = r.node; cells = cells_of r.rows; is_in = r.is_in.node; name = r.name };
+  held = search;
   tabled = (r.is_in.tabled v r.row r.at).1;
 }
 
@@ -352,8 +342,7 @@ module _ (m n : Memory) (x : Node) where
       → NodeIn n x (put_cell cells level v w) × OthersStay x m n
   level_put cells k level v number f w same small page written =
       let low : v < 2 ^ 20 = omega arith in
-      subst (λ u. NodeIn u x (put_cell cells level v w) × OthersStay x m u)
-      (sym (written ∙ ap (λ j. put_word m f (j % 1024) w) same)) (page_put m x cells k level v f low page w)
+      rw (written, same) (page_put m x cells k level v f low page w)
 
   module _ (rows : ℕ → Option FullRow) (space : Space m x rows) (v : ℕ) where
     -- the three words of a row, or of none
@@ -364,10 +353,8 @@ module _ (m n : Memory) (x : Node) where
     words_put r packed small on a b c a_is b_is c_is node =
         let cells = subst (λ w. NodeIn n x (put_cell (put_cell (put_cell (cells_of rows) Mmu v (row_word Mmu r)) Shadow1
         v (row_word Shadow1 r)) Shadow2 v w)) c_is
-        (subst (λ w. NodeIn n x
-        (put_cell (put_cell (put_cell (cells_of rows) Mmu v (row_word Mmu r)) Shadow1 v w) Shadow2 v c)) b_is
-        (subst (λ w. NodeIn n x (put_cell (put_cell (put_cell (cells_of rows) Mmu v w) Shadow1 v b) Shadow2 v c)) a_is
-        node)) in
+        (rw (← b_is) (subst (λ w. NodeIn n x (put_cell (put_cell (put_cell (cells_of rows) Mmu v w) Shadow1 v b) Shadow2
+        v c)) a_is node)) in
         at_row r packed (NodeIn-same n x _ _ (three_cells rows v r) cells)
       where
         at_row : (r : Option FullRow) → IsPacked r → NodeIn n x (cells_of (put_row rows v r))
@@ -383,8 +370,8 @@ module _ (m n : Memory) (x : Node) where
     row_put level old new w at packed same word node =
         let there = space.tabled v old at in
         Space-put m n x rows space v new packed there.0 there.1
-        (NodeIn-same n x _ _ (one_cell rows level v (Some new) (λ k other. same k other ∙ sym (ap (row_word k) at)))
-        (subst (λ u. NodeIn n x (put_cell (cells_of rows) level v u)) word node))
+        (NodeIn-same n x _ _ (one_cell rows level v (Some new) (λ k other. rw (same k other, ← at)))
+        (rw (← word) node))
 
 -- a row that is given to another differs in the first shadow alone
 pub given_word : (r : FullRow) (w : ℕ) (k : Level) → same_level Shadow1 k ≡ false
@@ -401,7 +388,7 @@ user_word r b Shadow1 other = refl
 user_word r b Shadow2 other = refl
 
 pub with_given : (r : FullRow) (w : ℕ) → IsFullRow r → IsFirstShadowWord w → IsFullRow (record r { given = w })
-with_given r w p given = record { frame = p.frame; read = p.read; low = p.low; given = given; from = p.from }
+with_given r w p given = assumption
 
 pub with_user : (r : FullRow) (b : Bool) → IsFullRow r → IsFullRow (record r { user = b })
-with_user r b p = record { frame = p.frame; read = p.read; low = p.low; given = p.given; from = p.from }
+with_user r b p = assumption

@@ -39,17 +39,7 @@ word_loaded : (t : Tree) (va : ℕ) (q : Reached) (word : ℕ) → Ok word ≡ l
 word_loaded t va (Place g i) word e = let same : word ≡ _ = cc in ap Some (sym same)
 word_loaded t va (Faulted f) word e = cc
 
-none_loaded : (t : Tree) (va : ℕ) (q : Reached) (f : AccessFault) → Err f ≡ load_answer t va Word q
-    → word_reached t q ≡ None
-none_loaded t va (Place g i) f e = cc
-none_loaded t va (Faulted k) f e = refl
-
 module _ (t : Tree) (p k : ℕ) where
-  pub entry_fault : (f : AccessFault)
-      → Err f ≡ load_answer t (0xfffff000 + 4 * k) Word (reach t p (0xfffff000 + 4 * k) Load Word) → None ≡ entry t p k
-  entry_fault f e =
-      sym (ap entry_from (none_loaded t (0xfffff000 + 4 * k) (reach t p (0xfffff000 + 4 * k) Load Word) f e))
-
   module _
       (a : ℕ) (is : Ok a ≡ load_answer t (0xfffff000 + 4 * k) Word (reach t p (0xfffff000 + 4 * k) Load Word)) where
     entry_is : entry t p k ≡ cond (a % 4 == 0 && nat_le (a % 4096) 4028) (Some a) None

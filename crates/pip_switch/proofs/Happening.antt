@@ -51,12 +51,6 @@ set_same (c ∷ cs) zero e l = ap (λ o. o ∷ cs) (sym e)
 set_same (c ∷ cs) (suc i) e l = ap (λ k. c ∷ k) (set_same cs i e (omega (arith, l)))
 
 module _ (m : Memory) (cs : List (Option Occupant)) (w : World) (s : StandsFor m cs w) (cpu : ℕ) where
-  -- nothing happens where nothing runs
-  pub came_idle : part_on cs cpu ≡ None → (f : Occupant → Happened)
-      → Came (on_running w cpu (runs_on w cpu) f) O.Idle m cs
-  came_idle none f = subst (λ q. Came (on_running w cpu q f) O.Idle m cs)
-      (sym (runs_there m cs cpu w s ∙ none_of (on_cpu cs cpu) none)) (record { outcome = refl; shows = s.shows })
-
   -- what runs, if anything does, gets another context
   pub came_set : (f : Ctx → Ctx) (ds : List (Option Occupant))
       → ds ≡ slice_set cs cpu (option_map {T = Occupant} (λ r. record r { ctx = f r.ctx }) (on_cpu cs cpu))

@@ -15,4 +15,5 @@ pub mod Isolating
 pub mod Changed
 pub mod Looked
 pub mod Emptying
+pub mod Working
 pub mod Elsewhere

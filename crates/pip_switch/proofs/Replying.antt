@@ -30,7 +30,7 @@ use Rattle.pip_model.specs.declared.processors.Occupant.{Occupant}
 use Rattle.pip_switch.specs.Answering.{answer_named, takes_by_name}
 use Rattle.pip_switch.specs.Occupied.{names_on, on_cpu, part_on, with_answer}
 use Rattle.pip_switch.specs.Standing.{Came, CameWith, HasWorld, StandsFor}
-use Rattle.pip_switch.proofs.Happening.{came_idle, came_so}
+use Rattle.pip_switch.proofs.Happening.{came_so}
 use Rattle.pip_switch.proofs.Running.{none_of, part_found, part_of, runs_there}
 
 -- ---- what calls do
@@ -59,14 +59,6 @@ pub done-does : (p : ℕ) (f : Tree → Tree) (m n : Memory) → length n ≡ le
     → Does (λ t. accept 0 (f t)) p S.Ok 0 m n
 done-does p f m n count held =
     record { answer = λ t x s laid found. (refl, refl); tree = held; refused = λ ne. absurd (ne refl); count = count }
-
--- a reply
-pub reply-does : (r : Result ℕ Status) (call : Tree → Answer) (p : ℕ) (m n : Memory) → DoesWithValue call p r m n
-    → (reply : Status × ℕ) → ((value : ℕ) → r ≡ Ok value → reply ≡ (S.Ok, value))
-    → ((status : Status) → r ≡ Err status → reply ≡ (status, 0)) → Does call p reply.0 reply.1 m n
-reply-does (Ok value) call p m n h reply is_ok is_err = subst (λ q. Does call p q.0 q.1 m n) (sym (is_ok value refl)) h
-reply-does (Err status) call p m n h reply is_ok is_err =
-    subst (λ q. Does call p q.0 q.1 m n) (sym (is_err status refl)) h.1
 
 -- a call that only asks leaves the tree
 pub asked_tree : (t : Tree) (v : ℕ) (o : Option Status) → (answer_unless t o (accept v t)).tree ≡ t
@@ -246,12 +238,3 @@ came_yield m n cs ds w s cpu p on number named a o yields ks k_is =
     (subst (λ k. Came (on_running w cpu (runs_on w cpu) (λ r. call k w cpu r a)) o n ds) named
     (came_so _ _ o n ds (ap (λ z. on_running w cpu z (λ r. call Yields w cpu r a)) runs) (yields r runs)))
     k_is
-
-pub came_unheard : (m : Memory) (cs : List (Option Occupant)) (w : World) → StandsFor m cs w
-    → (cpu number : ℕ) (a : Five) (ks : List Places) → part_on cs cpu ≡ None → w.caches ≡ ks
-    → CameWith w (E.Call cpu number a) O.Idle m cs ks
-came_unheard m cs w s cpu number a ks none k_is = (
-  came_idle m cs w s cpu none (λ r. call (call_named number) w cpu r a),
-  sym k_is ∙ sym (ap (λ o. by_runner w.caches o (λ r. cond (empties (call_named number) w r.name a)
-      (all_emptied w.caches) w.caches)) (runs_there m cs cpu w s ∙ none_of (on_cpu cs cpu) none)),
-)

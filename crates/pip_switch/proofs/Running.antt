@@ -26,13 +26,6 @@ any_runs p [] = refl
 any_runs p (None ∷ cs) = any_runs p cs
 any_runs p (Some r ∷ cs) = ap (λ b. (r.name == p) || b) (any_runs p cs)
 
--- whether a name runs in the world for which the processors stand
-pub runs_in : (w : World) (cs slice : List (Option Occupant)) → w.cpus ≡ cs → slice ≡ cs → (p : ℕ) (b v : Bool)
-    → b ≡ list_any (λ c. runs_name p c) slice → b ≡ v → has (running w) p ≡ v
-runs_in w cs slice w_is slice_is p b v b_is v_is =
-    ap (λ k. has (names_on k) p) w_is ∙ sym (any_runs p cs) ∙ ap (λ k. list_any (λ c. runs_name p c) k) (sym slice_is)
-    ∙ sym b_is ∙ v_is
-
 -- whether another name than p runs there
 pub busy_in : (w : World) (cs slice : List (Option Occupant)) → w.cpus ≡ cs → slice ≡ cs → (to p : ℕ) (b v : Bool)
     → b ≡ (not (to == p) && list_any (λ c. runs_name to c) slice) → b ≡ v → (not (to == p) && has (running w) to) ≡ v

@@ -1,24 +1,22 @@
--- At most how many steps an event takes, by the number of frames.
-use Rattle.std.specs.Prelude.{ℕ, ◌+◌, ◌*◌}
-use Rattle.pip_model.specs.declared.call_name.CallName.{CallName}
-use Rattle.pip_model.specs.declared.call_name.CallName.TheVariants as C
-use Rattle.pip_model.specs.declared.call_name.MemoryCall.{MemoryCall}
-use Rattle.pip_model.specs.declared.call_name.MemoryCall.TheVariants as M
+-- In how many steps machines run.
+use Rattle.std.specs.Prelude.{◌≡◌, ℕ, ◌+◌, ◌≤◌, List, [], ◌∷◌}
+use Rattle.pip_base.specs.declared.outcome.Outcome.{Outcome}
+use Rattle.pip_model.specs.Events.{Event}
+use Rattle.pip_model.specs.Port.{TakesAtMost}
+use Rattle.pip_model.specs.Work.{events_work}
+use Rattle.pip_model.specs.Worlds.{World}
+use Rattle.pip_switch.specs.Isolation.{Takes}
+use Rattle.pip_switch.specs.Standing.{StandsAs, State}
 
--- a call on memory
-abbrev pub memory_work : MemoryCall → ℕ → ℕ
-memory_work M.CreatePartition n = 35 * n + 55
-memory_work M.DeletePartition n = 104489 + (7 * n + 71) * n
-memory_work M.CountToMap n = 9
-memory_work M.Prepare n = 28 * n + 74
-memory_work M.Collect n = 28 * n + 1130
-memory_work M.AddVAddr n = 34
-memory_work M.RemoveVAddr n = 23
-memory_work M.MappedInChild n = 6
+-- events one after another, with these outcomes, from one number of steps to the other, as Port promises of each
+abbrev pub WorksAll : State → List Event → List Outcome → State → ℕ → ℕ → Type 0
+WorksAll p [] [] q before after = (p ≡ q) × (before ≡ after)
+WorksAll p [] (o ∷ os) q before after = ⊥
+WorksAll p (e ∷ es) [] q before after = ⊥
+WorksAll p (e ∷ es) (o ∷ os) q before after = (r : State) × (between : ℕ) × Takes p e o r
+    × TakesAtMost (StandsAs p) e before between × WorksAll r es os q between after
 
--- any call
-abbrev pub call_work : CallName → ℕ → ℕ
-call_work (C.OnMemory c) n = memory_work c n
-call_work C.Yields n = 88
-call_work C.Unknown n = 0
-call_work (C.Masks b) n = 0
+-- they take no more steps than all of them may in the model
+abbrev pub RunsTakeNoMore : Type 0
+RunsTakeNoMore = (p q : State) (es : List Event) (os : List Outcome) (before after : ℕ)
+    → WorksAll p es os q before after → (w : World) → StandsAs p w → after ≤ before + events_work w es

@@ -8,13 +8,15 @@ ghost use Rattle.pip_model.specs.Events as E;
 ghost use Rattle.pip_model.specs.Cache.{all_emptied};
 ghost use Rattle.pip_model.specs.Happens as model;
 ghost use Rattle.pip_model.specs.Happens.{call_named, is_accepted};
-ghost use Rattle.pip_model.specs.Partitions.{HasPartition};
+ghost use Rattle.pip_model.specs.Partitions.{HasPartition, InEach};
+ghost use Rattle.pip_model.specs.Port.{TakesAtMost};
 ghost use Rattle.pip_model.specs.Sound.{IsWord};
 ghost use Rattle.pip_model.specs.Tree.{Tree};
+ghost use Rattle.pip_model.specs.Work.{memory_work};
 ghost use Rattle.pip_model.specs.Worlds.{World};
+ghost use Rattle.pip_switch.specs.Occupied.{names_on};
 ghost use Rattle.pip_switch.specs.Plain.{plain_world};
 ghost use Rattle.pip_switch.specs.Standing.{CameWith, HasWorld, StandsFor};
-ghost use Rattle.pip_switch.specs.Work.{call_work, memory_work};
 
 use crate::caches::{Caches, empty_all};
 use crate::contexts::put_reply;
@@ -79,7 +81,8 @@ fn answer_on_memory<M: Frames, L: Ledger>(
     requires stands { HasPartition (M.memory mem.old) caller }
     ensures does { Does (λ t. model.answer call (plain_world t cpus.now.items) caller (five_of args.now)) caller
         result.0 result.1 (M.memory mem.old) (M.memory mem.new) }
-    ensures steps { steps.new ≤ steps.old + memory_work call (length (M.memory mem.old)) }
+    ensures work { InEach (M.memory mem.old) caller (λ t x.
+        steps.new ≤ steps.old + memory_work call t (names_on cpus.now.items) caller (five_of args.now)) }
 {
     let [x0, x1, x2, x3, _] = *args;
     match call {
@@ -142,7 +145,8 @@ pub(crate) fn call<M: Frames, L: Ledger>(
     ensures count { length cpus.new.items ≡ length cpus.old.items }
     ensures each { length caches.new.items ≡ length caches.old.items }
     ensures words { AllByRecursion IsWord (list_of (five_of args.now)) }
-    ensures steps { steps.new ≤ steps.old + call_work (call_named number) (length (M.memory mem.old)) }
+    ensures work { TakesAtMost (StandsFor (M.memory mem.old) cpus.old.items) (E.Call cpu number (five_of args.now))
+        steps.old steps.new }
 {
     let Some(part) = runner(cpus, cpu) else {
         return Outcome::Idle;

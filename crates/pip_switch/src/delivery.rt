@@ -51,7 +51,6 @@ pub(crate) fn find_taker<M: Frames, L: Ledger>(
     requires vector { vector < 256 }
     ensures taker { InEach (M.memory mem.now) part
         (λ t x. result ≡ nearest_taker (plain_world t cpus.now) part vector) }
-    ensures steps { steps.new ≤ steps.old + 8 * length (M.memory mem.now) + 33 }
     ensures chain { InEach (M.memory mem.now) part (λ t x. steps.new ≤ steps.old + 8 * length (chain t part) + 33) }
 {
     let mut at = part;
@@ -90,7 +89,6 @@ pub(crate) fn deliver<M: Frames, L: Ledger>(
     ensures event { LeadsFrom (M.memory mem.old) cpus.old.items cpu (λ w r. deliver w cpu r vector a b) result
         (M.memory mem.new) cpus.new.items }
     ensures count { length cpus.new.items ≡ length cpus.old.items }
-    ensures steps { steps.new ≤ steps.old + 8 * length (M.memory mem.old) + 76 }
     ensures chain { InEach (M.memory mem.old) part (λ t x. steps.new ≤ steps.old + 8 * length (chain t part) + 76) }
 {
     let taker = find_taker(mem, cpus.as_slice(), part, vector, steps);

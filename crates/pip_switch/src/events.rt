@@ -4,9 +4,12 @@ ghost use Rattle.pip_mmu.specs.Faults.{model_fault};
 ghost use Rattle.pip_model.specs.Events as E;
 ghost use Rattle.pip_model.specs.Events.{below_of};
 ghost use Rattle.pip_model.specs.Happens.{access_number, what_happens, deliver_fault, fault_number, fault_vector};
+ghost use Rattle.pip_model.specs.Partitions.{InEach};
+ghost use Rattle.pip_model.specs.Port.{TakesAtMost};
+ghost use Rattle.pip_model.specs.Tree.{chain};
 ghost use Rattle.pip_switch.specs.Hits.{HitReadsOne};
 ghost use Rattle.pip_switch.specs.Occupied.{part_on};
-ghost use Rattle.pip_switch.specs.Standing.{HasCachedWorld, HasWorld, Leads, LeadsFrom, LeadsWith};
+ghost use Rattle.pip_switch.specs.Standing.{HasCachedWorld, HasWorld, Leads, LeadsFrom, LeadsWith, StandsFor};
 
 use crate::caches::Caches;
 use crate::delivery::deliver;
@@ -85,7 +88,7 @@ fn deliver_fault<M: Frames, L: Ledger>(
     ensures event { LeadsFrom (M.memory mem.old) cpus.old.items cpu
         (λ w r. deliver_fault w cpu r va access (model_fault fault)) result (M.memory mem.new) cpus.new.items }
     ensures count { length cpus.new.items ≡ length cpus.old.items }
-    ensures steps { steps.new ≤ steps.old + 8 * length (M.memory mem.old) + 76 }
+    ensures chain { InEach (M.memory mem.old) part (λ t x. steps.new ≤ steps.old + 8 * length (chain t part) + 76) }
 {
     let told = 16 * number_of(access) + kind_of(fault);
     by_parts(deliver(mem, cpus, cpu, part, vector_of(fault), va, told, steps))
@@ -109,7 +112,7 @@ pub(crate) fn load<M: Frames, L: Ledger>(
     ensures count { length cpus.new.items ≡ length cpus.old.items }
     ensures each { length caches.new.items ≡ length caches.old.items }
     ensures hit { HitReadsOne caches.old.items cpus.old.items cpu (λ r. va) result steps.old steps.new }
-    ensures steps { steps.new ≤ steps.old + 8 * length (M.memory mem.old) + 80 }
+    ensures work { TakesAtMost (StandsFor (M.memory mem.old) cpus.old.items) (E.Load cpu va size) steps.old steps.new }
 {
     let Some(part) = runner(cpus, cpu) else {
         return Outcome::Idle;
@@ -148,7 +151,8 @@ pub(crate) fn store<M: Frames, L: Ledger>(
     ensures count { length cpus.new.items ≡ length cpus.old.items }
     ensures each { length caches.new.items ≡ length caches.old.items }
     ensures hit { HitReadsOne caches.old.items cpus.old.items cpu (λ r. va) result steps.old steps.new }
-    ensures steps { steps.new ≤ steps.old + 8 * length (M.memory mem.old) + 80 }
+    ensures work { TakesAtMost (StandsFor (M.memory mem.old) cpus.old.items) (E.Store cpu va size word)
+        steps.old steps.new }
 {
     let Some(part) = runner(cpus, cpu) else {
         return Outcome::Idle;
@@ -175,7 +179,7 @@ pub(crate) fn fetch<M: Frames, L: Ledger>(
     ensures count { length cpus.new.items ≡ length cpus.old.items }
     ensures each { length caches.new.items ≡ length caches.old.items }
     ensures hit { HitReadsOne caches.old.items cpus.old.items cpu (λ r. r.ctx.pc) result steps.old steps.new }
-    ensures steps { steps.new ≤ steps.old + 8 * length (M.memory mem.old) + 80 }
+    ensures work { TakesAtMost (StandsFor (M.memory mem.old) cpus.old.items) (E.Fetch cpu) steps.old steps.new }
 {
     let Some(part) = runner(cpus, cpu) else {
         return Outcome::Idle;
@@ -203,7 +207,8 @@ pub(crate) fn trap<M: Frames, L: Ledger>(
     ensures event { Leads (M.memory mem.old) cpus.old.items (λ w. what_happens w (E.Trap cpu vector a b)) result
         (M.memory mem.new) cpus.new.items }
     ensures count { length cpus.new.items ≡ length cpus.old.items }
-    ensures steps { steps.new ≤ steps.old + 8 * length (M.memory mem.old) + 76 }
+    ensures work { TakesAtMost (StandsFor (M.memory mem.old) cpus.old.items) (E.Trap cpu vector a b)
+        steps.old steps.new }
 {
     let Some(part) = runner(cpus, cpu) else {
         return Outcome::Idle;

@@ -113,17 +113,15 @@ impl<M: Rewind> Machine<M> {
 }
 
 impl<M: Frames> Port for Machine<M> {
-    ghost use Rattle.std.specs.Prelude.{◌≡◌, ◌+◌, ◌*◌, ◌<◌, ◌≤◌, length};
+    ghost use Rattle.std.specs.Prelude.{◌≡◌, ◌<◌, length};
     ghost use Rattle.pip_model.specs.Events as E;
     ghost use Rattle.pip_base.specs.declared.outcome.Outcome.TheVariants as Outcome;
     ghost use Rattle.pip_model.specs.Answers.{five_of};
     ghost use Rattle.pip_model.specs.Events.{below_of};
-    ghost use Rattle.pip_model.specs.Happens.{call_named};
-    ghost use Rattle.pip_model.specs.Port.{Follows};
+    ghost use Rattle.pip_model.specs.Port.{Follows, TakesAtMost};
     ghost use Rattle.pip_switch.specs.Hits.{HitReadsOne};
     ghost use Rattle.pip_switch.specs.Standing.{StandsAs};
     ghost use Rattle.pip_switch.specs.Machines.{machine_sound, machine_world};
-    ghost use Rattle.pip_switch.specs.Work.{call_work};
 
     ghost stands = { λ p w. StandsAs p w };
 
@@ -144,7 +142,7 @@ impl<M: Frames> Port for Machine<M> {
         ensures event { Follows (StandsAs self.old) (StandsAs self.new) (E.Load cpu va size) result }
         ensures count { length self.new.cpus ≡ length self.old.cpus }
         ensures hit { HitReadsOne self.old.caches self.old.cpus cpu (λ r. va) result steps.old steps.new }
-        ensures work { steps.new ≤ steps.old + 8 * length self.old.memory + 80 }
+        ensures work { TakesAtMost (StandsAs self.old) (E.Load cpu va size) steps.old steps.new }
     {
         events::load(
             &mut self.mem,
@@ -171,7 +169,7 @@ impl<M: Frames> Port for Machine<M> {
         ensures event { Follows (StandsAs self.old) (StandsAs self.new) (E.Store cpu va size word) result }
         ensures count { length self.new.cpus ≡ length self.old.cpus }
         ensures hit { HitReadsOne self.old.caches self.old.cpus cpu (λ r. va) result steps.old steps.new }
-        ensures work { steps.new ≤ steps.old + 8 * length self.old.memory + 80 }
+        ensures work { TakesAtMost (StandsAs self.old) (E.Store cpu va size word) steps.old steps.new }
     {
         events::store(
             &mut self.mem,
@@ -191,7 +189,7 @@ impl<M: Frames> Port for Machine<M> {
         ensures event { Follows (StandsAs self.old) (StandsAs self.new) (E.Fetch cpu) result }
         ensures count { length self.new.cpus ≡ length self.old.cpus }
         ensures hit { HitReadsOne self.old.caches self.old.cpus cpu (λ r. r.ctx.pc) result steps.old steps.new }
-        ensures work { steps.new ≤ steps.old + 8 * length self.old.memory + 80 }
+        ensures work { TakesAtMost (StandsAs self.old) (E.Fetch cpu) steps.old steps.new }
     {
         events::fetch(&mut self.mem, &mut self.cpus, &mut self.caches, cpu, steps)
     }
@@ -208,7 +206,7 @@ impl<M: Frames> Port for Machine<M> {
         requires vector { vector < 256 }
         ensures event { Follows (StandsAs self.old) (StandsAs self.new) (E.Trap cpu vector a b) result }
         ensures count { length self.new.cpus ≡ length self.old.cpus }
-        ensures work { steps.new ≤ steps.old + 8 * length self.old.memory + 76 }
+        ensures work { TakesAtMost (StandsAs self.old) (E.Trap cpu vector a b) steps.old steps.new }
     {
         events::trap(&mut self.mem, &mut self.cpus, cpu, vector, a, b, steps)
     }
@@ -223,7 +221,7 @@ impl<M: Frames> Port for Machine<M> {
         requires { cpu < length self.old.cpus }
         ensures event { Follows (StandsAs self.old) (StandsAs self.new) (E.Call cpu no (five_of args.now)) result }
         ensures count { length self.new.cpus ≡ length self.old.cpus }
-        ensures work { steps.new ≤ steps.old + call_work (call_named no) (length self.old.memory) }
+        ensures work { TakesAtMost (StandsAs self.old) (E.Call cpu no (five_of args.now)) steps.old steps.new }
     {
         calls::call(
             &mut self.mem,
@@ -240,7 +238,7 @@ impl<M: Frames> Port for Machine<M> {
         requires { line < 16 }
         ensures event { Follows (StandsAs self.old) (StandsAs self.new) (E.Raise line) Outcome.Done }
         ensures count { length self.new.cpus ≡ length self.old.cpus }
-        ensures work { steps.new ≡ steps.old + 1 }
+        ensures work { TakesAtMost (StandsAs self.old) (E.Raise line) steps.old steps.new }
     {
         lines::raise(&mut self.mem, &self.cpus, line, steps);
     }
@@ -250,7 +248,7 @@ impl<M: Frames> Port for Machine<M> {
         requires { cpu < length self.old.cpus }
         ensures event { Follows (StandsAs self.old) (StandsAs self.new) (E.Poll cpu) result }
         ensures count { length self.new.cpus ≡ length self.old.cpus }
-        ensures work { steps.new ≤ steps.old + 190 }
+        ensures work { TakesAtMost (StandsAs self.old) (E.Poll cpu) steps.old steps.new }
     {
         lines::poll(&mut self.mem, &mut self.cpus, cpu, steps)
     }

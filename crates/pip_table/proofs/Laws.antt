@@ -18,24 +18,15 @@ pub IsDirectory-same : (m n : Memory) (top : ℕ) → IsDirectory m top → IsMe
     → ((i : ℕ) → i < 1024 → word_at n top i ≡ word_at m top i) → IsDirectory n top
 IsDirectory-same m n top ok shape count same = record {
   shape = shape;
-  inside = let h = ok.inside in omega arith;
-  packed = λ i i_in has. let e = same i i_in in let h = ok.packed i i_in (λ z. has (e ∙ z)) in rw e h;
-  below = λ i i_in has. let e = same i i_in in let h = ok.below i i_in (λ z. has (e ∙ z)) in rw (e, count) h;
-  beside = λ i i_in has. let e = same i i_in in let h = ok.beside i i_in (λ z. has (e ∙ z)) in rw e h;
+  inside = omega arith;
+  packed = λ i i_in has. let e = same i i_in in let h = ok.packed i i_in (λ z. has cc) in rw e h;
+  below = λ i i_in has. let e = same i i_in in let h = ok.below i i_in (λ z. has cc) in rw (e, count) h;
+  beside = λ i i_in has. let e = same i i_in in let h = ok.beside i i_in (λ z. has cc) in rw e h;
   apart = λ i j i_in j_in i_has j_has equal.
       let e = same i i_in in
       let f = same j j_in in
       ok.apart i j i_in
-      j_in (λ z. i_has (e ∙ z)) (λ z. j_has (f ∙ z)) (sym (ap (λ w. w / 4096) e) ∙ equal ∙ ap (λ w. w / 4096) f);
-}
-
--- so is which frames are further
-pub IsFurther-same : (m n : Memory) (top f : ℕ) → IsFurther m top f → length n ≡ length m
-    → ((i : ℕ) → i < 1024 → word_at n top i ≡ word_at m top i) → IsFurther n top f
-IsFurther-same m n top f ok count same = record {
-  below = let h = ok.below in omega arith;
-  beside = ok.beside;
-  apart = λ j j_in has. let e = same j j_in in let h = ok.apart j j_in (λ z. has (e ∙ z)) in rw e h;
+      j_in (λ z. i_has cc) (λ z. j_has cc) (rw (← e, equal, f));
 }
 
 -- a word of the map is known by its directory word and its word in the table
@@ -45,7 +36,7 @@ pub leaf_at-same : (m n : Memory) (top v : ℕ) → word_at n top (v / 1024) ≡
 leaf_at-same m n top v entry word =
     elim (cases_eq (word_at m top (v / 1024)) 0) [
       | inl is ↦ rw (entry, eq-eqb (word_at m top (v / 1024)) 0 is) refl
-      | inr is_not ↦ rw (entry, ne_eqb (word_at m top (v / 1024)) 0 is_not) (ap Some (word is_not))
+      | inr is_not ↦ rw (entry, ne_eqb (word_at m top (v / 1024)) 0 is_not) (rw (word is_not))
     ]
 
 -- the map where there is a table, and where there is none
@@ -106,43 +97,7 @@ IsDirectory-put m top f i w ok f_in i_in other =
     IsDirectory-same m (put_word m f i w) top ok (IsMemory-put m f i w ok.shape f_in) (length-put_word m f i w)
     (word_at-put_below m top f i w ok f_in i_in other)
 
--- a word in a further frame changes nothing of the map
-pub leaf_at-put_further : (m : Memory) (top f i w v : ℕ) → IsDirectory m top → IsFurther m top f → i < 1024 → v < 2 ^ 20
-    → leaf_at (put_word m f i w) top v ≡ leaf_at m top v
-leaf_at-put_further m top f i w v ok far i_in small =
-    let index : v / 1024 < 1024 = omega arith in
-    leaf_at-same m (put_word m f i w) top v
-    (word_at-put_below m top f i w ok far.below i_in far.beside (v / 1024) index)
-    (λ has. word_at-put_frame m f i w (table_frame m top (v / 1024)) (v % 1024) ok.shape far.below i_in
-    (far.apart (v / 1024) index has))
-
-pub IsFurther-put : (m : Memory) (top f i w g : ℕ) → IsDirectory m top → f < length m → i < 1024 → f ≢ top
-    → IsFurther m top g → IsFurther (put_word m f i w) top g
-IsFurther-put m top f i w g ok f_in i_in other far =
-    IsFurther-same m (put_word m f i w) top g far (length-put_word m f i w)
-    (word_at-put_below m top f i w ok f_in i_in other)
-
 -- ---- zeros in a further frame
-
-pub word_at-zero_below : (m : Memory) (top f : ℕ) → f ≢ top → (j : ℕ) → j < 1024
-    → word_at (zero_frame m f) top j ≡ word_at m top j
-word_at-zero_below m top f other j j_in = word_at-zero_frame m f top j (λ e. other (sym e))
-
-pub IsDirectory-zero : (m : Memory) (top f : ℕ) → IsDirectory m top → f ≢ top → IsDirectory (zero_frame m f) top
-IsDirectory-zero m top f ok other =
-    IsDirectory-same m (zero_frame m f) top ok (IsMemory-zero m f ok.shape) (length-zero_frame m f)
-    (word_at-zero_below m top f other)
-
-pub IsFurther-zero : (m : Memory) (top f g : ℕ) → f ≢ top → IsFurther m top g → IsFurther (zero_frame m f) top g
-IsFurther-zero m top f g other far =
-    IsFurther-same m (zero_frame m f) top g far (length-zero_frame m f) (word_at-zero_below m top f other)
-
-pub leaf_at-zero_further : (m : Memory) (top f v : ℕ) → IsFurther m top f → v < 2 ^ 20
-    → leaf_at (zero_frame m f) top v ≡ leaf_at m top v
-leaf_at-zero_further m top f v far small =
-    let index : v / 1024 < 1024 = omega arith in
-    leaf_at-same m (zero_frame m f) top v (word_at-zero_below m top f far.beside (v / 1024) index)
-    (λ has. word_at-zero_frame m f (table_frame m top (v / 1024)) (v % 1024) (far.apart (v / 1024) index has))
 
 -- ---- a word at a vpage
 
@@ -167,7 +122,7 @@ leaf_at-put_leaf m top v w u ok small has u_small =
     i_in (ok.beside (v / 1024) v_in has) in
     elim (cases_eq u v) [
       | inl same ↦ rw (same, eq-eqb v v refl, entry (v / 1024) v_in, ne_eqb (word_at m top (v / 1024)) 0 has)
-          (ap Some (word_at-put_same m (table_frame m top (v / 1024)) (v % 1024) w ok.shape f_in i_in))
+          (rw (word_at-put_same m (table_frame m top (v / 1024)) (v % 1024) w ok.shape f_in i_in))
       | inr other ↦ rw (ne_eqb u v other) (leaf_at-same m (put_word m (table_frame m top (v / 1024)) (v % 1024) w) top u
           (entry (u / 1024) u_in) (λ u_has. elim (cases_eq (u / 1024) (v / 1024)) [
             | inl index ↦ word_at-put_index m (table_frame m top (v / 1024)) (v % 1024) w
@@ -187,38 +142,38 @@ pub entry_cases : (m : Memory) (top i w j : ℕ) → IsDirectory m top → i < 1
 entry_cases m top i w j ok i_in has =
     elim (cases_eq j i) [
       | inl same ↦
-          inl (same, ap (word_at (put_word m top i w) top) same ∙ word_at-put_same m top i w ok.shape ok.inside i_in)
-      | inr other ↦ let e = word_at-put_index m top i w top j ok.shape ok.inside i_in other in inr (e, λ z. has (e ∙ z))
+          inl (same, rw (same, word_at-put_same m top i w ok.shape ok.inside i_in))
+      | inr other ↦ let e = word_at-put_index m top i w top j ok.shape ok.inside i_in other in inr (e, λ z. has cc)
     ]
 
 pub IsDirectory-put_entry : (m : Memory) (top i w : ℕ) → IsDirectory m top → i < 1024
     → (w ≢ 0 → (w ≡ directory_word (w / 4096)) × IsFurther m top (w / 4096)) → IsDirectory (put_word m top i w) top
 IsDirectory-put_entry m top i w ok i_in fits = record {
   shape = IsMemory-put m top i w ok.shape ok.inside;
-  inside = let n = length-put_word m top i w in let h = ok.inside in omega arith;
+  inside = omega (arith, length-put_word m top i w);
   packed = λ j j_in has. elim (entry_cases m top i w j ok i_in has) [
-    | inl new ↦ let e = new.1 in let h = (fits (λ z. has (e ∙ z))).0 in rw e h
+    | inl new ↦ let e = new.1 in let h = (fits (λ z. has cc)).0 in rw e h
     | inr old ↦ let e = old.0 in let h = ok.packed j j_in old.1 in rw e h
   ];
   below = λ j j_in has. let n = length-put_word m top i w in elim (entry_cases m top i w j ok i_in has) [
-    | inl new ↦ let e = new.1 in let h = (fits (λ z. has (e ∙ z))).1.below in rw (e, n) h
+    | inl new ↦ let e = new.1 in let h = (fits (λ z. has cc)).1.below in rw (e, n) h
     | inr old ↦ let e = old.0 in let h = ok.below j j_in old.1 in rw (e, n) h
   ];
   beside = λ j j_in has. elim (entry_cases m top i w j ok i_in has) [
-    | inl new ↦ let e = new.1 in let h = (fits (λ z. has (e ∙ z))).1.beside in rw e h
+    | inl new ↦ let e = new.1 in let h = (fits (λ z. has cc)).1.beside in rw e h
     | inr old ↦ let e = old.0 in let h = ok.beside j j_in old.1 in rw e h
   ];
   apart = λ j k j_in k_in j_has k_has equal. elim (entry_cases m top i w j ok i_in j_has) [
     | inl j_new ↦ elim (entry_cases m top i w k ok i_in k_has) [
       | inl k_new ↦ j_new.0 ∙ sym k_new.0
       | inr k_old ↦ absurd ((fits (λ z. j_has (j_new.1 ∙ z))).1.apart k k_in
-          k_old.1 (sym (ap (λ x. x / 4096) k_old.0) ∙ sym equal ∙ ap (λ x. x / 4096) j_new.1))
+          k_old.1 (rw (← k_old.0, ← equal, j_new.1)))
     ]
     | inr j_old ↦ elim (entry_cases m top i w k ok i_in k_has) [
       | inl k_new ↦ absurd ((fits (λ z. k_has (k_new.1 ∙ z))).1.apart j j_in
-          j_old.1 (sym (ap (λ x. x / 4096) j_old.0) ∙ equal ∙ ap (λ x. x / 4096) k_new.1))
+          j_old.1 (rw (← j_old.0, equal, k_new.1)))
       | inr k_old ↦
-          ok.apart j k j_in k_in j_old.1 k_old.1 (sym (ap (λ x. x / 4096) j_old.0) ∙ equal ∙ ap (λ x. x / 4096) k_old.0)
+          ok.apart j k j_in k_in j_old.1 k_old.1 (rw (← j_old.0, equal, k_old.0))
     ]
   ];
 }
@@ -227,7 +182,7 @@ IsDirectory-put_entry m top i w ok i_in fits = record {
 pub IsFurther-put_entry : (m : Memory) (top i w f : ℕ) → IsDirectory m top → i < 1024 → IsFurther m top f → w / 4096 ≢ f
     → IsFurther (put_word m top i w) top f
 IsFurther-put_entry m top i w f ok i_in far other = record {
-  below = let n = length-put_word m top i w in let h = far.below in omega arith;
+  below = omega (arith, length-put_word m top i w);
   beside = far.beside;
   apart = λ j j_in has. elim (entry_cases m top i w j ok i_in has) [
     | inl new ↦ let e = new.1 in rw e other
@@ -247,7 +202,7 @@ pub leaf_at-put_dir_here : (m : Memory) (top i : ℕ) (d : DirWord) (v : ℕ) �
     → IsFitting m top d → v / 1024 ≡ i → leaf_at (put_word m top i (packed_dir d)) top v ≡ word_under m d (v % 1024)
 leaf_at-put_dir_here m top i Empty v ok i_in fits here =
     leaf_at-none (put_word m top i 0) top v
-    (ap (word_at (put_word m top i 0) top) here ∙ word_at-put_same m top i 0 ok.shape ok.inside i_in)
+    (rw (here, word_at-put_same m top i 0 ok.shape ok.inside i_in))
 leaf_at-put_dir_here m top i (Table f) v ok i_in fits here =
     let e = ap (word_at (put_word m top i (f * 4096 + 1)) top) here
     ∙ word_at-put_same m top i (f * 4096 + 1) ok.shape ok.inside i_in in
@@ -257,7 +212,7 @@ leaf_at-put_dir_here m top i (Table f) v ok i_in fits here =
       e,
       ne_eqb (f * 4096 + 1) 0 full,
       frame,
-    ) (ap Some (word_at-put_frame m top i (f * 4096 + 1) f (v % 1024) ok.shape ok.inside i_in fits.beside))
+    ) (rw (word_at-put_frame m top i (f * 4096 + 1) f (v % 1024) ok.shape ok.inside i_in fits.beside))
 
 pub leaf_at-put_dir : (m : Memory) (top i : ℕ) (d : DirWord) (v : ℕ) → IsDirectory m top → i < 1024 → IsFitting m top d
     → v < 2 ^ 20 → leaf_at (put_word m top i (packed_dir d)) top v

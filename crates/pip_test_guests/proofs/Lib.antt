@@ -1,3 +1,4 @@
 pub mod Events
 pub mod Worlds
 pub mod Laws
+mod Matched

@@ -1,5 +1,5 @@
 //! The laws of whole guests, on machines: machines that boot here, and take events, meet the premises of each form for
-//! machines. No other crate depends on it.
+//! machines. A lemma of proofs/ meets those of the law on searches with a menu. No other crate depends on it.
 #![tactic(auto)]
 
 mod asks;

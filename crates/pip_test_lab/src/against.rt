@@ -121,7 +121,7 @@ fn deeds_come_after_steps(rt: HostRuntime) -> Result<(), Fail> {
     check_rows(&rt, &AFTER_STEPS)
 }
 
-static BAD_LINES: [Row; 9] = [
+static BAD_LINES: [Row; 11] = [
     (ROOT, "all trap 7 0 0\n", (0, 1), 2, "bad line 1 who\n"),
     (ROOT, " each trap 7 0 0\n", (0, 1), 2, "bad line 1 who\n"),
     (
@@ -143,6 +143,8 @@ static BAD_LINES: [Row; 9] = [
     (ROOT, "again", (0, 1), 2, "bad line 1 what\n"),
     (ROOT, "again x\nagain ", (0, 1), 2, "bad line 2 what\n"),
     (ROOT, "againx", (0, 1), 2, "bad line 1 who\n"),
+    (ROOT, "comes", (0, 1), 2, "bad line 1 what\n"),
+    (ROOT, "again x\ncomes ", (0, 1), 2, "bad line 2 what\n"),
 ];
 
 #[test]
@@ -217,15 +219,46 @@ fn no_deed_brings_a_label_back(rt: HostRuntime) -> Result<(), Fail> {
     check_rows(&rt, &NOT_BACK)
 }
 
+static COMING: [Row; 3] = [
+    (
+        SHOWS,
+        "comes 0 out 0x00000005\nagain y\ncomes 1 x: y ",
+        (0, 1),
+        0,
+        "image 16 2 1 1\n1 0 out 0x00000005: 0x2\nstates 6 depth 3 closed\nagain y: no\ncomes 0 out 0x00000005: within 2 of 0, 0 of 1, 0 of raise3\ncomes 1 x: y : no 0 raise3 : 0 1 raise3 0\n",
+    ),
+    (
+        ENDS,
+        "comes 0 park 1 64",
+        (0, 1),
+        0,
+        "image 16 1 0 1\n1 0 out 0x00000001: 0x2\n4 0 park 1 64: 0x5\nstates 6 depth 5 closed\ncomes 0 park 1 64: no 0x5 : 0\n",
+    ),
+    (
+        ROOT,
+        "comes 0 park 1 7\n1 trap 7 0 0",
+        (0, 1),
+        0,
+        "image 16 1 0 0\n0 0 park 1 7: 0:d1\nstates 2 depth 1 closed\ncomes 0 park 1 7: no : 0\n",
+    ),
+];
+
+#[test]
+fn a_label_comes_or_a_loop_avoids_it(rt: HostRuntime) -> Result<(), Fail> {
+    check_rows(&rt, &COMING)
+}
+
 #[test]
 fn nothing_is_said_of_labels_where_a_search_stops(rt: HostRuntime) -> Result<(), Fail> {
-    let menu = "again 0 out 0x00000005\n";
+    let menu = "again 0 out 0x00000005\ncomes 0 out 0x00000005\n";
     let start = Start { count: 0, seed: 1 };
-    let text = "image 16 2 1 1\nstates 2 depth 0 stopped\nagain 0 out 0x00000005: unknown\n";
+    let text =
+        "image 16 2 1 1\nstates 2 depth 0 stopped\nagain 0 out 0x00000005: unknown\ncomes 0 out 0x00000005: unknown\n";
     check(&rt, SHOWS, menu, 2, start, 0, text)
 }
 
 #[test]
 fn a_label_too_many_is_bad(rt: HostRuntime) -> Result<(), Fail> {
-    check_repeated(&rt, ROOT, "again x\n", 17, 2, "bad line 17 many\n")
+    check_repeated(&rt, ROOT, "again x\n", 17, 2, "bad line 17 many\n")?;
+    check_repeated(&rt, ROOT, "again x\ncomes x\n", 9, 2, "bad line 17 many\n")
 }

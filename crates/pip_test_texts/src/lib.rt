@@ -1,4 +1,4 @@
-//! Tests of the public calls of pip_io, pip_script, pip_isa, pip_image, pip_line, pip_dis, pip_asm, pip_dump and
+//! Tests of the public calls of pip_io, pip_script, pip_isa, pip_image, pip_asm_line, pip_dis, pip_asm, pip_dump and
 //! pip_soak.
 #![tactic(auto)]
 

@@ -16,13 +16,12 @@ all_empty : (places : List (Option Entry)) → length places ≡ 64
 unfolding no_entries
 all_empty places count none =
     let same : length places ≡ length (replicate {A = Option Entry} 64 None) =
-    count ∙ sym (length-replicate {A = Option Entry} 64 None) in
+    cc (length-replicate {A = Option Entry} 64 None) in
     ext_get_or None places (replicate 64 None) same
-    (λ k small. none k (omega (arith, small, count)) ∙ sym (none_at 64 k))
+    (λ k small. cc (none k (omega (arith, small, count)), none_at 64 k))
 
 -- and counts that stayed
 pub is_emptied : (c p : Places) → length c.at ≡ 64 → ((k : ℕ) → k < 64 → slice_index_or c.at k None ≡ None)
     → c.hits ≡ p.hits → c.misses ≡ p.misses → c ≡ without_entries p
 is_emptied c p count none hits misses =
-    ap (λ at. record { at = at; hits = c.hits; misses = c.misses }) (all_empty c.at count none)
-    ∙ ap₂ (λ h m. record { at = no_entries; hits = h; misses = m }) hits misses
+    rw (all_empty c.at count none) (ap₂ (λ h m. record { at = no_entries; hits = h; misses = m }) hits misses)

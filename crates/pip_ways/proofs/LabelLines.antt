@@ -15,7 +15,7 @@ use Rattle.pip_search.specs.declared.ways.Run.{Run}
 use Rattle.pip_search.proofs.Tracing.{way_trail}
 use Rattle.pip_ways.specs.Texts.{inner, spaced_run, witness_line}
 use Rattle.pip_ways.specs.Told.{runs_to}
-use Rattle.pip_ways.proofs.Pieces.{one_more}
+use Rattle.pip_io.proofs.Piecewise.{one_more}
 
 -- what stands at a place of a list
 pub within : {A : Type 0} (xs : List A) (k : ℕ) → k < length xs → (x : A) × (slice_get xs k ≡ Some x)

@@ -7,8 +7,8 @@ use Rattle.std.specs.Io.KnownBytes.{Consumes}
 use Rattle.pip_io.specs.Causes.{RoseByOne}
 use Rattle.pip_switch.specs.Standing.{State}
 use Rattle.pip_words.specs.Answered.{AreInputsAnswered}
-use Rattle.pip_due.specs.EndsBy.{Due, EndsBy, IsOfAnswer, IsWithin}
-use Rattle.pip_due.specs.Streams.{Streams}
+use Rattle.pip_command_contracts.specs.EndsBy.{Due, EndsBy, IsOfAnswer, IsWithin}
+use Rattle.pip_command_contracts.specs.Streams.{Streams}
 
 -- a status is that of an answer, or one of four
 which : (code : ℕ) → IsOfAnswer code ⊎ (code ≡ 3) ⊎ (code ≡ 4) ⊎ (code ≡ 5) ⊎ (code ≡ 6)

@@ -1,9 +1,9 @@
 -- What holds for the command that the words of the command line ask for.
 use Rattle.std.specs.Prelude.{◌≡◌, Option, Some}
 use Rattle.std.proofs.Common.{ap, subst, sym, ◌∙◌}
-use Rattle.pip_due.specs.EndsBy.{Due}
-use Rattle.pip_due.specs.Pacing.{IsPaced}
-use Rattle.pip_due.specs.Streams.{Streams}
+use Rattle.pip_command_contracts.specs.EndsBy.{Due}
+use Rattle.pip_command_contracts.specs.Pacing.{IsPaced}
+use Rattle.pip_command_contracts.specs.Streams.{Streams}
 use Rattle.pip_words.proofs.Within.{AreWithin}
 
 -- the words mean this command, and were read as `asked`, which is this one

@@ -4,9 +4,9 @@ use Rattle.std.proofs.KnownBytes.{Consumes-nil}
 use Rattle.pip_io.specs.Taken.{Taken}
 use Rattle.pip_io.specs.Histories.{writing}
 use Rattle.pip_switch.specs.Standing.{State}
-use Rattle.pip_due.specs.EndsBy.{EndsBy}
-use Rattle.pip_due.specs.Streams.{EndsLine, beside}
-use Rattle.pip_due.proofs.Endings.{by_plain}
+use Rattle.pip_command_contracts.specs.EndsBy.{EndsBy}
+use Rattle.pip_command_contracts.specs.Streams.{EndsLine, beside}
+use Rattle.pip_command_contracts.proofs.Endings.{by_plain}
 use Rattle.pip_words.specs.Usage.{unknown_due}
 
 -- the line was written, or a part of it

@@ -3,8 +3,8 @@ use Rattle.std.specs.Prelude.{◌≡◌, ℕ, ◌⊎◌, Option}
 use Rattle.std.specs.Option.{IsSomeAnd}
 use Rattle.pip_io.specs.Causes.{RoseByOne}
 use Rattle.pip_switch.specs.Standing.{State}
-use Rattle.pip_due.specs.EndsBy.{Due, EndsBy, IsOfAnswer, IsWithin}
-use Rattle.pip_due.specs.Streams.{Streams}
+use Rattle.pip_command_contracts.specs.EndsBy.{Due, EndsBy, IsOfAnswer, IsWithin}
+use Rattle.pip_command_contracts.specs.Streams.{Streams}
 
 -- an input that is told and within the limit is answered, or there was no memory, where no read and no write failed
 abbrev pub AreInputsAnswered : {C : Type 0} → (C → Due) → Type 0

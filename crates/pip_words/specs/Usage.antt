@@ -1,7 +1,7 @@
 -- What is due of words of no form.
 use Rattle.std.specs.Prelude.{ℕ, List, None}
-use Rattle.pip_due.specs.EndsBy.{Due, plainly}
-use Rattle.pip_due.specs.ImageDues.{without_reading}
+use Rattle.pip_command_contracts.specs.EndsBy.{Due, plainly}
+use Rattle.pip_command_contracts.specs.ImageDues.{without_reading}
 
 -- this text, which says what forms there are
 abbrev pub unknown_due : List ℕ → Due

@@ -1,9 +1,9 @@
 //! What a program does with words of no form.
 ghost use Rattle.std.specs.Prelude.{◌≡◌, []};
-ghost use Rattle.pip_due.specs.Commands.{Fulfils};
+ghost use Rattle.pip_command_contracts.specs.Commands.{Fulfils};
 ghost use Rattle.pip_words.specs.Usage.{unknown_due};
 
-use pip_due::{Ended, end_with};
+use pip_command_contracts::{Ended, end_with};
 use pip_io::{Sink, Source};
 
 /// Shows which words there are, by a line with its newline. Nothing is read.

@@ -1,7 +1,8 @@
 """What can happen to an image where partitions do anything of a menu, and the text of the command against.
 
 A partition is hostile where a deed of the menu is its own. Where it runs, its program has no turns: it waits for a
-line, or does one of its deeds. Of a label that the menu names it is asked whether it can come again.
+line, or does one of its deeds. Of a label that the menu names it is asked whether it can come again, or whether it
+comes: of that the text here says no more than which of the answers it is (dev/reference/coming.py judges the rest).
 """
 
 from __future__ import annotations
@@ -16,7 +17,8 @@ from .model import ROOT, Done, Running, World
 from .runs import Turn
 from .script import BadLine
 
-EACH, AGAIN = b"each", b"again"
+EACH, AGAIN, COMES = b"each", b"again", b"comes"
+ASKS = (AGAIN, COMES)                                   # the words before a label
 WORDS = (b"ld", b"lb", b"st", b"sb", b"trap", b"call")       # the lines of scripts that are deeds
 MOST_DEEDS, MOST_LABELS, MOST_LINES = 1024, 16, 65536    # of a menu
 
@@ -36,10 +38,12 @@ class Deed(NamedTuple):
 
 
 class Menu(NamedTuple):
-    """What partitions may do, and the labels of which it is asked whether they can come again."""
+    """What partitions may do, the labels of which it is asked whether they can come again, and those of which it is
+    asked whether they come."""
 
     deeds: list[Deed]
     again: list[str]
+    comes: list[str]
 
 
 # The text of a menu
@@ -47,13 +51,13 @@ class Menu(NamedTuple):
 
 def menu_of(data: bytes) -> Menu:
     """The menu that a text is."""
-    menu = Menu([], [])
+    menu = Menu([], [], [])
     for place, line in enumerate(script.lines(data), 1):
         if len(line) > script.LONGEST:
             raise BadLine(place, "long")
         if line and not line.startswith(b"#"):
             add(menu, place, line)
-        if place > MOST_LINES or len(menu.deeds) > MOST_DEEDS or len(menu.again) > MOST_LABELS:
+        if place > MOST_LINES or len(menu.deeds) > MOST_DEEDS or len(menu.again) + len(menu.comes) > MOST_LABELS:
             raise BadLine(place, "many")
     return menu
 
@@ -61,10 +65,10 @@ def menu_of(data: bytes) -> Menu:
 def add(menu: Menu, place: int, line: bytes) -> None:
     """Adds what a line says that is neither blank nor a remark."""
     who, _, what = line.partition(b" ")
-    if who != AGAIN:
+    if who not in ASKS:
         menu.deeds.append(deed_of(place, line))
     elif what:
-        menu.again.append(what.decode("utf-8", "surrogateescape"))
+        (menu.again if who == AGAIN else menu.comes).append(what.decode("utf-8", "surrogateescape"))
     else:
         raise BadLine(place, "what")
 
@@ -188,8 +192,67 @@ def again_line(search: Search, usual: int, label: str) -> str:
     return " ".join([f"again {label}: no", *way_text(search.moments, search.way_to(at)).split()])
 
 
+# Whether a label comes
+
+Edge = tuple[int, int]                           # a choice, and the visit to which it leads
+
+
+def hidden_edges(search: Search, label: str) -> list[list[Edge]]:
+    """Of each visit the choices, deeds too, that don't show a label."""
+    edges: list[list[Edge]] = []
+    for visit in search.visits:
+        made = [(choice, *search.moments.after(visit.moment, choice)) for choice in search.moments.choices]
+        edges.append([(choice, search.places[moment]) for choice, moment, shown in made
+                      if not (shown and f"{shown[0]} {shown[1]}" == label)])
+    return edges
+
+
+def reached(edges: Sequence[Sequence[int]], start: int, left: set[int]) -> list[int]:
+    """What is left and reached from a visit, each after all that it leads to; none of it is left then."""
+    found, ahead = [], [(start, iter(edges[start]))]
+    left.discard(start)
+    while ahead:
+        at, more = ahead[-1]
+        to = next((to for to in more if to in left), None)
+        if to is None:
+            found.append(at)
+            ahead.pop()
+        else:
+            left.discard(to)
+            ahead.append((to, iter(edges[to])))
+    return found
+
+
+def is_avoided(edges: list[list[Edge]], usual: int) -> bool:
+    """Whether choices lead from a visit to itself, with one of each class among them: a component of the visits has all
+    of them inside."""
+    back: list[list[int]] = [[] for _ in edges]
+    for at, row in enumerate(edges):
+        for _, to in row:
+            back[to].append(at)
+    ahead, left, order = [[to for _, to in row] for row in edges], set(range(len(edges))), []
+    for at in range(len(edges)):
+        if at in left:
+            order += reached(ahead, at, left)
+    left = set(order)
+    for at in reversed(order):
+        if at in left:
+            inside = set(reached(back, at, left))
+            if len({choice for one in inside for choice, to in edges[one] if to in inside and choice < usual}) == usual:
+                return True
+    return False
+
+
+def coming_line(search: Search, usual: int, label: str) -> str:
+    """Which answer it is of a label."""
+    if search.end != "closed":
+        return f"comes {label}: unknown"
+    return f"comes {label}: {'no' if is_avoided(hidden_edges(search, label), usual) else 'within'}"
+
+
 def against(image: Image, states: int, first: int, deepest: int | None, menu: Menu,
             after: After = AT_FIRST) -> list[str]:
     moments = MenuMoments(image, first, begun(image, after), menu.deeds)
     search = Search(moments, states, deepest)
-    return text(image, search) + [again_line(search, moments.usual, label) for label in menu.again]
+    return text(image, search) + [again_line(search, moments.usual, label) for label in menu.again] + \
+        [coming_line(search, moments.usual, label) for label in menu.comes]

@@ -15,7 +15,7 @@ use core::ptr::null_mut;
 use core::slice;
 use pip_base::Steps;
 use pip_commands::pip;
-use pip_due::Ended;
+use pip_command_contracts::Ended;
 use pip_frames::RawFrames;
 use pip_io::{Failed, Gatherer, Sink, Source};
 use pip_lab_commands::lab as lab_of;

@@ -27,9 +27,8 @@ use Rattle.pip_kern.proofs.Giving.{giving_start}
 pub caller_stays : (t : Tree) → IsSound t → (p : ℕ) (x : Node) → find_node t p ≡ Some x → (a : Five)
     → find_node (create_partition t p a).tree p ≡ Some x
 caller_stays t s p x found a = elim (cases_option (first_met (create_refusals t p a))) [
-  | inl none ↦ ap (λ z. find_node z.tree p) (create-accepted t p a none)
-      ∙ (find_old t s p x found a none p (found_is_name t p x found) ∙ found)
-  | inr q ↦ ap (λ z. find_node z.tree p) (create-refused t p a q.0 q.1) ∙ found
+  | inl none ↦ rw (create-accepted t p a none, find_old t s p x found a none p (found_is_name t p x found), found)
+  | inr q ↦ rw (create-refused t p a q.0 q.1, found)
 ]
 
 -- so it can call again
@@ -47,7 +46,7 @@ create-stands m n p s a after = record {
 
 others_are : (b : Base) (base : List Pair) → base ≡ base_pairs b
     → take (length base - 1) (drop 1 base) ≡ b.mmu ∷ b.shadow1 ∷ b.shadow2 ∷ b.list ∷ []
-others_are b base is = ap (λ ps. take (length ps - 1) (drop 1 ps)) is
+others_are b base is = rw is
 
 module _ (t : Tree) (s : IsSound t) (p : ℕ) (x : Node) (found : find_node t p ≡ Some x) (xs : List ℕ) (base : List Pair)
     (tested : (first_met (create_refusals t p (five_of xs)) ≡ None)
@@ -72,7 +71,7 @@ module _ (t : Tree) (s : IsSound t) (p : ℕ) (x : Node) (found : find_node t p 
     }
 
     pub first_some : born ≢ 0
-    first_some e = born_some t s p x found a tested.0 (sym place ∙ e)
+    first_some e = born_some t s p x found a tested.0 (cc)
 
     module _ (m1 : Memory) (give_says : GivesPage p born (shadow1_word as_descriptor born) m m1) (pages : List Pair)
         (pages_are : pages ≡ base) where
@@ -84,11 +83,11 @@ module _ (t : Tree) (s : IsSound t) (p : ℕ) (x : Node) (found : find_node t p 
           (giving_start t s m lays y)
 
       are : others ≡ y.base.mmu ∷ y.base.shadow1 ∷ y.base.shadow2 ∷ y.base.list ∷ []
-      are = others_are y.base pages (pages_are ∙ tested.1)
+      are = others_are y.base pages (cc (tested.1))
 
       each : CanGiveEach t y born others
       unfolding are
-      each = subst (CanGiveEach t y born) (sym are) (can_give_rest t s p x found a tested.0 born place)
+      each = rw are (can_give_rest t s p x found a tested.0 born place)
 
       -- then the others
       pub others_can : CanGivePages m1 p born others
@@ -108,23 +107,24 @@ module _ (t : Tree) (s : IsSound t) (p : ℕ) (x : Node) (found : find_node t p 
           → GivesPagesIn p born others (length others) m1 between after → after ≤ before + 35 * length (chain t p) + 10
       unfolding are each first_given
       created_in before between after one rest =
-          let four : length others ≡ 4 = ap length are in
-          let first = one t y [] (page_of t p a.x0) (can_give_first t s p x found a tested.0 born place) refl
-          (giving_start t s m lays y) in
-          let then = subst (λ n. after ≤ between + n * (7 * length (chain t p) + 2)) four
-          (rest t y (y.base.descriptor.frame ∷ []) each refl first_given.midway) in
-          omega (arith, first, then)
+          let four : length others ≡ 4 = rw are in
+          omega (
+            arith,
+            one t y [] (page_of t p a.x0) (can_give_first t s p x found a tested.0 born place) refl
+                (giving_start t s m lays y),
+            subst (λ n. after ≤ between + n * (7 * length (chain t p) + 2)) four
+                (rest t y (y.base.descriptor.frame ∷ []) each refl first_given.midway),
+          )
 
       module _ (m2 : Memory) (gives_say : GivesFurtherPages p born others (pair_frames others) m1 m2) where
         all_given : HasGiven t y (config y) m1 m2
         unfolding are each first_given
-        all_given = subst (λ ps. HasGiven t y ((y.base.descriptor.frame ∷ []) ++ pair_frames ps) m1 m2) are
-            (gives_say t y (y.base.descriptor.frame ∷ []) each refl first_given.midway)
+        all_given = rw are at (gives_say t y (y.base.descriptor.frame ∷ []) each refl first_given.midway)
 
         -- then the five pages can be written
         pub base_frames : AreFrames m2 base
         unfolding all_given
-        base_frames = subst (AreFrames m2) (sym tested.1) (are_frames t s p x found a tested.0 m2 _ all_given.midway)
+        base_frames = rw tested.1 (are_frames t s p x found a tested.0 m2 _ all_given.midway)
 
         -- which lays out the new tree
         pub created_laid : (n : Memory) → ((b : Base) → base_pairs b ≡ base

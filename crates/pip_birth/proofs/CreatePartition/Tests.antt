@@ -34,7 +34,7 @@ five_list (a ∷ b ∷ c ∷ d ∷ e ∷ f ∷ xs) h = absurd (omega arith)
 -- the conditions of the call in three parts
 pub tests_are : (t : Tree) (p : ℕ) (xs : List ℕ) → length xs ≡ 5
     → create_refusals t p (five_of xs) ≡ five_address_tests xs ++ (some_unmapped t p xs ∷ five_page_tests t p xs)
-tests_are t p xs h = ap (λ l. five_address_tests l ++ (some_unmapped t p l ∷ five_page_tests t p l)) (five_list xs h)
+tests_are t p xs h = cc (five_list xs h)
 
 -- ---- rows
 
@@ -47,8 +47,8 @@ get_in (x ∷ xs) (suc k) h = inr (get_in xs k (omega arith))
 pub row_missing : (rows : ℕ → Option FullRow) (xs : List ℕ) (k : ℕ) → k < length xs
     → None ≡ rows (vpage (slice_index_or xs k 0)) → (o : Option (List SpaceRow)) → o ≡ None → RowsAnswer rows xs o
 row_missing rows xs k low none o is =
-    subst (RowsAnswer rows xs) (sym is)
-    (any_some (λ a. is_none (rows (vpage a))) (slice_index_or xs k 0) xs (get_in xs k low) (ap is_none (sym none)))
+    rw is (any_some (λ a. is_none (rows (vpage a))) (slice_index_or xs k 0) xs (get_in xs k low)
+    (ap is_none (sym none)))
 
 -- five rows are an answer
 pub five_rows : (rows : ℕ → Option FullRow) (xs : List ℕ) → length xs ≡ 5 → (a b c d e : SpaceRow)
@@ -67,7 +67,7 @@ five_rows rows (v ∷ w ∷ x ∷ y ∷ z ∷ u ∷ xs) h a b c d e p q r s t = 
 -- two tests that agree on each address
 any_same : (f h : ℕ → Bool) → ((a : ℕ) → f a ≡ h a) → (xs : List ℕ) → list_any f xs ≡ list_any h xs
 any_same f h same [] = refl
-any_same f h same (a ∷ xs) = ap (λ b. b || list_any f xs) (same a) ∙ ap (λ b. h a || b) (any_same f h same xs)
+any_same f h same (a ∷ xs) = rw (same a, any_same f h same xs)
 
 -- a test of addresses that is one of their rows
 any_rows : (rows : ℕ → Option FullRow) (f : ℕ → Bool) (h : FullRow → Bool)
@@ -75,8 +75,7 @@ any_rows : (rows : ℕ → Option FullRow) (f : ℕ → Bool) (h : FullRow → B
     → list_any (λ a. not (f (vpage a))) xs ≡ list_any (λ r. not (h (full_of r))) rs
 any_rows rows f h same [] [] k = refl
 any_rows rows f h same (a ∷ xs) (r ∷ rs) k =
-    ap (λ b. not b || list_any (λ z. not (f (vpage z))) xs) (same (vpage a) (full_of r) k.0)
-    ∙ ap (λ b. not (h (full_of r)) || b) (any_rows rows f h same xs rs k.1)
+    rw (same (vpage a) (full_of r) k.0, any_rows rows f h same xs rs k.1)
 any_rows rows f h same [] (r ∷ rs) k = absurd k
 any_rows rows f h same (a ∷ xs) [] k = absurd k
 
@@ -89,14 +88,14 @@ module _ (t : Tree) (s : IsSound t) (p : ℕ) (x : Node) (found : find_node t p 
   any_unmapped : (xs : List ℕ)
       → list_any (λ a. is_none (full_rows t x (vpage a))) xs ≡ list_any (λ a. not (is_mapped t p (vpage a))) xs
   any_unmapped xs = any_same (λ a. is_none (full_rows t x (vpage a))) (λ a. not (is_mapped t p (vpage a)))
-      (λ a. none_mapped (full_rows t x (vpage a)) ∙ ap not (sym (mapped-row t s p x found (vpage a)))) xs
+      (λ a. rw (none_mapped (full_rows t x (vpage a)), ← mapped-row t s p x found (vpage a))) xs
 
   -- and where each has one
   all_mapped : (xs : List ℕ) (rs : List SpaceRow) → AreRows (full_rows t x) xs rs
       → list_any (λ a. is_none (full_rows t x (vpage a))) xs ≡ false
   all_mapped [] [] k = refl
   all_mapped (a ∷ xs) (r ∷ rs) k =
-      ap (λ o. is_none o || list_any (λ z. is_none (full_rows t x (vpage z))) xs) k.0 ∙ all_mapped xs rs k.1
+      rw (k.0, all_mapped xs rs k.1)
   all_mapped [] (r ∷ rs) k = absurd k
   all_mapped (a ∷ xs) [] k = absurd k
 
@@ -104,17 +103,16 @@ module _ (t : Tree) (s : IsSound t) (p : ℕ) (x : Node) (found : find_node t p 
   pub page_tests_are : (xs : List ℕ) (rs : List SpaceRow) → AreRows (full_rows t x) xs rs
       → five_page_tests t p xs ≡ five_row_tests rs
   page_tests_are xs rs k =
-      ap (λ b. (b, S.NotFree) ∷ (list_any (λ a. not (writable t p (vpage a))) xs, S.NoRight)
-      ∷ []) (any_rows (full_rows t x) (free t p) is_ungiven (free-row t s p x found) xs rs k)
-      ∙ ap (λ b. (list_any (λ r. not (is_ungiven (full_of r))) rs, S.NotFree) ∷ (b, S.NoRight)
-      ∷ []) (any_rows (full_rows t x) (writable t p) is_writable (writable-row t s p x found) xs rs k)
+      rw (
+        any_rows (full_rows t x) (free t p) is_ungiven (free-row t s p x found) xs rs k,
+        any_rows (full_rows t x) (writable t p) is_writable (writable-row t s p x found) xs rs k,
+      )
 
   -- the pages are those of the new node
   pairs_are : (xs : List ℕ) (rs : List SpaceRow) → AreRows (full_rows t x) xs rs → pairs_of xs rs ≡ map (pair_at t p) xs
   pairs_are [] [] k = refl
   pairs_are (a ∷ xs) (r ∷ rs) k =
-      ap (λ f. record { va = a; frame = f } ∷ pairs_of xs rs) (sym (page_of-row t s p x found a (full_of r) k.0))
-      ∙ ap (λ ps. pair_at t p a ∷ ps) (pairs_are xs rs k.1)
+      rw (← page_of-row t s p x found a (full_of r) k.0, pairs_are xs rs k.1)
   pairs_are [] (r ∷ rs) k = absurd k
   pairs_are (a ∷ xs) [] k = absurd k
 
@@ -139,21 +137,19 @@ module _ (t : Tree) (s : IsSound t) (p : ℕ) (x : Node) (found : find_node t p 
       unfolding after_addresses any_unmapped
       unmapped_met o answer none =
           let missing : list_any (λ a. is_none (full_rows t x (vpage a))) xs ≡ true =
-          subst (RowsAnswer (full_rows t x) xs) none answer in
-          after_addresses ∙ ap (λ b. cond b (Some S.NotMapped) (first_met (five_page_tests t p xs)))
-          (sym (any_unmapped xs) ∙ missing)
+          rw none at answer in
+          rw (after_addresses, ← any_unmapped xs, missing)
 
       module _ (o : Option (List SpaceRow)) (answer : RowsAnswer (full_rows t x) xs o) (rs : List SpaceRow)
           (are_rows : o ≡ Some rs) where
         are : AreRows (full_rows t x) xs rs
-        are = subst (RowsAnswer (full_rows t x) xs) are_rows answer
+        are = rw are_rows at answer
 
         after_rows : first_met (create_refusals t p (five_of xs)) ≡ first_met (five_row_tests rs)
         unfolding after_addresses any_unmapped all_mapped page_tests_are are
         after_rows =
             after_addresses
-            ∙ (ap (λ b. cond b (Some S.NotMapped) (first_met (five_page_tests t p xs)))
-            (sym (any_unmapped xs) ∙ all_mapped xs rs are) ∙ ap first_met (page_tests_are xs rs are))
+            ∙ (cc (any_unmapped xs, all_mapped xs rs are, page_tests_are xs rs are))
 
         -- a test of the rows decides
         pub rows_met : (q : Status) → first_met (five_row_tests rs) ≡ Some q
@@ -165,4 +161,4 @@ module _ (t : Tree) (s : IsSound t) (p : ℕ) (x : Node) (found : find_node t p 
         pub all_passed : first_met (five_row_tests rs) ≡ None → (first_met (create_refusals t p (five_of xs)) ≡ None)
             × (pairs_of xs rs ≡ base_pairs (newborn t p (five_of xs)).base)
         unfolding after_rows pairs_are are
-        all_passed e = (after_rows ∙ e, pairs_are xs rs are ∙ sym (ap (map (pair_at t p)) (five_list xs five)))
+        all_passed e = (after_rows ∙ e, rw (pairs_are xs rs are, ← five_list xs five))

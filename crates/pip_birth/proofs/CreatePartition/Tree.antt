@@ -40,12 +40,12 @@ use Rattle.pip_birth.specs.Newborn.{AreFrames}
 -- a condition that is met is the answer
 pub create-refused : (t : Tree) (p : ℕ) (a : Five) (q : Status) → first_met (create_refusals t p a) ≡ Some q
     → create_partition t p a ≡ refuse t q
-create-refused t p a q e = ap (λ o. answer_unless t o (accept 0 (tree_with_newborn t p a))) e
+create-refused t p a q e = rw e
 
 -- where none is, the tree has the new partition
 pub create-accepted : (t : Tree) (p : ℕ) (a : Five) → first_met (create_refusals t p a) ≡ None
     → create_partition t p a ≡ accept 0 (tree_with_newborn t p a)
-create-accepted t p a e = ap (λ o. answer_unless t o (accept 0 (tree_with_newborn t p a))) e
+create-accepted t p a e = rw e
 
 -- ---- tests of Bool
 
@@ -94,7 +94,7 @@ module _ (t : Tree) (s : IsSound t) (p : ℕ) (x : Node) (found : find_node t p 
         giver = x;
         found = found;
         row = r;
-        at = ap (row_at x.rows) place ∙ at;
+        at = rw (place, at);
         page = page;
         unheld = (may.usable k i).unheld;
         word = word;
@@ -105,18 +105,16 @@ module _ (t : Tree) (s : IsSound t) (p : ℕ) (x : Node) (found : find_node t p 
       → CanGive t y born (shadow1_word as_descriptor born) (page_of t p a.x0)
   unfolding can_give
   can_give_first born is = can_give a.x0 born (shadow1_word as_descriptor born) (inl refl) is
-      (ap (shadow1_word as_descriptor) is ∙ ap (λ k. shadow1_word k (vpage y.born)) (sym (use_descriptor y)))
+      (cc (use_descriptor y))
 
   used : (g : ℕ) → In g (config y) → y.name ≢ g → use_of y g ≡ as_configuration
-  used g i ne = ap (λ b. cond b as_descriptor (cond (has (config y) g) as_configuration 3)) (ne_eqb y.name g ne)
-      ∙ ap (λ b. cond b as_configuration 3) (in_has g (config y) i)
+  used g i ne = cc (ne_eqb y.name g ne, in_has g (config y) i)
 
   can_give_more : (k born : ℕ) → In k (list_of a) → born ≡ vpage a.x0 → In (page_of t p k) (config y)
       → y.name ≢ page_of t p k → CanGive t y (vpage k) (shadow1_word as_configuration born) (page_of t p k)
   unfolding can_give used
   can_give_more k born i is on ne =
-      can_give k (vpage k) (shadow1_word as_configuration born) i refl (ap (shadow1_word as_configuration) is
-      ∙ ap (λ q. shadow1_word q (vpage y.born)) (sym (used (page_of t p k) on ne)))
+      can_give k (vpage k) (shadow1_word as_configuration born) i refl (cc (used (page_of t p k) on ne))
 
   -- the others
   pub can_give_rest : (born : ℕ) → born ≡ vpage a.x0
@@ -137,7 +135,7 @@ module _ (t : Tree) (s : IsSound t) (p : ℕ) (x : Node) (found : find_node t p 
   born_some e =
       let (r, at, page) = row_of a.x0 (inl refl) in
       let (i, place) = row_in x (vpage a.x0) r at in
-      (s.tables x (found_in t p x found)).first r i (place ∙ e)
+      (s.tables x (found_in t p x found)).first r i (cc)
 
   -- each is a frame
   page_low : (k : ℕ) → In k (list_of a) → page_of t p k < t.frames
@@ -148,12 +146,11 @@ module _ (t : Tree) (s : IsSound t) (p : ℕ) (x : Node) (found : find_node t p 
 
   pages_low : (m : Memory) → length m ≡ t.frames → All (λ (g : Pair). g.frame < length m) (base_pairs y.base)
   unfolding page_low
-  pages_low m count zero d low = let h = page_low a.x0 (inl refl) in omega arith
-  pages_low m count (suc zero) d low = let h = page_low a.x1 (inr (inl refl)) in omega arith
-  pages_low m count (suc (suc zero)) d low = let h = page_low a.x2 (inr (inr (inl refl))) in omega arith
-  pages_low m count (suc (suc (suc zero))) d low = let h = page_low a.x3 (inr (inr (inr (inl refl)))) in omega arith
-  pages_low m count (suc (suc (suc (suc zero)))) d low = let h = page_low a.x4 (inr (inr (inr (inr (inl refl))))) in
-      omega arith
+  pages_low m count zero d low = omega (arith, page_low a.x0 (inl refl))
+  pages_low m count (suc zero) d low = omega (arith, page_low a.x1 (inr (inl refl)))
+  pages_low m count (suc (suc zero)) d low = omega (arith, page_low a.x2 (inr (inr (inl refl))))
+  pages_low m count (suc (suc (suc zero))) d low = omega (arith, page_low a.x3 (inr (inr (inr (inl refl)))))
+  pages_low m count (suc (suc (suc (suc zero)))) d low = omega (arith, page_low a.x4 (inr (inr (inr (inr (inl refl))))))
   pages_low m count (suc (suc (suc (suc (suc k))))) d low = absurd (omega arith)
 
   -- so they are different frames of every memory in the middle of the call
@@ -168,16 +165,15 @@ module _ (t : Tree) (s : IsSound t) (p : ℕ) (x : Node) (found : find_node t p 
       (cond (has (config y) g) (shadow1_word (use_of y g) (vpage y.born)) (given_word t q g)) (given_word t q g)
   unfolding given_word
   holder_parts q g own is =
-      ap (λ b. given_by (find (λ z. holds z g) (cond b (y ∷ children t q) (children t q))) g) is
-      ∙ go own (has (config y) g) refl
+      rw (is, go own (has (config y) g) refl)
     where
       go : (own on : Bool) → has (config y) g ≡ on
           → given_by (find (λ z. holds z g) (cond own (y ∷ children t q) (children t q))) g ≡ cond own
           (cond on (shadow1_word (use_of y g) (vpage y.born)) (given_by (find (λ z. holds z g) (children t q)) g))
           (given_by (find (λ z. holds z g) (children t q)) g)
       go false on e = refl
-      go true true e = ap (λ b. given_by (cond b (Some y) (find (λ z. holds z g) (children t q))) g) e
-      go true false e = ap (λ b. given_by (cond b (Some y) (find (λ z. holds z g) (children t q))) g) e
+      go true true e = simp e
+      go true false e = rw e
 
   -- the nodes of the old tree are found as before
   pub find_old : (b : ℕ) → In b (names_of (nodes t)) → find_node u b ≡ find_node t b
@@ -185,7 +181,7 @@ module _ (t : Tree) (s : IsSound t) (p : ℕ) (x : Node) (found : find_node t p 
   find_old b i =
       let off : (y.name == b) ≡ false =
       ne_eqb y.name b (λ e. fresh_name t p a s named may (subst (λ k. In k (names_of (nodes t))) (sym e) i)) in
-      ap (λ c. cond (t.root.name == b) (Some t.root) (cond c (Some y) (find_other t b))) off
+      rw off
 
   module _ (z : Node) (i : In z (nodes t)) where
     z_found : find_node t z.name ≡ Some z
@@ -195,8 +191,7 @@ module _ (t : Tree) (s : IsSound t) (p : ℕ) (x : Node) (found : find_node t p 
     unfolding from_word find_old z_found
     from_old g =
         let (q, up) = up_found t s z.name z z_found in
-        ap (λ o. cond (z.name == t.root.name) 0 (place_word (vpage_in_parent o g)))
-        (sym (find_old z.up (found_is_name t z.up q up)))
+        rw (← find_old z.up (found_is_name t z.up q up))
 
     row_created : (q : Row) → row_given y (config y) (y.up == z.name) (filled t z q) ≡ filled u z q
     unfolding from_old holder_parts
@@ -217,10 +212,8 @@ module _ (t : Tree) (s : IsSound t) (p : ℕ) (x : Node) (found : find_node t p 
     create-rows v =
         ap (λ w. option_map (row_given y (config y) (y.up == z.name)) (full_rows t w v)) (node_is t z.name z z_found)
         ∙ elim (cases_option (row_at z.rows v)) [
-          | inl none ↦ ap (option_map (row_given y (config y) (y.up == z.name))) (full-at t z v None none)
-              ∙ sym (full-at u z v None none)
-          | inr q ↦ ap (option_map (row_given y (config y) (y.up == z.name))) (full-at t z v (Some q.0) q.1)
-              ∙ (ap Some (row_created q.0) ∙ sym (full-at u z v (Some q.0) q.1))
+          | inl none ↦ rw (full-at t z v None none, ← full-at u z v None none)
+          | inr q ↦ rw (full-at t z v (Some q.0) q.1, row_created q.0, ← full-at u z v (Some q.0) q.1)
         ]
 
   -- ---- the frames
@@ -239,8 +232,7 @@ module _ (t : Tree) (s : IsSound t) (p : ℕ) (x : Node) (found : find_node t p 
     each_space b z e = elim (found_in u b z e) [
       | inl root ↦ old_space z (inl root)
       | inr i ↦ elim i [
-        | inl new ↦ subst (λ w. Space n w (full_rows u w)) (sym new)
-            (Space-same n y (λ v. None) (full_rows u y) (λ v. sym (full-at u y v None refl)) space)
+        | inl new ↦ rw new (Space-same n y (λ v. None) (full_rows u y) (λ v. sym (full-at u y v None refl)) space)
         | inr old ↦ old_space z (inr old)
       ]
     ]

@@ -35,8 +35,7 @@ pub page_zeroed : (m n k : Memory) (ps : List Pair) (i : ℕ) (p : Pair) → i <
     → n ≡ zero_frames m (pair_frames (take i ps)) → k ≡ zero_frame n p.frame
     → k ≡ zero_frames m (pair_frames (take (i + 1) ps))
 page_zeroed m n k ps i p low at so_far is =
-    is ∙ (ap (λ z. zero_frame z p.frame) so_far ∙ (sym (zero_frames-more m (pair_frames (take i ps)) p.frame)
-    ∙ ap (zero_frames m) (sym (frames_more ps i p low at))))
+    rw (is, so_far, ← zero_frames-more m (pair_frames (take i ps)) p.frame, ← frames_more ps i p low at)
 
 pub length-zero_frames : (m : Memory) (fs : List ℕ) → length (zero_frames m fs) ≡ length m
 length-zero_frames m [] = refl
@@ -60,7 +59,7 @@ zero_stays m [] g j inside is = is
 zero_stays m (f ∷ fs) g j inside is =
     let count = length-zero_frame m f in
     zero_stays (zero_frame m f) fs g j (omega arith) (elim (cases_eq g f) [
-      | inl e ↦ ap (λ h. word_at (zero_frame m h) g j) (sym e) ∙ word_at-zero_same m g j inside
+      | inl e ↦ rw (← e, word_at-zero_same m g j inside)
       | inr ne ↦ word_at-zero_frame m f g j ne ∙ is
     ])
 
@@ -70,7 +69,7 @@ word_at-zero_frames_same m [] g j i inside = absurd i
 word_at-zero_frames_same m (f ∷ fs) g j (inl e) inside =
     let count = length-zero_frame m f in
     zero_stays (zero_frame m f) fs g j (omega arith)
-    (ap (λ h. word_at (zero_frame m h) g j) (sym e) ∙ word_at-zero_same m g j inside)
+    (rw (← e, word_at-zero_same m g j inside))
 word_at-zero_frames_same m (f ∷ fs) g j (inr i) inside =
     let count = length-zero_frame m f in
     word_at-zero_frames_same (zero_frame m f) fs g j i (omega arith)
@@ -118,11 +117,11 @@ module _ (m : Memory) (few : length m ≤ 4096) (b : Base) (up : ℕ) (are : Are
   -- ---- shapes
 
   page_inside : (f : ℕ) → In f (config y) → f < length m
-  page_inside f (inl e) = let low = are.inside 0 b.descriptor (omega arith) in omega arith
-  page_inside f (inr (inl e)) = let low = are.inside 1 b.descriptor (omega arith) in omega arith
-  page_inside f (inr (inr (inl e))) = let low = are.inside 2 b.descriptor (omega arith) in omega arith
-  page_inside f (inr (inr (inr (inl e)))) = let low = are.inside 3 b.descriptor (omega arith) in omega arith
-  page_inside f (inr (inr (inr (inr (inl e))))) = let low = are.inside 4 b.descriptor (omega arith) in omega arith
+  page_inside f (inl e) = omega (arith, are.inside 0 b.descriptor (omega arith))
+  page_inside f (inr (inl e)) = omega (arith, are.inside 1 b.descriptor (omega arith))
+  page_inside f (inr (inr (inl e))) = omega (arith, are.inside 2 b.descriptor (omega arith))
+  page_inside f (inr (inr (inr (inl e)))) = omega (arith, are.inside 3 b.descriptor (omega arith))
+  page_inside f (inr (inr (inr (inr (inl e))))) = omega (arith, are.inside 4 b.descriptor (omega arith))
   page_inside f (inr (inr (inr (inr (inr none))))) = absurd none
 
   clean_count : length clean ≡ length m
@@ -133,7 +132,7 @@ module _ (m : Memory) (few : length m ≤ 4096) (b : Base) (up : ℕ) (are : Are
 
   part_in : part < length clean
   unfolding page_inside clean_count
-  part_in = let low = page_inside part (inl refl) in let count = clean_count in omega arith
+  part_in = omega (arith, page_inside part (inl refl), clean_count)
 
   named_count : length named ≡ length m
   unfolding clean_count
@@ -145,7 +144,7 @@ module _ (m : Memory) (few : length m ≤ 4096) (b : Base) (up : ℕ) (are : Are
 
   part_in_named : part < length named
   unfolding page_inside named_count
-  part_in_named = let low = page_inside part (inl refl) in let count = named_count in omega arith
+  part_in_named = omega (arith, page_inside part (inl refl), named_count)
 
   written_count : length written ≡ length m
   unfolding named_count
@@ -171,8 +170,7 @@ module _ (m : Memory) (few : length m ≤ 4096) (b : Base) (up : ℕ) (are : Are
   descriptor_here : (i : ℕ) → word_at written part i ≡ descriptor_word y i
   unfolding named_shape part_in_named clean_shape part_in zero_at
   descriptor_here i = elim (cases_eq i 11) [
-    | inl e ↦ ap (word_at written part) e
-        ∙ (word_at-put_same named part 11 up named_shape part_in_named (omega arith) ∙ sym (ap (descriptor_word y) e))
+    | inl e ↦ cc (word_at-put_same named part 11 up named_shape part_in_named (omega arith))
     | inr ne ↦
         word_at-put_index named part 11 up part i named_shape part_in_named (omega arith) ne ∙ elim (cases_lt i 10) [
           | inl low ↦
@@ -187,7 +185,7 @@ module _ (m : Memory) (few : length m ≤ 4096) (b : Base) (up : ℕ) (are : Are
   ]
 
   apart : (f : ℕ) → In f (b.mmu.frame ∷ b.shadow1.frame ∷ b.shadow2.frame ∷ b.list.frame ∷ []) → f ≢ part
-  apart f i e = are.once.0 (subst (λ k. In k (b.mmu.frame ∷ b.shadow1.frame ∷ b.shadow2.frame ∷ b.list.frame ∷ [])) e i)
+  apart f i e = are.once.0 (rw (← e) i)
 
   in_directories : (l : Level)
       → In (directory_of l b).frame (b.mmu.frame ∷ b.shadow1.frame ∷ b.shadow2.frame ∷ b.list.frame ∷ [])
@@ -199,11 +197,11 @@ module _ (m : Memory) (few : length m ≤ 4096) (b : Base) (up : ℕ) (are : Are
   zero_page : (f g i : ℕ) → f ≡ g → In g (b.mmu.frame ∷ b.shadow1.frame ∷ b.shadow2.frame ∷ b.list.frame ∷ [])
       → word_at written f i ≡ 0
   unfolding far zero_at apart
-  zero_page f g i e on = ap (λ k. word_at written k i) e ∙ (far g i (apart g on) ∙ zero_at g i (inr on))
+  zero_page f g i e on = rw (e, far g i (apart g on), zero_at g i (inr on))
 
   each : (f i : ℕ) (r : Role) → role y f ≡ Some r → word_at written f i ≡ role_word y (cells_of (λ v. None)) r i
   unfolding role_word descriptor_here zero_page in_directories
-  each f i DescriptorPage is = ap (λ k. word_at written k i) (descriptor_role_back y f is) ∙ descriptor_here i
+  each f i DescriptorPage is = rw (descriptor_role_back y f is, descriptor_here i)
   each f i (DirectoryPage l) is =
       zero_page f (directory_of l b).frame i (directory_role_back y l f is) (in_directories l)
   each f i (TablePage l d) is = absurd (table_role_back y l d f is).1
@@ -219,8 +217,8 @@ module _ (m : Memory) (few : length m ≤ 4096) (b : Base) (up : ℕ) (are : Are
   bare_space = record {
     node = record {
       shape = written_shape;
-      small = let count = written_count in omega arith;
-      inside = λ f on. let low = page_inside f on in let count = written_count in omega arith;
+      small = omega (arith, written_count);
+      inside = λ f on. omega (arith, page_inside f on, written_count);
       once = are.once;
       dirs = tt;
       small_dirs = λ t i. absurd i;
@@ -244,9 +242,7 @@ pub newborn_written : (m n k : Memory) (ps : List Pair) (p : Pair) (up : ℕ) �
     → n ≡ zero_frames m (pair_frames ps) → k ≡ put_descriptor n (get_or ps 0 p).frame ps up → (b : Base)
     → base_pairs b ≡ ps → Space k (bare b up) (λ v. None) × OthersStay (bare b up) m k
 newborn_written m n k ps p up few are zeroed is b base =
-    let here : AreFrames m (base_pairs b) = subst (AreFrames m) (sym base) are in
+    let here : AreFrames m (base_pairs b) = rw base are in
     let same : k ≡ written m few b up here =
-    is ∙ (ap (λ z. put_descriptor z (get_or ps 0 p).frame ps up) zeroed
-    ∙ ap (λ qs. put_descriptor (zero_frames m (pair_frames qs)) (get_or qs 0 p).frame qs up) (sym base)) in
-    subst (λ z. Space z (bare b up) (λ v. None) × OthersStay (bare b up) m z) (sym same)
-    (bare_space m few b up here, bare_others m few b up here)
+    rw (is, zeroed, ← base) in
+    rw same (bare_space m few b up here, bare_others m few b up here)

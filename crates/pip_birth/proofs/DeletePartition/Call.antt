@@ -9,6 +9,7 @@ use Rattle.pip_model.specs.Answers.{accept, answer_unless, child_name, first_met
 use Rattle.pip_model.specs.DeletePartition.{delete_partition, delete_refusals, tree_without_subtree}
 use Rattle.pip_model.specs.Layout.{LaysOut}
 use Rattle.pip_model.specs.Lists.{has}
+use Rattle.pip_model.specs.Work.{climbing_work, deleting_work, ending_work}
 use Rattle.pip_model.specs.Midway.{OnChain, here}
 use Rattle.pip_model.specs.Partitions.{HasPartition, IsHeld}
 use Rattle.pip_model.specs.Sound.{IsSound}
@@ -26,7 +27,7 @@ use Rattle.pip_kern.proofs.Calls.{named_child}
 use Rattle.std.specs.Prelude.{unwrap_or}
 use Rattle.pip_base.specs.Memory.{Memory}
 use Rattle.pip_birth.specs.Deleting.{ArePartitions, HasPartitions}
-use Rattle.pip_birth.specs.Ending.{CanEnd, EndsChild, HasChild, EndsChildIn, ending_work, most_ending_work}
+use Rattle.pip_birth.specs.Ending.{CanEnd, EndsChild, HasChild, EndsChildIn, most_ending_work}
 
 -- ---- the call
 
@@ -49,14 +50,14 @@ pub has_child : (m : Memory) (p d c v : ℕ) (h : HasPartition m p) → IsChildA
     → HasChild m p c v
 has_child m p d c v h e is =
     let (y, can, name, up, born) = child_can h.tree h.sound p d c e in
-    record { tree = h.tree; node = y; can = can; laid = h.laid; name = name; up = up; place = ap vpage born ∙ sym is }
+    record { tree = h.tree; node = y; can = can; laid = h.laid; name = name; up = up; place = rw (born, ← is) }
 
 -- the tree without it
 pub child_ends : (m n : Memory) (p d c v : ℕ) → EndsChild p c v m n → v ≡ d / 4096 → (t : Tree) → IsSound t
     → LaysOut t m → IsChildAt t p d c → LaysOut (tree_without_subtree t c) n
 child_ends m n p d c v says is t s laid e =
     let (y, can, name, up, born) = child_can t s p d c e in
-    subst (λ k. LaysOut (tree_without_subtree t k) n) name (says t y can laid name up (ap vpage born ∙ sym is))
+    subst (λ k. LaysOut (tree_without_subtree t k) n) name (says t y can laid name up (rw (born, ← is)))
 
 -- within a bound on the steps
 pub child_ends_in : (m : Memory) (p d c v before after : ℕ) → EndsChildIn p c v m before after → v ≡ d / 4096
@@ -64,7 +65,18 @@ pub child_ends_in : (m : Memory) (p d c v before after : ℕ) → EndsChildIn p 
     → (after ≤ before + ending_work t p c) × (after ≤ before + most_ending_work t.frames)
 child_ends_in m p d c v before after says is t s laid e =
     let (y, can, name, up, born) = child_can t s p d c e in
-    says t y can laid name up (ap vpage born ∙ sym is)
+    says t y can laid name up (rw (born, ← is))
+
+-- as the model has it, after the tests
+pub deleted_in : (m : Memory) (p d c v before between after : ℕ) → EndsChildIn p c v m between after → v ≡ d / 4096
+    → (t : Tree) → IsSound t → LaysOut t m → IsChildAt t p d c → (rs : List ℕ)
+    → between ≤ before + 6 + climbing_work t rs
+    → after ≤ before + 6 + climbing_work t rs + deleting_work t p (child_at t p d)
+deleted_in m p d c v before between after says is t s laid e rs tests =
+    let (y, child, name, found) = named_child t s p d c e in
+    let ends : after ≤ between + ending_work t p c = (child_ends_in m p d c v between after says is t s laid e).0 in
+    let there = subst (λ q. after ≤ between + ending_work t p q) (sym name) ends in
+    rw child (omega (arith, there, tests))
 
 -- ---- the caller afterwards
 
@@ -72,7 +84,7 @@ child_ends_in m p d c v before after says is t s laid e =
 caller_left : (t : Tree) → IsSound t → (p d : ℕ) (x : Node) → find_node t p ≡ Some x → (rs : List ℕ) (o : Option Node)
     → child_at t p d ≡ o → first_met (delete_refusals t rs p d) ≡ None
     → find_node (tree_without_subtree t (child_name t p d)) p ≡ Some x
-caller_left t s p d x found rs None none e = absurd (let on : is_none (child_at t p d) ≡ true = ap is_none none in
+caller_left t s p d x found rs None none e = absurd (let on : is_none (child_at t p d) ≡ true = rw none in
     let off : is_none (child_at t p d) ≡ false = condition-unmet (delete_refusals t rs p d) _ e
     (inr (inr (inl refl))) in both_ways (is_none (child_at t p d)) off on)
 caller_left t s p d x found rs (Some c) child e =
@@ -83,14 +95,14 @@ caller_left t s p d x found rs (Some c) child e =
     let off : has (ancestry t x.name) c.name ≡ false = false_from_ne_true _ (λ h.
     let (z, l, name, o) = ancestry_over t s x i c.name (has_in c.name (ancestry t x.name) h) in
     let chain : OnChain t z.name x.name =
-    elim o [ inl q ↦ subst (λ w. OnChain t z.name w.name) q here | inr a ↦ above_chain t s z x a ] in
+    elim o [ inl q ↦ simp (← q) here | inr a ↦ above_chain t s z x a ] in
     chain_differs t s c.name c.name c f
-    (subst (OnChain t c.name) (n ∙ sym up) (subst (λ w. OnChain t w x.name) name chain)) refl) in
+    (rw (up, ← n) (subst (λ w. OnChain t w x.name) name chain)) refl) in
     let there = in_found (tree_without_subtree t c.name) (without_subtree-sound t c.name s root) x
     (stays_in t c.name s root x i off) in
     subst (λ k. find_node (tree_without_subtree t k) p ≡ Some x)
     (sym (ap (λ (q : Option Node). unwrap_or (option_map (λ (z : Node). z.name) q) 0) child))
-    (subst (λ k. find_node (tree_without_subtree t c.name) k ≡ Some x) n there)
+    (cc)
 
 -- so it can call again
 pub delete-stands : (m n : Memory) (p : ℕ) (s : HasPartition m p) (rs : List ℕ) (d : ℕ)
@@ -107,14 +119,6 @@ delete-stands m n p s rs d after = record {
         (accept 0 (tree_without_subtree s.tree (child_name s.tree p d)))).tree p ≡ Some s.node
     there (Some q) e = s.found
     there None e = caller_left s.tree s.sound p d s.node s.found rs (child_at s.tree p d) refl e
-
--- the caller itself may be what runs
-pub caller_runs : (m : Memory) (p : ℕ) → HasPartition m p → HasPartitions m (p ∷ [])
-caller_runs m p s = record { tree = s.tree; sound = s.sound; laid = s.laid; each = each }
-  where
-    each : ArePartitions s.tree (p ∷ [])
-    each zero d low = found_is_name s.tree p s.node s.found
-    each (suc k) d low = absurd (omega arith)
 
 -- or so may it four times
 pub caller_runs_four : (m : Memory) (p : ℕ) → HasPartition m p → HasPartitions m (p ∷ p ∷ p ∷ p ∷ [])

@@ -94,25 +94,25 @@ module _ (t : Tree) (y : Node) (can : CanEnd t y) where
   other_left b x e =
       let i = other_in u b x e in
       let j = (In-filter_from (λ z. not (has (ancestry t z.name) y.name)) x t.others i).0 in (
-        subst (λ k. find_other t k ≡ Some x) (other_name u b x e) (in_other t s x j),
-        λ q. (node_left x (inr i)).1 (subst (λ k. In y.name (ancestry t k)) (sym q) y_goes),
+        rw (← other_name u b x e) (in_other t s x j),
+        λ q. (node_left x (inr i)).1 (rw q y_goes),
       )
 
   pub other_stays : (b : ℕ) (x : Node) → find_other t b ≡ Some x → (Goes x → ⊥) → find_other u b ≡ Some x
   unfolding ended_sound stays_off
   other_stays b x e off =
       let i = other_in t b x e in
-      subst (λ k. find_other u k ≡ Some x) (other_name t b x e) (in_other u ended_sound x
+      rw (← other_name t b x e) (in_other u ended_sound x
       (In-filter (λ z. not (has (ancestry t z.name) y.name)) x t.others i (ap not (stays_off x off))))
 
   -- a child of one that stays stays, but for y
   child_stays : (x z : Node) → In z t.others → In x (nodes u) → z.up ≡ x.name → z.name ≢ y.name → Goes z → ⊥
   unfolding s node_left
-  child_stays x z i j up ne h = goes (subst (λ k. In y.name k) (ap (map (λ w. w.name)) (chain-node t s z i)) h)
+  child_stays x z i j up ne h = goes (rw (chain-node t s z i) at h)
     where
       goes : In y.name (z.name ∷ ancestry t z.up) → ⊥
       goes (inl e) = ne (sym e)
-      goes (inr k) = (node_left x j).1 (subst (λ w. In y.name (ancestry t w)) up k)
+      goes (inr k) = (node_left x j).1 (rw (← up) k)
 
   -- ---- its parent
 
@@ -127,9 +127,9 @@ module _ (t : Tree) (y : Node) (can : CanEnd t y) where
         found_stays y.up p e (λ h.
             let (z, l, name, o) = ancestry_over t s p i y.name h in
             let chain : OnChain t z.name p.name =
-            elim o [ inl q ↦ subst (λ w. OnChain t z.name w.name) q here | inr a ↦ above_chain t s z p a ] in
+            elim o [ inl q ↦ simp (← q) here | inr a ↦ above_chain t s z p a ] in
             chain_differs t s y.name y.name y can.found
-            (subst (OnChain t y.name) n (subst (λ w. OnChain t w p.name) name chain)) refl),
+            (rw (← n) (subst (λ w. OnChain t w p.name) name chain)) refl),
       )
 
   -- ---- the pages that go
@@ -141,9 +141,9 @@ module _ (t : Tree) (y : Node) (can : CanEnd t y) where
       let (z, j, n, o) = ancestry_over t s x i y.name h in
       let same : z ≡ y = same_name t z y s j y_in n in
       elim o [
-        | inl q ↦ subst (λ w. In g (held_pages w)) (sym q ∙ same) k
+        | inl q ↦ rw (← same, q) k
         | inr a ↦
-            subst (λ w. In g (held_pages w)) same (In-append_right g (config z) (row_pages z) (holds_up t g s z x a k))
+            rw (← same) (In-append_right g (config z) (row_pages z) (holds_up t g s z x a k))
       ]
 
   -- its parent has each of them in a row
@@ -192,11 +192,10 @@ module _ (t : Tree) (y : Node) (can : CanEnd t y) where
   user_left g = elim (cases_Bool (holds y g)) [
     | inl on ↦
         ap (λ b. cond b true (not (hidden t g))) on
-        ∙ sym (ap not (false_from_ne_true _ (λ q. let (x, i, h) = hidden_from u g q in
+        ∙ sym (rw (false_from_ne_true _ (λ q. let (x, i, h) = hidden_from u g q in
         open_then g (has_in g (held_pages y) on) x i h)))
     | inr off ↦
-        ap (λ b. cond b true (not (hidden t g))) off
-        ∙ ap not (sym (hidden_elsewhere g (λ h. both_ways (holds y g) off (in_has g (held_pages y) h))))
+        rw (off, ← hidden_elsewhere g (λ h. both_ways (holds y g) off (in_has g (held_pages y) h)))
   ]
 
   -- and nobody's
@@ -205,29 +204,31 @@ module _ (t : Tree) (y : Node) (can : CanEnd t y) where
   unfolding s ended_sound other_left other_stays
   given_left q stay g = elim (cases_option (holder t q g)) [
     | inl none ↦
-        same_zero (holds y g) (y.up == q) (given_word t q g) (given_none t q g none)
-        ∙ sym (given_none u q g (elim (cases_option (holder u q g)) [
-          | inl n ↦ n
-          | inr z ↦
-              let (f, up, h) = holder_back u ended_sound q g z.0 z.1 in
-              absurd (holder_none t q g z.0.name z.0 none (other_left z.0.name z.0 f).0 up h)
-        ]))
+        cc (
+          same_zero (holds y g) (y.up == q) (given_word t q g) (given_none t q g none),
+          given_none u q g (elim (cases_option (holder u q g)) [
+            | inl n ↦ n
+            | inr z ↦ let (f, up, h) = holder_back u ended_sound q g z.0 z.1 in
+                absurd (holder_none t q g z.0.name z.0 none (other_left z.0.name z.0 f).0 up h)
+          ]),
+        )
     | inr z ↦
         let (f, up, h) = holder_back t s q g z.0 z.1 in
         elim (cases_eq z.0.name y.name) [
           | inl e ↦
               let same : z.0 ≡ y = same_other e f in
-              own_zero (holds y g) (y.up == q) (given_word t q g) (in_has g (held_pages y)
-              (subst (λ k. In g (held_pages k)) same h)) (eq-eqb y.up q (sym (ap (λ k. k.up) same) ∙ up))
-              ∙ sym (given_none u q g (elim (cases_option (holder u q g)) [
-                | inl n ↦ n
-                | inr w ↦
-                    let (d, down, l) = holder_back u ended_sound q g w.0 w.1 in
-                    let (k, ne) = other_left w.0.name w.0 d in
-                    let both : Some z.0 ≡ Some w.0 = sym z.1 ∙ holder_is t s q g w.0.name w.0 k down l in
-                    let one : z.0 ≡ w.0 = cc in
-                    absurd (ne (sym (ap (λ k. k.name) one) ∙ e))
-              ]))
+              cc (
+                own_zero (holds y g) (y.up == q) (given_word t q g)
+                    (in_has g (held_pages y) (subst (λ k. In g (held_pages k)) same h))
+                    (eq-eqb y.up q (sym (ap (λ k. k.up) same) ∙ up)),
+                given_none u q g (elim (cases_option (holder u q g)) [
+                  | inl n ↦ n
+                  | inr w ↦ let (d, down, l) = holder_back u ended_sound q g w.0 w.1 in
+                      let (k, ne) = other_left w.0.name w.0 d in let both : Some z.0 ≡ Some w.0 =
+                      sym z.1 ∙ holder_is t s q g w.0.name w.0 k down l in let one : z.0 ≡ w.0 = cc in
+                      absurd (ne (sym (ap (λ k. k.name) one) ∙ e))
+                ]),
+              )
           | inr ne ↦
               let off : Goes z.0 → ⊥ = stay z.0 (other_in t z.0.name z.0 f) up ne in
               let here : holder u q g ≡ Some z.0 =
@@ -243,7 +244,7 @@ module _ (t : Tree) (y : Node) (can : CanEnd t y) where
       same_zero false own w e = e
 
       own_zero : (on own : Bool) (w : ℕ) → on ≡ true → own ≡ true → cond on (cond own 0 w) w ≡ 0
-      own_zero on own w e d = ap (λ b. cond b (cond own 0 w) w) e ∙ ap (λ b. cond b 0 w) d
+      own_zero on own w e d = rw (e, d)
 
       same_other : {z : Node} → z.name ≡ y.name → find_other t z.name ≡ Some z → z ≡ y
       same_other {z = z} e f =
@@ -255,16 +256,16 @@ module _ (t : Tree) (y : Node) (can : CanEnd t y) where
       not_own z e ne true h false k = refl
       not_own z e ne true h true k =
           let both : Some z ≡ Some y =
-          sym e ∙ holder_is t can.sound q g y.name y can.found (eqb-true y.up q k) (has_in g (held_pages y) h) in
+          cc (holder_is t can.sound q g y.name y can.found (eqb-true y.up q k) (has_in g (held_pages y) h)) in
           let one : z ≡ y = cc in
-          absurd (ne (ap (λ w. w.name) one))
+          absurd (ne (rw one))
 
   -- a page comes whence it came
   from_left : (x : Node) → In x (nodes u) → (g : ℕ) → from_word t x g ≡ from_word u x g
   unfolding from_word ended_sound found_left
   from_left x i g =
       let (q, up) = up_found u ended_sound x.name x (in_found u ended_sound x i) in
-      ap (λ o. cond (x.name == t.root.name) 0 (place_word (vpage_in_parent o g))) (found_left x.up q up ∙ sym up)
+      cc (found_left x.up q up)
 
   -- the rows when all that it held came back are those of the tree without it
   rows_left : (gs : List ℕ) → AreHeld y gs → (x : Node) → In x (nodes u) → (v : ℕ)
@@ -275,10 +276,9 @@ module _ (t : Tree) (y : Node) (can : CanEnd t y) where
       (node_is t x.name x (in_found t s x (node_left x i).0))
       ∙ elim (cases_option (row_at x.rows v)) [
         | inl none ↦
-            ap (option_map (row_taken gs (y.up == x.name))) (full-at t x v None none) ∙ sym (full-at u x v None none)
+            rw (full-at t x v None none, ← full-at u x v None none)
         | inr q ↦
-            ap (option_map (row_taken gs (y.up == x.name))) (full-at t x v (Some q.0) q.1)
-            ∙ (ap Some (row_is q.0) ∙ sym (full-at u x v (Some q.0) q.1))
+            rw (full-at t x v (Some q.0) q.1, row_is q.0, ← full-at u x v (Some q.0) q.1)
       ]
     where
       row_is : (q : Row) → row_taken gs (y.up == x.name) (filled t x q) ≡ filled u x q
@@ -301,9 +301,9 @@ module _ (t : Tree) (y : Node) (can : CanEnd t y) where
       → Like o (full_rows u x v)
   unfolding from_left
   like_left x i v o h = elim (cases_option (row_at x.rows v)) [
-    | inl none ↦ subst (Like o) (full-at t x v None none ∙ sym (full-at u x v None none)) h
-    | inr q ↦ subst (Like o) (sym (full-at u x v (Some q.0) q.1)) (like_parts o (filled t x q.0) (filled u x q.0) refl
-        refl (from_left x i q.0.frame) (subst (Like o) (full-at t x v (Some q.0) q.1) h))
+    | inl none ↦ rw (full-at u x v None none, ← full-at t x v None none) h
+    | inr q ↦ rw (full-at u x v (Some q.0) q.1) (like_parts o (filled t x q.0) (filled u x q.0) refl refl
+        (from_left x i q.0.frame) (subst (Like o) (full-at t x v (Some q.0) q.1) h))
   ]
     where
       like_parts : (o : Option FullRow) (r q : FullRow) → r.frame ≡ q.frame → r.rights ≡ q.rights → r.from ≡ q.from
@@ -342,7 +342,7 @@ module _ (t : Tree) (y : Node) (can : CanEnd t y) where
       (λ a x v e. subst (λ b. rows_taken (tree_rows t) y.up gs b v ≡ full_rows u x v) (found_name u a x e)
       (rows_left gs all x (found_in u a x e) v))
       (λ f i w e low. elim (words_left f w e) [
-        | inl h ↦ k.zeros f i (has_in f gs (all f ∙ in_has f (held_pages y) h.0)) h.1 low ∙ sym (ap (λ z. z i) h.2)
+        | inl h ↦ k.zeros f i (has_in f gs (all f ∙ in_has f (held_pages y) h.0)) h.1 low ∙ sym (rw h.2)
         | inr h ↦ words_stay t s m n lays k.stay f i w h low
       ])
       (λ i low. zero_stays t s m n lays k.stay i low)

@@ -1,12 +1,13 @@
 //! deletePartition: its tests, and then the end of the subtree.
-ghost use Rattle.std.specs.Prelude.{◌≡◌, ℕ, ◌+◌, ◌*◌, ◌≤◌, length};
+ghost use Rattle.std.specs.Prelude.{◌≡◌, ◌+◌, ◌*◌, ◌≤◌, length};
 ghost use Rattle.pip_model.specs.DeletePartition.{delete_partition, delete_refusals, some_run};
-ghost use Rattle.pip_model.specs.Partitions.{HasPartition, InEach};
-ghost use Rattle.pip_model.specs.Tree.{below};
+ghost use Rattle.pip_model.specs.Partitions.{HasPartition, InEach, IsHeld};
+ghost use Rattle.pip_model.specs.Tree.{Tree, below, child_at};
+ghost use Rattle.pip_model.specs.Work.{climbing_work, deleting_work};
 ghost use Rattle.pip_kern.specs.Calls.{Does};
 ghost use Rattle.pip_kern.specs.Tested.{IsChildAt, Tested};
 ghost use Rattle.pip_birth.specs.Deleting.{HasPartitions};
-ghost use Rattle.pip_birth.specs.Ending.{ending_work, most_ending_work};
+ghost use Rattle.pip_birth.specs.Ending.{most_ending_work};
 
 use crate::ending::end_child;
 use arrayvec::ArrayVec;
@@ -26,7 +27,7 @@ fn some_run<M: Frames, L: Ledger>(
 ) -> bool
     requires { HasPartitions (M.memory mem.now) running.now }
     ensures runs { InEach (M.memory mem.now) top (λ t x. result ≡ some_run running.now (below t top)) }
-    ensures steps { steps.new ≤ steps.old + length running.now * length (M.memory mem.now) }
+    ensures chains { (t : Tree) → IsHeld t (M.memory mem.now) → steps.new ≤ steps.old + climbing_work t running.now }
 {
     for part in running {
         if is_below(mem, *part, top, steps) {
@@ -49,7 +50,8 @@ fn check_delete<M: Frames, L: Ledger>(
     requires running { HasPartitions (M.memory mem.now) running.now }
     ensures tested { InEach (M.memory mem.now) caller (λ t x.
         Tested (delete_refusals t running.now caller d) (λ c. IsChildAt t caller d c) result) }
-    ensures steps { steps.new ≤ steps.old + 6 + length running.now * length (M.memory mem.now) }
+    ensures chains { (t : Tree) → IsHeld t (M.memory mem.now) →
+        steps.new ≤ steps.old + 6 + climbing_work t running.now }
 {
     let child = check_child(mem, caller, &[d], d, steps)?;
     if some_run(mem, running, child, steps) {
@@ -73,9 +75,8 @@ pub fn delete_partition<M: Frames, L: Ledger>(
     requires running { HasPartitions (M.memory mem.old) running.now.items }
     ensures does { Does (λ t. delete_partition t running.now.items caller d) caller result 0
         (M.memory mem.old) (M.memory mem.new) }
-    ensures subtree { InEach (M.memory mem.old) caller
-        (λ t x. (c : ℕ) → IsChildAt t caller d c → steps.new ≤ steps.old + 6
-        + 4 * length (M.memory mem.old) + ending_work t caller c) }
+    ensures subtree { InEach (M.memory mem.old) caller (λ t x. steps.new ≤ steps.old + 6
+        + climbing_work t running.now.items + deleting_work t caller (child_at t caller d)) }
     ensures steps { steps.new ≤ steps.old + 6 + 4 * length (M.memory mem.old)
         + most_ending_work (length (M.memory mem.old)) }
 {

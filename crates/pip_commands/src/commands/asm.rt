@@ -3,12 +3,12 @@ ghost use Rattle.std.specs.Prelude.{◌≡◌, ◌≢◌, ◌≤◌, ◌^◌, �
 ghost use Rattle.pip_io.specs.Taken.{Keeps};
 ghost use Rattle.pip_model.specs.Assembly.{assembly};
 ghost use Rattle.pip_commands.specs.Dues.{asm_answer, asm_due};
-ghost use Rattle.pip_due.specs.EndsBy.{EndsWithResponse};
-ghost use Rattle.pip_due.specs.Commands.{Fulfils, FulfilsJoined, MayStart, MayStartJoined};
+ghost use Rattle.pip_command_contracts.specs.EndsBy.{EndsWithResponse};
+ghost use Rattle.pip_command_contracts.specs.Commands.{Fulfils, FulfilsJoined, MayStart, MayStartJoined};
 
 use crate::text::bad_asm_line;
 use pip_asm::{AsmError, assemble};
-use pip_due::{Ended, end_with};
+use pip_command_contracts::{Ended, end_with};
 use pip_input::{ReadError, read_whole};
 use pip_io::{Joint, Sink, Source};
 use std::alloc::Global;

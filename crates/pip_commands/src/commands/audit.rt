@@ -6,14 +6,14 @@ ghost use Rattle.pip_audit.specs.Verdict.{verdict_of};
 ghost use Rattle.pip_base.specs.Memory.{IsMemory, zeros};
 ghost use Rattle.pip_model.specs.Audit.{HasWordsOnly, finding};
 ghost use Rattle.pip_commands.specs.Dues.{audit_due, found_answer};
-ghost use Rattle.pip_due.specs.EndsBy.{EndsWithResponse};
-ghost use Rattle.pip_due.specs.Commands.{Fulfils, FulfilsJoined, MayStart, MayStartJoined};
+ghost use Rattle.pip_command_contracts.specs.EndsBy.{EndsWithResponse};
+ghost use Rattle.pip_command_contracts.specs.Commands.{Fulfils, FulfilsJoined, MayStart, MayStartJoined};
 
 use crate::text::{bad_line, no_line};
 use pip_audit::{Auditor, Verdict};
 use pip_base::Steps;
+use pip_command_contracts::{Ended, end_with};
 use pip_core_text::{CoreError, read_core_from_joint};
-use pip_due::{Ended, end_with};
 use pip_dump::tree_text;
 use pip_frames::{Frames, RawFrames};
 use pip_io::{Joint, Sink, Source};

@@ -1,10 +1,10 @@
 //! The command `dis`.
 ghost use Rattle.pip_commands.specs.Dues.{dis_due};
-ghost use Rattle.pip_due.specs.Commands.{Fulfils, MayStart};
+ghost use Rattle.pip_command_contracts.specs.Commands.{Fulfils, MayStart};
 
+use pip_command_contracts::{Ended, end_at_image};
 use pip_dis::Disassembler;
 use pip_drive::{FailedStream, drive};
-use pip_due::{Ended, end_at_image};
 use pip_io::{Sink, Source};
 use std::alloc::Global;
 

@@ -5,13 +5,13 @@ ghost use Rattle.pip_base.specs.declared.types.Plan.{Plan};
 ghost use Rattle.pip_lines.specs.Due.{AnswersDue};
 ghost use Rattle.pip_commands.specs.Dues.{run_due};
 ghost use Rattle.pip_commands.specs.declared.commands.run.report.Report.TheVariants as R;
-ghost use Rattle.pip_due.specs.Commands.{Fulfils, FulfilsJoined, MayStart, MayStartJoined};
+ghost use Rattle.pip_command_contracts.specs.Commands.{Fulfils, FulfilsJoined, MayStart, MayStartJoined};
 
 pub(super) mod report;
 
 use pip_base::{Plan, Steps};
-use pip_due::loading::{LoadError, load};
-use pip_due::{Ended, end_at_image};
+use pip_command_contracts::loading::{LoadError, load};
+use pip_command_contracts::{Ended, end_at_image};
 use pip_io::{Joint, Sink, Source};
 use pip_lines::{Callback, due};
 use report::Report;

@@ -2,13 +2,13 @@
 ghost use Rattle.std.specs.Prelude.{◌≡◌};
 ghost use Rattle.pip_base.specs.Opening.{CanOpen};
 ghost use Rattle.pip_commands.specs.Dues.{script_due};
-ghost use Rattle.pip_due.specs.Commands.{Fulfils, FulfilsJoined, MayStart, MayStartJoined};
+ghost use Rattle.pip_command_contracts.specs.Commands.{Fulfils, FulfilsJoined, MayStart, MayStartJoined};
 
 mod line;
 mod turn;
 
 use pip_base::{MAX_INPUT, Steps, never};
-use pip_due::Ended;
+use pip_command_contracts::Ended;
 use pip_input::Input;
 use pip_io::{Joint, Sink, Source};
 use std::alloc::Global;

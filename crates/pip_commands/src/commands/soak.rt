@@ -5,13 +5,13 @@ ghost use Rattle.pip_io.specs.Causes.{HasCause};
 ghost use Rattle.pip_io.specs.Taken.{Appends, SendsPart};
 ghost use Rattle.pip_soak.specs.LoadText.{load_text};
 ghost use Rattle.pip_commands.specs.Dues.{soak_due};
-ghost use Rattle.pip_due.specs.EndsBy.{EndsBy};
-ghost use Rattle.pip_due.specs.Streams.{beside};
-ghost use Rattle.pip_due.specs.Commands.{Fulfils};
+ghost use Rattle.pip_command_contracts.specs.EndsBy.{EndsBy};
+ghost use Rattle.pip_command_contracts.specs.Streams.{beside};
+ghost use Rattle.pip_command_contracts.specs.Commands.{Fulfils};
 
 use crate::machines::new_machine;
 use pip_base::Steps;
-use pip_due::Ended;
+use pip_command_contracts::Ended;
 use pip_dump::{Totals, totals};
 use pip_io::{Failed, Sink, Source};
 use pip_soak::{Counts, load_text, soak_load};

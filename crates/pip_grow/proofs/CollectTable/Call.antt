@@ -1,6 +1,6 @@
 -- collect from one step of the code to the next.
 use Rattle.std.proofs.Common.{◌≡◌, ◌≢◌, ℕ, ◌/◌, inl, inr, true, false, List, refl, sym, ap, ◌∙◌, subst, Option, Some}
-use Rattle.std.proofs.Common.{None}
+use Rattle.std.proofs.Common.{◌+◌, ◌*◌, ◌≤◌, length, None}
 use Rattle.std.specs.Prelude.{is_none, option_map, Ok, ⊤}
 use Rattle.pip_base.specs.declared.outcome.Status.{Status}
 use Rattle.pip_base.specs.declared.outcome.Status.TheVariants as S
@@ -13,9 +13,12 @@ use Rattle.pip_model.specs.CountToMap.{count_refusals}
 use Rattle.pip_model.specs.Layout.{LaysOut}
 use Rattle.pip_model.specs.Partitions.{HasPartition, InEach, IsHeld}
 use Rattle.pip_model.specs.Sound.{IsSound}
-use Rattle.pip_model.specs.Tree.{change_at, Node, Table, Tree, child_at, dir, find_node, table_at, vpage}
+use Rattle.pip_model.specs.Work.{slots_work}
+use Rattle.pip_model.specs.Tree.{change_at, Node, Table, Tree, chain, child_at, dir, find_node, table_at, vpage}
 use Rattle.pip_model.proofs.Calls.Add.{child_found as child_is}
 use Rattle.pip_model.proofs.Frames.ChangeRows.{found-changed}
+use Rattle.pip_model.proofs.Frames.Laid.{laid_space}
+use Rattle.pip_space.proofs.RootWords.{few_tables}
 use Rattle.pip_model.proofs.Trees.Free.{condition-unmet}
 use Rattle.pip_model.proofs.Trees.Lookup.{cases_option}
 use Rattle.pip_kern.proofs.Calls.{child_name_is, child_of_is, named_child, refusal-never_ok}
@@ -58,6 +61,11 @@ module _ (t : Tree) (p d cv : ℕ) where
 
     y_found : find_node t c ≡ Some y
     y_found = child.3
+
+    -- it has no more tables than a directory has entries
+    pub few_slots : slots_work (child_at t p d) ≤ 1024
+    unfolding y_found
+    few_slots = rw child.1 (few_tables m y _ (laid_space t s m lays c y y_found).node)
 
     tests_are : first_met (collect_refusals t p d cv) ≡ first_met (table_tests y i)
     tests_are =
@@ -102,6 +110,12 @@ module _ (t : Tree) (p d cv : ℕ) where
             has = has_table.1;
             empty = condition-unmet (table_tests y i) _ none_met (inr (inl refl));
           }
+
+      -- within a bound on the steps
+      pub collects_in : (before after : ℕ) → after ≤ before + 28 * length (chain t p) + length can_collect.node.tables
+          → after ≤ before + 28 * length (chain t p) + slots_work (child_at t p d)
+      unfolding can_collect
+      collects_in before after so = rw child.1 so
 
       -- and that is the answer
       pub collect-accepted : collect t p d cv

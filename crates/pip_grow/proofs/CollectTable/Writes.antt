@@ -1,8 +1,10 @@
 -- A child from which a table is taken, from one step of the code to the next.
 use Rattle.std.proofs.Common.{◌≡◌, ℕ, zero, suc, inl, inr, List, [], ◌∷◌, ◌++◌, length, refl, ap, ◌∙◌, subst, sym}
-use Rattle.std.proofs.Common.{arith, Option, Some, None}
+use Rattle.std.proofs.Common.{◌+◌, ◌*◌, ◌≤◌, arith, cond, Bool, true, false, Option, Some, None}
+use Rattle.std.proofs.lemmas.Nat.{mul-le}
+use Rattle.std.proofs.lemmas.List.{length-map}
 use Rattle.pip_model.specs.Answers.{pair_frames}
-use Rattle.std.specs.Prelude.{slice_index_or}
+use Rattle.std.specs.Prelude.{◌==◌, slice_index_or}
 use Rattle.pip_base.specs.declared.types.Pair.{Pair}
 use Rattle.pip_base.specs.Memory.{Memory}
 use Rattle.pip_model.specs.Collect.{tree_without_table, first_va, returned_pages}
@@ -13,7 +15,8 @@ use Rattle.pip_model.specs.Midway.{Midway, tree_rows}
 use Rattle.pip_model.specs.NodeIn.{OthersStay, Space}
 use Rattle.pip_model.specs.Partitions.{IsHeld}
 use Rattle.pip_model.specs.Sound.{IsSound}
-use Rattle.pip_model.specs.Tree.{Node, Table, Tree, find_node, table_at, vpage}
+use Rattle.pip_model.specs.Tree.{Node, Table, Tree, chain, change_at, find_node, table_at, vpage}
+use Rattle.pip_model.proofs.Trees.Ancestry.{ancestry_in}
 use Rattle.pip_model.proofs.Frames.Laid.{laid_space}
 use Rattle.pip_model.proofs.Frames.Lays.{PagesStay-trans}
 use Rattle.pip_model.proofs.Nodes.Writes.{Space-same}
@@ -22,8 +25,9 @@ use Rattle.pip_space.specs.Tables.{CanRemove, HasRemove, page_list, rows_beside}
 use Rattle.pip_grow.specs.Chain.{chain_pages}
 use Rattle.pip_grow.specs.Links.{ArePagesIn, links}
 use Rattle.pip_grow.specs.Collecting.{CanCollect}
-use Rattle.pip_kern.specs.Taking.{CanTake, CanTakeEach, CanTakePages, HasTaken, rows_taken, TakesPages}
+use Rattle.pip_kern.specs.Taking.{CanTake, CanTakeEach, CanTakePages, HasTaken, rows_taken, TakesPages, TakesPagesIn}
 use Rattle.pip_grow.specs.declared.chain.TablePages.{TablePages}
+use Rattle.pip_grow.proofs.PrepareTable.Writes.{one_page}
 use Rattle.pip_grow.proofs.CollectTable.Tree.{back_inside, can_remove, can_take, child_found, collect-lays, rows_stay}
 use Rattle.pip_grow.proofs.CollectTable.Tree.{shrunk_midway, collect-tree_sound}
 use Rattle.pip_kern.proofs.Taking.{taking_start}
@@ -36,6 +40,22 @@ three_first (x ∷ []) o e a b c = absurd (omega arith)
 three_first (x ∷ y ∷ []) o e a b c = absurd (omega arith)
 three_first (x ∷ y ∷ z ∷ []) o e a b c = refl
 three_first (x ∷ y ∷ z ∷ w ∷ ts) o e a b c = absurd (omega arith)
+
+-- the caller's chain is as long without the table
+chain_stays : (t : Tree) (c i p : ℕ) (gs : List Pair) → length (chain (tree_without_table t c i gs) p) ≡ length (chain
+    t p)
+chain_stays t c i p gs =
+    let f = change_at c (without_table i) in
+    sym (length-map (chain (tree_without_table t c i gs) p) (λ z. z.name)) ∙ ap length (ancestry_in f (λ x. name x
+    (x.name == c)) (λ x. up x (x.name == c)) t.root t.others p) ∙ length-map (chain t p) (λ z. z.name)
+  where
+    name : (x : Node) (b : Bool) → (cond b (without_table i x) x).name ≡ x.name
+    name x true = refl
+    name x false = refl
+
+    up : (x : Node) (b : Bool) → (cond b (without_table i x) x).up ≡ x.up
+    up x true = refl
+    up x false = refl
 
 -- what the code's remove_table says
 abbrev pub PagesSay : Memory → ℕ → ℕ → TablePages → Type 0
@@ -57,7 +77,7 @@ module _ (t : Tree) (s : IsSound t) (caller : ℕ) (x : Node) (found : find_node
   abbrev u : Tree
   u = tree_without_table t c.name i (returned_pages c (Some b))
 
-  space : Space m c (full_rows t c)
+  pub space : Space m c (full_rows t c)
   space = laid_space t s m lays c.name c (child_found t s caller x found c can.is_in can.up i b can.has can.empty)
 
   removes : CanRemove c (full_rows t c) i
@@ -125,6 +145,19 @@ module _ (t : Tree) (s : IsSound t) (caller : ℕ) (x : Node) (found : find_node
       each : CanTakeEach u caller list
       unfolding list_each
       each = subst (CanTakeEach u caller) (sym list_is) list_each
+
+      -- within a bound on the steps
+      pub taken_in : (before between after : ℕ) → TakesPagesIn caller tables (length tables) m1 before between
+          → TakesPagesIn caller list (length list) m2 between after
+          → after ≤ before + 28 * length (chain t caller) + 8
+      unfolding tables_each each tables_taken start
+      taken_in before between after one last =
+          let first = one u (tree_rows t) [] tables_each start in
+          let then = last u (tree_rows t) (pair_frames tables) each tables_taken.midway in
+          let most = mul-le (length list) (7 * length (chain u caller) + 2) 1 (7 * length (chain u caller) + 2)
+          (subst (λ l. length l ≤ 1) (sym list_is) (one_page g.list)) (omega arith) in
+          let same = chain_stays t c.name i caller (returned_pages c (Some b)) in
+          omega (arith, first, then, most, same)
 
       -- and the list page
       pub list_can : CanTakePages m2 caller list

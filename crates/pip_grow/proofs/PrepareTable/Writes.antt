@@ -39,7 +39,7 @@ born_some t s caller child born i g can e =
     absurd (omega arith)
 
 -- there is one more page at most
-one_page : (o : Option Pair) → length (page_list o) ≤ 1
+pub one_page : (o : Option Pair) → length (page_list o) ≤ 1
 one_page None = omega arith
 one_page (Some p) = omega arith
 

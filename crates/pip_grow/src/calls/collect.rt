@@ -4,7 +4,8 @@ ghost use Rattle.pip_model.specs.Partitions.{HasPartition, InEach, IsHeld};
 ghost use Rattle.pip_kern.specs.Tested.{Tested};
 ghost use Rattle.pip_model.specs.Collect.{tree_without_table, first_va, returned_pages, without_table, collect};
 ghost use Rattle.pip_model.specs.NodeIn.{OthersStay, Space};
-ghost use Rattle.pip_model.specs.Tree.{table_at};
+ghost use Rattle.pip_model.specs.Tree.{chain, child_at, table_at};
+ghost use Rattle.pip_model.specs.Work.{slots_work};
 ghost use Rattle.pip_space.specs.Tables.{CanRemove, HasRemove, rows_beside};
 ghost use Rattle.pip_grow.specs.Chain.{chain_pages};
 ghost use Rattle.pip_grow.specs.Collecting.{CanCollect, HasCollect, table_tests};
@@ -60,7 +61,7 @@ fn remove_pages<M: Frames, L: Ledger>(
     ensures node { InEachSpace (M.memory mem.old) part (λ x rows.
         CanRemove x rows i → Space (M.memory mem.new) (without_table i x) (rows_beside i rows)
         × OthersStay x (M.memory mem.old) (M.memory mem.new)) }
-    ensures steps { steps.new ≤ steps.old + 1080 }
+    ensures steps { InEachSpace (M.memory mem.old) part (λ x rows. steps.new ≤ steps.old + length x.tables + 56) }
 {
     let (tables, list) = remove_table(mem, part, i, steps);
     let [mmu, shadow1, shadow2] = tables;
@@ -88,7 +89,8 @@ fn take_table<M: Frames, L: Ledger>(
         (result ≡ first_va (returned_pages can.node (Some can.table)))
         × IsHeld (tree_without_table t child i (returned_pages can.node (Some can.table)))
         (M.memory mem.new)) }
-    ensures steps { steps.new ≤ steps.old + 28 * length (M.memory mem.old) + 1088 }
+    ensures chain { InEach (M.memory mem.old) caller (λ t x. (can : CanCollect t caller child i) →
+        steps.new ≤ steps.old + 28 * length (chain t caller) + length can.node.tables + 64) }
 {
     let pages = remove_pages(mem, child, i, steps);
     let tables = [pages.mmu, pages.shadow1, pages.shadow2];
@@ -112,6 +114,8 @@ pub fn collect<M: Frames, L: Ledger>(
 ) -> Result<u32, Status>
     requires { HasPartition (M.memory mem.old) caller }
     ensures does { DoesWithValue (λ t. collect t caller d cv) caller result (M.memory mem.old) (M.memory mem.new) }
+    ensures chain { InEach (M.memory mem.old) caller (λ t x.
+        steps.new ≤ steps.old + 28 * length (chain t caller) + 106 + slots_work (child_at t caller d)) }
     ensures steps { steps.new ≤ steps.old + 28 * length (M.memory mem.old) + 1130 }
 {
     let child = check_child(mem, caller, &[d, cv], d, steps)?;

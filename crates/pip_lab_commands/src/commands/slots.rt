@@ -1,7 +1,7 @@
 //! The command `slots`: children of the root of an image, each of which has time slots.
 ghost use Rattle.std.specs.Prelude.{◌≡◌, ◌≤◌, ◌<◌, ◌*◌, ◌^◌, length};
 ghost use Rattle.std.specs.List.{AllByRecursion};
-ghost use Rattle.pip_due.specs.Commands.{Fulfils, MayStart};
+ghost use Rattle.pip_command_contracts.specs.Commands.{Fulfils, MayStart};
 ghost use Rattle.pip_slots.specs.Images.{placed, round_steps};
 ghost use Rattle.pip_lab_commands.specs.Children.{IsBounded, slotted};
 ghost use Rattle.pip_lab_commands.specs.Dues.{slots_due};
@@ -10,7 +10,7 @@ use crate::words::steps_of;
 use arrayvec::ArrayVec;
 use pip_base::Steps;
 use pip_children::{Scheduling, children};
-use pip_due::Ended;
+use pip_command_contracts::Ended;
 use pip_frames::Frames;
 use pip_io::{Failed, Sink, Source};
 use pip_lines::{Callback, Line};

@@ -42,9 +42,8 @@ unfolding difference_from frame_difference
 no_difference t m lays = first_none (frame_difference m (layout t)) 0 (length m)
     (λ f lo hi. first_none (λ i. difference_between f i (word_at m f i) (layout t f i)) 0 1024 (λ i low high.
     let count = lays.count in
-    let same = lays.word f i (omega (arith, hi, count)) (omega (arith, high)) in
-    ap (λ b. cond b None (Some (record { frame = f; index = i; found = word_at m f i; want = layout t f i })))
-    (eq-eqb (word_at m f i) (layout t f i) same)))
+    let same = lays.word f i (omega arith) (omega arith) in
+    rw (eq-eqb (word_at m f i) (layout t f i) same)))
 
 pub layouts_found : LayoutsAreFound
 unfolding finding
@@ -53,7 +52,7 @@ layouts_found t m s lays =
     record {
       tree = r.tree;
       is =
-          ap (finding_of m) r.is ∙ ap₂ (finding_at r.tree) (sound_holds r.tree r.sound) (no_difference r.tree m r.lays);
+          rw (r.is, ap₂ (finding_at r.tree) (sound_holds r.tree r.sound) (no_difference r.tree m r.lays));
       same = r.same;
     }
 
@@ -62,12 +61,12 @@ layouts_found t m s lays =
 pub first_none_back : {A : Type 0} (f : ℕ → Option A) (from n : ℕ) → first f from n ≡ None → (k : ℕ) → from ≤ k
     → k < from + n → f k ≡ None
 unfolding first
-first_none_back f from zero e k lo hi = absurd (omega (arith, lo, hi))
+first_none_back f from zero e k lo hi = absurd (omega arith)
 first_none_back {A} f from (suc n) e k lo hi =
     let r = split (f from) (first f (from + 1) n) e in
     elim (cases_eq from k) [
-      | inl q ↦ ap f (sym q) ∙ r.0
-      | inr ne ↦ first_none_back f (from + 1) n r.1 k (omega (arith, lo, ne)) (omega (arith, hi))
+      | inl q ↦ rw (← q, r.0)
+      | inr ne ↦ first_none_back f (from + 1) n r.1 k (omega arith) (omega arith)
     ]
   where
     split : (a b : Option A) → or_first a b ≡ None → (a ≡ None) × (b ≡ None)
@@ -78,11 +77,11 @@ first_none_back {A} f from (suc n) e k lo hi =
 walk_made : (m : List (List ℕ)) (root : Node) (n : ℕ) (vs : List Visit) (others us : List Node)
     → walk m root n vs others ≡ Complete us → (z : Node) → In z us → In z others ⊎ ((f : ℕ) × (z ≡ node_read m f))
 unfolding walk
-walk_made m root zero [] others us e z i = inl (let same : us ≡ others = done others us e in subst (In z) same i)
+walk_made m root zero [] others us e z i = inl (let same : us ≡ others = done others us e in rw (← same) i)
   where
     done : (a b : List Node) → Complete a ≡ Complete b → b ≡ a
     done a b e = cc
-walk_made m root (suc n) [] others us e z i = inl (let same : us ≡ others = done others us e in subst (In z) same i)
+walk_made m root (suc n) [] others us e z i = inl (let same : us ≡ others = done others us e in rw (← same) i)
   where
     done : (a b : List Node) → Complete a ≡ Complete b → b ≡ a
     done a b e = cc
@@ -137,17 +136,17 @@ made_of m t e = go (node_stop m 1) (walk m (node_read m 1) (length m) (visits m 
 -- lines that are read are lines
 fewer : (low more : ℕ) (js : List ℕ) → low ≤ more → AreLines more js → AreLines low js
 fewer low more [] h l = tt
-fewer low more (j ∷ js) h l = let a = l.0 in (omega (arith, h, a), l.1, l.2)
+fewer low more (j ∷ js) h l = let a = l.0 in (omega arith, l.1, l.2)
 
 lines_are : (k low w : ℕ) → low + k ≤ 16 → AreLines low (lines_read k low w)
 unfolding lines_read
 lines_are zero low w h = tt
-lines_are (suc k) low w h = go (w % 2 == 1) (lines_are k (low + 1) (w / 2) (omega (arith, h)))
+lines_are (suc k) low w h = go (w % 2 == 1) (lines_are k (low + 1) (w / 2) (omega arith))
   where
     go : (b : Bool) → AreLines (low + 1) (lines_read k (low + 1) (w / 2))
         → AreLines low (cond b (low ∷ lines_read k (low + 1) (w / 2)) (lines_read k (low + 1) (w / 2)))
     go true l = let s : low + 1 ≡ suc low = omega arith in
-        (omega arith, omega (arith, h), subst (λ n. AreLines n (lines_read k (low + 1) (w / 2))) s l)
+        (omega arith, omega arith, rw (← s) l)
     go false l = fewer low (low + 1) (lines_read k (low + 1) (w / 2)) (omega arith) l
 
 module _ (m : List (List ℕ)) (w : HasWordsOnly m) where
@@ -156,7 +155,7 @@ module _ (m : List (List ℕ)) (w : HasWordsOnly m) where
   unfolding word_at
   any_word f i h = elim (cases_lt f (length m)) [
     | inl l ↦ w f i l h
-    | inr l ↦ let z : word_at m f i ≡ 0 = ap (λ ws. slice_index ws i) (get_or_past m f [] l) in omega (arith, z)
+    | inr l ↦ let z : word_at m f i ≡ 0 = rw (get_or_past m f [] l) in omega arith
   ]
 
   -- a tree that is read and breaks no part is sound
@@ -164,7 +163,7 @@ module _ (m : List (List ℕ)) (w : HasWordsOnly m) where
       (made : (x : Node) → In x (root ∷ others) → (f : ℕ) × (x ≡ node_read m f)) where
     lines_of : (x : Node) (f : ℕ) → x ≡ node_read m f → AreLines 0 x.pending
     unfolding node_read
-    lines_of x f e = subst (λ z. AreLines 0 z.pending) (sym e) (lines_are 16 0 (word_at m f 15) (omega arith))
+    lines_of x f e = rw e (lines_are 16 0 (word_at m f 15) (omega arith))
 
     small_words : HasSmallWords (tree_of_nodes m root others)
     unfolding any_word
@@ -205,9 +204,9 @@ lays_out m t shape count e = record {
   count = count;
   word = λ f i f_in i_in.
       let in_frame : frame_difference m (layout t) f ≡ None =
-      first_none_back (frame_difference m (layout t)) 0 (length m) e f (omega arith) (omega (arith, f_in, count)) in
+      first_none_back (frame_difference m (layout t)) 0 (length m) e f (omega arith) (omega arith) in
       equal f i (first_none_back (λ i. difference_between f i (word_at m f i) (layout t f i)) 0 1024 in_frame i
-      (omega arith) (omega (arith, i_in)));
+      (omega arith) (omega arith));
 }
   where
     equal : (f i : ℕ) → difference_between f i (word_at m f i) (layout t f i) ≡ None → word_at m f i ≡ layout t f i
@@ -232,10 +231,10 @@ found_layouts t m shape words e = go (tree_of m) refl e
     with_tree : (u : Tree) → IsMadeOf m u → broken_part u ≡ None → difference m u ≡ None → IsSound u × LaysOut u m
     with_tree u made b d =
         let s : IsSound (tree_of_nodes m made.root made.others) =
-        read_sound m words made.root made.others made.made (ap broken_part (sym made.is) ∙ b) in
-        (subst IsSound (sym made.is) s, lays_out m u shape (ap (λ t. t.frames) (sym made.is)) d)
+        read_sound m words made.root made.others made.made (rw (← made.is, b)) in
+        (rw made.is s, lays_out m u shape (cc (made.is)) d)
 
     go : (r : TreeRead) → tree_of m ≡ r → finding_of m r ≡ Lays t → IsSound t × LaysOut t m
     go (Halts s) k e = cc
     go (IsTree u) k e = let p = parts u (broken_part u) (difference m u) e in
-        subst (λ t. IsSound t × LaysOut t m) p.2 (with_tree u (made_of m u k) p.0 p.1)
+        rw (← p.2) (with_tree u (made_of m u k) p.0 p.1)

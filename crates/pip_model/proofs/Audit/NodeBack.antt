@@ -40,7 +40,7 @@ use Rattle.pip_model.proofs.Trees.RowLookup.{held_row, row_in}
 use Rattle.pip_model.proofs.Frames.Same.{index_in, rows_equal}
 
 odd : (r : ℕ) → AreAmong 1 r → r % 2 ≡ 1
-odd r h = sym (numeral_and 0 r refl) ∙ h
+odd r h = rw (← numeral_and 0 r refl) h
 
 -- ---- a row by its word
 
@@ -55,9 +55,9 @@ leaf_back u q v low at = go u
 
     go : (u : Bool) → row_of_word v (leaf_word q.frame u q.rights) ≡ Some q
     go true = some true (leaf_word q.frame true q.rights)
-        (λ z. absurd (omega (arith, z))) (omega (arith, low)) (omega (arith, low))
+        (λ z. absurd (omega arith)) (omega arith) (omega arith)
     go false = some false (leaf_word q.frame false q.rights)
-        (λ z. absurd (omega (arith, z))) (omega (arith, low)) (omega (arith, low))
+        (λ z. absurd (omega arith)) (omega arith) (omega arith)
 
 row_here : (v w : ℕ) (r : Row) → row_of_word v w ≡ Some r → r.at ≡ v
 row_here v w r = go (w == 0)
@@ -75,14 +75,14 @@ leaf_read_in u n f r low odd inside = go u
     test w a b c d e = grind (arith, nat_tests, a, b, c, d, e)
 
     go : (u : Bool) → leaf_is_read n (leaf_word f u r) ≡ true
-    go true = test (leaf_word f true r) (λ z. absurd (omega (arith, z))) (omega (arith, low)) (omega (
+    go true = test (leaf_word f true r) (λ z. absurd (omega arith)) (omega arith) (omega (
       arith,
       low,
-    )) (omega (arith, low, odd)) (omega (arith, low, inside))
-    go false = test (leaf_word f false r) (λ z. absurd (omega (arith, z))) (omega (arith, low)) (omega (
+    )) (omega arith) (omega arith)
+    go false = test (leaf_word f false r) (λ z. absurd (omega arith)) (omega arith) (omega (
       arith,
       low,
-    )) (omega (arith, low, odd)) (omega (arith, low, inside))
+    )) (omega arith) (omega arith)
 
 -- a vpage whose directory index no table has, has none
 untabled : (x : Node) (v : ℕ) → table_at x.tables (dir v) ≡ None → has_table x v ≡ false
@@ -90,7 +90,7 @@ untabled x v e = go (has_table x v) refl
   where
     go : (b : Bool) → has_table x v ≡ b → b ≡ false
     go false k = refl
-    go true k = let (b, f) = table_some x v k in let bad : None ≡ Some b = sym e ∙ f in cc
+    go true k = let (b, f) = table_some x v k in let bad : None ≡ Some b = cc in cc
 
 -- the rows by their vpages
 pub rows_gathered : (m : List (List ℕ)) (ts : List Table) → rows_read m ts ≡ gather (row_read m ts) 0 (2 ^ 20)
@@ -100,18 +100,15 @@ rows_gathered m ts =
   where
     piece : (d : ℕ) (o : Option Table) → table_at ts d ≡ o → table_rows m d o ≡ gather (row_read m ts) (1024 * d) 1024
     piece d None e =
-        sym (gather_empty (row_read m ts) (1024 * d) 1024 (λ k lo hi. let q : k / 1024 ≡ d = omega (arith, lo, hi) in
-        ap (λ o. row_of_word k (cell_in m Mmu k o)) (ap (table_at ts) q ∙ e)))
+        sym (gather_empty (row_read m ts) (1024 * d) 1024 (λ k lo hi. let q : k / 1024 ≡ d = omega arith in
+        rw (q, e)))
     piece d (Some b) e = gather_same (λ v. row_of_word v (word_at m b.mmu.frame (v % 1024))) (row_read m ts)
-        (1024 * d) 1024 (λ k lo hi. let q : k / 1024 ≡ d = omega (arith, lo, hi) in
-        sym (ap (λ o. row_of_word k (cell_in m Mmu k o)) (ap (table_at ts) q ∙ e)))
+        (1024 * d) 1024 (λ k lo hi. let q : k / 1024 ≡ d = omega arith in
+        cc)
 
 module _ (t : Tree) (s : IsSound t) (m : List (List ℕ)) (lays : LaysOut t m) (x : Node) (i : In x (nodes t)) where
   pub space : Space m x (full_rows t x)
   space = laid_space t s m lays x.name x (in_found t s x i)
-
-  holds_node : NodeIn m x (cells_of (full_rows t x))
-  holds_node = space.node
 
   -- ---- the rows
 
@@ -121,19 +118,18 @@ module _ (t : Tree) (s : IsSound t) (m : List (List ℕ)) (lays : LaysOut t m) (
     where
       go : (o : Option Table) → table_at x.tables (dir v) ≡ o → cell_in m level v o ≡ row_word level (full_rows t x v)
       go None e =
-          sym (ap (row_word level) (no_table_no_row m x (full_rows t x) space v (untabled x v e)) ∙ row_word-none level)
+          cc (row_word-none level, no_table_no_row m x (full_rows t x) space v (untabled x v e))
       go (Some b) e = read_cell m x (cells_of (full_rows t x)) space.node level v b small e
 
   row_back : (v : ℕ) → v < 2 ^ 20 → row_read m x.tables v ≡ row_at x.rows v
   unfolding row_read cell_back
-  row_back v small = ap (row_of_word v) (cell_back Mmu v small) ∙ go (row_at x.rows v) refl
+  row_back v small = rw (cell_back Mmu v small, go (row_at x.rows v) refl)
     where
       go : (o : Option Row) → row_at x.rows v ≡ o → row_of_word v (row_word Mmu (full_rows t x v)) ≡ o
-      go None e = ap (λ r. row_of_word v (row_word Mmu r)) (full-at t x v None e)
+      go None e = rw (full-at t x v None e)
       go (Some q) e =
           let k = row_in x v q e in
-          ap (λ r. row_of_word v (row_word Mmu r)) (full-at t x v (Some q) e)
-          ∙ leaf_back (not (hidden t q.frame)) q v (rights_small t s x i q k.0) k.1
+          rw (full-at t x v (Some q) e, leaf_back (not (hidden t q.frame)) q v (rights_small t s x i q k.0) k.1)
 
   at_here : (v : ℕ) (r : Row) → row_read m x.tables v ≡ Some r → r.at ≡ v
   unfolding row_read
@@ -145,26 +141,25 @@ module _ (t : Tree) (s : IsSound t) (m : List (List ℕ)) (lays : LaysOut t m) (
     where
       same : (v : ℕ) → row_at (gather (row_read m x.tables) 0 (2 ^ 20)) v ≡ row_at x.rows v
       same v = elim (cases_lt v (2 ^ 20)) [
-        | inl h ↦ gather_at (row_read m x.tables) at_here 0 (2 ^ 20) v (omega arith) (omega (arith, h)) ∙ row_back v h
+        | inl h ↦ gather_at (row_read m x.tables) at_here 0 (2 ^ 20) v (omega arith) (omega arith) ∙ row_back v h
         | inr h ↦ gather_none (row_read m x.tables) at_here 0 (2 ^ 20) v (inr (omega (arith, h)))
             ∙ sym (far (row_at x.rows v) refl h)
       ]
         where
           far : (o : Option Row) → row_at x.rows v ≡ o → 2 ^ 20 ≤ v → o ≡ None
           far None e h = refl
-          far (Some q) e h = let k = row_in x v q e in let at = k.1 in let b = at_small t s x i q k.0 in
-              absurd (omega (arith, at, b, h))
+          far (Some q) e h = let k = row_in x v q e in absurd (omega (arith, at_small t s x i q k.0, h))
 
   -- ---- where it could stop
 
   table_passes : (j : ℕ) → j < length x.tables → table_stop m x.tables j ≡ None
   unfolding table_stop leaf_stop slots space
   table_passes j h = first_none (leaf_stop m (slots x.tables j).mmu.frame) 0 1024
-      (λ k lo hi. at (slots x.tables j) k (index_in x.tables j no_table h) (omega (arith, hi)))
+      (λ k lo hi. at (slots x.tables j) k (index_in x.tables j no_table h) (omega arith))
     where
       passes : (f k w : ℕ) → word_at m f k ≡ w → leaf_is_read (length m) w ≡ true
           → stop_unless (leaf_is_read (length m) (word_at m f k)) f k ≡ None
-      passes f k w e l = ap (λ b. stop_unless b f k) (ap (leaf_is_read (length m)) e ∙ l)
+      passes f k w e l = rw (e, l)
 
       row : (b : Table) (k : ℕ) (o : Option Row) → row_at x.rows (1024 * b.index + k) ≡ o
           → word_at m b.mmu.frame k ≡ row_word Mmu (full_row t x o)
@@ -176,7 +171,7 @@ module _ (t : Tree) (s : IsSound t) (m : List (List ℕ)) (lays : LaysOut t m) (
           let count = lays.count in
           passes b.mmu.frame k (leaf_word q.frame (not (hidden t q.frame)) q.rights) w
           (leaf_read_in (not (hidden t q.frame)) (length m) q.frame q.rights (rights_small t s x i q r.0)
-          (odd q.rights (s.readable x i q r.0)) (omega (arith, inside, count)))
+          (odd q.rights (s.readable x i q r.0)) (omega arith))
 
       at : (b : Table) (k : ℕ) → In b x.tables → k < 1024
           → stop_unless (leaf_is_read (length m) (word_at m b.mmu.frame k)) b.mmu.frame k ≡ None
@@ -185,24 +180,24 @@ module _ (t : Tree) (s : IsSound t) (m : List (List ℕ)) (lays : LaysOut t m) (
           j k h ∙ ap (row_word Mmu) (full-at t x (1024 * b.index + k) (row_at x.rows (1024 * b.index + k)) refl))
 
   few_tables : length x.tables ≤ 1024
-  few_tables = subst (λ k. k ≤ 1024) (indexes x.tables) (length-le_from_distinct_below (map (λ b. b.index) x.tables)
-      1024 (distinct_by_test (map (λ b. b.index) x.tables) (s.tables x i).differ) small)
+  few_tables = rw (← indexes x.tables) (length-le_from_distinct_below (map (λ b. b.index) x.tables) 1024
+      (distinct_by_test (map (λ b. b.index) x.tables) (s.tables x i).differ) small)
     where
       indexes : (bs : List Table) → length (map (λ b. b.index) bs) ≡ length bs
       indexes [] = refl
-      indexes (b ∷ bs) = ap suc (indexes bs)
+      indexes (b ∷ bs) = rw (indexes bs)
 
       small : (q : ℕ) → list_any (eqb q) (map (λ b. b.index) x.tables) ≡ true → q < 1024
       small q h = let (b, j, e) =
           In-map_from (λ b. b.index) q x.tables (any_member q (map (λ b. b.index) x.tables) h) in
-          subst (λ k. k < 1024) (sym e) ((s.tables x i).small b j)
+          rw e ((s.tables x i).small b j)
 
   -- ---- all of it
 
   lines_are : AreLines 0 x.pending
   lines_are = elim i [
-    | inl e ↦ subst (λ z. AreLines 0 z.pending) (sym e) s.lines
-    | inr j ↦ subst (AreLines 0) (sym (s.no_lines_but_the_root x j)) tt
+    | inl e ↦ rw e s.lines
+    | inr j ↦ rw (s.no_lines_but_the_root x j) tt
   ]
 
   born_is : x.base.descriptor.va ≡ x.born
@@ -222,7 +217,7 @@ module _ (t : Tree) (s : IsSound t) (m : List (List ℕ)) (lays : LaysOut t m) (
       let cells = cells_of (full_rows t x) in
       let long = (s.tables x i).listed in
       let more : more_read m x.base.list.frame (lists (length x.tables) - 1) ≡ x.more =
-      ap (more_read m x.base.list.frame) more_long ∙ (more_back m x cells n).0 in
+      rw (more_long, (more_back m x cells n).0) in
       let up = up_back m x cells n in
       let born = born_is in
       let rows = rows_back in
@@ -251,18 +246,17 @@ module _ (t : Tree) (s : IsSound t) (m : List (List ℕ)) (lays : LaysOut t m) (
       let cells = cells_of (full_rows t x) in
       let long = (s.tables x i).listed in
       let more : more_read m x.base.list.frame (lists (length x.tables) - 1) ≡ x.more =
-      ap (more_read m x.base.list.frame) more_long ∙ (more_back m x cells n).0 in
+      rw (more_long, (more_back m x cells n).0) in
       let stops : more_stop m x.base.list.frame (lists (length x.tables) - 1) ≡ None =
-      ap (more_stop m x.base.list.frame) more_long ∙ (more_back m x cells n).1 in
-      let count : count_stop m x.name ≡ None = ap (λ w. stop_unless (nat_le w 1024) x.name 12) (count_back m x cells n)
-      ∙ ap (λ b. stop_unless b x.name 12) (at_most few_tables) in
+      rw (more_long, (more_back m x cells n).1) in
+      let count : count_stop m x.name ≡ None = rw (count_back m x cells n, at_most few_tables) in
       let tables : stop_with_tables m x.tables ≡ None =
-      first_none (table_stop m x.tables) 0 (length x.tables) (λ k lo hi. table_passes k (omega (arith, hi))) in
+      first_none (table_stop m x.tables) 0 (length x.tables) (λ k lo hi. table_passes k (omega arith)) in
       let lists_pass : stop_with_lists m x.base x.more (length x.tables) ≡ None =
-      two _ _ (slots_pass m x cells n long) (ap (stop_with_tables m) (tables_back m x cells n long) ∙ tables) in
+      two _ _ (slots_pass m x cells n long) (rw (tables_back m x cells n long, tables)) in
       let base : stop_with_base m (base_read m x.name) (word_at m x.name 12) ≡ None =
       ap₂ (stop_with_base m) (base_back m x cells n) (count_back m x cells n)
-      ∙ two _ _ stops (ap (λ g. stop_with_lists m x.base g (length x.tables)) more ∙ lists_pass) in
+      ∙ two _ _ stops (rw (more, lists_pass)) in
       two _ _ (base_passes m x cells n long) (two _ _ count base)
     where
       at_most : {a : ℕ} → a ≤ 1024 → nat_le a 1024 ≡ true

@@ -32,44 +32,43 @@ use Rattle.pip_model.proofs.Frames.Same.{index_in, bits, bits_sum, bits_double, 
 lines_from : (k low : ℕ) (js : List ℕ) → low + k ≡ 16 → AreLines low js → lines_read k low (bits low js) ≡ js
 unfolding lines_read bits
 lines_from zero low [] e l = refl
-lines_from zero low (j ∷ js) e l = let a = l.0 in let b = l.1 in absurd (omega (arith, a, b, e))
-lines_from (suc k) low [] e l = lines_from k (low + 1) [] (omega (arith, e)) tt
+lines_from zero low (j ∷ js) e l = absurd (omega (arith, e))
+lines_from (suc k) low [] e l = lines_from k (low + 1) [] (omega arith) tt
 lines_from (suc k) low (j ∷ js) e l = elim (cases_eq j low) [
   | inl q ↦
-      let p : 2 ^ (j - low) ≡ 1 = ap (λ n. 2 ^ n) (none j low q) in
-      let after : AreLines (suc low) js = subst (λ n. AreLines (suc n) js) q l.2 in
+      let p : 2 ^ (j - low) ≡ 1 = rw (none j low q) in
+      let after : AreLines (suc low) js = rw (← q) l.2 in
       let d = bits_double low (suc low) js (omega arith) after in
-      let odd : (2 ^ (j - low) + bits low js) % 2 ≡ 1 = omega (arith, p, d) in
-      let half : (2 ^ (j - low) + bits low js) / 2 ≡ bits (suc low) js = omega (arith, p, d) in
+      let odd : (2 ^ (j - low) + bits low js) % 2 ≡ 1 = omega arith in
+      let half : (2 ^ (j - low) + bits low js) / 2 ≡ bits (suc low) js = omega arith in
       let s : suc low ≡ low + 1 = omega arith in
       let next : lines_read k (low + 1) (bits (low + 1) js) ≡ js =
-      lines_from k (low + 1) js (omega (arith, e)) (subst (λ n. AreLines n js) s after) in
+      lines_from k (low + 1) js (omega arith) (rw (← s) after) in
       on low (2 ^ (j - low) + bits low js) (lines_read k (low + 1) ((2 ^ (j - low) + bits low js) / 2)) odd
-      ∙ ap₂ (λ a b. a ∷ b) (sym q) (ap (lines_read k (low + 1)) (half ∙ ap (λ n. bits n js) s) ∙ next)
+      ∙ ap₂ (λ a b. a ∷ b) (sym q) (rw (half, s, next))
   | inr ne ↦
       let a = l.0 in
-      let after : AreLines (suc low) (j ∷ js) = (omega (arith, a, ne), l.1, l.2) in
+      let after : AreLines (suc low) (j ∷ js) = (omega arith, l.1, l.2) in
       let d = bits_double low (suc low) (j ∷ js) (omega arith) after in
-      let even : bits low (j ∷ js) % 2 ≢ 1 = λ o. absurd (omega (arith, d, o)) in
-      let half : bits low (j ∷ js) / 2 ≡ bits (suc low) (j ∷ js) = omega (arith, d) in
+      let even : bits low (j ∷ js) % 2 ≢ 1 = λ o. absurd (omega arith) in
+      let half : bits low (j ∷ js) / 2 ≡ bits (suc low) (j ∷ js) = omega arith in
       let s : suc low ≡ low + 1 = omega arith in
       let next : lines_read k (low + 1) (bits (low + 1) (j ∷ js)) ≡ j ∷ js =
-      lines_from k (low + 1) (j ∷ js) (omega (arith, e)) (subst (λ n. AreLines n (j ∷ js)) s after) in
-      off low (bits low (j ∷ js)) (lines_read k (low + 1) (bits low (j ∷ js) / 2)) even
-      ∙ ap (lines_read k (low + 1)) (half ∙ ap (λ n. bits n (j ∷ js)) s) ∙ next
+      lines_from k (low + 1) (j ∷ js) (omega arith) (rw (← s) after) in
+      cc (off low (bits low (j ∷ js)) (lines_read k (low + 1) (bits low (j ∷ js) / 2)) even)
 ]
   where
     none : (j low : ℕ) → j ≡ low → j - low ≡ 0
     none j low a = omega arith
 
     on : (low w : ℕ) (rest : List ℕ) → w % 2 ≡ 1 → cond (w % 2 == 1) (low ∷ rest) rest ≡ low ∷ rest
-    on low w rest e = ap (λ b. cond b (low ∷ rest) rest) (eq-eqb (w % 2) 1 e)
+    on low w rest e = rw (eq-eqb (w % 2) 1 e)
 
     off : (low w : ℕ) (rest : List ℕ) → w % 2 ≢ 1 → cond (w % 2 == 1) (low ∷ rest) rest ≡ rest
-    off low w rest e = ap (λ b. cond b (low ∷ rest) rest) (ne_eqb (w % 2) 1 e)
+    off low w rest e = rw (ne_eqb (w % 2) 1 e)
 
 pub lines_back : (js : List ℕ) → AreLines 0 js → lines_read 16 0 (sum_by (λ j. 2 ^ j) js) ≡ js
-lines_back js l = ap (lines_read 16 0) (bits_sum js) ∙ lines_from 16 0 js refl l
+lines_back js l = rw (bits_sum js, lines_from 16 0 js refl l)
 
 -- ---- the mask
 
@@ -80,7 +79,7 @@ masked_back false = refl
 -- ---- places in a row that don't stop
 
 pub two : (a b : Option Stop) → a ≡ None → b ≡ None → or_first a b ≡ None
-two a b e f = ap (λ o. or_first o b) e ∙ f
+two a b e f = rw (e, f)
 
 four : (a b c d : Option Stop) → a ≡ None → b ≡ None → c ≡ None → d ≡ None
     → or_first a (or_first b (or_first c d)) ≡ None
@@ -124,10 +123,10 @@ module _ (m : List (List ℕ)) (x : Node) (cells : Level → ℕ → ℕ) (n : N
   count_back = word 12 (omega arith)
 
   pub masked_is : (word_at m x.name 14 % 2 == 1) ≡ x.masked
-  masked_is = ap (λ w. w % 2 == 1) (word 14 (omega arith)) ∙ masked_back x.masked
+  masked_is = rw (word 14 (omega arith), masked_back x.masked)
 
   pub pending_back : AreLines 0 x.pending → lines_read 16 0 (word_at m x.name 15) ≡ x.pending
-  pending_back l = ap (lines_read 16 0) (word 15 (omega arith)) ∙ lines_back x.pending l
+  pending_back l = rw (word 15 (omega arith), lines_back x.pending l)
 
   -- ---- the list pages
 
@@ -135,8 +134,8 @@ module _ (m : List (List ℕ)) (x : Node) (cells : Level → ℕ → ℕ) (n : N
       × (word_at m (list_page x k).frame 1 ≡ (next_list_page x.more k).va)
   unfolding page_word
   next_words k h = (
-    read_list m x cells n k (omega (arith, h)) 0 (omega arith),
-    read_list m x cells n k (omega (arith, h)) 1 (omega arith),
+    read_list m x cells n k (omega arith) 0 (omega arith),
+    read_list m x cells n k (omega arith) 1 (omega arith),
   )
 
   more_from : (k : ℕ) (gs : List Pair) → k + length gs ≡ length x.more
@@ -147,22 +146,19 @@ module _ (m : List (List ℕ)) (x : Node) (cells : Level → ℕ → ℕ) (n : N
   more_from k (g ∷ gs) e h =
       let z : k + 0 ≡ k = omega arith in
       let s : k + 1 ≡ suc k = omega arith in
-      let here : next_list_page x.more k ≡ g = ap (next_list_page x.more) (sym z) ∙ h 0 (omega arith) in
-      let w = next_words k (omega (arith, e)) in
-      let frame : word_at m (list_page x k).frame 0 ≡ g.frame = w.0 ∙ ap (λ p. p.frame) here in
-      let va : word_at m (list_page x k).frame 1 ≡ g.va = w.1 ∙ ap (λ p. p.va) here in
+      let here : next_list_page x.more k ≡ g = rw (← z, h 0 (omega arith)) in
+      let w = next_words k (omega arith) in
+      let frame : word_at m (list_page x k).frame 0 ≡ g.frame = rw (w.0, here) in
+      let va : word_at m (list_page x k).frame 1 ≡ g.va = rw (w.1, here) in
       let page : word_at m (list_page x k).frame 0 ≡ (list_page x (suc k)).frame = w.0 in
-      let rest = more_from (suc k) gs (omega (arith, e)) (λ j l. let q : suc k + j ≡ k + suc j = omega arith in
-      ap (λ i. slice_index_or x.more i (own 0)) q ∙ h (suc j) (omega (arith, l))) in
+      let rest = more_from (suc k) gs (omega arith) (λ j l. let q : suc k + j ≡ k + suc j = omega arith in
+      rw (q, h (suc j) (omega (arith, l)))) in
       let inside : word_at m (list_page x k).frame 0 < length m =
-      subst (λ f. f < length m) (sym page) (list_inside m x cells n (suc k) (omega (arith, e))) in (
+      rw page (list_inside m x cells n (suc k) (omega (arith, e))) in (
         (let tail : more_read m (word_at m (list_page x k).frame 0) (length gs) ≡ gs =
-            ap (λ f. more_read m f (length gs)) page ∙ rest.0 in
+            rw (page, rest.0) in
             λ i. record { va = va i; frame = frame i } ∷ tail i),
-        ap (λ b. or_first (cond b None (Some (record { frame = (list_page x k).frame; index = 0 })))
-            (more_stop m (word_at m (list_page x k).frame 0) (length gs)))
-            (in_test (word_at m (list_page x k).frame 0) (length m) inside)
-            ∙ ap (λ f. more_stop m f (length gs)) page ∙ rest.1,
+        rw (in_test (word_at m (list_page x k).frame 0) (length m) inside, page, rest.1),
       )
     where
       in_test : (a b : ℕ) → a < b → nat_lt a b ≡ true
@@ -188,32 +184,31 @@ module _ (m : List (List ℕ)) (x : Node) (cells : Level → ℕ → ℕ) (n : N
         let w : directory_entry Mmu (table_at x.tables j) ≡ directory_word b.mmu.frame =
         sym (read_directory m x cells n Mmu j h)
         ∙ eqb-true (word_at m x.base.mmu.frame j) (directory_word b.mmu.frame) e in
-        inr (ap Some (at (table_at x.tables j) refl w))
+        inr (rw (at (table_at x.tables j) refl w))
       where
         at : (o : Option Table) → table_at x.tables j ≡ o → directory_entry Mmu o ≡ directory_word b.mmu.frame
             → j ≡ b.index
-        at None f w = absurd (omega (arith, w))
+        at None f w = absurd (omega arith)
         at (Some c) f w =
             let found = table_found x.tables j c f in
-            let frame : c.mmu.frame ≡ b.mmu.frame = omega (arith, w) in
+            let frame : c.mmu.frame ≡ b.mmu.frame = omega arith in
             let rc = role_of_table x n.once Mmu c found.0 in
             let rb = role_of_table x n.once Mmu b i in
-            let same : Some (TablePage Mmu c.index) ≡ Some (TablePage Mmu b.index) = sym rc ∙ ap (role x) frame ∙ rb in
+            let same : Some (TablePage Mmu c.index) ≡ Some (TablePage Mmu b.index) = rw (← rc, frame, rb) in
             let ix : c.index ≡ b.index = cc in
-            sym found.1 ∙ ix
+            cc (found.1)
 
     pub place_back : (b : Table) → In b x.tables → place_of_table m x.base.mmu.frame b.mmu.frame ≡ Some b.index
     unfolding place_of_table
     place_back b i =
         let small = n.small_dirs b i in
         let here : word_at m x.base.mmu.frame b.index ≡ directory_word b.mmu.frame =
-        read_directory m x cells n Mmu b.index small ∙ ap (directory_entry Mmu) (in_table x.tables n.dirs b i) in
+        rw (read_directory m x cells n Mmu b.index small, in_table x.tables n.dirs b i) in
         first_only (λ k. cond (word_at m x.base.mmu.frame k == directory_word b.mmu.frame) (Some k) None) 0 1024 b.index
-        b.index (omega arith) (omega (arith, small))
-        (ap (λ c. cond c (Some b.index) None)
-        (eq-eqb (word_at m x.base.mmu.frame b.index) (directory_word b.mmu.frame) here))
+        b.index (omega arith) (omega arith)
+        (rw (eq-eqb (word_at m x.base.mmu.frame b.index) (directory_word b.mmu.frame) here))
         (λ j lo hi.
-        only_place b i j (omega (arith, hi)) (word_at m x.base.mmu.frame j == directory_word b.mmu.frame) refl)
+        only_place b i j (omega arith) (word_at m x.base.mmu.frame j == directory_word b.mmu.frame) refl)
 
     slot_in : (j : ℕ) → j < length x.tables → In (slots x.tables j) x.tables
     unfolding slots
@@ -232,12 +227,12 @@ module _ (m : List (List ℕ)) (x : Node) (cells : Level → ℕ → ℕ) (n : N
         let z : slot_start j ≡ slot_start j + 0 = omega arith in
         let p : slot_start j + 2 + 1 ≡ slot_start j + 3 = omega arith in
         let q : slot_start j + 4 + 1 ≡ slot_start j + 5 = omega arith in (
-          ap f z ∙ slot_at j 0 h (omega arith) ∙ ap (λ b. b.mmu.va) e,
-          slot_at j 1 h (omega arith) ∙ ap (λ b. b.mmu.frame) e,
-          slot_at j 2 h (omega arith) ∙ ap (λ b. b.shadow1.va) e,
-          ap f p ∙ slot_at j 3 h (omega arith) ∙ ap (λ b. b.shadow1.frame) e,
-          slot_at j 4 h (omega arith) ∙ ap (λ b. b.shadow2.va) e,
-          ap f q ∙ slot_at j 5 h (omega arith) ∙ ap (λ b. b.shadow2.frame) e,
+          rw (z, slot_at j 0 h (omega arith), e),
+          rw (slot_at j 1 h (omega arith), e),
+          rw (slot_at j 2 h (omega arith), e),
+          rw (p, slot_at j 3 h (omega arith), e),
+          rw (slot_at j 4 h (omega arith), e),
+          rw (q, slot_at j 5 h (omega arith), e),
         )
 
     table_back : (j : ℕ) → j < length x.tables → table_read m x.base x.more j ≡ slots x.tables j
@@ -247,8 +242,7 @@ module _ (m : List (List ℕ)) (x : Node) (cells : Level → ℕ → ℕ) (n : N
         let (w0, w1, w2, w3, w4, w5) = slot_words_at j h b refl in
         let ix : unwrap_or (place_of_table m x.base.mmu.frame
         (word_at m (slot_page x.base.list x.more j) (slot_start j + 1))) 0 ≡ b.index =
-        ap (λ f. unwrap_or (place_of_table m x.base.mmu.frame f) 0) w1
-        ∙ ap (λ o. unwrap_or o 0) (place_back b (slot_in j h)) in
+        rw (w1, place_back b (slot_in j h)) in
         λ i. record {
           index = ix i;
           mmu = record { va = w0 i; frame = w1 i };
@@ -265,8 +259,7 @@ module _ (m : List (List ℕ)) (x : Node) (cells : Level → ℕ → ℕ) (n : N
     in_test a b h = grind (arith, nat_tests, h)
 
     stops_nowhere : (f i g : ℕ) → word_at m f i ≡ g → g < length m → stop_at_frame m f i ≡ None
-    stops_nowhere f i g e h = ap (λ b. cond b None (Some (record { frame = f; index = i })))
-        (in_test (word_at m f i) (length m) (subst (λ k. k < length m) (sym e) h))
+    stops_nowhere f i g e h = rw (in_test (word_at m f i) (length m) (subst (λ k. k < length m) (sym e) h))
 
     slot_passes : (j : ℕ) → j < length x.tables → slot_stop m x.base x.more j ≡ None
     unfolding slot_stop
@@ -280,17 +273,16 @@ module _ (m : List (List ℕ)) (x : Node) (cells : Level → ℕ → ℕ) (n : N
         let k = slot_in j h in
         let a0 = stops_nowhere f (i + 1) b.mmu.frame w1 (table_inside m x cells n Mmu b k) in
         let a1 : stop_unless (is_some (place_of_table m x.base.mmu.frame (word_at m f (i + 1)))) f (i + 1) ≡ None =
-        ap (λ g. stop_unless (is_some (place_of_table m x.base.mmu.frame g)) f (i + 1)) w1
-        ∙ ap (λ o. stop_unless (is_some o) f (i + 1)) (place_back b k) in
+        rw (w1, place_back b k) in
         let a2 =
-        stops_nowhere f (i + 3) b.shadow1.frame (ap (word_at m f) p3 ∙ w3) (table_inside m x cells n Shadow1 b k) in
+        stops_nowhere f (i + 3) b.shadow1.frame (rw (p3, w3)) (table_inside m x cells n Shadow1 b k) in
         let a3 =
-        stops_nowhere f (i + 5) b.shadow2.frame (ap (word_at m f) p5 ∙ w5) (table_inside m x cells n Shadow2 b k) in
+        stops_nowhere f (i + 5) b.shadow2.frame (rw (p5, w5)) (table_inside m x cells n Shadow2 b k) in
         four _ _ _ _ a0 a1 a2 a3
 
     pub slots_pass : first (slot_stop m x.base x.more) 0 (length x.tables) ≡ None
     slots_pass =
-        first_none (slot_stop m x.base x.more) 0 (length x.tables) (λ k lo hi. slot_passes k (omega (arith, hi)))
+        first_none (slot_stop m x.base x.more) 0 (length x.tables) (λ k lo hi. slot_passes k (omega arith))
 
     -- ---- the descriptor
 

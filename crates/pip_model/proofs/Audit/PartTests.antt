@@ -85,7 +85,7 @@ dec_all {A} {P} p xs d = record { to = all_of xs; from = of_all xs }
   where
     all_of : (xs : List A) → list_all p xs ≡ true → (x : A) → In x xs → P x
     all_of [] e x i = absurd i
-    all_of (y ∷ ys) e x (inl q) = subst P (sym q) ((d y).to (both_from (p y) (list_all p ys) e).0)
+    all_of (y ∷ ys) e x (inl q) = rw q ((d y).to (both_from (p y) (list_all p ys) e).0)
     all_of (y ∷ ys) e x (inr i) = all_of ys (both_from (p y) (list_all p ys) e).1 x i
 
     of_all : (xs : List A) → ((x : A) → In x xs → P x) → list_all p xs ≡ true
@@ -125,7 +125,7 @@ dec_pair : (a b : Pair) → Decides (same_pair a b) (a ≡ b)
 dec_pair a b =
     dec_by (same_pair a b) (dec_and (a.va == b.va) (a.frame == b.frame) (dec_eq a.va b.va) (dec_eq a.frame b.frame))
     (λ h. let p = h.0 in let q = h.1 in λ i. record { va = p i; frame = q i })
-    (λ e. (ap (λ g. g.va) e, ap (λ g. g.frame) e))
+    (λ e. (rw e, rw e))
 
 dec_base : (a b : Base) → Decides (same_base a b) (a ≡ b)
 dec_base a b = dec_by (same_base a b)
@@ -134,8 +134,8 @@ dec_base a b = dec_by (same_base a b)
     (λ h. let p0 = h.0 in let p1 = h.1.0 in let p2 = h.1.1.0 in let p3 = h.1.1.1.0 in let p4 = h.1.1.1.1 in
     λ i. record { descriptor = p0 i; mmu = p1 i; shadow1 = p2 i; shadow2 = p3 i; list = p4 i })
     (λ e. (
-      ap (λ b. b.descriptor) e,
-      (ap (λ b. b.mmu) e, (ap (λ b. b.shadow1) e, (ap (λ b. b.shadow2) e, ap (λ b. b.list) e))),
+      rw e,
+      (rw e, (rw e, (rw e, rw e))),
     ))
 
 dec_table : (a b : Table) → Decides (same_table a b) (a ≡ b)
@@ -144,13 +144,13 @@ dec_table a b = dec_by (same_table a b)
     (dec_and _ _ (dec_pair a.shadow1 b.shadow1) (dec_pair a.shadow2 b.shadow2))))
     (λ h. let p0 = h.0 in let p1 = h.1.0 in let p2 = h.1.1.0 in let p3 = h.1.1.1 in
     λ i. record { index = p0 i; mmu = p1 i; shadow1 = p2 i; shadow2 = p3 i })
-    (λ e. (ap (λ b. b.index) e, (ap (λ b. b.mmu) e, (ap (λ b. b.shadow1) e, ap (λ b. b.shadow2) e))))
+    (λ e. (rw e, (rw e, (rw e, rw e))))
 
 dec_row : (a b : Row) → Decides (same_row a b) (a ≡ b)
 dec_row a b = dec_by (same_row a b)
     (dec_and _ _ (dec_eq a.at b.at) (dec_and _ _ (dec_eq a.frame b.frame) (dec_eq a.rights b.rights)))
     (λ h. let p0 = h.0 in let p1 = h.1.0 in let p2 = h.1.1 in λ i. record { at = p0 i; frame = p1 i; rights = p2 i })
-    (λ e. (ap (λ r. r.at) e, (ap (λ r. r.frame) e, ap (λ r. r.rights) e)))
+    (λ e. (rw e, (rw e, rw e)))
 
 dec_list : {A : Type 0} (same : A → A → Bool) → ((x y : A) → Decides (same x y) (x ≡ y)) → (xs ys : List A)
     → Decides (same_all same xs ys) (xs ≡ ys)
@@ -189,10 +189,10 @@ dec_root x n = dec_by (same_node x (boot_root n))
       pending = [];
     })
     (λ e. (
-      ap (λ z. z.name) e,
+      cc,
       (
-        ap (λ z. z.up) e,
-        (ap (λ z. z.born) e, (ap (λ z. z.base) e, (ap (λ z. z.tables) e, (ap (λ z. z.more) e, ap (λ z. z.rows) e)))),
+        cc,
+        (cc, (cc, (cc, (cc, cc)))),
       ),
     ))
 
@@ -218,7 +218,7 @@ dec_apart x =
 
 dec_page : (o : Option ℕ) (g : ℕ) → Decides (is_page o g) (o ≡ Some g)
 dec_page None g = record { to = λ e. cc; from = λ e. cc }
-dec_page (Some f) g = dec_by (f == g) (dec_eq f g) (λ e. ap Some e) (λ e. cc)
+dec_page (Some f) g = dec_by (f == g) (dec_eq f g) (λ e. rw e) (λ e. cc)
 
 dec_lent : (y x : Node) → Decides (is_lent_by y x) (IsLentBy y x)
 dec_lent y x = dec_by (is_lent_by y x)
@@ -268,7 +268,7 @@ dec_no_lines x = go x.pending
     go (j ∷ js) = record { to = λ e. absurd (full (length js) (eqb-true (suc (length js)) 0 e)); from = λ e. cc }
       where
         full : (n : ℕ) → suc n ≡ 0 → ⊥
-        full n e = omega (arith, e)
+        full n e = omega arith
 
 dec_child : {R : Node → Node → Type 0} (r : Node → Node → Bool) (t : Tree) → ((y x : Node) → Decides (r y x) (R y x))
     → Decides (each_child r t) (EachChild R t)
@@ -347,4 +347,4 @@ unfolding broken_part
 all_hold t a b c d e f g h = pass 1 a (pass 2 b (pass 3 c (pass 4 d (pass 5 e (pass 6 f (pass 7 g (pass 8 h refl)))))))
   where
     pass : {b : Bool} {o : Option ℕ} (part : ℕ) → b ≡ true → o ≡ None → unless_broken b part o ≡ None
-    pass {b} {o} part e f = ap (λ b. unless_broken b part o) e ∙ f
+    pass {b} {o} part e f = rw (e, f)

@@ -23,14 +23,14 @@ module _ (t u : Tree) (s : IsSound t) (a : AreSame t u) (rooted : IsRooted u.roo
   other_back x i = elim (a.from x (inr i)) [
     | inr j ↦ j
     | inl e ↦
-        absurd (root_differs u.root u.others rooted x i (sym (ap (λ z. z.name) a.root) ∙ sym (ap (λ z. z.name) e)))
+        absurd (root_differs u.root u.others rooted x i (rw (← a.root, ← e)))
   ]
 
   other_on : (x : Node) → In x t.others → In x u.others
   other_on x i = elim (a.to x (inr i)) [
     | inr j ↦ j
     | inl e ↦ absurd (root_differs t.root t.others s.parents_come_first x i
-        (ap (λ z. z.name) a.root ∙ sym (ap (λ z. z.name) e)))
+        (rw (a.root, ← e)))
   ]
 
   hidden_same : (g : ℕ) → hidden t g ≡ hidden u g
@@ -47,9 +47,9 @@ module _ (t u : Tree) (s : IsSound t) (a : AreSame t u) (rooted : IsRooted u.roo
       record {
         parents_come_first = rooted;
         boot_root = record {
-          small = omega (arith, f, least);
-          large = omega (arith, f, most);
-          same = sym (bare a.root) ∙ s.boot_root.same ∙ ap boot_root f;
+          small = omega arith;
+          large = omega arith;
+          same = rw (← bare a.root, s.boot_root.same, f);
         };
         pages_apart = λ x i. s.pages_apart x (a.from x i);
         lent = λ x y i j e. s.lent x y (other_back x i) (a.from y j) e;
@@ -59,9 +59,9 @@ module _ (t u : Tree) (s : IsSound t) (a : AreSame t u) (rooted : IsRooted u.roo
         rights = λ x y i j e. s.rights x y (other_back x i) (a.from y j) e;
         tables = λ x i. s.tables x (a.from x i);
         no_lines_but_the_root = λ x i. s.no_lines_but_the_root x (other_back x i);
-        words = λ g. sym (a.pages g) ∙ s.words g ∙ ap₂ (λ r h. has (row_pages r) g && not h) a.root (hidden_same g);
-        lines = subst (λ z. AreLines 0 z.pending) a.root s.lines;
-        numbers = λ g i h. subst IsWord (a.words g i h) (s.numbers g i h);
+        words = λ g. rw (← a.pages g, s.words g, ap₂ (λ r h. has (row_pages r) g && not h) a.root (hidden_same g));
+        lines = rw (← a.root) s.lines;
+        numbers = λ g i h. rw (← a.words g i h) (s.numbers g i h);
       }
     where
       bare : {x y : Node} → x ≡ y
@@ -72,7 +72,7 @@ module _ (t u : Tree) (s : IsSound t) (a : AreSame t u) (rooted : IsRooted u.roo
 
   find_same : (q : ℕ) → find_node t q ≡ find_node u q
   find_same q = find_agrees (λ x. x.name == q) (nodes t) (nodes u) a.to a.from
-      (λ x y i j e f. same_name t x y s i j (eqb-true x.name q e ∙ sym (eqb-true y.name q f)))
+      (λ x y i j e f. same_name t x y s i j (cc (eqb-true x.name q e, eqb-true y.name q f)))
 
   holder_same : (p g : ℕ) → holder t p g ≡ holder u p g
   unfolding other_on other_back
@@ -85,7 +85,7 @@ module _ (t u : Tree) (s : IsSound t) (a : AreSame t u) (rooted : IsRooted u.roo
 
   given_same : (p g : ℕ) → given_word t p g ≡ given_word u p g
   unfolding given_word holder_same
-  given_same p g = ap (λ o. given_by o g) (holder_same p g)
+  given_same p g = rw (holder_same p g)
 
   from_same : (x : Node) (g : ℕ) → from_word t x g ≡ from_word u x g
   unfolding from_word find_same
@@ -115,8 +115,7 @@ module _ (t u : Tree) (s : IsSound t) (a : AreSame t u) (rooted : IsRooted u.roo
   pub layout_same : (f i : ℕ) → i < 1024 → layout t f i ≡ layout u f i
   unfolding layout owned_same
   layout_same f i h =
-      ap (λ b. cond b (word_of (t.words f) i) (owned_word t f i (find (λ x. has (config x) f) (nodes t)))) (a.pages f)
-      ∙ ap₂ (λ w o. cond (is_some (u.words f)) w o) (a.words f i h) (owned_same f i)
+      rw (a.pages f, ap₂ (λ w o. cond (is_some (u.words f)) w o) (a.words f i h) (owned_same f i))
 
   pub lays_same : (m : List (List ℕ)) → LaysOut t m → LaysOut u m
   unfolding layout_same
@@ -124,5 +123,5 @@ module _ (t u : Tree) (s : IsSound t) (a : AreSame t u) (rooted : IsRooted u.roo
     shape = lays.shape;
     count = lays.count ∙ a.frames;
     word = λ f i f_in i_in. let frames = a.frames in
-        lays.word f i (omega (arith, f_in, frames)) i_in ∙ layout_same f i i_in;
+        lays.word f i (omega arith) i_in ∙ layout_same f i i_in;
   }

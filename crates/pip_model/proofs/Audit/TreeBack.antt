@@ -52,14 +52,13 @@ module _ (t : Tree) (s : IsSound t) (m : List (List ℕ)) (lays : LaysOut t m) w
       open_page : (g : ℕ) (o : Option (ℕ → ℕ)) → t.words g ≡ o
           → (has (row_pages t.root) g && not (hidden (bare_tree m t.root others) g)) ≡ is_some o
       open_page g o e =
-          ap (λ h. has (row_pages t.root) g && not h) (sym (hidden_same g)) ∙ sym (s.words g) ∙ ap is_some e
+          rw (← hidden_same g, ← s.words g, e)
 
       word : (g i : ℕ) → i < 1024 → (o : Option (ℕ → ℕ)) → t.words g ≡ o
           → word_of (t.words g) i ≡ word_of (words_read m (bare_tree m t.root others) g) i
       word g i h None e =
-          ap (λ o. word_of o i) e ∙ sym (ap (λ b. word_of (cond b (Some (word_at m g)) None) i) (open_page g None e))
-      word g i h (Some w) e = ap (λ o. word_of o i) e ∙ sym (laid_words t s m lays g i w e h)
-          ∙ sym (ap (λ b. word_of (cond b (Some (word_at m g)) None) i) (open_page g (Some w) e))
+          cc (open_page g None e)
+      word g i h (Some w) e = cc (laid_words t s m lays g i w e h, open_page g (Some w) e)
 
   pub read_back : ReadAs t m
   unfolding tree_of same_with
@@ -67,16 +66,13 @@ module _ (t : Tree) (s : IsSound t) (m : List (List ℕ)) (lays : LaysOut t m) w
       let all = tree_walks t s m lays in
       let one = root_is_one t s in
       let count = lays.count in
-      let root : node_read m 1 ≡ t.root = ap (node_read m) (sym one) ∙ node_back t s m lays t.root (inl refl) in
-      let passes : node_stop m 1 ≡ None = ap (node_stop m) (sym one) ∙ node_passes t s m lays t.root (inl refl) in
+      let root : node_read m 1 ≡ t.root = rw (← one, node_back t s m lays t.root (inl refl)) in
+      let passes : node_stop m 1 ≡ None = rw (← one, node_passes t s m lays t.root (inl refl)) in
       let others = all.others in
       let u : Tree = tree_of_nodes m t.root others in
       let same : AreSame t u = same_with others all.to all.from in
       let e : tree_of m ≡ IsTree u =
-      ap (λ o. tree_unless o
-      (tree_of_reading m (node_read m 1) (walk m (node_read m 1) (length m) (visits m (node_read m 1)) []))) passes
-      ∙ ap₂ (λ r n. tree_of_reading m r (walk m r n (visits m r) [])) root count
-      ∙ ap (tree_of_reading m t.root) all.complete in
+      rw (passes, ap₂ (λ r n. tree_of_reading m r (walk m r n (visits m r) [])) root count, all.complete) in
       record {
         tree = u;
         is = e;

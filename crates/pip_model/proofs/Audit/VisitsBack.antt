@@ -38,14 +38,14 @@ filtered_from {A = A} {B = B} h b (x ∷ xs) i = go (h x) refl (filtered_from h 
     go : (o : Option B) → h x ≡ o → (In b (filter_map h xs) → (a : A) × In a xs × (h a ≡ Some b))
         → In b (cons_option o (filter_map h xs)) → (a : A) × In a (x ∷ xs) × (h a ≡ Some b)
     go None e ih j = more (ih j)
-    go (Some c) e ih (inl q) = (x, inl refl, e ∙ ap Some (sym q))
+    go (Some c) e ih (inl q) = (x, inl refl, rw (e, ← q))
     go (Some c) e ih (inr j) = more (ih j)
 
 pub filtered : {A B : Type 0} (h : A → Option B) (a : A) (b : B) (xs : List A) → In a xs → h a ≡ Some b
     → In b (filter_map h xs)
 filtered h a b [] i e = absurd i
 filtered h a b (x ∷ xs) (inl q) e =
-    subst (λ o. In b (cons_option o (filter_map h xs))) (sym (ap h (sym q) ∙ e)) (inl refl)
+    rw (← q, e) (inl refl)
 filtered {B = B} h a b (x ∷ xs) (inr i) e = go (h x) (filtered h a b xs i e)
   where
     go : (o : Option B) → In b (filter_map h xs) → In b (cons_option o (filter_map h xs))
@@ -63,8 +63,8 @@ filtered_distinct {B = B} h f g (x ∷ xs) k d = go (h x) refl (filtered_distinc
     go (Some b) e r = (
       (λ i. let (c, j, q) = In-map_from g (g b) (filter_map h xs) i in
           let (a, l, p) = filtered_from h c xs j in
-          let same : f x ≡ f a = sym (k x b e) ∙ q ∙ k a c p in
-          d.0 (subst (λ n. In n (map f xs)) (sym same) (In-map f a xs l))),
+          let same : f x ≡ f a = cc (k x b e, k a c p) in
+          d.0 (rw same (In-map f a xs l))),
       r,
     )
 
@@ -106,15 +106,15 @@ module _ (t : Tree) (s : IsSound t) (m : List (List ℕ)) (lays : LaysOut t m) (
       pick (word_at m b.shadow1.frame (r.at % 1024)) (record {
         page = r.frame;
         told = record { frame = b.shadow1.frame; index = r.at % 1024 };
-      }) v w (sym (ap (visit_in m r) at) ∙ e) in
+      }) v w (cc) in
       let (y, c, n) = row_child t s x.name (r.at * 4096) x r (in_found t s x i) (omega arith)
       (ap (row_at x.rows) (omega arith) ∙ in_row x (s.pages_apart x i) r j) given in
       let back = child_back t s x.name (r.at * 4096) y c in
-      (y, other_in t y.name y back.0, back.1, n ∙ sym (visit_page m x.tables r v e))
+      (y, other_in t y.name y back.0, back.1, cc (visit_page m x.tables r v e))
     where
       pick : {g : ℕ} (w : ℕ) (u v : Visit) → w ≡ g → cond (w % 4096 == as_descriptor) (Some u) None ≡ Some v
           → g % 4096 ≡ as_descriptor
-      pick {g} w u v q e = ap (λ k. k % 4096) (sym q) ∙ go (w % 4096 == as_descriptor) refl e
+      pick {g} w u v q e = rw (← q, go (w % 4096 == as_descriptor) refl e)
         where
           go : (b : Bool) → (w % 4096 == as_descriptor) ≡ b → cond b (Some u) None ≡ Some v → w % 4096 ≡ as_descriptor
           go true k e = eqb-true (w % 4096) as_descriptor k
@@ -129,13 +129,13 @@ module _ (t : Tree) (s : IsSound t) (m : List (List ℕ)) (lays : LaysOut t m) (
       let k = row_in x (vpage y.born) r at in
       let (b, e, w) = told r k.0 in
       let one : word_at m b.shadow1.frame (r.at % 1024) ≡ shadow1_word as_descriptor (vpage y.born) =
-      w ∙ ap (given_word t x.name) frame ∙ given in
+      rw (w, frame, given) in
       let test : (word_at m b.shadow1.frame (r.at % 1024) % 4096 == as_descriptor) ≡ true = eq-eqb (word_at m
-      b.shadow1.frame (r.at % 1024) % 4096) as_descriptor (ap (λ k. k % 4096) one ∙ omega arith) in
+      b.shadow1.frame (r.at % 1024) % 4096) as_descriptor (rw one (omega arith)) in
       let v : Visit = record { page = r.frame; told = record { frame = b.shadow1.frame; index = r.at % 1024 } } in
-      let is : visit_of m x.tables r ≡ Some v = ap (visit_in m r) e ∙ ap (λ b. cond b (Some v) None) test in
-      subst (λ n. In n (map (λ v. v.page) (visits m x))) frame (In-map (λ v. v.page) v
-      (filter_map (visit_of m x.tables) x.rows) (filtered (visit_of m x.tables) r v x.rows k.0 is))
+      let is : visit_of m x.tables r ≡ Some v = rw (e, test) in
+      rw (← frame) (In-map (λ v. v.page) v (filter_map (visit_of m x.tables) x.rows)
+      (filtered (visit_of m x.tables) r v x.rows k.0 is))
 
   -- no page twice
   pub visits_differ : Distinct (map (λ v. v.page) (visits m x))

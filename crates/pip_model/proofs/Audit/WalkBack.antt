@@ -50,7 +50,7 @@ once_moved : (g : ℕ) (a b c : List ℕ) → Distinct a → Distinct (g ∷ b +
     → Distinct ((a ++ b) ++ g ∷ c)
 once_moved g a b c d e apart =
     Distinct-insert g (a ++ b) c
-    (subst Distinct (sym (append_assoc a b c)) (Distinct-append a (b ++ c) d e.1 (λ p i j. apart p i (inr j))))
+    (rw (append_assoc a b c) (Distinct-append a (b ++ c) d e.1 (λ p i j. apart p i (inr j))))
     (λ i. elim (In-append_cases g (a ++ b) c i) [
       | inr j ↦ e.0 (In-append_right g b c j)
       | inl j ↦ elim (In-append_cases g a b j) [ inl k ↦ apart g k (inl refl) | inr k ↦ e.0 (In-append_left g b c k) ]
@@ -97,7 +97,7 @@ module _ (t : Tree) (s : IsSound t) (m : List (List ℕ)) (lays : LaysOut t m) w
   visited_up x z i j h =
       let (v, k, e) = In-map_from (λ v. v.page) z.name (visits m x) h in
       let (y, l, u, n) = visit_child t s m lays x i v k in
-      ap (λ y. y.up) (sym (one_name y z l j (n ∙ sym e))) ∙ u
+      rw (← one_name y z l j (n ∙ sym e), u)
 
   begins : Going (visits m t.root) []
   begins = record {
@@ -116,7 +116,7 @@ module _ (t : Tree) (s : IsSound t) (m : List (List ℕ)) (lays : LaysOut t m) w
       → Going (v ∷ vs) others → In y.name (names_of (t.root ∷ others)) → ⊥
   not_read v vs others y i n g (inl e) = not_root t s y i (sym e)
   not_read v vs others y i n g (inr j) =
-      g.once.0 (In-append_right v.page (pages_of vs) (names_of others) (subst (λ k. In k (names_of others)) n j))
+      g.once.0 (In-append_right v.page (pages_of vs) (names_of others) (rw (← n) j))
 
   fresh : (v : Visit) (vs : List Visit) (others : List Node) (y : Node) → In y t.others → y.name ≡ v.page
       → Going (v ∷ vs) others → (p : ℕ) → In p (pages_of (visits m y)) → In p (ahead (v ∷ vs) others) → ⊥
@@ -135,31 +135,30 @@ module _ (t : Tree) (s : IsSound t) (m : List (List ℕ)) (lays : LaysOut t m) w
   goes_on v vs others y i n g =
       let pages = pages_append (visits m y) vs in
       let here : Distinct (y.name ∷ pages_of vs ++ names_of others) =
-      subst (λ k. Distinct (k ∷ pages_of vs ++ names_of others)) (sym n) g.once in
+      rw n g.once in
       record {
-        read = λ z j. elim j [ inl e ↦ subst (λ z. In z t.others) (sym e) i | inr k ↦ g.read z k ];
+        read = λ z j. elim j [ inl e ↦ rw e i | inr k ↦ g.read z k ];
         told = λ w j. elim (In-append_cases w (visits m y) vs j) [
           | inl k ↦ let (z, l, u, e) = visit_child t s m lays y (inr i) w k in (z, l, e)
           | inr k ↦ g.told w (inr k)
         ];
-        once = subst (λ ps. Distinct (ps ++ y.name ∷ names_of others)) (sym pages)
-            (once_moved y.name (pages_of (visits m y)) (pages_of vs) (names_of others)
+        once = rw pages (once_moved y.name (pages_of (visits m y)) (pages_of vs) (names_of others)
             (visits_differ t s m lays y (inr i)) here
             (λ p a b. fresh v vs others y i n g p a (subst (λ k. In p (k ∷ pages_of vs ++ names_of others)) n b)));
         parents = λ z j h. elim (moved_back y.name z.name (pages_of (visits m y)) (pages_of vs) (names_of others)
-            (subst (λ ps. In z.name (ps ++ y.name ∷ names_of others)) pages h)) [
+            (rw (← pages) h)) [
               | inl a ↦ inr (inl (visited_up y z (inr i) j a))
               | inr a ↦ later 0 z.up t.root others y
-                  (g.parents z j (subst (λ k. In z.name (k ∷ pages_of vs ++ names_of others)) n a))
+                  (g.parents z j (rw (← n) a))
             ];
-        closed = λ z j h. subst (λ ps. In z.name (ps ++ y.name ∷ names_of others)) (sym pages) (closing z j h);
+        closed = λ z j h. rw pages (closing z j h);
         rooted = (not_read v vs others y i n g, g.parents y i (inl n), g.rooted);
       }
     where
       old : (z : Node) → In z.name (v.page ∷ pages_of vs ++ names_of others)
           → In z.name ((pages_of (visits m y) ++ pages_of vs) ++ y.name ∷ names_of others)
       old z a = kept_moved y.name z.name (pages_of (visits m y)) (pages_of vs) (names_of others)
-          (subst (λ k. In z.name (k ∷ pages_of vs ++ names_of others)) (sym n) a)
+          (rw n a)
 
       closing : (z : Node) → In z t.others → In z.up (names_of (t.root ∷ y ∷ others))
           → In z.name ((pages_of (visits m y) ++ pages_of vs) ++ y.name ∷ names_of others)
@@ -176,25 +175,25 @@ module _ (t : Tree) (s : IsSound t) (m : List (List ℕ)) (lays : LaysOut t m) w
   all_read others g (x ∷ xs) r n z (inr i) = all_read others g xs r.2 (λ v j. n v (inr j)) z i
   all_read others g (x ∷ xs) r n z (inl e) =
       let ih = all_read others g xs r.2 (λ v j. n v (inr j)) in
-      subst (λ y. In y.name (names_of others)) (sym e) (g.closed x (n x (inl refl)) (elim r.1 [
+      rw e (g.closed x (n x (inl refl)) (elim r.1 [
         | inl q ↦ inl q
-        | inr k ↦ let (p, l, q) = In-map_from (λ z. z.name) x.up xs k in
-            inr (subst (λ k. In k (names_of others)) (sym q) (ih p l))
+        | inr k ↦ let (p, l, q) =
+            In-map_from (λ z. z.name) x.up xs k in inr (subst (λ k. In k (names_of others)) (sym q) (ih p l))
       ]))
 
   -- the names that were read are frames, so they are not more than frames
   few_read : (v : Visit) (vs : List Visit) (others : List Node) → Going (v ∷ vs) others → suc (length others) ≤ t.frames
   few_read v vs others g =
       let e = lengths (v.page ∷ names_of others) in
-      subst (λ k. k ≤ t.frames) (ap suc (named others)) (length-le_from_distinct_below (v.page ∷ names_of others)
-      t.frames (distinct_by_test (v.page ∷ names_of others) apart) small)
+      rw (← named others) (length-le_from_distinct_below (v.page ∷ names_of others) t.frames
+      (distinct_by_test (v.page ∷ names_of others) apart) small)
     where
       lengths : (xs : List ℕ) → length xs ≡ length xs
       lengths xs = refl
 
       named : (xs : List Node) → length (names_of xs) ≡ length xs
       named [] = refl
-      named (x ∷ xs) = ap suc (named xs)
+      named (x ∷ xs) = rw (named xs)
 
       second : (a b : List ℕ) → Distinct (a ++ b) → Distinct b
       second [] b d = d
@@ -211,9 +210,9 @@ module _ (t : Tree) (s : IsSound t) (m : List (List ℕ)) (lays : LaysOut t m) w
           page_small t z.name s z (inr j) (In-append_left z.name (config z) (row_pages z) (name-config t s z (inr j)))
 
       of_member : (q : ℕ) → In q (v.page ∷ names_of others) → q < t.frames
-      of_member q (inl e) = let (y, j, n) = g.told v (inl refl) in subst (λ k. k < t.frames) (n ∙ sym e) (frame y j)
+      of_member q (inl e) = let (y, j, n) = g.told v (inl refl) in rw (e, ← n) (frame y j)
       of_member q (inr i) = let (z, j, e) = In-map_from (λ z. z.name) q others i in
-          subst (λ k. k < t.frames) (sym e) (frame z (g.read z j))
+          rw e (frame z (g.read z j))
 
       small : (q : ℕ) → list_any (eqb q) (v.page ∷ names_of others) ≡ true → q < t.frames
       small q h = of_member q (any_member q (v.page ∷ names_of others) h)
@@ -239,7 +238,7 @@ module _ (t : Tree) (s : IsSound t) (m : List (List ℕ)) (lays : LaysOut t m) w
         to = g.read;
         from = λ z i. let (y, j, q) = In-map_from (λ z. z.name) z.name others
             (all_read others g t.others s.parents_come_first (λ v k. k) z i) in
-            subst (λ y. In y others) (one_name y z (g.read y j) i (sym q)) j;
+            rw (← one_name y z (g.read y j) i (sym q)) j;
       }
   walks (suc n) [] others e g = finished (suc n) others g refl
     where
@@ -252,7 +251,7 @@ module _ (t : Tree) (s : IsSound t) (m : List (List ℕ)) (lays : LaysOut t m) w
         to = g.read;
         from = λ z i. let (y, j, q) = In-map_from (λ z. z.name) z.name others
             (all_read others g t.others s.parents_come_first (λ v k. k) z i) in
-            subst (λ y. In y others) (one_name y z (g.read y j) i (sym q)) j;
+            rw (← one_name y z (g.read y j) i (sym q)) j;
       }
   walks zero (v ∷ vs) others e g = let few = few_read v vs others g in absurd (omega (arith, e, few))
   walks (suc n) (v ∷ vs) others e g =

@@ -47,8 +47,8 @@ pub visits_step : (m : List (List ℕ)) (page from at : ℕ) (v : Visit) → fro
 unfolding visits_from gather
 visits_step m page from at v lo hi none some =
     let f : ℕ → Option Visit = visit_at m (node_read m page).tables in
-    let a : (at - from) + suc (2 ^ 20 - (at + 1)) ≡ 2 ^ 20 - from = omega (arith, lo, hi) in
-    let b : from + (at - from) ≡ at = omega (arith, lo) in
+    let a : (at - from) + suc (2 ^ 20 - (at + 1)) ≡ 2 ^ 20 - from = omega arith in
+    let b : from + (at - from) ≡ at = omega arith in
     sym (ap (gather f from) a)
     ∙ gather_append f from (at - from) (suc (2 ^ 20 - (at + 1)))
     ∙ ap (λ xs. xs ++ gather f (from + (at - from)) (suc (2 ^ 20 - (at + 1)))) (gather_empty f from
@@ -60,7 +60,7 @@ pub visits_end : (m : List (List ℕ)) (page from : ℕ) → ((k : ℕ) → from
     → visit_at m (node_read m page).tables k ≡ None) → visits_from m (record { page = page; from = from }) ≡ []
 unfolding visits_from
 visits_end m page from none = gather_empty (visit_at m (node_read m page).tables) from
-    (2 ^ 20 - from) (λ k lo hi. none k lo (omega (arith, lo, hi)))
+    (2 ^ 20 - from) (λ k lo hi. none k lo (omega arith))
 
 -- one step of the walk over the stack
 pub walk_on : (m : List (List ℕ)) (root : Node) (n page from at : ℕ) (ss : List Standing) (others : List Node)
@@ -73,9 +73,4 @@ pub walk_on : (m : List (List ℕ)) (root : Node) (n page from at : ℕ) (ss : L
 unfolding walk
 walk_on m root n page from at ss others v step off passes =
     let rest : List Visit = visits_from m (record { page = page; from = at + 1 }) ++ ahead_of m ss in
-    ap (λ vs. walk m root (suc n) (vs ++ ahead_of m ss) others) step
-    ∙ ap (λ b. cond b (Stopped v.told) (reading_unless (node_stop m v.page)
-    (walk m root n (visits m (node_read m v.page) ++ rest) (node_read m v.page ∷ others)))) off
-    ∙ ap (λ o.
-    reading_unless o (walk m root n (visits m (node_read m v.page) ++ rest) (node_read m v.page ∷ others))) passes
-    ∙ ap (λ vs. walk m root n (vs ++ rest) (node_read m v.page ∷ others)) (visits_whole m v.page)
+    rw (step, off, passes, visits_whole m v.page)

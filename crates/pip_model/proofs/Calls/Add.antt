@@ -62,8 +62,7 @@ insert-at r v (s ∷ ss) h = let n = none_parts (s.at == r.at) s (row_at ss r.at
     go : (b : Bool) → (s.at == r.at) ≡ false → row_at (insert_row r ss) v ≡ cond (r.at == v) (Some r) (row_at ss v)
         → row_at (cond b (r ∷ s ∷ ss) (s ∷ insert_row r ss)) v ≡ cond (r.at == v) (Some r) (row_at (s ∷ ss) v)
     go true n ih = refl
-    go false n ih = ap (λ o. cond (s.at == v) (Some s) o) ih
-        ∙ swap (s.at == v) (r.at == v) r s (row_at ss v) (λ e f. absurd (grind (arith, n, e, f)))
+    go false n ih = rw (ih, swap (s.at == v) (r.at == v) r s (row_at ss v) (λ e f. absurd (grind (arith, n, e, f))))
 
 insert-rises : (low : ℕ) (r : Row) (rows : List Row) → low ≤ r.at → Rising low (map (λ q. q.at) rows)
     → row_at rows r.at ≡ None → Rising low (map (λ q. q.at) (insert_row r rows))
@@ -87,8 +86,8 @@ insert-apart r (s ∷ ss) d n = go (nat_lt r.at s.at) (insert-apart r ss d.1 (λ
     go true ih = (n, d)
     go false ih = (
       (λ i. let (q, j, e) = In-map_from (λ q. q.frame) s.frame (insert_row r ss) i in elim (insert-in r q ss j) [
-        | inl k ↦ d.0 (subst (λ g. In g (map (λ q. q.frame) ss)) (sym e) (In-map (λ q. q.frame) q ss k))
-        | inr k ↦ n (inl (sym (e ∙ ap (λ q. q.frame) k)))
+        | inl k ↦ d.0 (rw e (In-map (λ q. q.frame) q ss k))
+        | inr k ↦ n (inl (rw (← k, ← e)))
       ]),
       ih,
     )
@@ -101,8 +100,8 @@ insert-pages r (c ∷ cs) rows d n = (
     | inl j ↦ d.0 (In-append_left c cs (map (λ q. q.frame) rows) j)
     | inr j ↦ let (q, k, e) = In-map_from (λ q. q.frame) c (insert_row r rows) j in elim (insert-in r q rows k) [
       | inl l ↦ d.0 (In-append_right c cs (map (λ q. q.frame) rows)
-          (subst (λ g. In g (map (λ q. q.frame) rows)) (sym e) (In-map (λ q. q.frame) q rows l)))
-      | inr l ↦ n (inl (sym (e ∙ ap (λ q. q.frame) l)))
+          (rw e (In-map (λ q. q.frame) q rows l)))
+      | inr l ↦ n (inl (rw (← l, ← e)))
     ]
   ]),
   insert-pages r cs rows d.1 (λ i. n (inr i)),
@@ -115,8 +114,8 @@ module _ (t : Tree) (p : ℕ) (c : Node) (r : Row) (s : IsSound t) (n : IsName t
     | inr j ↦ let (q, k, e) = In-map_from (λ q. q.frame) g (with_row r c).rows j in
         elim (insert-in r q c.rows k) [
           | inl l ↦ inl (In-append_right g (config c) (row_pages c)
-              (subst (λ h. In h (row_pages c)) (sym e) (In-map (λ q. q.frame) q c.rows l)))
-          | inr l ↦ inr (e ∙ ap (λ q. q.frame) l)
+              (rw e (In-map (λ q. q.frame) q c.rows l)))
+          | inr l ↦ inr (rw (e, l))
         ]
   ]
 
@@ -124,20 +123,20 @@ module _ (t : Tree) (p : ℕ) (c : Node) (r : Row) (s : IsSound t) (n : IsName t
   not_held h = m.unheld c m.child m.up h
 
   is_parent : (y : Node) → In y (nodes t) → c.up ≡ y.name → node t p ≡ y
-  is_parent y j u = let k = node_found t p n in same_name t (node t p) y s k.0 j (k.1 ∙ sym m.up ∙ u)
+  is_parent y j u = let k = node_found t p n in same_name t (node t p) y s k.0 j (cc (k.1, m.up))
 
   -- its rows of before are there
   page_kept : (g : ℕ) → In g (row_pages c) → In g (row_pages (with_row r c))
-  page_kept g i = let (q, j, e) = In-map_from (λ q. q.frame) g c.rows i in subst (λ h. In h (row_pages (with_row r c)))
-      (sym e) (In-map (λ q. q.frame) q (with_row r c).rows (insert-kept r q c.rows j))
+  page_kept g i = let (q, j, e) = In-map_from (λ q. q.frame) g c.rows i in
+      rw e (In-map (λ q. q.frame) q (with_row r c).rows (insert-kept r q c.rows j))
 
   placed_still : (v g : ℕ) → page_at c v ≡ Some g → page_at (with_row r c) v ≡ Some g
-  placed_still v g e = ap (option_map (λ q. q.frame)) (insert-at r v c.rows m.absent) ∙ go (r.at == v) refl
+  placed_still v g e = rw (insert-at r v c.rows m.absent, go (r.at == v) refl)
     where
       go : (b : Bool) → (r.at == v) ≡ b → option_map (λ q. q.frame) (cond b (Some r) (row_at c.rows v)) ≡ Some g
       go false k = e
-      go true k = let none : page_at c r.at ≡ None = ap (option_map (λ q. q.frame)) m.absent in
-          let some : page_at c r.at ≡ Some g = subst (λ w. page_at c w ≡ Some g) (sym (eqb-true r.at v k)) e in
+      go true k = let none : page_at c r.at ≡ None = rw m.absent in
+          let some : page_at c r.at ≡ Some g = rw (eqb-true r.at v k) e in
           cc
 
   pub may_become : MayBecome t c (with_row r c)
@@ -151,17 +150,17 @@ module _ (t : Tree) (p : ℕ) (c : Node) (r : Row) (s : IsSound t) (n : IsName t
           pages = insert-pages r (config c) c.rows k.pages not_held;
           places = insert-rises 0 r c.rows (omega arith) k.places m.absent;
         };
-        named = record { name = b.name; born = b.born };
+        named = assumption;
         readable = λ q i. elim (insert-in r q c.rows i)
-            [ inl j ↦ s.readable c (inr m.child) q j | inr e ↦ subst (λ z. AreAmong 1 z.rights) (sym e) m.readable ];
+            [ inl j ↦ s.readable c (inr m.child) q j | inr e ↦ rw e m.readable ];
         tables = record {
           first = λ q i. elim (insert-in r q c.rows i)
-              [ inl j ↦ h.first q j | inr e ↦ λ z. m.nonzero (ap (λ q. q.at) (sym e) ∙ z) ];
+              [ inl j ↦ h.first q j | inr e ↦ λ z. m.nonzero (rw (← e, z)) ];
           differ = h.differ;
           tabled = λ q i. elim (insert-in r q c.rows i) [
             | inl j ↦ h.tabled q j
             | inr e ↦
-                subst (λ q. In (dir q.at) (map (λ t. t.index) c.tables)) (sym e) m.table
+                rw e m.table
           ];
           small = h.small;
           listed = h.listed;
@@ -172,15 +171,14 @@ module _ (t : Tree) (p : ℕ) (c : Node) (r : Row) (s : IsSound t) (n : IsName t
             rows = λ g i. elim (held_case g i) [
               | inl a ↦ l.rows g a
               | inr e ↦
-                  subst (λ z. In g (row_pages z)) is (subst (λ h. In h (row_pages (node t p))) (sym e) m.row)
+                  rw (← is) (subst (λ h. In h (row_pages (node t p))) (sym e) m.row)
             ];
             aligned = l.aligned;
             placed = l.placed;
           },
           λ q w i o e. elim (insert-in r q c.rows i) [
             | inl a ↦ s.rights c y m.child j u q w a o e
-            | inr a ↦ subst (λ z. AreAmong z.rights w.rights) (sym a)
-                (m.among w (subst (λ z. In w z.rows) (sym is) o) (sym e ∙ ap (λ q. q.frame) a))
+            | inr a ↦ rw a (m.among w (subst (λ z. In w z.rows) (sym is) o) (sym e ∙ ap (λ q. q.frame) a))
           ],
         );
         siblings = λ y j u ne g i o. elim (held_case g o) [
@@ -198,7 +196,7 @@ module _ (t : Tree) (p : ℕ) (c : Node) (r : Row) (s : IsSound t) (n : IsName t
             | inl j ↦ s.rights x c i (inr m.child) u q w a j e
             | inr j ↦ absurd (not_held (In-append_right r.frame (config c) (row_pages c)
                 (l.rows r.frame (In-append_right r.frame (config x) (row_pages x)
-                (subst (λ h. In h (row_pages x)) (e ∙ ap (λ q. q.frame) j) (In-map (λ q. q.frame) q x.rows a))))))
+                (rw (← j, ← e) (In-map (λ q. q.frame) q x.rows a))))))
           ],
         );
       }
@@ -216,7 +214,7 @@ child_found t p d c e =
 
 table_found : (x : Node) (v : ℕ) → has_table x v ≡ true → In (dir v) (map (λ t. t.index) x.tables)
 table_found x v e = let (y, i, q) = any_from (λ t. t.index == dir v) x.tables e in
-    subst (λ k. In k (map (λ t. t.index) x.tables)) (eqb-true y.index (dir v) q) (In-map (λ t. t.index) y x.tables i)
+    rw (← eqb-true y.index (dir v) q) (In-map (λ t. t.index) y x.tables i)
 
 none_of : {A : Type 0} (o : Option A) → is_some o ≡ false → o ≡ None
 none_of None e = refl
@@ -232,7 +230,7 @@ rights_found t p s n v r (Some u) e h k w i q =
     let d = Distinct-right (config (node t p)) (row_pages (node t p))
     (s.pages_apart (node t p) (node_found t p n).0).pages in
     let g : u ≡ w = same_at_key (λ q. q.frame) u w (node t p).rows d f.0 i (sym q) in
-    subst (λ z. AreAmong r z.rights) g h
+    rw (← g) h
 
 pub may_add : (t : Tree) (p v d cv r : ℕ) (c : Node) → IsSound t → IsName t p → child_at t p d ≡ Some c
     → first_met (add_refusals t p v d cv r) ≡ None
@@ -247,7 +245,7 @@ may_add t p v d cv r c s n k e =
     ≡ false = passed cs e S.NoRight in
     let tab : not (has_table (child_of t p d) (vpage cv)) ≡ false = passed cs e S.NoTable in
     let pre : is_some (row_at (child_of t p d).rows (vpage cv)) ≡ false = passed cs e S.Taken in
-    let is : child_of t p d ≡ c = ap (λ o. unwrap_or o nobody) k in
+    let is : child_of t p d ≡ c = rw k in
     let found = child_found t p d c k in
     let lv = not_false (is_place v) (any_none (λ x. not (is_place x)) v (v ∷ d ∷ cv ∷ []) off (inl refl)) in
     let lc =
@@ -268,9 +266,8 @@ may_add t p v d cv r c s n k e =
       among = λ w i q. rights_found t p s n (vpage v) r (row_at (node t p).rows (vpage v)) refl
           (eqb-true _ _ (not_false _ rest.1)) mp w i q;
       readable = eqb-true _ _ (not_false _ parts.0);
-      table = subst (λ x. In (dir (vpage cv)) (map (λ t. t.index) x.tables)) is
-          (table_found (child_of t p d) (vpage cv) (not_false _ tab));
-      absent = subst (λ x. row_at x.rows (vpage cv) ≡ None) is (none_of (row_at (child_of t p d).rows (vpage cv)) pre);
+      table = rw (← is) (table_found (child_of t p d) (vpage cv) (not_false _ tab));
+      absent = rw (← is) (none_of (row_at (child_of t p d).rows (vpage cv)) pre);
       nonzero = omega arith;
     }
 
@@ -285,9 +282,8 @@ add-sound t p v d cv r s n = go (first_met (add_refusals t p v d cv r)) refl
     at_child None k e = let f : is_none (child_at t p d) ≡ false = passed (add_refusals t p v d cv r) e S.NotChild in
         absurd (grind (arith, k, f))
     at_child (Some c) k e =
-        let is : child_name t p d ≡ c.name = ap (λ o. unwrap_or (option_map (λ x. x.name) o) 0) k in
-        subst (λ q. IsSound (tree_with_row t q (record { at = vpage cv; frame = page_of t p v; rights = r }))) (sym is)
-        (with_row-sound t p c _ s n (may_add t p v d cv r c s n k e))
+        let is : child_name t p d ≡ c.name = rw k in
+        rw is (with_row-sound t p c _ s n (may_add t p v d cv r c s n k e))
 
     go : (o : Option Status) → first_met (add_refusals t p v d cv r) ≡ o
         → IsSound (answer_unless t o (record {

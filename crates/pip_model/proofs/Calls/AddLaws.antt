@@ -35,7 +35,7 @@ added_row : (r : Row) (v : ℕ) (q : Row) (rows : List Row) → row_at rows r.at
     → cond (r.at == v) (Some r) (row_at rows v) ≡ Some q
 added_row r v q rows none e = elim (cases_eq r.at v) [
   | inl k ↦ let z = ap (row_at rows) k in cc
-  | inr k ↦ ap (λ b. cond b (Some r) (row_at rows v)) (ne_eqb r.at v k) ∙ e
+  | inr k ↦ rw (ne_eqb r.at v k, e)
 ]
 
 module _ (w : World) (p : ℕ) (a : Five) (s : IsSound w.tree) (n : IsName w.tree p) where
@@ -52,15 +52,14 @@ module _ (w : World) (p : ℕ) (a : Five) (s : IsSound w.tree) (n : IsName w.tre
       let m = may_add t p a.x0 a.x1 a.x2 a.x3 c s n k.found e in
       let names = change-keeps c.name f (λ z. z.name) (λ z. refl) in
       let configs = change-keeps c.name f (λ z. config z) (λ z. refl) in
-      subst (λ q. KeepsEntries t (change_node q f t)) (sym k.name)
-      (entries_on (change_at c.name f) t names configs (λ b x v q at r. elim (cases_eq x.name c.name) [
-        | inl same ↦
-            let is = same_name t x c s (found_in t b x at) (inr k.child) same in
-            let none = subst (λ z. row_at z.rows (vpage a.x2) ≡ None) (sym is) m.absent in
-            ap (λ z. row_at z.rows v) (change-here c.name f x same)
-            ∙ insert-at (row_of t p a) v x.rows none
-            ∙ added_row (row_of t p a) v q x.rows none r
-        | inr other ↦ ap (λ z. row_at z.rows v) (change-else c.name f x other) ∙ r
+      rw k.name (entries_on (change_at c.name f) t names configs
+      (λ b x v q at r. elim (cases_eq x.name c.name) [
+        | inl same ↦ let is = same_name t x c s (found_in t b x at) (inr k.child) same in let none =
+            subst (λ z. row_at z.rows (vpage a.x2) ≡ None) (sym is) m.absent in
+            ap (λ z. row_at z.rows v) (change-here c.name f x same) ∙ insert-at (row_of t p a) v x.rows none ∙
+            added_row (row_of t p a) v q x.rows none r
+        | inr other ↦
+            ap (λ z. row_at z.rows v) (change-else c.name f x other) ∙ r
       ]))
 
   keeps : Keeps AddVAddr w p a (answer AddVAddr w p a)
@@ -97,7 +96,7 @@ module _ {p : ℕ} {t u : Tree} (g : Agreeing p t u) where
       let changed : ℕ → Type 0 =
       λ page. AgreeTrees p (with_child t p a.x1 f t.words) (with_child u p a.x1 (f' page) u.words) in
       let same = agree_child g f (λ x. refl) (λ x. refl) a.x1 there t.words u.words g.trees.words in
-      record { status = refl; value = refl; tree = subst changed (page-same g a.x0) same })
+      record { status = refl; value = refl; tree = rw (← page-same g a.x0) same })
 
 pub laws : MemoryLaws AddVAddr
 laws = record {

@@ -32,7 +32,7 @@ total f (t ∷ ts) = f t + total f ts
 total_last : (f : Table → ℕ) (u : Table) (us : List Table)
     → f (last_of u us) + total f (front_of (u ∷ us)) ≡ total f (u ∷ us)
 total_last f u [] = refl
-total_last f u (v ∷ us) = let h = total_last f v us in omega (arith, h)
+total_last f u (v ∷ us) = omega (arith, total_last f v us)
 
 total_moved : (f : Table → ℕ) (ts : List Table) → total f (last_first ts) ≡ total f ts
 total_moved f [] = refl
@@ -41,9 +41,8 @@ total_moved f (t ∷ ts) = total_last f t ts
 out_step : (f : Table → ℕ) (b t : Table) (ts rest : List Table) (q : Bool) (o : Option Table)
     → cond q (Some t) o ≡ Some b → (o ≡ Some b → total f rest + f b ≡ total f ts)
     → total f (cond q (last_first ts) (t ∷ rest)) + f b ≡ f t + total f ts
-out_step f b t ts rest true o e ih = let k : t ≡ b = cc in let m = total_moved f ts in let n = ap f k in
-    omega (arith, m, n)
-out_step f b t ts rest false o e ih = let h = ih e in omega (arith, h)
+out_step f b t ts rest true o e ih = let k : t ≡ b = cc in omega (arith, total_moved f ts, ap f k)
+out_step f b t ts rest false o e ih = omega arith
 
 -- what is left, and the table that goes
 pub total_out : (f : Table → ℕ) (i : ℕ) (b : Table) (ts : List Table) → find (λ t. t.index == i) ts ≡ Some b
@@ -55,16 +54,15 @@ total_out f i b (t ∷ ts) e =
 -- lengths, indexes and pages are such sums
 pub total_length : (ts : List Table) → total (λ t. 1) ts ≡ length ts
 total_length [] = refl
-total_length (t ∷ ts) = let h = total_length ts in omega (arith, h)
+total_length (t ∷ ts) = omega (arith, total_length ts)
 
 total_index : (k : ℕ) (ts : List Table) → total (λ t. cond (t.index == k) 1 0) ts ≡ count k (map (λ t. t.index) ts)
 total_index k [] = refl
-total_index k (t ∷ ts) = ap (λ n. cond (t.index == k) 1 0 + n) (total_index k ts)
+total_index k (t ∷ ts) = rw (total_index k ts)
 
 total_pages : (g : ℕ) (ts : List Table) → total (λ t. times g (table_pairs t)) ts ≡ times g (flat_map table_pairs ts)
 total_pages g [] = refl
-total_pages g (t ∷ ts) = let h = total_pages g ts in let a = times-append g (table_pairs t) (flat_map table_pairs ts) in
-    omega (arith, h, a)
+total_pages g (t ∷ ts) = omega (arith, total_pages g ts, times-append g (table_pairs t) (flat_map table_pairs ts))
 
 -- members
 in_last : (v u : Table) (us : List Table) → In v (last_of u us ∷ front_of (u ∷ us)) → In v (u ∷ us)
@@ -96,12 +94,12 @@ in_front g (h ∷ k ∷ gs) (inr i) = inr (in_front g (k ∷ gs) i)
 times_front : (g : ℕ) (gs : List Pair) → times g (front_of gs) + times g (last_pair gs) ≡ times g gs
 times_front g [] = refl
 times_front g (h ∷ []) = omega arith
-times_front g (h ∷ k ∷ gs) = let r = times_front g (k ∷ gs) in omega (arith, r)
+times_front g (h ∷ k ∷ gs) = omega (arith, times_front g (k ∷ gs))
 
 length_front : (gs : List Pair) → length (front_of gs) ≡ length gs - 1
 length_front [] = refl
 length_front (h ∷ []) = refl
-length_front (h ∷ k ∷ gs) = let r = length_front (k ∷ gs) in omega (arith, r)
+length_front (h ∷ k ∷ gs) = omega (arith, length_front (k ∷ gs))
 
 -- the list page that goes, if one does
 abbrev pub list_page : Node → List Pair
@@ -142,7 +140,7 @@ pub pairs_flat : (g : Pair) (b : Table) (ts : List Table) → In b ts → In g (
     → In g (flat_map table_pairs ts)
 pairs_flat g b [] i h = absurd i
 pairs_flat g b (t ∷ ts) (inl e) h =
-    In-append_left g (table_pairs t) (flat_map table_pairs ts) (subst (λ z. In g (table_pairs z)) e h)
+    In-append_left g (table_pairs t) (flat_map table_pairs ts) (rw (← e) h)
 pairs_flat g b (t ∷ ts) (inr i) h = In-append_right g (table_pairs t) (flat_map table_pairs ts) (pairs_flat g b ts i h)
 
 pub pairs_taken : (i : ℕ) (x : Node) (g : Pair) → In g (pairs (without_table i x)) → In g (pairs x)
@@ -179,16 +177,15 @@ pub tables_taken : (i : ℕ) (x : Node) (b : Table) → RowsHaveTables x → fin
 tables_taken i x b k found same empty = record {
   first = k.first;
   differ = count-distinct (map (λ t. t.index) (swap_out i x.tables)) (λ g.
-      let o = distinct-count (map (λ t. t.index) x.tables) k.differ g in
-      let a = index_left g in omega (arith, o, a));
+      omega (arith, distinct-count (map (λ t. t.index) x.tables) k.differ g, index_left g));
   tabled = λ r j. in-count (dir r.at) (map (λ t. t.index) (swap_out i x.tables)) (
       let c = count-in (dir r.at) (map (λ t. t.index) x.tables) (k.tabled r j) in
       let a = index_left (dir r.at) in
       let f : (dir r.at == i) ≡ false = any_none (λ r. dir r.at == i) r x.rows empty j in
       let n : (b.index == dir r.at) ≡ false =
-      ne_eqb b.index (dir r.at) (λ e. eqb-false (dir r.at) i f (sym e ∙ same)) in
-      let z : ◌≡◌ {A = ℕ} (cond (b.index == dir r.at) 1 0) 0 = ap (λ v. cond {A = ℕ} v 1 0) n in
-      omega (arith, c, a, z));
+      ne_eqb b.index (dir r.at) (λ e. eqb-false (dir r.at) i f (cc)) in
+      let z : ◌≡◌ {A = ℕ} (cond (b.index == dir r.at) 1 0) 0 = rw n in
+      omega arith);
   small = λ t j. k.small t (in_out t i x.tables j);
   listed = go (falls x) refl;
 }
@@ -203,20 +200,13 @@ tables_taken i x b k found same empty = record {
 
     shorter : length (swap_out i x.tables) + 1 ≡ length x.tables
     shorter =
-        let o = total_out (λ t. 1) i b x.tables found in
-        let p = total_length (swap_out i x.tables) in
-        let q = total_length x.tables in
-        omega (arith, o, p, q)
+        omega (arith, total_out (λ t. 1) i b x.tables found, total_length (swap_out i x.tables), total_length x.tables)
 
     go : (f : Bool) → falls x ≡ f → length (cond f (front_of x.more) x.more) ≡ lists (length (swap_out i x.tables)) - 1
     go true e =
-        let l = ltb-true (lists (length x.tables - 1)) (lists (length x.tables)) e in
-        let n = shorter in let m = k.listed in let d = length_front x.more in
-        omega (arith, l, n, m, d)
+        omega (arith, ltb-true (lists (length x.tables - 1)) (lists (length x.tables)) e, shorter, length_front x.more)
     go false e =
-        let l = ltb-false (lists (length x.tables - 1)) (lists (length x.tables)) e in
-        let n = shorter in let m = k.listed in
-        omega (arith, l, n, m)
+        omega (arith, ltb-false (lists (length x.tables - 1)) (lists (length x.tables)) e, shorter)
 
 linked_some : (gs : List Pair) (words : ℕ → Option (ℕ → ℕ)) (g : ℕ)
     → is_some (words_with_chain gs words g) ≡ (has (map (λ h. h.frame) gs) g || is_some (words g))
@@ -233,7 +223,7 @@ linked_some (h ∷ gs) words g = go (h.frame == g) (linked_some gs words g)
 words_back : (back before after row : Bool) (w : Bool) → w ≡ (row && not before) → (back ≡ true
     → (row ≡ true) × (after ≡ false)) → (back ≡ false → after ≡ before) → (back || w) ≡ (row && not after)
 words_back true before after row w e f g = let h = f refl in ap₂ (λ r a. r && not a) (sym h.0) (sym h.1)
-words_back false before after row w e f g = e ∙ ap (λ a. row && not a) (sym (g refl))
+words_back false before after row w e f g = rw (e, ← g refl)
 
 module _ (t : Tree) (c : Node) (i : ℕ) (b : Table) (s : IsSound t) (child : In c t.others)
     (found : find (λ t. t.index == i) c.tables ≡ Some b) (same : b.index ≡ i) (empty : has_row_in c i ≡ false) where
@@ -252,7 +242,7 @@ module _ (t : Tree) (c : Node) (i : ℕ) (b : Table) (s : IsSound t) (child : In
       record {
         child = child;
         apart = apart_taken i c b (s.pages_apart c (inr child)) found;
-        named = record { name = d.name; born = d.born };
+        named = assumption;
         readable = s.readable c (inr child);
         tables = tables_taken i c b (s.tables c (inr child)) found same empty;
         quiet = s.no_lines_but_the_root c child;
@@ -266,7 +256,7 @@ module _ (t : Tree) (c : Node) (i : ℕ) (b : Table) (s : IsSound t) (child : In
         );
         siblings = λ z j u ne g h k. s.siblings_apart z c j child u ne g h (held_from g k);
         lends = λ x j u. let l = s.lent x c j (inr child) u in
-            (record { rows = l.rows; aligned = l.aligned; placed = l.placed }, s.rights x c j (inr child) u);
+            (assumption, s.rights x c j (inr child) u);
       }
 
   abbrev back : List ℕ
@@ -277,7 +267,7 @@ module _ (t : Tree) (c : Node) (i : ℕ) (b : Table) (s : IsSound t) (child : In
   child_pages g = times_taken g i c b found
 
   back_config : (g : ℕ) → In g back → In g (config c)
-  back_config g h = in-count g (config c) (let k = count-in g back h in let p = child_pages g in omega (arith, k, p))
+  back_config g h = in-count g (config c) (omega (arith, count-in g back h, child_pages g))
 
   back_gone : (g : ℕ) → In g back → In g (config (without_table i c)) → ⊥
   back_gone g h k =
@@ -286,14 +276,14 @@ module _ (t : Tree) (c : Node) (i : ℕ) (b : Table) (s : IsSound t) (child : In
       let p = child_pages g in
       let o = distinct-count (held_pages c) (s.pages_apart c (inr child)).pages g in
       let a = count-append g (config c) (row_pages c) in
-      absurd (omega (arith, m, n, p, o, a))
+      absurd (omega arith)
 
   hidden_gone : (g : ℕ) → In g back → hidden (change_node c.name (without_table i) t) g ≡ false
   unfolding may_become
   hidden_gone g h =
       false_from_ne_true _ (λ q. elim (hidden-after t s c (without_table i) (λ x. refl) (λ x. refl) may_become g q) [
         | inl k ↦ back_gone g h k
-        | inr x ↦ x.2 (ap (λ z. z.name) (sym (one_config t g s c x.0 (inr child) x.1 (back_config g h) x.3)))
+        | inr x ↦ x.2 (rw (← one_config t g s c x.0 (inr child) x.1 (back_config g h) x.3))
       ])
 
   hidden_kept : (g : ℕ) → (In g back → ⊥) → hidden (change_node c.name (without_table i) t) g ≡ hidden t g
@@ -304,11 +294,11 @@ module _ (t : Tree) (c : Node) (i : ℕ) (b : Table) (s : IsSound t) (child : In
       (λ q. let (x, j, k) = hidden_from t g q in elim (cases_eq x.name c.name) [
         | inr ne ↦ hidden-other t s c (without_table i) (λ x. refl) (λ x. refl) may_become g x j ne k
         | inl e ↦
-            let w = count-in g (config c) (subst (λ z. In g (config z)) (same_name t x c s j (inr child) e) k) in
+            let w = count-in g (config c) (rw (← same_name t x c s j (inr child) e) k) in
             let p = child_pages g in
             let z = no_count g back n in
             hidden-child t s c (without_table i) (λ x. refl) (λ x. refl) may_become g
-            (in-count g (config y) (omega (arith, w, p, z)))
+            (in-count g (config y) (omega arith))
       ])
 
   back_given : (d : Pair) → In d (table_pairs b ++ list_page c) → In d (pairs c)
@@ -340,7 +330,7 @@ module _ (t : Tree) (c : Node) (i : ℕ) (b : Table) (s : IsSound t) (child : In
       (has (row_pages t.root) g) (is_some (t.words g)) (s.words g)
       (λ e. let h = has_in g back e in (
         elim (root_is_top t s c (inr child)) [
-          | inl q ↦ absurd (not_root t s c child (ap (λ z. z.name) q))
+          | inl q ↦ absurd (not_root t s c child (rw q))
           | inr a ↦ in_has g (row_pages t.root)
               (holds_up t g s t.root c a (In-append_left g (config c) (row_pages c) (back_config g h)))
         ],
@@ -370,11 +360,10 @@ collect-sound t p d cv s = unless-sound t (first_met cs) _ s (at_child (child_at
     at_child (Some c) k e =
         let q : is_none (table_for (child_of t p d) (vpage cv)) ≡ false = passed cs e S.NoTable in
         let f : has_row_in (child_of t p d) (dir (vpage cv)) ≡ false = passed cs e S.NotEmpty in
-        let is : child_of t p d ≡ c = ap (λ o. unwrap_or o nobody) k in
-        let na : child_name t p d ≡ c.name = ap (λ o. unwrap_or (option_map (λ x. x.name) o) 0) k in
-        subst (λ n. IsSound (tree_without_table t n (dir (vpage cv))
-        (returned_pages (child_of t p d) (table_for (child_of t p d) (vpage cv))))) (sym na)
-        (subst (λ z. IsSound (tree_without_table t c.name (dir (vpage cv)) (returned_pages z (table_for z (vpage cv)))))
-        (sym is)
-        (at_table c (table_for c (vpage cv)) (child_found t p d c k).0 refl (subst (λ z.
-        is_none (table_for z (vpage cv)) ≡ false) is q) (subst (λ z. has_row_in z (dir (vpage cv)) ≡ false) is f)))
+        let is : child_of t p d ≡ c = rw k in
+        let na : child_name t p d ≡ c.name = rw k in
+        rw na (subst (λ z. IsSound (tree_without_table t c.name (dir (vpage cv))
+        (returned_pages z (table_for z (vpage cv))))) (sym is)
+        (at_table c (table_for c (vpage cv)) (child_found t p d c k).0 refl
+        (subst (λ z. is_none (table_for z (vpage cv)) ≡ false) is q)
+        (subst (λ z. has_row_in z (dir (vpage cv)) ≡ false) is f)))

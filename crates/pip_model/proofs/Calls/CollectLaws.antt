@@ -35,8 +35,7 @@ chain_out : (gs : List Pair) (w : ℕ → Option (ℕ → ℕ)) (g : ℕ) → ((
     → words_with_chain gs w g ≡ w g
 chain_out [] w g h = refl
 chain_out (d ∷ gs) w g h =
-    ap (λ b. cond b (Some (chain_word (first_va gs))) (words_with_chain gs w g)) (ne_eqb d.frame g (h d (inl refl)))
-    ∙ chain_out gs w g (λ e i. h e (inr i))
+    rw (ne_eqb d.frame g (h d (inl refl)), chain_out gs w g (λ e i. h e (inr i)))
 
 last_in : (gs : List Pair) (d : Pair) → In d (last_pair gs) → In d gs
 last_in [] d k = k
@@ -65,8 +64,7 @@ module _ (t : Tree) (p d cv : ℕ) (there : is_none (child_at t p d) ≡ false) 
   returned_word : IsSound t → IsWord (first_va (returned t p d cv))
   returned_word s =
       let (c, k) = named_child t p d there in
-      subst (λ x. IsWord (first_va (returned_pages x (table_for x (vpage cv))))) (sym k.node)
-      (of c (table_for c (vpage cv)) k.child refl)
+      rw k.node (of c (table_for c (vpage cv)) k.child refl)
     where
       of : (x : Node) (o : Option Table) → In x t.others → table_for x (vpage cv) ≡ o
           → IsWord (first_va (returned_pages x o))
@@ -151,7 +149,7 @@ module _ {p : ℕ} {t u : Tree} (g : Agreeing p t u) where
       (λ h i j l. chain_same gs t.words u.words h i (g.trees.words h i j l)) in
       let changed : List Pair → Type 0 =
       λ hs. AgreeTrees p (with_child t p d f words) (with_child u p d f (words_with_chain hs u.words)) in
-      record { status = refl; value = ap first_va same; tree = subst changed same tree })
+      record { status = refl; value = rw same; tree = rw (← same) tree })
 
 pub laws : MemoryLaws Collect
 laws = record {

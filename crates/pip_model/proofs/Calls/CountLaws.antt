@@ -30,7 +30,7 @@ agrees : {p : ℕ} {t u : Tree} → Agreeing p t u → (d cv : ℕ)
 agrees g d cv =
     agree_unless g (count_same g d cv) (λ h. record {
       status = refl;
-      value = ap (λ x. pages_needed x (vpage cv)) (child_of-same g d);
+      value = rw (child_of-same g d);
       tree = g.trees;
     })
 

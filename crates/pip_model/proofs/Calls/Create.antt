@@ -61,25 +61,25 @@ module _ (t : Tree) (p : ℕ) (a : Five) (s : IsSound t) (n : IsName t p) (m : M
 
   each_node : (P : Node → Type 0) → P (newborn t p a) → EachNode P t → EachNode P (tree_with_newborn t p a)
   each_node P h k x (inl e) = k x (inl e)
-  each_node P h k x (inr (inl e)) = subst P (sym e) h
+  each_node P h k x (inr (inl e)) = rw e h
   each_node P h k x (inr (inr i)) = k x (inr i)
 
   each_other : (P : Node → Type 0) → P (newborn t p a) → EachOther P t → EachOther P (tree_with_newborn t p a)
-  each_other P h k x (inl e) = subst P (sym e) h
+  each_other P h k x (inl e) = rw e h
   each_other P h k x (inr i) = k x i
 
   new_child : (R : Node → Node → Type 0) → R (node t p) (newborn t p a) → (x y : Node) → x ≡ newborn t p a
       → In y (nodes t) → x.up ≡ y.name → R y x
   new_child R h x y q j u =
       let f = node_found t p n in
-      let k : node t p ≡ y = same_name t (node t p) y s f.0 j (f.1 ∙ sym (ap (λ z. z.up) q) ∙ u) in
-      subst (λ z. R z x) k (subst (R (node t p)) (sym q) h)
+      let k : node t p ≡ y = same_name t (node t p) y s f.0 j (cc (f.1)) in
+      rw (← k) (subst (R (node t p)) (sym q) h)
 
   -- the new node is nobody's parent, and its own is the caller
   each_child : (R : Node → Node → Type 0) → R (node t p) (newborn t p a) → EachChild R t
       → EachChild R (tree_with_newborn t p a)
   each_child R h k x y i (inr (inl e)) u =
-      absurd (fresh_name (subst (λ q. In q (names_of (nodes t))) (u ∙ ap (λ z. z.name) e) (up_name i)))
+      absurd (fresh_name (subst (λ q. In q (names_of (nodes t))) (rw (u, e)) (up_name i)))
     where
       up_name : In x (newborn t p a ∷ t.others) → In x.up (names_of (nodes t))
       up_name (inl q) = subst (λ z. In z.up (names_of (nodes t))) (sym q) n
@@ -113,10 +113,10 @@ module _ (t : Tree) (p : ℕ) (a : Five) (s : IsSound t) (n : IsName t p) (m : M
       (m.usable x j).unheld y i (sym u) (subst (λ g. In g (held_pages y)) e k)
 
   apart : EachSiblings AreApart (tree_with_newborn t p a)
-  apart x y (inl e) (inl f) u d = absurd (d (ap (λ z. z.name) (e ∙ sym f)))
-  apart x y (inl e) (inr j) u d = subst (λ z. AreApart z y) (sym e) (apart_new y j (sym (ap (λ z. z.up) e) ∙ u))
+  apart x y (inl e) (inl f) u d = absurd (d (cc))
+  apart x y (inl e) (inr j) u d = rw e (apart_new y j (sym (ap (λ z. z.up) e) ∙ u))
   apart x y (inr i) (inl f) u d =
-      subst (λ z. AreApart x z) (sym f) (λ g h k. apart_new x i (sym (u ∙ ap (λ z. z.up) f)) g k h)
+      rw f (λ g h k. apart_new x i (sym (u ∙ ap (λ z. z.up) f)) g k h)
   apart x y (inr i) (inr j) u d = s.siblings_apart x y i j u d
 
   tables_new : RowsHaveTables (newborn t p a)
@@ -132,7 +132,7 @@ module _ (t : Tree) (p : ℕ) (a : Five) (s : IsSound t) (n : IsName t p) (m : M
   pub with_newborn-sound : IsSound (tree_with_newborn t p a)
   with_newborn-sound = record {
     parents_come_first = rooted;
-    boot_root = record { small = s.boot_root.small; large = s.boot_root.large; same = s.boot_root.same };
+    boot_root = assumption;
     pages_apart = each_node KeepsPagesApart unique_new s.pages_apart;
     lent = each_child IsLentBy lent_new s.lent;
     named_by_descriptor = each_other IsNamedByBase (record { name = refl; born = refl }) s.named_by_descriptor;

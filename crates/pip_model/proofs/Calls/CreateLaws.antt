@@ -39,7 +39,7 @@ created_name t p x q (inr i) = inr (inr i)
 created_case : (t : Tree) (p : ℕ) (x : Five) (P : Node → Type 0) → ((y : Node) → In y (nodes t) → P y)
     → P (newborn t p x) → (y : Node) → In y (nodes (tree_with_newborn t p x)) → P y
 created_case t p x P f g y (inl e) = f y (inl e)
-created_case t p x P f g y (inr (inl e)) = subst P (sym e) g
+created_case t p x P f g y (inr (inl e)) = rw e g
 created_case t p x P f g y (inr (inr i)) = f y (inr i)
 
 module _ (t : Tree) (p : ℕ) (x : Five) (s : IsSound t) (n : IsName t p) (m : MayCreate t p x) where
@@ -50,7 +50,7 @@ module _ (t : Tree) (p : ℕ) (x : Five) (s : IsSound t) (n : IsName t p) (m : M
   same_line : (q : ℕ) → IsName t q → ancestry new q ≡ ancestry t q
   same_line q i =
       let other = ne_eqb (newborn t p x).name q (λ e. C.fresh_name t p x s n m (subst (IsName t) (sym e) i)) in
-      ap (λ b. names_of (cond b (newborn t p x ∷ chain_in t.root t.others p) (chain_in t.root t.others q))) other
+      rw other
 
   same_node : (q : ℕ) → IsName t q → node new q ≡ node t q
   same_node q i =
@@ -63,10 +63,10 @@ module _ (t : Tree) (p : ℕ) (x : Five) (s : IsSound t) (n : IsName t p) (m : M
       child_below new p (C.with_newborn-sound t p x s n m) (created_name t p x p n) (newborn t p x) child
 
   to_new : (y : Node) → In y (nodes t) → In p (ancestry t y.name) → In p (ancestry new y.name)
-  to_new y i h = subst (In p) (sym (same_line y.name (name_in y (nodes t) i))) h
+  to_new y i h = rw (same_line y.name (name_in y (nodes t) i)) h
 
   to_old : (y : Node) → In y (nodes t) → In p (ancestry new y.name) → In p (ancestry t y.name)
-  to_old y i h = subst (In p) (same_line y.name (name_in y (nodes t) i)) h
+  to_old y i h = rw (← same_line y.name (name_in y (nodes t) i)) h
 
   leaves : LeavesTree p t new
   leaves = record {
@@ -93,8 +93,8 @@ keeps : (w : World) (p : ℕ) (a : Five) → IsSound w.tree → IsName w.tree p
 keeps w p a s n = unless (λ e. let m = may_create w.tree p a e in record {
   stays = λ q r i. created_name w.tree p a q i;
   value = omega arith;
-  up = λ q i j. ap (λ z. z.up) (same_node w.tree p a s n m q i);
-  rows = λ q i j h. ap (λ z. z.rows) (same_node w.tree p a s n m q i);
+  up = λ q i j. rw (same_node w.tree p a s n m q i);
+  rows = λ q i j h. rw (same_node w.tree p a s n m q i);
   words = λ l g h i. open_words w.tree p a s n m g i;
   entries = λ h. cc;
   leaves = leaves w.tree p a s n m;
@@ -155,7 +155,7 @@ module _ {p : ℕ} {t u : Tree} (g : Agreeing p t u) where
       let e = ap first_met (refusals_same x) in
       agree_unless g e (λ h.
       let m = may_create t p x h in
-      let m' = may_create u p x (sym e ∙ h) in
+      let m' = may_create u p x (cc) in
       let same = newborn_same x in
       let row = same_node t p x g.sound g.name m p g.name in
       record {
@@ -165,8 +165,8 @@ module _ {p : ℕ} {t u : Tree} (g : Agreeing p t u) where
           to = below_to g x m m' same g.trees.to;
           from = below_to (turned g) x m' m (sym same) g.trees.from;
           words = λ h i j b.
-              without_same (config (newborn t p x)) (config (newborn u p x)) t.words u.words h i (ap config same)
-              (g.trees.words h i (subst (λ z. In h (row_pages z)) row j) b);
+              without_same (config (newborn t p x)) (config (newborn u p x)) t.words u.words h i (cc)
+              (g.trees.words h i (rw (← row) j) b);
         };
       })
 

@@ -28,7 +28,7 @@ module _ (t : Tree) (a : ℕ) (s : IsSound t) (other : a ≢ t.root.name) where
   root_stays : has (ancestry t t.root.name) a ≡ false
   root_stays = false_from_ne_true _ (λ e.
       let (z, i, q) = In-map_from (λ z. z.name) a (chain t t.root.name) (has_in a (ancestry t t.root.name) e) in
-      other (q ∙ ap (λ z. z.name) (root_alone t s z i)))
+      other (rw (q, root_alone t s z i)))
 
   -- where a parent goes, its children go
   goes_down : (x y : Node) → In x t.others → x.up ≡ y.name → has (ancestry t y.name) a ≡ true
@@ -36,8 +36,8 @@ module _ (t : Tree) (a : ℕ) (s : IsSound t) (other : a ≢ t.root.name) where
   goes_down x y i u e =
       let j : In a (ancestry t y.name) = has_in a (ancestry t y.name) e in
       let k : ancestry t x.name ≡ x.name ∷ ancestry t y.name =
-      ap (map (λ z. z.name)) (chain-node t s x i) ∙ ap (λ p. x.name ∷ ancestry t p) u in
-      in_has a (ancestry t x.name) (subst (In a) (sym k) (inr j))
+      rw (chain-node t s x i, u) in
+      in_has a (ancestry t x.name) (rw k (inr j))
 
   left_of : List Node → List Node
   left_of xs = filter (λ x. not (has (ancestry t x.name) a)) xs
@@ -47,13 +47,13 @@ module _ (t : Tree) (a : ℕ) (s : IsSound t) (other : a ≢ t.root.name) where
 
   left_in : (x : Node) (xs : List Node) → In x xs → has (ancestry t x.name) a ≡ false
       → In x (filter (λ x. not (has (ancestry t x.name) a)) xs)
-  left_in x xs i e = In-filter (λ x. not (has (ancestry t x.name) a)) x xs i (ap not e)
+  left_in x xs i e = In-filter (λ x. not (has (ancestry t x.name) a)) x xs i (rw e)
 
   names_left : (n : ℕ) (xs : List Node) → In n (names_of (filter (λ x. not (has (ancestry t x.name) a)) xs))
       → In n (names_of xs)
   names_left n xs i = let (x, j, e) =
       In-map_from (λ x. x.name) n (filter (λ x. not (has (ancestry t x.name) a)) xs) i in
-      subst (λ m. In m (names_of xs)) (sym e) (name_in x xs (left_from x xs j))
+      rw e (name_in x xs (left_from x xs j))
 
   -- the parent of one that stays stays
   up_left : (x : Node) (xs : List Node) → In x t.others → has (ancestry t x.name) a ≡ false → In x.up
@@ -63,8 +63,7 @@ module _ (t : Tree) (a : ℕ) (s : IsSound t) (other : a ≢ t.root.name) where
       let (y, k, u) = In-map_from (λ y. y.name) x.up xs j in
       let n : has (ancestry t y.name) a ≡ false = false_from_ne_true _ (λ h. let g = goes_down x y i u h in
       grind (arith, e, g)) in
-      inr (subst (λ m. In m (names_of (filter (λ x. not (has (ancestry t x.name) a)) xs))) (sym u)
-      (name_in y (filter (λ x. not (has (ancestry t x.name) a)) xs) (left_in y xs k n)))
+      inr (rw (← u) at (name_in y (filter (λ x. not (has (ancestry t x.name) a)) xs) (left_in y xs k n)))
 
   rooted_left : (xs : List Node) → ((x : Node) → In x xs → In x t.others) → IsRooted t.root xs
       → IsRooted t.root (filter (λ x. not (has (ancestry t x.name) a)) xs)
@@ -90,7 +89,7 @@ module _ (t : Tree) (a : ℕ) (s : IsSound t) (other : a ≢ t.root.name) where
 
   -- a partition that stays is not below a
   pub left_stays : (x : Node) → In x (nodes (tree_without_subtree t a)) → has (ancestry t x.name) a ≡ false
-  left_stays x (inl e) = subst (λ z. has (ancestry t z.name) a ≡ false) (sym e) root_stays
+  left_stays x (inl e) = rw e root_stays
   left_stays x (inr i) = let h = (In-filter_from (λ x. not (has (ancestry t x.name) a)) x t.others i).1 in
       not-true (has (ancestry t x.name) a) h
 
@@ -114,11 +113,11 @@ module _ (t : Tree) (a : ℕ) (s : IsSound t) (other : a ≢ t.root.name) where
       let (y, j, l) = hidden_from (tree_without_subtree t a) g q in
       let same : x ≡ y = one_config t g s x y i (left_nodes y j) h l in
       let st = left_stays y j in
-      let w : has (ancestry t y.name) a ≡ true = subst (λ z. has (ancestry t z.name) a ≡ true) same k in
+      let w : has (ancestry t y.name) a ≡ true = rw (← same) k in
       grind (arith, st, w)) in
       let r : has (row_pages t.root) g ≡ true = in_has g (row_pages t.root) (elim (root_is_top t s x i) [
         | inl q ↦ absurd (let st = root_stays in
-            let w : has (ancestry t t.root.name) a ≡ true = subst (λ z. has (ancestry t z.name) a ≡ true) (sym q) k in
+            let w : has (ancestry t t.root.name) a ≡ true = rw (← q) at k in
             grind (arith, st, w))
         | inr v ↦ holds_up t g s t.root x v (In-append_left g (config x) (row_pages x) h)
       ]) in
@@ -132,12 +131,12 @@ module _ (t : Tree) (a : ℕ) (s : IsSound t) (other : a ≢ t.root.name) where
       (In-filter (λ x. has (ancestry t x.name) a) x (nodes t) i k) h) in grind (arith, e, w)) in
       hidden_by (tree_without_subtree t a) g x (stays_in x i st) h)
       (λ q. let (x, i, h) = hidden_from (tree_without_subtree t a) g q in hidden_by t g x (left_nodes x i) h) in
-      s.words g ∙ ap (λ q. has (row_pages t.root) g && not q) same
+      rw (s.words g, same)
 
   pub without_subtree-sound : IsSound (tree_without_subtree t a)
   without_subtree-sound = record {
     parents_come_first = rooted_left t.others (λ x i. i) s.parents_come_first;
-    boot_root = record { small = s.boot_root.small; large = s.boot_root.large; same = s.boot_root.same };
+    boot_root = assumption;
     pages_apart = λ x i. s.pages_apart x (left_nodes x i);
     lent = λ x y i j. s.lent x y (left_from x t.others i) (left_nodes y j);
     named_by_descriptor = λ x i. s.named_by_descriptor x (left_from x t.others i);
@@ -162,7 +161,7 @@ delete-sound t running p d s = go (first_met cs) refl
     at_child None k e = absurd (grind (arith, k, e))
     at_child (Some c) k e =
         let f = child_found t p d c k in
-        let is : child_name t p d ≡ c.name = ap (λ o. unwrap_or (option_map (λ x. x.name) o) 0) k in
+        let is : child_name t p d ≡ c.name = rw k in
         subst (λ q. IsSound (tree_without_subtree t q)) (sym is)
         (without_subtree-sound t c.name s (λ q. not_root t s c f.0 (sym q)))
 

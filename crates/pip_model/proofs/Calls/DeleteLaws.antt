@@ -44,9 +44,7 @@ gone_out t c g h =
 -- a page that is no page of it keeps its words
 words_kept : (t : Tree) (c g : ℕ) → ((x : Node) → IsBelow t c x → In g (config x) → ⊥)
     → (tree_without_subtree t c).words g ≡ t.words g
-words_kept t c g h = ap (λ b. cond b (Some zero_words) (t.words g)) (false_from_ne_true _ (λ q.
-    let (x, b, k) = gone_out t c g (has_in g _ q) in
-    h x b k))
+words_kept t c g h = rw (false_from_ne_true _ (λ q. let (x, b, k) = gone_out t c g (has_in g _ q) in h x b k))
 
 pub deleted_words : (t : Tree) (c g : ℕ) → hidden t g ≡ false → (tree_without_subtree t c).words g ≡ t.words g
 deleted_words t c g h = words_kept t c g (λ x b k. let e = hidden_by t g x b.0 k in absurd (grind (arith, h, e)))
@@ -84,16 +82,16 @@ module _ (t : Tree) (c : ℕ) (s : IsSound t) (other : c ≢ t.root.name) where
       let still = D.left_stays t c s other y m in (
         (λ h.
             let k = subst (λ q. In n (ancestry t q)) e h in
-            subst (λ q. In n (ancestry left q)) (sym e) (line_left y old still n k)),
+            rw e (line_left y old still n k)),
         (λ h.
             let k = subst (λ q. In n (ancestry left q)) e h in
-            subst (λ q. In n (ancestry t q)) (sym e) (line_back y m n k)),
+            rw e (line_back y m n k)),
       )
 
   same_node : (q : ℕ) → IsName left q → node left q ≡ node t q
   same_node q i =
       let (y, j, e) = In-map_from (λ y. y.name) q (nodes left) i in
-      named_node left q left_sound y j (sym e) ∙ sym (named_node t q s y (D.left_nodes t c s other y j) (sym e))
+      cc (named_node left q left_sound y j (sym e), named_node t q s y (D.left_nodes t c s other y j) (sym e))
 
   -- what runs isn't in the subtree
   stays : (rs : List ℕ) → some_run rs (below t c) ≡ false → (q : ℕ) → In q rs → IsName t q → IsName left q
@@ -101,7 +99,7 @@ module _ (t : Tree) (c : ℕ) (s : IsSound t) (other : c ≢ t.root.name) where
       let (x, k, z) = In-map_from (λ x. x.name) q (nodes t) j in
       let f : has (ancestry t x.name) c ≡ false = false_from_ne_true _ (λ h.
       let y = In-filter (λ x. has (ancestry t x.name) c) x (nodes t) k h in
-      let r = any_some (λ x. has rs x.name) x (below t c) y (in_has x.name rs (subst (λ v. In v rs) z i)) in
+      let r = any_some (λ x. has rs x.name) x (below t c) y (in_has x.name rs (rw (← z) i)) in
       grind (arith, e, r)) in
       subst (IsName left) (sym z) (name_in x (nodes left) (D.stays_in t c s other x k f))
 
@@ -129,11 +127,11 @@ module _ (t : Tree) (p d : ℕ) (s : IsSound t) (n : IsName t p) (c : Node) (k :
   row_of_p g y b i =
       let (z, j, e, o) = ancestry_over t s y b.0 p (below_p y b) in
       let q : node t p ≡ z = named_node t p s z j e in
-      subst (λ x. In g (row_pages x)) (sym q) (elim o [
-        | inl same ↦
-            let l = subst (λ q. In c.name (ancestry t q)) (ap (λ z. z.name) (sym same) ∙ e) b.1 in
+      rw q (elim o [
+        | inl same ↦ let l = subst (λ q. In c.name (ancestry t q)) (ap (λ z. z.name) (sym same) ∙ e) b.1 in
             absurd (child_not_above t p s n c k.child k.up l)
-        | inr v ↦ holds_up t g s z y v (In-append_left g (config y) (row_pages y) i)
+        | inr v ↦
+            holds_up t g s z y v (In-append_left g (config y) (row_pages y) i)
       ])
 
   leaves : LeavesTree p t rest
@@ -169,8 +167,8 @@ module _ (w : World) (p : ℕ) (a : Five) (s : IsSound w.tree) (n : IsName w.tre
       subst (λ q. Keeps DeletePartition w p a (accept 0 (tree_without_subtree w.tree q))) (sym k.name) (record {
         stays = stays w.tree c.name s other (running w) still;
         value = omega arith;
-        up = λ q i j. ap (λ z. z.up) (same_node w.tree c.name s other q j);
-        rows = λ q i j h. ap (λ z. z.rows) (same_node w.tree c.name s other q j);
+        up = λ q i j. rw (same_node w.tree c.name s other q j);
+        rows = λ q i j h. rw (same_node w.tree c.name s other q j);
         words = λ l g h i. deleted_words w.tree c.name g h;
         entries = λ h. cc;
         leaves = leaves w.tree p a.x0 s n c k;
@@ -210,7 +208,7 @@ run_to t u rs ts c to run h =
     let b : IsBelow t c x = (f.0, has_in c (ancestry t x.name) f.1) in
     let v = to x b in
     let l = In-filter (λ x. has (ancestry u x.name) c) x (nodes u) v.0 (in_has c (ancestry u x.name) v.1) in
-    any_some (λ x. has ts x.name) x (below u c) l (sym (run x b) ∙ k)
+    any_some (λ x. has ts x.name) x (below u c) l (rw (← run x b) k)
 
 module _ {p : ℕ} {t u : Tree} (g : Agreeing p t u) where
   some_run_same : (rs ts : List ℕ) (c : ℕ) → AgreeTrees c t u
@@ -222,7 +220,7 @@ module _ {p : ℕ} {t u : Tree} (g : Agreeing p t u) where
   other_in : (c : Node) → In c t.others → In c (nodes u) → In c u.others
   other_in c i (inl q) =
       let same_root = ap (λ z. z.name) g.sound.boot_root.same ∙ sym (ap (λ z. z.name) g.sound'.boot_root.same) in
-      absurd (not_root t g.sound c i (same_root ∙ sym (ap (λ z. z.name) q)))
+      absurd (not_root t g.sound c i (rw (same_root, ← q)))
   other_in c i (inr j) = j
 
   gone_same : (c : ℕ) → AgreeTrees c t u → (h : ℕ)
@@ -243,7 +241,7 @@ module _ {p : ℕ} {t u : Tree} (g : Agreeing p t u) where
         to = below_to t u p c.name g.sound g.sound' other other' g.trees.to a.from;
         from = below_to u t p c.name g.sound' g.sound other' other g.trees.from a.to;
         words = λ h i j l.
-            let same = g.trees.words h i (subst (λ z. In h (row_pages z)) own j) l in
+            let same = g.trees.words h i (rw (← own) j) l in
             cleared_same _ _ (t.words h) (u.words h) i (gone_same c.name a h) same;
       }
 
@@ -255,9 +253,7 @@ module _ {p : ℕ} {t u : Tree} (g : Agreeing p t u) where
         let b = child_in t p g.sound g.name d c k in
         let under = λ (x : Node) (w : IsBelow t c.name x).
         run x (w.0, ancestry_trans t g.sound x w.0 p c.name w.1 b.1) in
-        ap (λ z. some_run rs (below t z)) name
-        ∙ some_run_same rs ts c.name (agree_at_child g d c k).trees under
-        ∙ ap (λ z. some_run ts (below u z)) (sym name ∙ child_name-same g d)
+        cc (some_run_same rs ts c.name (agree_at_child g d c k).trees under, child_name-same g d)
 
     refusals_same : first_met (delete_refusals t rs p d) ≡ first_met (delete_refusals u ts p d)
     refusals_same = refused-same g (some_unaligned (d ∷ [])) (some_null (d ∷ [])) d _ _ (λ c k.

@@ -30,7 +30,7 @@ agrees {p = p} {t = t} {u = u} g v =
     some_unaligned (v ∷ []) ∷ some_null (v ∷ []) ∷ (not (is_some (row_at (row i).rows (vpage v))), S.NotMapped) ∷ []) in
     agree_unless g e (λ h. record {
       status = refl;
-      value = ap holder_born (holder-same g (page_of t p v)) ∙ ap (λ h. holder_born (holder u p h)) (page-same g v);
+      value = cc (holder-same g (page_of t p v), page-same g v);
       tree = g.trees;
     })
 

@@ -102,8 +102,8 @@ changed_child {w = w} {p = p} s n d v f words c =
     record {
       stays = λ q r i. subst (In q) (sym (names_kept g w.tree names ups (nodes w.tree))) i;
       value = c.value;
-      up = λ q i j. ap (λ z. z.up) (node_on g names w.tree q) ∙ ups (node w.tree q);
-      rows = λ q i j h. ap (λ z. z.rows) (node_on g names w.tree q) ∙ c.rows q i (λ z. h (refl, z));
+      up = λ q i j. rw (node_on g names w.tree q, ups (node w.tree q));
+      rows = λ q i j h. rw (node_on g names w.tree q, c.rows q i (λ z. h (refl, z)));
       words = c.open_words;
       entries = c.entries;
       leaves = leaves_child w.tree p s n f c.name c.up d c.there words c.other_words;
@@ -112,7 +112,7 @@ changed_child {w = w} {p = p} s n d v f words c =
 -- a node of another name keeps its rows
 pub other_rows : (t : Tree) (c q : ℕ) (f : Node → Node) → IsName t q → (c ≡ q → ⊥)
     → (change_at c f (node t q)).rows ≡ (node t q).rows
-other_rows t c q f i h = ap (λ z. z.rows) (change-else c f (node t q) (λ e. h (sym e ∙ (node_found t q i).1)))
+other_rows t c q f i h = rw (change-else c f (node t q) (λ e. h (sym e ∙ (node_found t q i).1)))
 
 -- a change of nodes that leaves names and configurations, and rows where they are found
 pub entries_on : (f : Node → Node) (t : Tree) → ((x : Node) → (f x).name ≡ x.name)
@@ -122,7 +122,7 @@ pub entries_on : (f : Node → Node) (t : Tree) → ((x : Node) → (f x).name �
     → KeepsEntries t (on_nodes f t)
 entries_on f t names configs rows e u = record {
   node = f u.node;
-  found = find_changed f t names e.part ∙ ap (option_map f) u.found;
+  found = rw (find_changed f t names e.part, u.found);
   row = u.row;
   at = rows e.part u.node e.vpage u.row u.found u.at;
   page = u.page;

@@ -57,11 +57,11 @@ chain_step t p k seen a gs None (Pages hs) e h ih =
     let q : pair_at t p a ∷ hs ≡ gs = cc in
     let r = ih hs refl in
     let u = page_may t p seen a e in
-    subst (λ l. IsChain t p seen l × (length l ≡ suc k)) q (((refl, u.0, u.1), r.0), ap suc r.1)
+    rw (← q) (((refl, u.0, u.1), r.0), ap suc r.1)
 
 pub chain_is : (t : Tree) (p k : ℕ) (seen : List ℕ) (a : ℕ) (gs : List Pair) → page_chain t p k seen a ≡ Pages gs
     → IsChain t p seen gs × (length gs ≡ k)
-chain_is t p zero seen a gs e = let q : [] ≡ gs = cc in subst (λ l. IsChain t p seen l × (length l ≡ 0)) q (tt, refl)
+chain_is t p zero seen a gs e = let q : [] ≡ gs = cc in rw (← q) (tt, refl)
 chain_is t p (suc k) seen a gs e = chain_step t p k seen a gs (first_met (page_refusals t p seen a)) (page_chain t p k
     (a ∷ seen) (next_in_chain t p a)) refl e (λ hs h. chain_is t p k (a ∷ seen) (next_in_chain t p a) hs h)
 
@@ -70,7 +70,7 @@ pub chain_each : (t : Tree) (p : ℕ) (seen : List ℕ) (gs : List Pair) → IsC
     → (g ≡ pair_at t p g.va) × CanBeGiven t p g.va × (In g.va seen → ⊥)
 chain_each t p seen [] c g i = absurd i
 chain_each t p seen (h ∷ gs) c g (inl e) =
-    subst (λ z. (z ≡ pair_at t p z.va) × CanBeGiven t p z.va × (In z.va seen → ⊥)) (sym e) c.0
+    rw e c.0
 chain_each t p seen (h ∷ gs) c g (inr i) = let r = chain_each t p (h.va ∷ seen) gs c.1 g i in
     (r.0, r.1, (λ j. r.2 (inr j)))
 
@@ -87,7 +87,7 @@ pub chain_pages : (t : Tree) (p : ℕ) (seen : List ℕ) (gs : List Pair) → Is
 chain_pages t p seen gs s n c = Distinct-by (λ g. g.va) (λ g. g.frame) gs (chain_places t p seen gs c) (λ x y i j e.
     let a = chain_each t p seen gs c x i in
     let b = chain_each t p seen gs c y j in
-    usable_same t p s n x.va y.va a.1 b.1 (sym (ap (λ g. g.frame) a.0) ∙ e ∙ ap (λ g. g.frame) b.0))
+    usable_same t p s n x.va y.va a.1 b.1 (cc (a.0, b.0)))
 
 -- how often a page stands among what was given
 abbrev pub times : ℕ → List Pair → ℕ
@@ -95,12 +95,12 @@ times g gs = count g (map (λ h. h.frame) gs)
 
 pub times-append : (g : ℕ) (xs ys : List Pair) → times g (xs ++ ys) ≡ times g xs + times g ys
 times-append g xs ys =
-    ap (count g) (map_append (λ h. h.frame) xs ys) ∙ count-append g (map (λ h. h.frame) xs) (map (λ h. h.frame) ys)
+    rw (map_append (λ h. h.frame) xs ys, count-append g (map (λ h. h.frame) xs) (map (λ h. h.frame) ys))
 
 flat_one : (ts : List Table) (b : Table)
     → flat_map table_pairs (ts ++ b ∷ []) ≡ flat_map table_pairs ts ++ table_pairs b
 flat_one [] b = refl
-flat_one (t ∷ ts) b = ap (λ l. table_pairs t ++ l) (flat_one ts b)
+flat_one (t ∷ ts) b = rw (flat_one ts b)
 
 -- the pages of x with those of the table and the list page
 pub times_with : (g : ℕ) (x : Node) (b : Table) (rest : List Pair)
@@ -122,7 +122,7 @@ pairs_with g x b rest i =
       | inl j ↦ inl (In-append_left g (base_pairs x.base) (flat_map table_pairs x.tables ++ x.more) j)
       | inr j ↦ elim (In-append_cases g (flat_map table_pairs (x.tables ++ b ∷ [])) (x.more ++ rest) j) [
         | inl k ↦ elim (In-append_cases g (flat_map table_pairs x.tables) (table_pairs b)
-            (subst (In g) (flat_one x.tables b) k)) [
+            (rw (← flat_one x.tables b) k)) [
               | inl l ↦ inl (In-append_right g (base_pairs x.base)
                   (flat_map table_pairs x.tables ++ x.more) (In-append_left g (flat_map table_pairs x.tables) x.more l))
               | inr l ↦ inr (In-append_left g (table_pairs b) rest l)
@@ -153,8 +153,8 @@ pages_with x b rest k once apart =
         let e = count-append g (config x) (row_pages x) in
         let d = distinct-count new once g in
         elim (cases_lt 0 (count g new)) [
-          | inl l ↦ let z = no_count g (held_pages x) (apart g (in-count g new l)) in omega (arith, a, w, e, d, z)
-          | inr l ↦ omega (arith, a, w, o, e, l)
+          | inl l ↦ omega (arith, no_count g (held_pages x) (apart g (in-count g new l)))
+          | inr l ↦ omega arith
         ]
 
 pub tables_with : (x : Node) (b : Table) (rest : List Pair) → RowsHaveTables x
@@ -162,30 +162,28 @@ pub tables_with : (x : Node) (b : Table) (rest : List Pair) → RowsHaveTables x
     → length rest ≡ lists (length x.tables + 1) - lists (length x.tables) → RowsHaveTables (with_table b rest x)
 tables_with x b rest k new small listed = record {
   first = k.first;
-  differ = subst Distinct (sym (map_append (λ t. t.index) x.tables (b ∷ []))) (count-distinct _ (λ g.
-      let o = distinct-count _ k.differ g in
-      let a = count-append g (map (λ t. t.index) x.tables) (b.index ∷ []) in
+  differ = rw (map_append (λ t. t.index) x.tables (b ∷ []))
+      (count-distinct _ (λ g. let o = distinct-count _ k.differ g in let a =
+      count-append g (map (λ t. t.index) x.tables) (b.index ∷ []) in
       elim (cases_Bool (b.index == g)) [
-        | inl e ↦
-            let z = no_count g (map (λ t. t.index) x.tables)
+        | inl e ↦ let z =
+            no_count g (map (λ t. t.index) x.tables)
             (λ i. new (subst (λ l. In l (map (λ t. t.index) x.tables)) (sym (eqb-true b.index g e)) i)) in
             let f : count g (b.index ∷ []) ≡ 1 = ap (λ v. cond v 1 0 + 0) e in
             omega (arith, a, z, f)
-        | inr e ↦ let f : count g (b.index ∷ []) ≡ 0 = ap (λ v. cond v 1 0 + 0) e in omega (arith, a, o, f)
+        | inr e ↦ let f : count g (b.index ∷ []) ≡ 0 =
+            ap (λ v. cond v 1 0 + 0) e in omega (arith, a, o, f)
       ]));
-  tabled = λ r i. subst (In (dir r.at)) (sym (map_append (λ t. t.index) x.tables (b ∷ []))) (In-append_left (dir r.at)
-      (map (λ t. t.index) x.tables) (b.index ∷ []) (k.tabled r i));
+  tabled = λ r i. rw (map_append (λ t. t.index) x.tables (b ∷ []))
+      (In-append_left (dir r.at) (map (λ t. t.index) x.tables) (b.index ∷ []) (k.tabled r i));
   small = λ u i. elim (In-append_cases u x.tables (b ∷ []) i)
-      [ inl j ↦ k.small u j | inr j ↦ elim j [ inl e ↦ subst (λ z. z.index < 1024) (sym e) small | inr l ↦ absurd l ] ];
+      [ inl j ↦ k.small u j | inr j ↦ elim j [ inl e ↦ rw e small | inr l ↦ absurd l ] ];
   listed =
-      let a = length-append x.tables (b ∷ []) in
-      let d = length-append x.more rest in
-      let l = k.listed in
-      omega (arith, a, d, l, listed);
+      omega (arith, length-append x.tables (b ∷ []), length-append x.more rest);
 }
 
 or_left_true : (a b : Bool) → a ≡ true → (a || b) ≡ true
-or_left_true a b e = ap (λ a. a || b) e
+or_left_true a b e = rw e
 
 or_right_true : (a b : Bool) → b ≡ true → (a || b) ≡ true
 or_right_true true b e = refl
@@ -204,7 +202,7 @@ module _ (t : Tree) (p : ℕ) (c : Node) (b : Table) (rest : List Pair) (s : IsS
   new_pages = map (λ g. g.frame) (table_pairs b ++ rest)
 
   is_parent : (z : Node) → In z (nodes t) → c.up ≡ z.name → node t p ≡ z
-  is_parent z j u = let k = node_found t p n in same_name t (node t p) z s k.0 j (k.1 ∙ sym m.up ∙ u)
+  is_parent z j u = let k = node_found t p n in same_name t (node t p) z s k.0 j (cc (k.1, m.up))
 
   config_case : (h : ℕ) → In h (config (with_table b rest c))
       → In h (config c) ⊎ In h (map (λ g. g.frame) (table_pairs b ++ rest))
@@ -224,8 +222,8 @@ module _ (t : Tree) (p : ℕ) (c : Node) (b : Table) (rest : List Pair) (s : IsS
   new_page h i =
       let (g, j, e) = In-map_from (λ g. g.frame) h (table_pairs b ++ rest) i in
       let r = m.each g j in
-      let q : h ≡ page_of t p g.va = e ∙ ap (λ g. g.frame) r.0 in
-      (subst (λ k. In k (row_pages (node t p))) (sym q) r.1.row, subst (IsUnheld t p) (sym q) r.1.unheld)
+      let q : h ≡ page_of t p g.va = cc (r.0) in
+      (rw q r.1.row, subst (IsUnheld t p) (sym q) r.1.unheld)
 
   may_become : MayBecome t c (with_table b rest c)
   may_become =
@@ -234,7 +232,7 @@ module _ (t : Tree) (p : ℕ) (c : Node) (b : Table) (rest : List Pair) (s : IsS
         child = m.child;
         apart =
             pages_with c b rest (s.pages_apart c (inr m.child)) m.pages (λ h j k. (new_page h j).1 c m.child m.up k);
-        named = record { name = d.name; born = d.born };
+        named = assumption;
         readable = s.readable c (inr m.child);
         tables = tables_with c b rest (s.tables c (inr m.child)) m.new m.small m.listed;
         quiet = s.no_lines_but_the_root c m.child;
@@ -245,8 +243,7 @@ module _ (t : Tree) (p : ℕ) (c : Node) (b : Table) (rest : List Pair) (s : IsS
             aligned = λ g k. elim (pairs_with g c b rest k) [ inl a ↦ l.aligned g a | inr a ↦ (m.each g a).1.aligned ];
             placed = λ g k. elim (pairs_with g c b rest k) [
               | inl a ↦ l.placed g a
-              | inr a ↦ subst (λ z. page_at z (vpage g.va) ≡ Some g.frame) is
-                  ((m.each g a).1.placed ∙ ap Some (sym (ap (λ g. g.frame) (m.each g a).0)))
+              | inr a ↦ rw (← is) ((m.each g a).1.placed ∙ ap Some (sym (ap (λ g. g.frame) (m.each g a).0)))
             ];
           },
           s.rights c z m.child j u,
@@ -254,15 +251,13 @@ module _ (t : Tree) (p : ℕ) (c : Node) (b : Table) (rest : List Pair) (s : IsS
         siblings = λ z j u ne h k l. elim (held_case h l)
             [ inl a ↦ s.siblings_apart z c j m.child u ne h k a | inr a ↦ (new_page h a).1 z j (u ∙ m.up) k ];
         lends = λ x i u. let l = s.lent x c i (inr m.child) u in
-            (record { rows = l.rows; aligned = l.aligned; placed = l.placed }, s.rights x c i (inr m.child) u);
+            (assumption, s.rights x c i (inr m.child) u);
       }
 
   config_has : (g : ℕ) → In g (config c) ⊎ In g (map (λ g. g.frame) (table_pairs b ++ rest))
       → In g (config (with_table b rest c))
-  config_has g (inl i) = in-count g (config y) (let k = count-in g (config c) i in let w = times_with g c b rest in
-      omega (arith, k, w))
-  config_has g (inr i) = in-count g (config y) (let k = count-in g new_pages i in let w = times_with g c b rest in
-      omega (arith, k, w))
+  config_has g (inl i) = in-count g (config y) (omega (arith, count-in g (config c) i, times_with g c b rest))
+  config_has g (inr i) = in-count g (config y) (omega (arith, count-in g new_pages i, times_with g c b rest))
 
   -- what is hidden afterwards
   pub hidden_now : (g : ℕ) → hidden (change_node c.name (with_table b rest) t) g
@@ -280,7 +275,7 @@ module _ (t : Tree) (p : ℕ) (c : Node) (b : Table) (rest : List Pair) (s : IsS
       (λ q. elim (or_cases (hidden t g) (has new_pages g) q) [
         | inl h ↦ let (x, i, k) = hidden_from t g h in elim (cases_eq x.name c.name) [
           | inl e ↦ hidden-child t s c (with_table b rest) (λ x. refl) (λ x. refl) may_become g
-              (config_has g (inl (subst (λ z. In g (config z)) (same_name t x c s i (inr m.child) e) k)))
+              (config_has g (inl (rw (← same_name t x c s i (inr m.child) e) k)))
           | inr ne ↦ hidden-other t s c (with_table b rest) (λ x. refl) (λ x. refl) may_become g x i ne k
         ]
         | inr h ↦ hidden-child t s c (with_table b rest) (λ x. refl) (λ x. refl) may_become g
@@ -312,17 +307,17 @@ may_prepare t p c v g0 g1 g2 rest s n i u small ch len = go (has_table c v) refl
     go : (b : Bool) → has_table c v ≡ b
         → MayPrepare t p c (record { index = dir v; mmu = g0; shadow1 = g1; shadow2 = g2 }) rest
     go true e = let z : pages_needed c v ≡ 0 =
-        ap (λ b. cond b 0 (3 + lists (length c.tables + 1) - lists (length c.tables))) e in
-        absurd (omega (arith, len, z))
+        rw e in
+        absurd (omega arith)
     go false e = let z : pages_needed c v ≡ 3 + lists (length c.tables + 1) - lists (length c.tables) =
-        ap (λ b. cond b 0 (3 + lists (length c.tables + 1) - lists (length c.tables))) e in record {
+        rw e in record {
           child = i;
           up = u;
           each = λ g j. let r = chain_each t p [] (g0 ∷ g1 ∷ g2 ∷ rest) ch g j in (r.0, r.1);
           pages = chain_pages t p [] (g0 ∷ g1 ∷ g2 ∷ rest) s n ch;
           new = table_none c v e;
           small = omega arith;
-          listed = omega (arith, len, z);
+          listed = omega arith;
         }
 
 prepared-sound : (t : Tree) (p : ℕ) (c : Node) (v : ℕ) (gs : List Pair) → IsSound t → IsName t p → In c t.others → c.up
@@ -354,10 +349,7 @@ prepare-sound t p d cv first s n small = go (first_met cs) refl
     at_child None k e = absurd (grind (arith, k, e))
     at_child (Some c) k e =
         let f = child_found t p d c k in
-        subst (λ o. IsSound (prepare_with t (unwrap_or (option_map (λ x. x.name) o) 0) (vpage cv)
-        (pages_needed (unwrap_or o nobody) (vpage cv))
-        (page_chain t p (pages_needed (unwrap_or o nobody) (vpage cv)) [] first)).tree) (sym k)
-        (with_chain t p c (vpage cv) first (page_chain t p (pages_needed c (vpage cv)) [] first) s n f.0 f.1
+        rw k (with_chain t p c (vpage cv) first (page_chain t p (pages_needed c (vpage cv)) [] first) s n f.0 f.1
         (omega arith) refl)
 
     go : (o : Option Status) → first_met cs ≡ o

@@ -50,7 +50,7 @@ chain_rows : (t : Tree) (p : ℕ) (gs : List Pair) → IsChain t p [] gs → (g 
 chain_rows t p gs c g i =
     let (d, j, e) = In-map_from (λ d. d.frame) g gs i in
     let r = chain_each t p [] gs c d j in
-    subst (λ g. In g (row_pages (node t p))) (sym (e ∙ ap (λ d. d.frame) r.0)) r.1.row
+    rw (e, r.0) r.1.row
 
 module _ (w : World) (p : ℕ) (a : Five) (s : IsSound w.tree) (n : IsName w.tree p) where
   abbrev t : Tree
@@ -72,9 +72,9 @@ module _ (w : World) (p : ℕ) (a : Five) (s : IsSound w.tree) (n : IsName w.tre
         let (c, k) = named_child t p a.x0 there in
         let b : Table = record { index = dir (vpage a.x1); mmu = g0; shadow1 = g1; shadow2 = g2 } in
         let len = long ∙ ap (λ x. pages_needed x (vpage a.x1)) k.node in
-        let may = may_prepare t p c (vpage a.x1) g0 g1 g2 gs s n k.child k.up (omega (arith, word)) chain len in
+        let may = may_prepare t p c (vpage a.x1) g0 g1 g2 gs s n k.child k.up (omega arith) chain len in
         let now = subst (λ q. hidden (change_node q (with_table b gs) t) g ≡ false) k.name shown in
-        (or_parts (hidden t g) (has (frames_of g0 g1 g2 gs) g) (sym (hidden_now t p c b gs s n may g) ∙ now)).1
+        (or_parts (hidden t g) (has (frames_of g0 g1 g2 gs) g) (rw (← hidden_now t p c b gs s n may g) now)).1
 
     prepared : (gs : List Pair) → IsChain t p [] gs → length gs ≡ wanted
         → Keeps Prepare w p a (accept wanted (tree_with_table t (child_name t p a.x0) (dir (vpage a.x1)) gs))
@@ -91,7 +91,7 @@ module _ (w : World) (p : ℕ) (a : Five) (s : IsSound w.tree) (n : IsName w.tre
           value = small;
           rows = λ q i h. change-keeps (child_name t p a.x0) f (λ z. z.rows) (λ z. refl) (node t q);
           other_words = λ g h. without_out t fs g (λ i. h (chain_rows t p (g0 ∷ g1 ∷ g2 ∷ gs) chain g i));
-          open_words = λ l g h i. ap (λ b. cond b None (t.words g)) (open_page g0 g1 g2 gs chain long l g i);
+          open_words = λ l g h i. rw (open_page g0 g1 g2 gs chain long l g i);
           entries = λ h.
               let e : (wanted == 0) ≡ false = ne_eqb wanted 0 (λ q. let z = long ∙ q in cc) in
               absurd (grind (arith, h, e));
@@ -121,22 +121,21 @@ module _ {p : ℕ} {t u : Tree} (g : Agreeing p t u) where
   next_same : (seen : List ℕ) (b : ℕ) → first_met (page_refusals t p seen b) ≡ None
       → next_in_chain t p b ≡ next_in_chain u p b
   next_same seen b e =
-      sym (g.trees.words (page_of t p b) 0 (page_may t p seen b e).0.row (omega arith))
-      ∙ ap (λ h. word_of (u.words h) 0) (page-same g b)
+      rw (← g.trees.words (page_of t p b) 0 (page_may t p seen b e).0.row (omega arith), page-same g b)
 
   go_on_same : (b : ℕ) (o e : Option Status) (x y : PageChain) → o ≡ e → (o ≡ None → x ≡ y)
       → go_on o (pair_at t p b) x ≡ go_on e (pair_at u p b) y
   go_on_same b None None x y q h = let e = page-same g b in λ i. put_first (record { va = b; frame = e i }) (h refl i)
   go_on_same b None (Some z) x y q h = cc
   go_on_same b (Some z) None x y q h = cc
-  go_on_same b (Some z) (Some r) x y q h = let w : z ≡ r = cc in ap Refused w
+  go_on_same b (Some z) (Some r) x y q h = let w : z ≡ r = cc in rw w
 
   chain_same : (n : ℕ) (seen : List ℕ) (b : ℕ) → page_chain t p n seen b ≡ page_chain u p n seen b
   chain_same zero seen b = refl
   chain_same (suc n) seen b =
       go_on_same b (first_met (page_refusals t p seen b)) (first_met (page_refusals u p seen b)) _ _
-      (ap first_met (page_refusals_same seen b))
-      (λ e. chain_same n (b ∷ seen) (next_in_chain t p b) ∙ ap (page_chain u p n (b ∷ seen)) (next_same seen b e))
+      (cc (page_refusals_same seen b))
+      (λ e. rw (chain_same n (b ∷ seen) (next_in_chain t p b), next_same seen b e))
 
   prepared-agree : (d i : ℕ) → is_none (child_at t p d) ≡ false → (gs : List Pair)
       → AgreeTrees p (tree_with_table t (child_name t p d) i gs) (tree_with_table u (child_name u p d) i gs)

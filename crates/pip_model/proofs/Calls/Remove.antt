@@ -27,9 +27,9 @@ row_at_filter v w (r ∷ rows) d = go (r.at == v) refl (row_at_filter v w rows d
     go : (b : Bool) → (r.at == v) ≡ b → row_at (filter (λ r. not (r.at == v)) rows) w ≡ row_at rows w
         → row_at (cond (not b) (r ∷ filter (λ r. not (r.at == v)) rows) (filter (λ r. not (r.at == v)) rows)) w
         ≡ cond (r.at == w) (Some r) (row_at rows w)
-    go false e ih = ap (cond (r.at == w) (Some r)) ih
-    go true e ih = let n : (r.at == w) ≡ false = ne_eqb r.at w (λ k. d (sym (eqb-true r.at v e) ∙ k)) in
-        ih ∙ ap (λ b. cond b (Some r) (row_at rows w)) (sym n)
+    go false e ih = rw ih
+    go true e ih = let n : (r.at == w) ≡ false = ne_eqb r.at w (λ k. d (rw (← eqb-true r.at v e) k)) in
+        cc
 
 module _ (t : Tree) (c : Node) (r : Row) (s : IsSound t) (m : MayRemove t c r) where
   row_from : (q : Row) → In q (without_row r.at c).rows → In q c.rows
@@ -40,7 +40,7 @@ module _ (t : Tree) (c : Node) (r : Row) (s : IsSound t) (m : MayRemove t c r) w
     | inl j ↦ In-append_left g (config c) (row_pages c) j
     | inr j ↦ let (q, k, e) = In-map_from (λ q. q.frame) g (without_row r.at c).rows j in
         In-append_right g (config c) (row_pages c)
-        (subst (λ h. In h (row_pages c)) (sym e) (In-map (λ q. q.frame) q c.rows (row_from q k)))
+        (rw e (In-map (λ q. q.frame) q c.rows (row_from q k)))
   ]
 
   -- a page that a child of c holds keeps its row
@@ -49,21 +49,21 @@ module _ (t : Tree) (c : Node) (r : Row) (s : IsSound t) (m : MayRemove t c r) w
   page_kept x i u g h q k e a =
       let q≡r : q ≡ r =
       same_at_key (λ q. q.at) q r c.rows (Rising-distinct 0 _ (s.pages_apart c (inr m.child)).places) k m.row a in
-      m.unheld x i u (subst (λ h. In h (held_pages x)) (sym e ∙ ap (λ q. q.frame) q≡r) h)
+      m.unheld x i u (subst (λ h. In h (held_pages x)) (rw (← e, q≡r)) h)
 
   lends : (x : Node) → In x t.others → x.up ≡ c.name → IsLentBy (without_row r.at c) x
   lends x i u = let l = s.lent x c i (inr m.child) u in record {
     rows = λ g h.
         let (q, k, e) = In-map_from (λ q. q.frame) g c.rows (l.rows g h) in
-        subst (λ h. In h (row_pages (without_row r.at c))) (sym e)
-        (In-map (λ q. q.frame) q (without_row r.at c).rows (In-filter (λ k. not (k.at == r.at)) q c.rows k
+        rw e (In-map (λ q. q.frame) q (without_row r.at c).rows
+        (In-filter (λ k. not (k.at == r.at)) q c.rows k
         (ap not (ne_eqb q.at r.at (page_kept x i u g h q k (sym e))))));
     aligned = l.aligned;
     placed = λ g h.
         let (q, k, a, e) = row_found c (vpage g.va) g.frame (l.placed g h) in
         let ne = page_kept x i u g.frame
         (In-append_left g.frame (config x) (row_pages x) (In-map (λ g. g.frame) g (pairs x) h)) q k e in
-        ap (option_map (λ r. r.frame)) (row_at_filter r.at (vpage g.va) c.rows (λ z. ne (a ∙ sym z))) ∙ l.placed g h;
+        rw (row_at_filter r.at (vpage g.va) c.rows (λ z. ne (a ∙ sym z)), l.placed g h);
   }
 
   pub may_become : MayBecome t c (without_row r.at c)
@@ -77,7 +77,7 @@ module _ (t : Tree) (c : Node) (r : Row) (s : IsSound t) (m : MayRemove t c r) w
           pages = Distinct-after_filter (λ q. q.frame) (λ q. not (q.at == r.at)) (config c) c.rows k.pages;
           places = Rising-filter 0 (λ q. q.at) (λ q. not (q.at == r.at)) c.rows k.places;
         };
-        named = record { name = n.name; born = n.born };
+        named = assumption;
         readable = λ q i. s.readable c (inr m.child) q (row_from q i);
         tables = record {
           first = λ q j. h.first q (row_from q j);
@@ -107,10 +107,10 @@ remove_at t p d cv c r s k e f =
     let n : IsName t c.name = inr (name_in c t.others h.0) in
     let same : node t c.name ≡ c = let g = node_found t c.name n in same_name t (node t c.name) c s g.0 (inr h.0) g.1 in
     let z : free t c.name (vpage cv) ≡ is_free_row t c.name (Some r) =
-    ap (λ x. is_free_row t c.name (row_at x.rows (vpage cv))) same ∙ ap (is_free_row t c.name) e in
-    let u : holder t c.name r.frame ≡ None = none_from (holder t c.name r.frame) (sym z ∙ f) in
-    subst (λ v. IsSound (tree_without_row t c.name v)) (eqb-true r.at (vpage cv) w.1)
-    (without_row-sound t c r s (record { child = h.0; row = w.0; unheld = no_holder-unheld t c.name r.frame u }))
+    rw (same, e) in
+    let u : holder t c.name r.frame ≡ None = none_from (holder t c.name r.frame) (cc) in
+    rw (← eqb-true r.at (vpage cv) w.1) (without_row-sound t c r s
+    (record { child = h.0; row = w.0; unheld = no_holder-unheld t c.name r.frame u }))
   where
     none_from : (o : Option Node) → is_none o ≡ true → o ≡ None
     none_from None q = refl
@@ -134,10 +134,9 @@ remove-sound t p d cv s = go (first_met cs) refl
     at_child (Some c) k e =
         let q : is_none (row_at (child_of t p d).rows (vpage cv)) ≡ false = passed cs e S.Absent in
         let f : not (free t (child_name t p d) (vpage cv)) ≡ false = passed cs e S.LentOn in
-        let is : child_of t p d ≡ c = ap (λ o. unwrap_or o nobody) k in
-        let na : child_name t p d ≡ c.name = ap (λ o. unwrap_or (option_map (λ x. x.name) o) 0) k in
-        subst (λ n. IsSound (tree_without_row t n (vpage cv))) (sym na)
-        (at_row c (row_at c.rows (vpage cv)) k refl (subst (λ x. is_none (row_at x.rows (vpage cv)) ≡ false) is q)
+        let is : child_of t p d ≡ c = rw k in
+        let na : child_name t p d ≡ c.name = rw k in
+        rw na (at_row c (row_at c.rows (vpage cv)) k refl (subst (λ x. is_none (row_at x.rows (vpage cv)) ≡ false) is q)
         (subst (λ n. free t n (vpage cv) ≡ true) na (not_false _ f)))
 
     go : (o : Option Status) → first_met cs ≡ o → IsSound (answer_unless t o

@@ -40,9 +40,7 @@ module _ {p : ℕ} {t u : Tree} (g : Agreeing p t u) where
       → free t (child_name t p d) v ≡ free u (child_name u p d) v
   free_of_child d v c k =
       let name = (named_is t p d c k).name in
-      ap (λ q. free t q v) name
-      ∙ free-same (agree_at_child g d c k) v
-      ∙ ap (λ q. free u q v) (sym name ∙ child_name-same g d)
+      cc (free-same (agree_at_child g d c k) v, child_name-same g d)
 
   refusals_same : (d cv : ℕ) → first_met (remove_refusals t p d cv) ≡ first_met (remove_refusals u p d cv)
   refusals_same d cv = refused-same g (some_unaligned (d ∷ cv ∷ [])) (some_null (d ∷ cv ∷ [])) d _ _ (λ c k.

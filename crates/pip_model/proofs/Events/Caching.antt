@@ -41,7 +41,7 @@ nothing_at (suc n) (suc k) e h = nothing_at n k e h
 
 nothing_agrees : (t : Tree) (c : Places) → c.at ≡ no_entries → Agrees t c
 unfolding no_entries
-nothing_agrees t c none k e h = absurd (nothing_at 64 k e (ap (λ xs. slice_index_or xs k None) (sym none) ∙ h))
+nothing_agrees t c none k e h = absurd (nothing_at 64 k e (cc))
 
 emptied_at : (cs : List Places) (cpu : ℕ) → (cache_at (all_emptied cs) cpu).at ≡ no_entries
 emptied_at [] cpu = refl
@@ -66,8 +66,8 @@ set_get (x ∷ xs) (suc j) (suc k) y d = set_get xs j k y d
 
 pub agrees_filled : (t : Tree) (c : Places) (e : Entry) → Agrees t c → IsUsable t e → Agrees t (with_new_entry c e)
 agrees_filled t c e old new k y h = elim (set_get c.at (e.vpage % 64) k (Some e) None) [
-  | inl q ↦ subst (IsUsable t) (ap (λ o. unwrap_or o e) (sym q ∙ h)) new
-  | inr q ↦ old k y (sym q ∙ h)
+  | inl q ↦ subst (IsUsable t) (cc) new
+  | inr q ↦ old k y (cc)
 ]
 
 -- a count changes no place
@@ -100,7 +100,7 @@ agrees_cached t p va a c s n h =
     let (x, f) = name_found t s p n in
     agrees_learned t x p va (vpage va) a (after_lookup c p (vpage va)) (holding c p (vpage va))
     (row_at (node t p).rows (vpage va)) (reach t p va a Byte) f
-    (ap (λ z. row_at z.rows (vpage va)) (sym (node_is t p x f))) refl (agrees_counted t c (holding c p (vpage va)) h)
+    (rw (← node_is t p x f)) refl (agrees_counted t c (holding c p (vpage va)) h)
 
 agree_accessed : (t : Tree) (cs : List Places) (cpu p va : ℕ) (a : Access) (z : Size) → IsSound t → IsName t p
     → AllAgree t cs → AllAgree t (places_after_access t cs cpu p va a z)
@@ -109,8 +109,8 @@ agree_accessed t cs cpu p va a z s n h = go (is_misaligned va z)
     go : (b : Bool) → AllAgree t (cond b cs (slice_set cs cpu (cache_after_access t (cache_at cs cpu) p va a)))
     go true = h
     go false = λ j. elim (set_get cs cpu j (cache_after_access t (cache_at cs cpu) p va a) _) [
-      | inl q ↦ subst (Agrees t) (sym q) (agrees_cached t p va a (cache_at cs cpu) s n (h cpu))
-      | inr q ↦ subst (Agrees t) (sym q) (h j)
+      | inl q ↦ rw (← q) at (agrees_cached t p va a (cache_at cs cpu) s n (h cpu))
+      | inr q ↦ rw q (h j)
     ]
 
 agree_kept : (t u : Tree) (cs : List Places) → KeepsEntries t u → AllAgree t cs → AllAgree u cs
@@ -140,7 +140,7 @@ agree_called k w cpu r a s n h = go (empties k w r.name a) refl
 wrote_entries : (w : World) (cpu : ℕ) (r : Occupant) (va : ℕ) (z : Size) (x : ℕ) (q : Reached)
     → KeepsEntries w.tree (wrote w cpu r va z x q).world.tree
 wrote_entries w cpu r va z x (Place g i) = λ e u.
-    record { node = u.node; found = u.found; row = u.row; at = u.at; page = u.page; rights = u.rights; seen = u.seen }
+    search
 wrote_entries w cpu r va z x (Faulted f) =
     (deliver_control w cpu r (fault_vector f) va (16 * access_number Store + fault_number f)).entries
 

@@ -52,7 +52,7 @@ ok_runs k w cpu a h = go (runs_on w cpu) refl h
   where
     go : (o : Option Occupant) → runs_on w cpu ≡ o → IsReplyOk (call_happens k w cpu a).outcome
         → (r : Occupant) × (runs_on w cpu ≡ Some r)
-    go None e q = absurd (subst (λ o. IsReplyOk (on_running w cpu o (λ r. call k w cpu r a)).outcome) e q)
+    go None e q = absurd (rw e at q)
     go (Some r) e q = (r, e)
 
 -- where an answer is Ok, no condition is met
@@ -62,7 +62,7 @@ not_ok [] h s e q = cc
 not_ok (c ∷ cs) h s e q = go c.0 e (λ k. not_ok cs (λ z i. h z (inr i)) s k q)
   where
     go : (b : Bool) → cond b (Some c.1) (first_met cs) ≡ Some s → (first_met cs ≡ Some s → ⊥) → ⊥
-    go true k ih = let d : c.1 ≡ s = cc in h c (inl refl) (d ∙ q)
+    go true k ih = let d : c.1 ≡ s = cc in h c (inl refl) (cc)
     go false k ih = ih k
 
 accepted : (t : Tree) (cs : List (Bool × Status)) (a : Answer) → ((c : Bool × Status) → In c cs → c.1 ≡ S.Ok → ⊥)
@@ -74,21 +74,21 @@ accepted t cs a h q = go (first_met cs) refl q
     go (Some s) e k = absurd (not_ok cs h s e k)
 
 refusal_not_ok : (t : Tree) (p : ℕ) (a : Five) (c : Bool × Status) → In c (create_refusals t p a) → c.1 ≡ S.Ok → ⊥
-refusal_not_ok t p a c (inl e) q = let z : S.NotAligned ≡ S.Ok = ap (λ z. z.1) (sym e) ∙ q in cc
-refusal_not_ok t p a c (inr (inl e)) q = let z : S.NullPage ≡ S.Ok = ap (λ z. z.1) (sym e) ∙ q in cc
-refusal_not_ok t p a c (inr (inr (inl e))) q = let z : S.Repeated ≡ S.Ok = ap (λ z. z.1) (sym e) ∙ q in cc
-refusal_not_ok t p a c (inr (inr (inr (inl e)))) q = let z : S.NotMapped ≡ S.Ok = ap (λ z. z.1) (sym e) ∙ q in cc
-refusal_not_ok t p a c (inr (inr (inr (inr (inl e))))) q = let z : S.NotFree ≡ S.Ok = ap (λ z. z.1) (sym e) ∙ q in cc
-refusal_not_ok t p a c (inr (inr (inr (inr (inr (inl e)))))) q = let z : S.NoRight ≡ S.Ok = ap (λ z. z.1) (sym e) ∙ q in
+refusal_not_ok t p a c (inl e) q = let z : S.NotAligned ≡ S.Ok = cc in cc
+refusal_not_ok t p a c (inr (inl e)) q = let z : S.NullPage ≡ S.Ok = cc in cc
+refusal_not_ok t p a c (inr (inr (inl e))) q = let z : S.Repeated ≡ S.Ok = cc in cc
+refusal_not_ok t p a c (inr (inr (inr (inl e)))) q = let z : S.NotMapped ≡ S.Ok = cc in cc
+refusal_not_ok t p a c (inr (inr (inr (inr (inl e))))) q = let z : S.NotFree ≡ S.Ok = cc in cc
+refusal_not_ok t p a c (inr (inr (inr (inr (inr (inl e)))))) q = let z : S.NoRight ≡ S.Ok = cc in
     cc
 refusal_not_ok t p a c (inr (inr (inr (inr (inr (inr i)))))) q = i
 
 delete_not_ok : (t : Tree) (rs : List ℕ) (p d : ℕ) (c : Bool × Status) → In c (delete_refusals t rs p d) → c.1 ≡ S.Ok
     → ⊥
-delete_not_ok t rs p d c (inl e) q = let z : S.NotAligned ≡ S.Ok = ap (λ z. z.1) (sym e) ∙ q in cc
-delete_not_ok t rs p d c (inr (inl e)) q = let z : S.NullPage ≡ S.Ok = ap (λ z. z.1) (sym e) ∙ q in cc
-delete_not_ok t rs p d c (inr (inr (inl e))) q = let z : S.NotChild ≡ S.Ok = ap (λ z. z.1) (sym e) ∙ q in cc
-delete_not_ok t rs p d c (inr (inr (inr (inl e)))) q = let z : S.Running ≡ S.Ok = ap (λ z. z.1) (sym e) ∙ q in cc
+delete_not_ok t rs p d c (inl e) q = let z : S.NotAligned ≡ S.Ok = cc in cc
+delete_not_ok t rs p d c (inr (inl e)) q = let z : S.NullPage ≡ S.Ok = cc in cc
+delete_not_ok t rs p d c (inr (inr (inl e))) q = let z : S.NotChild ≡ S.Ok = cc in cc
+delete_not_ok t rs p d c (inr (inr (inr (inl e)))) q = let z : S.Running ≡ S.Ok = cc in cc
 delete_not_ok t rs p d c (inr (inr (inr (inr i)))) q = i
 
 -- a createPartition that answers Ok
@@ -102,21 +102,27 @@ made_is : (w : World) (i : ℕ) (a : Five) (p : ℕ) → IsSoundWorld w → IsEv
     → occupant_name (runs_on w i) ≡ p → IsReplyOk (creation w i a).outcome → Made w i a p
 made_is w i a p s ev n h =
     let (r, e) = ok_runs (OnMemory CreatePartition) w i a h in
-    let q : r.name ≡ p = sym (ap occupant_name e) ∙ n in
+    let q : r.name ≡ p = cc in
     let c = called_by (OnMemory CreatePartition) w i r a e in
-    let st : (create_partition w.tree r.name a).status ≡ S.Ok = subst (λ y. IsReplyOk y.outcome) c h in
+    let st : (create_partition w.tree r.name a).status ≡ S.Ok = rw c at h in
     let m = accepted w.tree (create_refusals w.tree r.name a) (record {
       status = S.Ok;
       value = 0;
       tree = tree_with_newborn w.tree r.name a;
     }) (refusal_not_ok w.tree r.name a) st in
     let l = event-leaves w (E.Call i 0 a) r s ev (λ k. k) e in
-    subst (Made w i a) q (record {
+    rw (← q) (record {
       met = m;
-      tree = ap (λ y. y.world.tree) c ∙ ap (λ o. (answer_unless w.tree o
-          (record { status = S.Ok; value = 0; tree = tree_with_newborn w.tree r.name a })).tree) m;
+      tree = ap (λ y. y.world.tree) c ∙ ap
+          (λ o. (answer_unless w.tree o (record {
+            status = S.Ok;
+            value = 0;
+            tree =
+                tree_with_newborn w.tree r.name a;
+          })).tree) m;
       rows = sym (ap (λ z. z.rows) l.own);
-      name = s.names_nodes r.name (runs_named w i r s e);
+      name =
+          s.names_nodes r.name (runs_named w i r s e);
     })
 
 -- a deletePartition that answers Ok
@@ -129,21 +135,24 @@ ended_is : (w : World) (j : ℕ) (b : Five) (p : ℕ) → IsSoundWorld w → IsE
     → occupant_name (runs_on w j) ≡ p → IsReplyOk (deletion w j b).outcome → Ended w j b p
 ended_is w j b p s ev n h =
     let (r, e) = ok_runs (OnMemory DeletePartition) w j b h in
-    let q : r.name ≡ p = sym (ap occupant_name e) ∙ n in
+    let q : r.name ≡ p = cc in
     let c = called_by (OnMemory DeletePartition) w j r b e in
-    let st : (delete_partition w.tree (running w) r.name b.x0).status ≡ S.Ok = subst (λ y. IsReplyOk y.outcome) c h in
+    let st : (delete_partition w.tree (running w) r.name b.x0).status ≡ S.Ok = rw c at h in
     let m = accepted w.tree (delete_refusals w.tree (running w) r.name b.x0)
     (record { status = S.Ok; value = 0; tree = tree_without_subtree w.tree (child_name w.tree r.name b.x0) })
     (delete_not_ok w.tree (running w) r.name b.x0) st in
     let l = event-leaves w (E.Call j 1 b) r s ev (λ k. k) e in
-    subst (Ended w j b) q (record {
+    rw (← q) (record {
       met = m;
-      tree = ap (λ y. y.world.tree) c ∙ ap (λ o. (answer_unless w.tree o (record {
-        status = S.Ok;
-        value = 0;
-        tree = tree_without_subtree w.tree (child_name w.tree r.name b.x0);
-      })).tree) m;
-      rows = sym (ap (λ z. z.rows) l.own);
+      tree = ap (λ y. y.world.tree) c ∙ ap
+          (λ o. (answer_unless w.tree o (record {
+            status = S.Ok;
+            value = 0;
+            tree =
+                tree_without_subtree w.tree (child_name w.tree r.name b.x0);
+          })).tree) m;
+      rows =
+          sym (ap (λ z. z.rows) l.own);
     })
 
 -- moments
@@ -188,7 +197,7 @@ through (e ∷ es) w p c s ev l f u =
 written_same : (c : Ctx) (g i : ℕ) (q : Reached) (old new : ℕ → ℕ) → old i ≡ new i
     → written_block c g q old i ≡ written_block c g q new i
 written_same c g i (Place h k) old new e =
-    ap (λ v. cond (h == g && (nat_le k i && nat_lt i (k + 17))) (context_word c (i - k)) v) e
+    rw e
 written_same c g i (Faulted f) old new e = e
 
 saved_same : (b : Bool) (w : World) (o : Option Occupant) (g i : ℕ) (old new : ℕ → ℕ) → old i ≡ new i
@@ -209,7 +218,7 @@ words_same w (E.Store cpu va z x) g i old new h =
     saved_same (is_left (event w (E.Store cpu va z x)).outcome) w (runs_on w cpu) g i _ _ (go (runs_on w cpu))
   where
     at : (q : Reached) → word_after_store va z x g q old i ≡ word_after_store va z x g q new i
-    at (Place k j) = ap (λ v. cond (k == g && i == j) (written_over va z x v) v) h
+    at (Place k j) = rw h
     at (Faulted f) = h
 
     go : (o : Option Occupant) → word_after_store_by w o va z x g old i ≡ word_after_store_by w o va z x g new i
@@ -260,7 +269,7 @@ words_through (e ∷ es) w g i s ev h =
 -- free is that no child holds the page
 free_at : (t : Tree) (p : ℕ) → IsSound t → IsName t p → (r : Row) → In r (node t p).rows
     → free t p r.at ≡ is_none (holder t p r.frame)
-free_at t p s n r i = ap (is_free_row t p) (find_member (λ r. r.at) r (node t p).rows
+free_at t p s n r i = rw (find_member (λ r. r.at) r (node t p).rows
     (Rising-distinct 0 _ (s.pages_apart (node t p) (node_found t p n).0).places) i)
 
 holder_case : (t : Tree) (p g : ℕ)
@@ -286,18 +295,18 @@ rows_again t0 t1 p c s0 s1 n0 n1 e d0 d1 = record {
   rows = e;
   unheld = λ r i. (
     (λ f x j u d h.
-        no_holder-unheld t1 p r.frame (none_of (holder t1 p r.frame) (sym (free_at t1 p s1 n1 r i) ∙ f)) x j u h),
+        no_holder-unheld t1 p r.frame (none_of (holder t1 p r.frame) (rw (← free_at t1 p s1 n1 r i) f)) x j u h),
     (λ h. elim (holder_case t1 p r.frame) [
-      | inl k ↦ free_at t1 p s1 n1 r i ∙ ap is_none k
+      | inl k ↦ rw (free_at t1 p s1 n1 r i, k)
       | inr (x, j, u, k) ↦ absurd (h x j u (d1 x j) k)
     ]),
   );
   again = λ r i f. elim (holder_case t1 p r.frame) [
-    | inl k ↦ inl (free_at t1 p s1 n1 r i ∙ ap is_none k)
+    | inl k ↦ inl (rw (free_at t1 p s1 n1 r i, k))
     | inr (x, j, u, k) ↦ inr (x, j, u, d1 x j, k)
   ];
   only = λ r i f. elim (holder_case t0 p r.frame) [
-    | inl k ↦ inl (free_at t0 p s0 n0 r (subst (In r) e i) ∙ ap is_none k)
+    | inl k ↦ inl (rw (free_at t0 p s0 n0 r (subst (In r) e i), k))
     | inr (x, j, u, k) ↦ inr (x, j, u, d0 x j, k)
   ];
 }
@@ -326,24 +335,21 @@ gives_back w i a es j b p c s words evs words' l =
     let nt = runs_after (after (creation w i a).world es) j b p su ev' l.ender l.ends in
     let tr : (deletion (after (creation w i a).world es) j b).world.tree
     ≡ tree_without_subtree (after (creation w i a).world es).tree c =
-    d.tree ∙ ap (tree_without_subtree (after (creation w i a).world es).tree) l.same in
+    cc (d.tree, l.same) in
     record {
       rows = rows_again w.tree (deletion (after (creation w i a).world es) j b).world.tree p c s.tree st.tree m.name nt
           (d.rows ∙ th.rows ∙ m.rows)
           (λ x k e. C.fresh_name w.tree p a s.tree m.name may
-          (subst (IsName w.tree) (e ∙ sym l.child) (inr (name_in x w.tree.others k))))
+          (subst (IsName w.tree) (cc (l.child)) (inr (name_in x w.tree.others k))))
           (λ x k e.
           let y = subst (λ t. In x (nodes t)) tr (inr k) in
           let f = D.left_stays (after (creation w i a).world es).tree c su.tree ot x y in
-          let g = in_has c _ (subst (λ q. In q (ancestry (after (creation w i a).world es).tree x.name)) e
-          (own_ancestry (after (creation w i a).world es).tree su.tree x
+          let g = in_has c _ (rw e at (own_ancestry (after (creation w i a).world es).tree su.tree x
           (D.left_nodes (after (creation w i a).world es).tree c su.tree ot x y))) in
           grind (arith, f, g));
       cleared = record {
-        zero = λ g x k h. ap (λ t. t.words g) tr
-            ∙ ap (λ q. cond q (Some zero_words) ((after (creation w i a).world es).tree.words g))
-            (in_has g _ (gone_in (after (creation w i a).world es).tree c g x k h));
-        kept = λ g h h'. ap (λ t. t.words g) tr ∙ deleted_words (after (creation w i a).world es).tree c g h;
+        zero = λ g x k h. rw (tr, in_has g _ (gone_in (after (creation w i a).world es).tree c g x k h));
+        kept = λ g h h'. rw (tr, deleted_words (after (creation w i a).world es).tree c g h);
       };
       words = λ g k r small h.
           event-words (after (creation w i a).world es) (E.Call j 1 b) g k su ev'
@@ -367,7 +373,7 @@ gives_back w i a es j b p c s words evs words' l =
             → unwrap_or (option_map (λ x. x.name) (child_at u.tree p b.x0)) 0 ≡ c → c ≢ u.tree.root.name
         go None k z q = cc
         go (Some x) k z q = λ y. not_root u.tree su.tree x (child_found u.tree p b.x0 x k).0
-            (sym y ∙ sym q ∙ ap (λ o. unwrap_or (option_map (λ x. x.name) o) 0) k)
+            (rw (← y, ← q, k))
 
     -- p is still there
     runs_after : (u : World) (j : ℕ) (b : Five) (p : ℕ) → IsSoundWorld u → IsEvent (E.Call j 1 b)
@@ -376,6 +382,6 @@ gives_back w i a es j b p c s words evs words' l =
         let (r, e) = ok_runs (OnMemory DeletePartition) u j b h in
         let l = event-leaves u (E.Call j 1 b) r su ev (λ k. k) e in
         let f = node_found u.tree r.name (su.names_nodes r.name (runs_named u j r su e)) in
-        subst (IsName (deletion u j b).world.tree) (sym (ap (λ z. z.name) l.own) ∙ f.1 ∙ sym (ap occupant_name e)
+        subst (IsName (deletion u j b).world.tree) (sym (ap (λ z. z.name) l.own) ∙ f.1 ∙ sym (rw e)
         ∙ n) (name_in (node (deletion u j b).world.tree r.name) (nodes (deletion u j b).world.tree)
         (node_in (deletion u j b).world.tree r.name))

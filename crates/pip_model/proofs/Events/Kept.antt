@@ -53,7 +53,7 @@ control_then t u v a b = record { node = λ q. a.node q ∙ b.node q; entries = 
 
 control_on : (f : Node → Node) (t : Tree) → ((x : Node) → memory x ≡ memory (f x)) → ControlOnly t (on_nodes f t)
 control_on f t same = record {
-  node = λ q. same (node t q) ∙ ap memory (sym (node_on f (λ x. ap (λ z. z.name) (sym (same x))) t q));
+  node = λ q. rw (same (node t q), ← node_on f (λ x. ap (λ z. z.name) (sym (same x))) t q);
   entries = entries_on f t (λ x. ap (λ z. z.name) (sym (same x))) (λ x. ap config (sym (same x)))
       (λ a x v r i e. ap (λ z. row_at z.rows v) (sym (same x)) ∙ e);
 }
@@ -68,15 +68,7 @@ saved_control : (t : Tree) (c : Ctx) (q : Reached) → ControlOnly t (saved_to t
 saved_control t c q = record {
   node = λ p. refl;
   entries = λ e h.
-      record {
-        node = h.node;
-        found = h.found;
-        row = h.row;
-        at = h.at;
-        page = h.page;
-        rights = h.rights;
-        seen = h.seen;
-      };
+      search;
 }
 
 running_control : (t : Tree) (o : Option Occupant) → ControlOnly t (save_running t o)
@@ -191,14 +183,11 @@ event-node w (E.Call cpu number a) q s n m h = go (runs_on w cpu) refl
 
     go : (o : Option Occupant) → runs_on w cpu ≡ o → KeepsNode q w.tree
         (call_happens (call_named number) w cpu a).world.tree
-    go None e = subst (λ o. KeepsNode q w.tree
-        (on_running w cpu o (λ r. call (call_named number) w cpu r a)).world.tree) (sym e) (keeps_same q w.tree)
-    go (Some r) e = subst (λ o.
-        KeepsNode q w.tree (on_running w cpu o (λ r. call (call_named number) w cpu r a)).world.tree) (sym e)
-        (of (call_named number) r e
+    go None e = rw e (keeps_same q w.tree)
+    go (Some r) e = rw e (of (call_named number) r e
         (subst (λ o. IsName (on_running w cpu o (λ r. call (call_named number) w cpu r a)).world.tree q) e m)
-        (λ z. h (subst (λ o. IsReplyOk (on_running w cpu o (λ r. call (call_named number) w cpu r a)).outcome
-        × NamesChild w.tree (occupant_name o) (call_named number) a q) (sym e) z)))
+        (λ z. h (subst (λ o. IsReplyOk (on_running w cpu o (λ r. call (call_named number) w cpu r a)).outcome ×
+        NamesChild w.tree (occupant_name o) (call_named number) a q) (sym e) z)))
 event-node w (E.Raise j) q s n m h =
     control_keeps q w.tree _ (pending_control (lines_with j w.tree.root.pending) w.tree)
 event-node w (E.Poll cpu) q s n m h = control_keeps q w.tree _ (poll_control w cpu (runs_on w cpu))
@@ -219,13 +208,12 @@ stored_words t va z x g j h i = go (g == h) (h == g) (j == i) refl refl refl
         (Some (λ j. cond (j == i) (written_over va z x (word_of (t.words h) i)) (word_of (t.words h) j))) (t.words g)) j
         ≡ cond (b && c) (written_over va z x (word_of (t.words g) j)) (word_of (t.words g) j)
     go true true c e f k = let d = eqb-true g h e in
-        ap (λ v. cond (j == i) (written_over va z x (word_of (t.words v) i)) (word_of (t.words v) j)) (sym d) ∙ one c k
+        rw (← d, one c k)
       where
         one : (c : Bool) → (j == i) ≡ c → cond (j == i) (written_over va z x (word_of (t.words g) i))
             (word_of (t.words g) j) ≡ cond c (written_over va z x (word_of (t.words g) j)) (word_of (t.words g) j)
-        one true k = ap (λ b. cond b (written_over va z x (word_of (t.words g) i)) (word_of (t.words g) j)) k
-            ∙ ap (λ v. written_over va z x (word_of (t.words g) v)) (sym (eqb-true j i k))
-        one false k = ap (λ b. cond b (written_over va z x (word_of (t.words g) i)) (word_of (t.words g) j)) k
+        one true k = rw (k, ← eqb-true j i k)
+        one false k = rw k
     go true false c e f k = let d = eqb-true g h e in let y = eq-eqb h g (sym d) in absurd (grind (arith, f, y))
     go false true c e f k = let d = eqb-true h g f in let y = eq-eqb g h (sym d) in absurd (grind (arith, e, y))
     go false false c e f k = refl
@@ -244,8 +232,8 @@ saved_word t c q g j there = go (t.words g) refl
         at false d = refl
         at true d =
             let z : is_some (t.words g) ≡ true =
-            subst (λ v. is_some (t.words v) ≡ true) (eqb-true h g d) (k h i refl) in
-            let y : is_some (t.words g) ≡ false = ap is_some e in
+            rw (← eqb-true h g d) (k h i refl) in
+            let y : is_some (t.words g) ≡ false = rw e in
             absurd (grind (arith, z, y))
 
     go : (o : Option (ℕ → ℕ)) → t.words g ≡ o
@@ -308,7 +296,7 @@ call_words : (k : CallName) (w : World) (cpu : ℕ) (r : Occupant) (a : Five) (g
 call_words Yields w cpu r a g j s n l h h' = let to = target_node w.tree r.name a.x0 in yielded_words w cpu r a
     (first_met (yield_refusals w r.name a to)) (node_name to) (handler w.tree (node_name to) a.x1) g j s n
 call_words (OnMemory k) w cpu r a g j s n l h h' =
-    ap (λ v. word_of v j) (((laws_of k).keeps w r.name a s n).words l g h h')
+    rw (((laws_of k).keeps w r.name a s n).words l g h h')
 call_words (Masks b) w cpu r a g j s n l h h' = refl
 call_words Unknown w cpu r a g j s n l h h' = refl
 
@@ -422,11 +410,8 @@ event-up w (E.Call cpu number a) q s n m = go (runs_on w cpu) refl
     go : (o : Option Occupant) → runs_on w cpu ≡ o
         → (node (on_running w cpu (runs_on w cpu) (λ r. call (call_named number) w cpu r a)).world.tree q).up
         ≡ (node w.tree q).up
-    go None e = subst (λ o. (node (on_running w cpu o (λ r. call (call_named number) w cpu r a)).world.tree q).up
-        ≡ (node w.tree q).up) (sym e) refl
-    go (Some r) e = subst (λ o. (node (on_running w cpu o (λ r. call (call_named number) w cpu r a)).world.tree q).up
-        ≡ (node w.tree q).up) (sym e)
-        (of (call_named number) r e
+    go None e = rw e refl
+    go (Some r) e = rw e (of (call_named number) r e
         (subst (λ o. IsName (on_running w cpu o (λ r. call (call_named number) w cpu r a)).world.tree q) e m))
 event-up w (E.Load cpu va z) q s n m = (event-node w (E.Load cpu va z) q s n m (λ x. x)).up
 event-up w (E.Fetch cpu) q s n m = (event-node w (E.Fetch cpu) q s n m (λ x. x)).up
@@ -459,4 +444,4 @@ never_idle Unknown w cpu r a e = cc
 pub calls_answer : (w : World) (cpu n : ℕ) (a : Five) (r : Occupant) → runs_on w cpu ≡ Some r
     → (event w (E.Call cpu n a)).outcome ≢ O.Idle
 calls_answer w cpu n a r e q = never_idle (call_named n) w cpu r a
-    (sym (ap (λ o. (on_running w cpu o (λ r. call (call_named n) w cpu r a)).outcome) e) ∙ q)
+    (cc)

@@ -13,7 +13,7 @@ place_open t p va g i a z e = off (is_misaligned va z) (row_at (node t p).rows (
         (cond f (Faulted Right) (Place r.frame (va % 4096 / 4))) ≡ Place g i → hidden t g ≡ false
     at r true f k q = cc
     at r false true k q = cc
-    at r false false k q = let u : r.frame ≡ g = cc in subst (λ v. hidden t v ≡ false) u k
+    at r false false k q = let u : r.frame ≡ g = cc in cc
 
     off : (b : Bool) (o : Option Row) → cond b (Faulted Alignment) (reach_by_row t va a o) ≡ Place g i
         → hidden t g ≡ false

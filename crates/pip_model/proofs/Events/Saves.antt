@@ -28,8 +28,7 @@ save_own t p k = record { row = λ h i e. row h i (block t p k) e; room = λ h i
 
     room : (h i : ℕ) (o : Option ℕ) → block t p k ≡ o → store_at t p o ≡ Place h i → i + 17 ≤ 1024
     room h i None z e = cc
-    room h i (Some a) z e = let l = block_room t p k a z in let u = reached_index t p a h i Store Word e in
-        omega (arith, l, u)
+    room h i (Some a) z e = omega (arith, block_room t p k a z, reached_index t p a h i Store Word e)
 
 pub yield_own : (t : Tree) (p s : ℕ) → IsOwnPlace t p (yield_place t p s)
 yield_own t p s = go (nat_lt s 256)
@@ -50,7 +49,7 @@ saved_out t p c q g j own out = go (t.words g)
         test : (b : Bool) → (h == g) ≡ b
             → cond (b && (nat_le i j && nat_lt j (i + 17))) (context_word c (j - i)) (w j) ≡ w j
         test false e = refl
-        test true e = absurd (out (subst (λ v. In v (row_pages (node t p))) (eqb-true h g e) (o.row h i refl)))
+        test true e = absurd (out (rw (← eqb-true h g e) (o.row h i refl)))
 
     go : (o : Option (ℕ → ℕ)) → word_of (option_map (λ old. written_block c g q old) o) j ≡ word_of o j
     go None = refl

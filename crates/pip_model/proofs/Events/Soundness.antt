@@ -78,7 +78,7 @@ set_from q o (Some r ∷ cs) (suc i) (inr j) = elim (set_from q o cs i j) [ inl 
 
 at_named : (r : Occupant) (cs : List (Option Occupant)) (i : ℕ) → at_cpu cs i ≡ Some r → In r.name (names_at cs)
 at_named r [] i e = cc
-at_named r (Some c ∷ cs) zero e = let k : c ≡ r = cc in inl (ap (λ z. z.name) (sym k))
+at_named r (Some c ∷ cs) zero e = let k : c ≡ r = cc in inl (rw (← k))
 at_named r (None ∷ cs) zero e = cc
 at_named r (c ∷ cs) (suc i) e = in_rest r.name c cs (at_named r cs i e)
 
@@ -112,7 +112,7 @@ set_some r (None ∷ cs) zero d (inl n) = (n, d)
 set_some r (None ∷ cs) zero d (inr m) = let e = m.1 in cc
 set_some r (Some c ∷ cs) zero d (inl n) = ((λ j. n (inr j)), d.1)
 set_some r (Some c ∷ cs) zero d (inr m) = let e = m.1 in let k : c ≡ m.0 = cc in
-    ((λ j. d.0 (subst (λ v. In v (names_at cs)) (sym (ap (λ z. z.name) k ∙ m.2)) j)), d.1)
+    ((λ j. d.0 (rw (k, m.2) j)), d.1)
 set_some r (None ∷ cs) (suc i) d m = set_some r cs i d m
 set_some r (Some c ∷ cs) (suc i) d (inl n) = (
   (λ j. elim (set_from c.name (Some r) cs i j)
@@ -123,7 +123,7 @@ set_some r (Some c ∷ cs) (suc i) d (inr m) = (
   (λ j. elim (set_from c.name (Some r) cs i j) [
     | inl k ↦ d.0 k
     | inr k ↦ elim k
-        [ inl e ↦ d.0 (subst (λ v. In v (names_at cs)) (m.2 ∙ sym e) (at_named m.0 cs i m.1)) | inr l ↦ absurd l ]
+        [ inl e ↦ d.0 (rw (e, ← m.2) (at_named m.0 cs i m.1)) | inr l ↦ absurd l ]
   ]),
   set_some r cs i d.1 (inr m),
 )
@@ -152,8 +152,8 @@ tree_changed w t s h n = record {
 pub cpu_idle : (w : World) (i : ℕ) → IsSoundWorld w → IsSoundWorld (with_running w i None)
 cpu_idle w i s = let l = length-set w.cpus i None in let a = s.at_least_one in let b = s.at_most_four in record {
   tree = s.tree;
-  at_least_one = omega (arith, l, a);
-  at_most_four = omega (arith, l, b);
+  at_least_one = omega arith;
+  at_most_four = omega arith;
   one_processor_each = set_none w.cpus i s.one_processor_each;
   names_nodes = λ p h. elim (set_from p None w.cpus i h) [ inl k ↦ s.names_nodes p k | inr k ↦ absurd k ];
   contexts = λ j r e. elim (at_set None w.cpus i j r e) [ inl k ↦ s.contexts j r k | inr k ↦ cc ];
@@ -164,8 +164,8 @@ pub cpu_runs : (w : World) (i : ℕ) (r : Occupant) → IsSoundWorld w → In r.
 cpu_runs w i r s n m x = let l = length-set w.cpus i (Some r) in let a = s.at_least_one in let b = s.at_most_four in
     record {
       tree = s.tree;
-      at_least_one = omega (arith, l, a);
-      at_most_four = omega (arith, l, b);
+      at_least_one = omega arith;
+      at_most_four = omega arith;
       one_processor_each = set_some r w.cpus i s.one_processor_each m;
       names_nodes = λ p h. elim (set_from p (Some r) w.cpus i h) [
         | inl k ↦ s.names_nodes p k
@@ -175,7 +175,7 @@ cpu_runs w i r s n m x = let l = length-set w.cpus i (Some r) in let a = s.at_le
       contexts = λ j q e. elim (at_set (Some r) w.cpus i j q e) [
         | inl k ↦ s.contexts j q k
         | inr k ↦ let z : r ≡ q = cc in
-            subst (λ y. IsContext y.ctx) z x
+            rw (← z) x
       ];
     }
 
@@ -243,18 +243,18 @@ replied-sound w cpu r a s e k =
 -- the words of a block are a context
 words_long : (n : ℕ) (w : ℕ → ℕ) (i : ℕ) → length (words_from n w i) ≡ n
 words_long zero w i = refl
-words_long (suc n) w i = ap suc (words_long n w (i + 1))
+words_long (suc n) w i = rw (words_long n w (i + 1))
 
 words_small : (n : ℕ) (w : ℕ → ℕ) (i : ℕ) → ((j : ℕ) → j < i + n → IsWord (w j))
     → AllByRecursion IsWord (words_from n w i)
 words_small zero w i h = tt
-words_small (suc n) w i h = (h i (omega arith), words_small n w (i + 1) (λ j l. h j (omega (arith, l))))
+words_small (suc n) w i h = (h i (omega arith), words_small n w (i + 1) (λ j l. h j (omega arith)))
 
 context_small : (w : ℕ → ℕ) (i : ℕ) → ((j : ℕ) → j < i + 17 → IsWord (w j)) → IsContext (context_in w i)
 context_small w i h = record {
   pc = h i (omega arith);
   count = words_long 16 w (i + 1);
-  regs = words_small 16 w (i + 1) (λ j l. h j (omega (arith, l)));
+  regs = words_small 16 w (i + 1) (λ j l. h j (omega arith));
 }
 
 -- the address of a block leaves room for 17 words in its page
@@ -271,7 +271,7 @@ block_room t p k a e = go (word_reached t (reach t p (4294963200 + 4 * k) Load W
             let u : b ≡ a = cc in
             let l = leb-true (b % 4096) 4028 (and_parts (b % 4 == 0) (nat_le (b % 4096) 4028)
             (and_parts (b % 4 == 0 && nat_le (b % 4096) 4028) (is_reached (reach t p b Load Word)) h).0).1 in
-            subst (λ v. v % 4096 ≤ 4028) u l
+            rw (← u) l
         at false h z = cc
 
 pub handler_small : (t : Tree) (p k : ℕ) (c : Ctx) → IsSound t → handler t p k ≡ Some c → IsContext c
@@ -283,7 +283,7 @@ handler_small t p k c s e = go (block t p k) refl e
     of a (Place g i) l h z =
         let u : context_in (word_of (t.words g)) i ≡ c = cc in
         let x = reached_index t p a g i Load Word h in
-        subst IsContext u (context_small (word_of (t.words g)) i (λ j m. s.numbers g j (omega (arith, l, m, x))))
+        rw (← u) (context_small (word_of (t.words g)) i (λ j m. s.numbers g j (omega (arith, l, m, x))))
 
     go : (o : Option ℕ) → block t p k ≡ o → handler_at t p o ≡ Some c → IsContext c
     go None h z = cc
@@ -366,10 +366,10 @@ nearest_among_is w k born (q ∷ qs) y s b n e = go (has (running w) q.name) (ha
         record {
           there = subst (λ v. In v (names_of (nodes w.tree))) z (name_in q (nodes w.tree) (n q (inl refl)));
           still = λ i. let m = in_has y.to (running w) i in
-              let m' : has (running w) q.name ≡ true = subst (λ v. has (running w) v ≡ true) (sym z) m in
+              let m' : has (running w) q.name ≡ true = rw z m in
               absurd (grind (arith, d, m'));
-          handler = subst IsContext v (handler_small w.tree q.name k h s l);
-          born = subst IsWord u b;
+          handler = rw (← v) (handler_small w.tree q.name k h s l);
+          born = rw (← u) b;
         }
 
 nearest_taker_is : (w : World) (p k : ℕ) (y : Taker) → IsSound w.tree → nearest_taker w p k ≡ Some y → IsTaker w y
@@ -407,7 +407,7 @@ reached_words t p va g i a z s n e = off (is_misaligned va z) (row_at (node t p)
         let x = node t p in
         let h = In-append_right r.frame (config x) (row_pages x) (In-map (λ r. r.frame) r x.rows i) in
         in_has r.frame (row_pages t.root) (elim (root_is_top t s x (node_in t p)) [
-          | inl q ↦ subst (λ y. In r.frame (row_pages y)) (sym q) (In-map (λ r. r.frame) r x.rows i)
+          | inl q ↦ rw q (In-map (λ r. r.frame) r x.rows i)
           | inr u ↦ holds_up t r.frame s t.root x u h
         ])
 
@@ -417,7 +417,7 @@ reached_words t p va g i a z s n e = off (is_misaligned va z) (row_at (node t p)
     at r false true j k q = cc
     at r false false j k q =
         let u : r.frame ≡ g = cc in
-        subst (λ v. is_some (t.words v) ≡ true) u (s.words r.frame ∙ ap₂ (λ a b. a && not b) (row_root r j) k)
+        rw (← u) (s.words r.frame ∙ ap₂ (λ a b. a && not b) (row_root r j) k)
 
     off : (b : Bool) (o : Option Row) → row_at (node t p).rows (vpage va) ≡ o
         → cond b (Faulted Alignment) (reach_by_row t va a o) ≡ Place g i → is_some (t.words g) ≡ true
@@ -442,7 +442,7 @@ store-sound t g i x small s e = words-sound t (with_word t g i x).words s (λ h.
 
     at : (h : ℕ) (b : Bool) → (h == g) ≡ b
         → is_some (cond b (Some (λ j. cond (j == i) x (word_of (t.words g) j))) (t.words h)) ≡ is_some (t.words h)
-    at h true q = sym (subst (λ v. is_some (t.words v) ≡ true) (sym (eqb-true h g q)) e)
+    at h true q = sym (rw (eqb-true h g q) e)
     at h false q = refl
 
 reply_unless-sound : (w : World) (cpu : ℕ) (r : Occupant) (o : Option Status) (h : Happened) → IsSoundWorld w
@@ -510,7 +510,7 @@ call-sound (OnMemory k) w cpu r a s e l =
     let n = s.names_nodes r.name (runs_named w cpu r s e) in
     let sound = (laws_of k).sound w r.name a s.tree n l.1.0 in
     let h = (laws_of k).keeps w r.name a s.tree n in
-    replied-sound w cpu r (answer k w r.name a) s e (record { sound = sound; stays = h.stays; value = h.value })
+    replied-sound w cpu r (answer k w r.name a) s e (assumption)
 call-sound Yields w cpu r a s e l = yield-sound w cpu r a _ s e (target_is w.tree r.name a.x0 (a.x0 == 0) (a.x0 == 1))
 call-sound (Masks b) w cpu r a s e l = replied-sound w cpu r (accept 0 (with_masked r.name b w.tree)) s e
     (record {
@@ -540,7 +540,7 @@ lines_left j js l = lines_out 0 j js l
 
 line_small : (low j : ℕ) (js : List ℕ) → AreLines low js → In j js → j < 16
 line_small low j [] l i = absurd i
-line_small low j (k ∷ js) l (inl e) = subst (λ n. n < 16) (sym e) l.1
+line_small low j (k ∷ js) l (inl e) = rw e l.1
 line_small low j (k ∷ js) l (inr i) = line_small (suc k) j js l.2 i
 
 pub lines_raised : (low j : ℕ) (js : List ℕ) → low ≤ j → j < 16 → AreLines low js → AreLines low (lines_with j js)
@@ -550,10 +550,10 @@ lines_raised low j (i ∷ is) a b l = go (nat_lt j i) (j == i) refl refl (lines_
     go : (c d : Bool) → nat_lt j i ≡ c → (j == i) ≡ d
         → (suc i ≤ j → j < 16 → AreLines (suc i) is → AreLines (suc i) (lines_with j is))
         → AreLines low (cond c (j ∷ i ∷ is) (cond d (i ∷ is) (i ∷ lines_with j is)))
-    go true d e f ih = let k = ltb-true j i e in (a, b, (omega (arith, k), l.1, l.2))
+    go true d e f ih = let k = ltb-true j i e in (a, b, (omega arith, l.1, l.2))
     go false true e f ih = l
     go false false e f ih = let k = ltb-false j i e in let n = eqb-false j i f in
-        (l.0, l.1, ih (omega (arith, k, n)) b l.2)
+        (l.0, l.1, ih (omega arith) b l.2)
 
 polled_same : (w : World) (o : Option Occupant) → (none_taken w o).world ≡ w
 polled_same w None = refl
@@ -562,7 +562,7 @@ polled_same w (Some r) = refl
 take-sound : (w : World) (cpu : ℕ) (o : Option Occupant) (j : ℕ) (h : Option Ctx) → IsWord (32 + j)
     → ((z : Ctx) → h ≡ Some z → IsContext z) → IsSoundWorld w → runs_on w cpu ≡ o → may_take w cpu o ≡ true
     → IsSoundWorld (take_line w cpu o j h).world
-take-sound w cpu o j None jsmall known s e m = subst IsSoundWorld (sym (polled_same w o)) s
+take-sound w cpu o j None jsmall known s e m = rw (polled_same w o) s
 take-sound w cpu o j (Some h) jsmall known s e m =
     let n = w.tree.root.name in
     let js = filter (λ i. not (i == j)) w.tree.root.pending in
@@ -573,7 +573,7 @@ take-sound w cpu o j (Some h) jsmall known s e m =
     stays_on (lines_in t1.root.name js) t1 (p ∷ []) (λ x. refl) (λ x. refl) p (inl refl)
     (stays_on (masked_node n true) t0 (p ∷ []) (λ x. refl) (λ x. refl) p (inl refl) (saved_names w.tree o p i)) in
     cpu_runs (record w { tree = t2 }) cpu _ (tree_changed w t2 s (pending-sound js t1 (lines_left j w.tree.root.pending
-    s.tree.lines) (masked-sound n true t0 (sound_saved w.tree o (λ r q. s.contexts cpu r (e ∙ q)) s.tree)))
+    s.tree.lines) (masked-sound n true t0 (sound_saved w.tree o (λ r q. s.contexts cpu r (cc)) s.tree)))
     (λ p i. names p (s.names_nodes p i))) (names n (inl refl)) (may o e m)
     (told_small h (32 + j) 0 0 0 (known h refl) jsmall (omega arith) (omega arith) (omega arith))
   where
@@ -608,12 +608,12 @@ poll-sound w cpu o s e = go (may_take w cpu o) (lowest_line w w.tree.root.pendin
   where
     go : (b : Bool) (j : Option ℕ) → may_take w cpu o ≡ b → lowest_line w w.tree.root.pending ≡ j
         → IsSoundWorld (cond b (poll_line w cpu o j) (none_taken w o)).world
-    go false j m f = subst IsSoundWorld (sym (polled_same w o)) s
-    go true None m f = subst IsSoundWorld (sym (polled_same w o)) s
+    go false j m f = rw (polled_same w o) s
+    go true None m f = rw (polled_same w o) s
     go true (Some j) m f =
         let k = line_small 0 j w.tree.root.pending s.tree.lines
         (find_in (λ j. is_some (handler w.tree w.tree.root.name (32 + j))) j w.tree.root.pending f).0 in
-        take-sound w cpu o j (handler w.tree w.tree.root.name (32 + j)) (omega (arith, k)) (λ z q.
+        take-sound w cpu o j (handler w.tree w.tree.root.name (32 + j)) (omega arith) (λ z q.
         handler_small w.tree w.tree.root.name (32 + j) z s.tree q) s e m
 
 vector_small : (f : Fault) → IsWord (fault_vector f)
@@ -623,7 +623,7 @@ vector_small Hidden = omega arith
 vector_small Right = omega arith
 
 fault_small : (a : Access) (f : Fault) → IsWord (16 * access_number a + fault_number f)
-fault_small a f = let x = access a in let y = fault f in omega (arith, x, y)
+fault_small a f = omega (arith, access a, fault f)
   where
     access : (a : Access) → access_number a ≤ 2
     access Load = omega arith
@@ -690,7 +690,7 @@ acted-sound w (E.Trap cpu k a b) s l = go (runs_on w cpu) refl
     go : (o : Option Occupant) → runs_on w cpu ≡ o
         → IsSoundWorld (on_running w cpu o (λ r. deliver w cpu r k a b)).world
     go None e = s
-    go (Some r) e = deliver-sound w cpu r k a b (let h = l.0 in omega (arith, h)) l.1 l.2 (s.contexts cpu r e) s
+    go (Some r) e = deliver-sound w cpu r k a b (omega arith) l.1 l.2 (s.contexts cpu r e) s
 acted-sound w (E.Call cpu number a) s l = go (runs_on w cpu) refl
   where
     go : (o : Option Occupant) → runs_on w cpu ≡ o
@@ -724,7 +724,7 @@ event-sound w e s l = recached (what_happens w e).world (caches_after w e) (acte
 
 pub idle_length : (c : ℕ) → length (idle_cpus c) ≡ c
 idle_length zero = refl
-idle_length (suc c) = ap suc (idle_length c)
+idle_length (suc c) = rw (idle_length c)
 
 idle_names : (c : ℕ) → names_at (idle_cpus c) ≡ []
 idle_names zero = refl
@@ -742,10 +742,10 @@ pub boot_world-sound_with : (words : ℕ → ℕ → ℕ) (n c : ℕ) → 16 ≤
 boot_world-sound_with words n zero l h a b small = absurd (omega arith)
 boot_world-sound_with words n (suc c) l h a b small = record {
   tree = boot-sound_with words n l h small;
-  at_least_one = let k = idle_length c in omega (arith, k);
-  at_most_four = let k = idle_length c in omega (arith, k);
-  one_processor_each = ((λ i. subst (In 1) (idle_names c) i), subst Distinct (sym (idle_names c)) tt);
-  names_nodes = λ p i. elim i [ inl e ↦ inl e | inr j ↦ absurd (subst (In p) (idle_names c) j) ];
+  at_least_one = omega arith;
+  at_most_four = omega (arith, idle_length c);
+  one_processor_each = ((λ i. rw (idle_names c) at i), rw (idle_names c) tt);
+  names_nodes = λ p i. elim i [ inl e ↦ inl e | inr j ↦ absurd (rw (idle_names c) at j) ];
   contexts = at;
 }
   where
@@ -756,7 +756,7 @@ boot_world-sound_with words n (suc c) l h a b small = record {
 
     at : (i : ℕ) (r : Occupant) → at_cpu (boot_cpus (suc c)) i ≡ Some r → IsContext r.ctx
     at zero r e = let q : ◌≡◌ {A = Occupant} (record { name = 1; ctx = first_ctx }) r = cc in
-        subst (λ z. IsContext z.ctx) q first_context
+        rw (← q) first_context
     at (suc i) r e = absurd (idle c i r e)
 
 pub boot_world-sound : (n c : ℕ) → 16 ≤ n → n ≤ 4096 → 1 ≤ c → c ≤ 4 → IsSoundWorld (boot_world n c)

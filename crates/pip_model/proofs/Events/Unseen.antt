@@ -67,8 +67,7 @@ module _ (w : World) (cs : List Places) where
 
   calls : (k : CallName) (cpu : ℕ) (r : Occupant) (a : Five) → DiffersInCaches (call k v cpu r a) (call k w cpu r a)
   calls (OnMemory k) cpu r a =
-      subst (λ z. DiffersInCaches (reply_happens v cpu r z) (reply_happens w cpu r (answer k w r.name a)))
-      (sym ((laws_of k).caches w cs r.name a)) (record { outcome = refl; tree = refl; cpus = refl })
+      rw ((laws_of k).caches w cs r.name a) (record { outcome = refl; tree = refl; cpus = refl })
   calls Yields cpu r a = switched cpu r a
   calls (Masks b) cpu r a = record { outcome = refl; tree = refl; cpus = refl }
   calls Unknown cpu r a = record { outcome = refl; tree = refl; cpus = refl }
@@ -121,4 +120,4 @@ module _ (w : World) (cs : List Places) where
       (λ r. record { outcome = refl; tree = refl; cpus = refl })
 
 pub caches_tell_nothing : CachesTellNothing
-caches_tell_nothing w cs e = let d = all w cs e in record { outcome = d.outcome; tree = d.tree; cpus = d.cpus }
+caches_tell_nothing w cs e = let d = all w cs e in assumption

@@ -35,14 +35,14 @@ remove x (y ∷ ys) (inl e) = (
   ys,
   refl,
   λ g i. elim i [
-    | inl f ↦ inl (f ∙ sym e)
+    | inl f ↦ inl (cc)
     | inr j ↦ inr j
   ],
 )
 remove x (y ∷ ys) (inr i) =
     let (zs, l, f) = remove x ys i in (
       y ∷ zs,
-      ap suc l,
+      rw l,
       λ g j. elim j [
         | inl e ↦ inr (inl e)
         | inr k ↦ elim (f g k) [
@@ -56,11 +56,11 @@ fewer : (xs ys : List ℕ) → Distinct xs → ((g : ℕ) → In g xs → In g y
 fewer [] ys d sub = omega arith
 fewer (x ∷ xs) ys d sub =
     let (zs, l, f) = remove x ys (sub x (inl refl)) in
-    let h = fewer xs zs d.1 (λ g i. elim (f g (sub g (inr i))) [
-      | inl e ↦ absurd (d.0 (subst (λ z. In z xs) e i))
-      | inr m ↦ m
-    ]) in
-    omega (arith, l, h)
+    omega (
+      arith,
+      fewer xs zs d.1 (λ g i. elim (f g (sub g (inr i)))
+          [ inl e ↦ absurd (d.0 (subst (λ z. In z xs) e i)) | inr m ↦ m ]),
+    )
 
 -- a tree's nodes, told from the other tree's
 names_to : (t u : Tree) → ((x : Node) → In x (nodes t) → In x (nodes u)) → (g : ℕ) → In g (names_of (nodes t))
@@ -76,8 +76,8 @@ module _ (t u : Tree) (s : IsSound t) (r : IsSound u) (a : AreSame t u) where
       let n = fewer (names_of (nodes u)) (names_of (nodes t)) (look.names_apart u r) (names_to u t a.from) in
       let p = length-map (nodes t) (λ x. x.name) in
       let q = length-map (nodes u) (λ x. x.name) in
-      let e : suc (length t.others) ≡ suc (length u.others) = omega (arith, m, n, p, q) in
-      omega (arith, e)
+      let e : suc (length t.others) ≡ suc (length u.others) = omega arith in
+      omega arith
 
   other_on : (x : Node) → In x t.others → In x u.others
   other_on x i = other_in t u s r x i (a.to x (inr i))
@@ -112,30 +112,30 @@ module _ (t u : Tree) (s : IsSound t) (r : IsSound u) (a : AreSame t u) where
 
   walk_same : (k : ℕ) (x : Node) → In x (nodes t) → walk_from k t x ≡ walk_from k u x
   walk_same zero x i = refl
-  walk_same (suc k) x i = ap (λ ys. x ∷ ys)
-      (flat_same (walk_from k t) (walk_from k u) (children_by_rows t x)
-      (λ y j. walk_same k y (inr (look.other_in t y.name y (by_rows t s x y j).0)))
-      ∙ ap (flat_map (walk_from k u)) (by_rows_same x i))
+  walk_same (suc k) x i = rw (
+    flat_same (walk_from k t) (walk_from k u) (children_by_rows t x)
+        (λ y j. walk_same k y (inr (look.other_in t y.name y (by_rows t s x y j).0))),
+    by_rows_same x i,
+  )
 
   -- ---- how deep a node stands
 
   depth_same : (n : ℕ) (x : Node) → In x (nodes t) → length (chain t x.name) ≤ n
       → length (chain t x.name) ≡ length (chain u x.name)
   depth_same n x (inl e) few =
-      ap length (ap (chain t) (ap (λ z. z.name) e) ∙ root_line t s)
-      ∙ sym (ap length (ap (chain u) (ap (λ z. z.name) (e ∙ a.root)) ∙ root_line u r))
+      cc (root_line t s, root_line u r, a.root)
   depth_same zero x (inr i) few =
-      let e = ap length (chain-node t s x i) in absurd (omega (arith, e, few))
+      absurd (omega (arith, ap length (chain-node t s x i), few))
   depth_same (suc n) x (inr i) few =
-      let e : length (chain t x.name) ≡ suc (length (chain t x.up)) = ap length (chain-node t s x i) in
-      let f : length (chain u x.name) ≡ suc (length (chain u x.up)) = ap length (chain-node u r x (other_on x i)) in
+      let e : length (chain t x.name) ≡ suc (length (chain t x.up)) = rw (chain-node t s x i) in
+      let f : length (chain u x.name) ≡ suc (length (chain u x.up)) = rw (chain-node u r x (other_on x i)) in
       let (y, found) = look.parent_found t s x.name x (look.in_other t s x i) in
       let named : y.name ≡ x.up = look.found_name t x.up y found in
       let less : length (chain t y.name) ≤ n =
-      subst (λ k. length (chain t k) ≤ n) (sym named) (omega (arith, e, few)) in
+      rw named (omega (arith, e, few)) in
       let up : length (chain t x.up) ≡ length (chain u x.up) =
-      subst (λ k. length (chain t k) ≡ length (chain u k)) named (depth_same n y (look.found_in t x.up y found) less) in
-      e ∙ ap suc up ∙ sym f
+      rw (← named) (depth_same n y (look.found_in t x.up y found) less) in
+      rw (e, up, ← f)
 
   -- ---- the text
 
@@ -148,8 +148,7 @@ module _ (t u : Tree) (s : IsSound t) (r : IsSound u) (a : AreSame t u) where
 
   head_same : (x : Node) → In x (nodes t) → head_text t x ≡ head_text u x
   head_same x i =
-      ap (λ d. part_line x.name (d - 1) x.up x.born (length x.tables) (length x.rows))
-      (depth_same (length (chain t x.name)) x i (omega arith))
+      rw (depth_same (length (chain t x.name)) x i (omega arith))
 
   part_same : (x : Node) → In x (nodes t) → part_text t x ≡ part_text u x
   part_same x i =

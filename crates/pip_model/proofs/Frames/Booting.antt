@@ -25,21 +25,18 @@ pub tables_more : (k i g : ℕ) → tables_begin (suc k) i g ≡ tables_begin k 
 tables_more zero i g =
     let a : i ≡ i + 0 = omega arith in
     let b : g ≡ g + 3 * 0 = omega arith in
-    ap (λ j. boot_table j g ∷ []) a ∙ ap (λ h. boot_table (i + 0) h ∷ []) b
+    cc
 tables_more (suc k) i g =
     let a : i + 1 + k ≡ i + suc k = omega arith in
     let b : g + 3 + 3 * k ≡ g + 3 * suc k = omega arith in
-    ap (λ ts. boot_table i g ∷ ts) (tables_more k (i + 1) (g + 3)
-    ∙ ap (λ j. tables_begin k (i + 1) (g + 3) ++ boot_table j (g + 3 + 3 * k) ∷ []) a
-    ∙ ap (λ h. tables_begin k (i + 1) (g + 3) ++ boot_table (i + suc k) h ∷ []) b)
+    rw (tables_more k (i + 1) (g + 3), a, b)
 
 -- and then that of the handlers
 pub tables_end : (k i g : ℕ) → tables_begin k i g ++ boot_table 1023 (g + 3 * k) ∷ [] ≡ tables_from k i g
-tables_end zero i g = let b : g + 3 * 0 ≡ g = omega arith in ap (λ h. boot_table 1023 h ∷ []) b
+tables_end zero i g = let b : g + 3 * 0 ≡ g = omega arith in rw b
 tables_end (suc k) i g =
     let b : g + 3 * suc k ≡ g + 3 + 3 * k = omega arith in
-    ap (λ ts. boot_table i g ∷ ts) (ap (λ h. tables_begin k (i + 1) (g + 3) ++ boot_table 1023 h ∷ []) b
-    ∙ tables_end k (i + 1) (g + 3))
+    rw (b, tables_end k (i + 1) (g + 3))
 
 -- ---- the rows
 
@@ -55,7 +52,7 @@ module _ (n : ℕ) (least : 16 ≤ n) (most : n ≤ 4096) where
         let (x, there, c) = hidden_from (boot_tree n) g on in
         elim there [
           | inl e ↦ absurd (Distinct-apart g (config (boot_root n)) (row_pages (boot_root n))
-              (sound.pages_apart (boot_root n) (inl refl)).pages (subst (λ y. In g (config y)) e c) i)
+              (sound.pages_apart (boot_root n) (inl refl)).pages (rw e at c) i)
           | inr none ↦ absurd none
         ]
   ]
@@ -74,7 +71,7 @@ module _ (n : ℕ) (least : 16 ≤ n) (most : n ≤ 4096) where
       let (r, at, frame) = page_at_row (boot_root n) v f is in
       full_is (boot_tree n) (boot_root n) v r (user_row f) at (sym frame)
       (sym (root_rights n r (row_in (boot_root n) v r at).0))
-      (sym (ap not (row_open r.frame (row_page (boot_root n) v r at)))) (none_given r.frame) (from_none r.frame)
+      (cc (row_open r.frame (row_page (boot_root n) v r at))) (none_given r.frame) (from_none r.frame)
 
   -- there is none where it has none
   pub root_no_row : (v : ℕ) → frame_of_root n v ≡ None → None ≡ full_rows (boot_tree n) (boot_root n) v
@@ -82,7 +79,7 @@ module _ (n : ℕ) (least : 16 ≤ n) (most : n ≤ 4096) where
     | inl e ↦ sym e
     | inr r ↦
         let (q, at, same) = full_back (boot_tree n) (boot_root n) v r.0 r.1 in
-        let bad : None ≡ Some q.frame = sym is ∙ ap (option_map (λ (z : Row). z.frame)) at in
+        let bad : None ≡ Some q.frame = rw (← is, at) in
         cc
   ]
 
@@ -91,8 +88,7 @@ module _ (n : ℕ) (least : 16 ≤ n) (most : n ≤ 4096) where
   root_room v f is =
       let (r, at, frame) = page_at_row (boot_root n) v f is in
       let (i, e) = row_in (boot_root n) v r at in
-      has_index (boot_root n) v (subst (λ u. In (dir u) (map (λ (b : Table). b.index) (boot_root n).tables)) e
-      ((sound.tables (boot_root n) (inl refl)).tabled r i))
+      has_index (boot_root n) v (rw (← e) ((sound.tables (boot_root n) (inl refl)).tabled r i))
 
 -- ---- the words
 

@@ -28,13 +28,12 @@ pub children-changed : (f : Node → Node) → ((x : Node) → (f x).up ≡ x.up
     → filter (λ x. x.up == p) (map f xs) ≡ map f (filter (λ x. x.up == p) xs)
 children-changed f ups p [] = refl
 children-changed f ups p (x ∷ xs) =
-    ap (λ n. cond (n == p) (f x ∷ filter (λ z. z.up == p) (map f xs)) (filter (λ z. z.up == p) (map f xs))) (ups x)
-    ∙ go (x.up == p) (children-changed f ups p xs)
+    cc (ups x, go (x.up == p) (children-changed f ups p xs))
   where
     go : (b : Bool) → filter (λ z. z.up == p) (map f xs) ≡ map f (filter (λ z. z.up == p) xs)
         → cond b (f x ∷ filter (λ z. z.up == p) (map f xs)) (filter (λ z. z.up == p) (map f xs))
         ≡ map f (cond b (x ∷ filter (λ z. z.up == p) xs) (filter (λ z. z.up == p) xs))
-    go true h = ap (λ l. f x ∷ l) h
+    go true h = rw h
     go false h = h
 
 -- what a test finds that says of each what it said before
@@ -53,7 +52,7 @@ find-changed_same f P (x ∷ xs) same = ap (λ b. cond b (Some (f x)) (find P (m
 pub found-changed : (c : ℕ) (f : Node → Node) (t : Tree) → ((x : Node) → (f x).name ≡ x.name) → (a : ℕ) (x : Node)
     → find_node t a ≡ Some x → find_node (change_node c f t) a ≡ Some (change_at c f x)
 found-changed c f t names a x e =
-    find_changed (change_at c f) t (change-keeps c f (λ z. z.name) names) a ∙ ap (option_map (change_at c f)) e
+    rw (find_changed (change_at c f) t (change-keeps c f (λ z. z.name) names) a, e)
 
 -- ---- rows
 
@@ -97,7 +96,7 @@ module _ (t : Tree) (s : IsSound t) (c : Node) (own : List Row → List Row) (g 
       ∙ (ap (option_map F) (in_other t s c child) ∙ ap Some (change-here c.name f c refl))
 
   pub other_after : (a : ℕ) (y : Node) → find_node t a ≡ Some y → y.name ≢ c.name → find_node rows_tree a ≡ Some y
-  other_after a y e ne = found-changed c.name f t (λ z. refl) a y e ∙ ap Some (change-else c.name f y ne)
+  other_after a y e ne = rw (found-changed c.name f t (λ z. refl) a y e, change-else c.name f y ne)
 
   parent_after : (a : ℕ) (y : Node) → find_other t a ≡ Some y → y.name ≢ c.name → find_other u a ≡ Some y
   parent_after a y e ne = find_other_changed F t (change-keeps c.name f (λ z. z.name) (λ z. refl)) a
@@ -107,19 +106,21 @@ module _ (t : Tree) (s : IsSound t) (c : Node) (own : List Row → List Row) (g 
 
   holds_same : (y : Node) (h : ℕ) → In y t.others → (y ≡ c → h ≢ g) → holds (F y) h ≡ holds y h
   holds_same y h i ne = elim (one-changes t s c f (λ x. refl) (λ x. refl) k.become y (inr i)) [
-    | inl e ↦ ap (λ z. holds z h) e.1 ∙ (k.same h (ne e.0) ∙ ap (λ z. holds z h) (sym e.0))
-    | inr e ↦ ap (λ z. holds z h) e.1
+    | inl e ↦ rw (e.1, k.same h (ne e.0), ← e.0)
+    | inr e ↦ rw e.1
   ]
 
   -- no word of a first shadow changes but the parent's of the page g
   pub given_else : (a h : ℕ) → (a ≡ c.up → h ≢ g) → given_word rows_tree a h ≡ given_word t a h
   unfolding given_word holds_same
   given_else a h ne =
-      ap (λ o. given_by o h)
-      (ap (find (λ z. holds z h)) (children-changed F (change-keeps c.name f (λ z. z.up) (λ z. refl)) a t.others)
-      ∙ find-changed_same F (λ z. holds z h) (children t a) (λ y i. let (j, up) = In-filter_from (λ z. z.up == a) y
-      t.others i in holds_same y h j (λ e. ne (sym (eqb-true y.up a up) ∙ ap (λ z. z.up) e))))
-      ∙ go (holder t a h)
+      rw (
+        children-changed F (change-keeps c.name f (λ z. z.up) (λ z. refl)) a t.others,
+        find-changed_same F (λ z. holds z h) (children t a)
+            (λ y i. let (j, up) = In-filter_from (λ z. z.up == a) y t.others i in
+            holds_same y h j (λ e. ne (sym (eqb-true y.up a up) ∙ ap (λ z. z.up) e))),
+        go (holder t a h),
+      )
     where
       go : (o : Option Node) → given_by (option_map F o) h ≡ given_by o h
       go None = refl
@@ -135,9 +136,9 @@ module _ (t : Tree) (s : IsSound t) (c : Node) (own : List Row → List Row) (g 
       elim (one-changes t s c f (λ x. refl) (λ x. refl) k.become p (found_in t y.up p p_is)) [
         | inl h ↦ (
           record c { rows = own c.rows },
-          found-changed c.name f t (λ z. refl) y.up p p_is ∙ ap Some h.1,
-          k.below y w q i (sym (found_name t y.up p p_is) ∙ ap (λ z. z.name) h.0) on
-              (subst (λ z. row_at z.rows w ≡ Some q) h.0 e),
+          rw (found-changed c.name f t (λ z. refl) y.up p p_is, h.1),
+          k.below y w q i (rw (← found_name t y.up p p_is, h.0)) on
+              (rw (← h.0) e),
         )
         | inr h ↦ (p, other_after y.up p p_is h.0, e)
       ]
@@ -153,10 +154,9 @@ module _ (t : Tree) (s : IsSound t) (c : Node) (own : List Row → List Row) (g 
         let (p, p_is, w, q, at, page, word) = parent_place t s a y o h i in
         let (n, n_is, there) =
         above_stays y p w q (other_in t a y o) p_is (subst (λ e. In e (held_pages y)) (sym page) i) at in
-        from_other_word u rows_tree-sound a z n h w (after o) (ap (find_node u) up ∙ n_is)
-        (ap (vpage_of_page n) (sym page)
-        ∙ place_is n (rows_tree-sound.pages_apart n (found_in u y.up n n_is)) w q there)
-        ∙ sym word
+        cc (from_other_word u rows_tree-sound a z n h w (after o) (ap (find_node u) up ∙ n_is)
+        (ap (vpage_of_page n) (sym page) ∙ place_is n (rows_tree-sound.pages_apart n (found_in u y.up n n_is)) w q
+        there))
   ]
 
   -- ---- full rows
@@ -179,8 +179,8 @@ module _ (t : Tree) (s : IsSound t) (c : Node) (own : List Row → List Row) (g 
       let name = found_name t a y y_is in
       sym (full_same t u y y w refl (λ q at. (
         sym (hidden_kept F t (change-keeps c.name f config (λ z. refl)) q.frame),
-        sym (given_else y.name q.frame (λ e. ne q at (sym name ∙ e))),
-        sym (from_same a y y y_is refl refl (λ o. parent_after a y o (λ e. off (sym name ∙ e))) q.frame
+        sym (given_else y.name q.frame (λ e. ne q at (cc))),
+        sym (from_same a y y y_is refl refl (λ o. parent_after a y o (λ e. off (cc))) q.frame
             (held_row y w q at)),
       )))
 
@@ -191,13 +191,13 @@ module _ (t : Tree) (s : IsSound t) (c : Node) (own : List Row → List Row) (g 
   unfolding other_row from_same
   parent_rows x found v q at page word given w = elim (cases_eq w v) [
     | inr ne ↦ rw (ne_eqb w v ne) (other_row c.up x found (up-apart t s c child) w
-        (λ z e h i. ne (one_row x (s.pages_apart x (found_in t c.up x found)) w v z q e at (i ∙ sym page)).1))
+        (λ z e h i. ne (one_row x (s.pages_apart x (found_in t c.up x found)) w v z q e at (cc)).1))
     | inl e ↦ rw (eq-eqb w v e) (sym (full_is u x w q (record (filled t x q) { given = word })
-        (ap (row_at x.rows) e ∙ at)
+        (rw (e, at))
         refl
         refl
-        (ap not (sym (hidden_kept F t (change-keeps c.name f config (λ z. refl)) q.frame)))
-        (sym (ap (λ a. given_word u a q.frame) (found_name t c.up x found) ∙ (ap (given_word u c.up) page ∙ given)))
+        (rw (← hidden_kept F t (change-keeps c.name f config (λ z. refl)) q.frame))
+        (cc (found_name t c.up x found))
         (sym (from_same c.up x x found refl refl (λ o. parent_after c.up x o
-        (λ z. up-apart t s c child (sym (found_name t c.up x found) ∙ z))) q.frame (held_row x v q at)))))
+        (λ z. up-apart t s c child (rw (← found_name t c.up x found) z))) q.frame (held_row x v q at)))))
   ]

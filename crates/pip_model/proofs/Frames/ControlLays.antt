@@ -54,7 +54,7 @@ module _ (f : Node → Node) (t : Tree) (same : (x : Node) → memory (f x) ≡ 
 
   given_stay : (p g : ℕ) → given_word (on_nodes f t) p g ≡ given_word t p g
   unfolding given_word
-  given_stay p g = ap (λ o. given_by o g) (holder_in p g t.others) ∙ by_holder (holder t p g)
+  given_stay p g = rw (holder_in p g t.others, by_holder (holder t p g))
     where
       by_holder : (o : Option Node) → given_by (option_map f o) g ≡ given_by o g
       by_holder None = refl
@@ -78,8 +78,7 @@ module _ (f : Node → Node) (t : Tree) (same : (x : Node) → memory (f x) ≡ 
   full_stay x v = full_same t (on_nodes f t) x (f x) v (ap (λ z. row_at z.rows v) (sym (same x)))
       (λ q at. (
         sym (hidden_kept f t (λ z. ap config (same z)) q.frame),
-        sym (ap (λ p.
-            given_word (on_nodes f t) p q.frame) (names_stay x) ∙ given_stay x.name q.frame),
+        cc (given_stay x.name q.frame, names_stay x),
         sym (from_stay x q.frame),
       ))
 
@@ -94,17 +93,15 @@ module _ (f : Node → Node) (t : Tree) (same : (x : Node) → memory (f x) ≡ 
     each_there a y there =
         let (z, z_is, y_is) = changed_back f t names_stay a y there in
         let cells : NodeIn n (f z) (cells_of (full_rows t z)) → NodeIn n y (cells_of (full_rows (on_nodes f t) y)) =
-        λ k. subst (λ v. NodeIn n v (cells_of (full_rows (on_nodes f t) v))) (sym y_is)
-        (NodeIn-same n (f z) (cells_of (full_rows t z)) (cells_of (full_rows (on_nodes f t) (f z)))
+        λ k. rw y_is (NodeIn-same n (f z) (cells_of (full_rows t z)) (cells_of (full_rows (on_nodes f t) (f z)))
         (λ l v. ap (λ r. cells_of (λ w. r) l v) (full_stay z v)) k) in
         cells (elim (cases_eq a p) [
-          | inl e ↦ let one : x ≡ z = same_found t p x z found (ap (find_node t) (sym e) ∙ z_is) in
-              subst (λ v. NodeIn n (f v) (cells_of (full_rows t v))) one node
+          | inl e ↦ let one : x ≡ z = same_found t p x z found (cc) in
+              rw (← one) node
           | inr ne ↦
-              let is_z : f z ≡ z = else z (λ e. ne (sym (found_name t a z z_is) ∙ e)) in
-              subst (λ v. NodeIn n v (cells_of (full_rows t z))) (sym is_z)
-              (NodeIn-stays m n z x (cells_of (full_rows t z)) (laid_space t s m laid a z z_is).node node.shape stay
-              (λ g on over. config_apart t s a p g z x z_is found ne on over))
+              let is_z : f z ≡ z = else z (λ e. ne (rw (← found_name t a z z_is) e)) in
+              rw is_z (NodeIn-stays m n z x (cells_of (full_rows t z)) (laid_space t s m laid a z z_is).node node.shape
+              stay (λ g on over. config_apart t s a p g z x z_is found ne on over))
         ])
 
     pub control_lays : LaysOut (on_nodes f t) n
@@ -132,31 +129,29 @@ module _ (t : Tree) (p : ℕ) (x : Node) (s : IsSound t) (found : find_node t p 
       let sound : IsSound (with_masked p b t) = masked-sound p b t s in (
         sound,
         control_lays (masked_node p b) t (λ z. refl) s sound p x found
-            (λ z ne. ap (λ k. record z { masked = cond k b z.masked }) (ne_eqb z.name p ne)) m n laid
-            (subst (λ k. NodeIn n (record x { masked = cond k b x.masked }) (cells_of (full_rows t x))) (sym named)
-            node) stay,
+            (λ z ne. rw (ne_eqb z.name p ne)) m n laid
+            (rw named node) stay,
       )
 
   -- other lines are pending in the root
   pub pending_lays : p ≡ t.root.name → (js : List ℕ) → AreLines 0 js → NodeIn n (record x { pending = js })
       (cells_of (full_rows t x)) × OthersStay x m n → LaysOut (with_pending js t) n
   pending_lays e js is (node, stay) =
-      control_lays (lines_in t.root.name js) t (λ z. refl) s (pending-sound js t is s) p x found (λ z ne. ap (λ b.
-      record z { pending = cond b js z.pending }) (ne_eqb z.name t.root.name (λ q. ne (q ∙ sym e)))) m n laid
-      (subst (λ b. NodeIn n (record x { pending = cond b js x.pending }) (cells_of (full_rows t x)))
-      (sym (ap (λ k. x.name == k) (sym e) ∙ named)) node) stay
+      control_lays (lines_in t.root.name js) t (λ z. refl) s (pending-sound js t is s) p x found
+      (λ z ne. rw (ne_eqb z.name t.root.name (λ q. ne (q ∙ sym e)))) m n laid
+      (simp (← e, named) node) stay
 
 -- ---- the mask of the root as it is
 
 masked_in : (n : ℕ) (b : Bool) (xs : List Node) → ((x : Node) → In x xs → x.name ≢ n) → map (masked_node n b) xs ≡ xs
 masked_in n b [] apart = refl
-masked_in n b (x ∷ xs) apart = ap₂ (λ z zs. z ∷ zs) (ap (λ k. record x { masked = cond k b x.masked })
-    (ne_eqb x.name n (apart x (inl refl)))) (masked_in n b xs (λ y i. apart y (inr i)))
+masked_in n b (x ∷ xs) apart = ap₂ (λ z zs. z ∷ zs) (rw (ne_eqb x.name n (apart x (inl refl))))
+    (masked_in n b xs (λ y i. apart y (inr i)))
 
 pub masked_same : (t : Tree) → IsSound t → with_masked t.root.name t.root.masked t ≡ t
 masked_same t s =
     let root : masked_node t.root.name t.root.masked t.root ≡ t.root =
-    ap (λ k. record t.root { masked = cond k t.root.masked t.root.masked }) (eq-eqb t.root.name t.root.name refl) in
+    rw (eq-eqb t.root.name t.root.name refl) in
     λ i. record {
       frames = t.frames;
       root = root i;
@@ -167,13 +162,11 @@ masked_same t s =
 -- a caller other than the root leaves it
 pub unmasked_other : (t : Tree) → IsSound t → (m : Memory) (p : ℕ) → p ≢ t.root.name → LaysOut t m
     → LaysOut (with_masked t.root.name (cond (p == t.root.name) false t.root.masked) t) m
-unmasked_other t s m p ne laid = subst (λ b. LaysOut (with_masked t.root.name (cond b false t.root.masked) t) m)
-    (sym (ne_eqb p t.root.name ne)) (subst (λ u. LaysOut u m) (sym (masked_same t s)) laid)
+unmasked_other t s m p ne laid = rw (ne_eqb p t.root.name ne) (subst (λ u. LaysOut u m) (sym (masked_same t s)) laid)
 
 pub unmasked_root : (t : Tree) (m : Memory) (p : ℕ) → p ≡ t.root.name → LaysOut (with_masked p false t) m
     → LaysOut (with_masked t.root.name (cond (p == t.root.name) false t.root.masked) t) m
-unmasked_root t m p e laid = subst (λ b. LaysOut (with_masked t.root.name (cond b false t.root.masked) t) m)
-    (sym (eq-eqb p t.root.name e)) (subst (λ n. LaysOut (with_masked n false t) m) e laid)
+unmasked_root t m p e laid = rw (eq-eqb p t.root.name e) (subst (λ n. LaysOut (with_masked n false t) m) e laid)
 
 -- the root is in the tree, by its name
 pub root_there : (t : Tree) → IsSound t → find_node t 1 ≡ Some t.root

@@ -24,15 +24,12 @@ part_node m a s = record {
 pub part_frame : (m : Memory) (a : ℕ) → HasPartition m a → a < length m
 part_frame m a s =
     let x = laid_space s.tree s.sound m s.laid a s.node s.found in
-    subst (λ k. k < length m) (found_name s.tree a s.node s.found)
-    (name_inside m s.node (cells_of (full_rows s.tree s.node)) x.node)
+    rw (← found_name s.tree a s.node s.found) (name_inside m s.node (cells_of (full_rows s.tree s.node)) x.node)
 
 pub part_small : (m : Memory) (a : ℕ) → HasPartition m a → a < 2 ^ 20
 part_small m a s =
     let x = laid_space s.tree s.sound m s.laid a s.node s.found in
-    let few = x.node.small in
-    let low = part_frame m a s in
-    omega arith
+    omega (arith, part_frame m a s)
 
 -- word 0 is where its parent has it
 pub born_word : (t : Tree) → IsSound t → (m : Memory) → LaysOut t m → (a : ℕ) (x : Node) → find_node t a ≡ Some x
@@ -42,7 +39,6 @@ born_word t s m laid a x found =
     subst (λ p. word_at m p 0 ≡ x.base.descriptor.va) (found_name t a x found)
     (read_descriptor m x (cells_of (full_rows t x)) k.node 0 (omega arith))
     ∙ elim (root_or_other t a x found) [
-      | inl e ↦ subst (λ z. z.base.descriptor.va ≡ z.born) (sym e)
-          (ap (λ z. z.base.descriptor.va) s.boot_root.same ∙ sym (ap (λ z. z.born) s.boot_root.same))
+      | inl e ↦ rw e (ap (λ z. z.base.descriptor.va) s.boot_root.same ∙ sym (ap (λ z. z.born) s.boot_root.same))
       | inr o ↦ sym (s.named_by_descriptor x (other_in t a x o)).born
     ]

@@ -27,7 +27,7 @@ use Rattle.pip_model.proofs.Trees.RowLookup.{held_config, held_row, place_row, r
 use Rattle.pip_model.proofs.Nodes.Roles.{has_index, role_config}
 
 and_not : (a b : Bool) → b ≡ true → (a && not b) ≡ false
-and_not true b e = ap not e
+and_not true b e = rw e
 and_not false b e = refl
 
 module _ (t : Tree) (s : IsSound t) where
@@ -40,7 +40,7 @@ module _ (t : Tree) (s : IsSound t) where
   no_words f x i h = elim (cases_option (t.words f)) [
     | inl e ↦ e
     | inr w ↦ absurd (both_ways (is_some (t.words f))
-        (s.words f ∙ and_not (has (row_pages t.root) f) (hidden t f) (hidden_by t f x i h)) (ap is_some w.1))
+        (s.words f ∙ and_not (has (row_pages t.root) f) (hidden t f) (hidden_by t f x i h)) (rw w.1))
   ]
 
   -- so a page of words is no configuration
@@ -49,7 +49,7 @@ module _ (t : Tree) (s : IsSound t) where
 
   -- a page that can be read is in a row of the root, and is not hidden
   pub words_row : (f : ℕ) (w : ℕ → ℕ) → t.words f ≡ Some w → In f (row_pages t.root) × (hidden t f ≡ false)
-  words_row f w e = let p = parts (has (row_pages t.root) f) (hidden t f) (sym (s.words f) ∙ ap is_some e) in
+  words_row f w e = let p = parts (has (row_pages t.root) f) (hidden t f) (rw (← s.words f, e)) in
       (has_in f (row_pages t.root) p.0, p.1)
     where
       parts : (a b : Bool) → (a && not b) ≡ true → (a ≡ true) × (b ≡ false)
@@ -65,17 +65,17 @@ module _ (t : Tree) (s : IsSound t) where
     | inl none ↦
         let on : has (row_pages t.root) f ≡ true = in_has f (row_pages t.root) root_row in
         let some : is_some (t.words f) ≡ true = s.words f ∙ both (has (row_pages t.root) f) (hidden t f) on h in
-        let off : is_some (t.words f) ≡ false = ap is_some none in
+        let off : is_some (t.words f) ≡ false = rw none in
         absurd (both_ways (is_some (t.words f)) off some)
   ]
     where
       both : (a b : Bool) → a ≡ true → b ≡ false → (a && not b) ≡ true
-      both true b k e = ap not e
+      both true b k e = rw e
       both false b k e = cc
 
       root_row : In f (row_pages t.root)
       root_row = elim (root_is_top t s y i) [
-        | inl e ↦ subst (λ z. In f (row_pages z)) (sym e) r
+        | inl e ↦ rw e r
         | inr a ↦ holds_up t f s t.root y a (In-append_right f (config y) (row_pages y) r)
       ]
 
@@ -103,8 +103,8 @@ module _ (t : Tree) (s : IsSound t) where
       let (r, k, at, pg) = row_found p (vpage d.va) d.frame ((s.lent y p i j u).placed d (inl refl)) in
       let small = at_small t s p j r k in
       let first = (s.tables p j).first r k in
-      let some : 1 ≤ r.at = omega (arith, first) in
-      (omega (arith, born, even), omega (arith, born, even, at, some), omega (arith, born, even, at, small))
+      let some : 1 ≤ r.at = omega arith in
+      (omega arith, omega arith, omega arith)
 
   -- a use is one of three
   pub use_bounds : (y : Node) (g : ℕ) → (1 ≤ use_of y g) × (use_of y g ≤ 3)
@@ -172,8 +172,8 @@ filled t x q = record {
 pub full_back : (t : Tree) (x : Node) (v : ℕ) (r : FullRow) → full_rows t x v ≡ Some r
     → (q : Row) × (row_at x.rows v ≡ Some q) × (r ≡ filled t x q)
 full_back t x v r e = elim (cases_option (row_at x.rows v)) [
-  | inl none ↦ let bad : None ≡ Some r = sym (full-at t x v None none) ∙ e in cc
-  | inr q ↦ let both : Some (filled t x q.0) ≡ Some r = sym (full-at t x v (Some q.0) q.1) ∙ e in (q.0, q.1, cc)
+  | inl none ↦ let bad : None ≡ Some r = rw (← full-at t x v None none) e in cc
+  | inr q ↦ let both : Some (filled t x q.0) ≡ Some r = rw (← full-at t x v (Some q.0) q.1) e in (q.0, q.1, cc)
 ]
 
 -- a full row is that of a row where its five parts are
@@ -182,7 +182,7 @@ pub full_is : (t : Tree) (x : Node) (v : ℕ) (q : Row) (r : FullRow) → row_at
     → r.from ≡ from_word t x q.frame → Some r ≡ full_rows t x v
 full_is t x v q r e f g u n w =
     let same : r ≡ filled t x q = λ i. record { frame = f i; rights = g i; user = u i; given = n i; from = w i } in
-    ap Some same ∙ sym (full-at t x v (Some q) e)
+    rw (same, ← full-at t x v (Some q) e)
 
 -- two nodes of two trees have one full row where they have one row and say the same of its page
 pub full_same : (t u : Tree) (x y : Node) (v : ℕ) → row_at x.rows v ≡ row_at y.rows v
@@ -190,10 +190,10 @@ pub full_same : (t u : Tree) (x y : Node) (v : ℕ) → row_at x.rows v ≡ row_
     × (given_word t x.name q.frame ≡ given_word u y.name q.frame) × (from_word t x q.frame ≡ from_word u y q.frame))
     → full_rows t x v ≡ full_rows u y v
 full_same t u x y v rows says = elim (cases_option (row_at x.rows v)) [
-  | inl e ↦ full-at t x v None e ∙ sym (full-at u y v None (sym rows ∙ e))
+  | inl e ↦ cc (full-at t x v None e, full-at u y v None (sym rows ∙ e))
   | inr q ↦
       let k = says q.0 q.1 in
-      full-at t x v (Some q.0) q.1 ∙ full_is u y v q.0 (filled t x q.0) (sym rows ∙ q.1) refl refl (ap not k.0) k.1 k.2
+      full-at t x v (Some q.0) q.1 ∙ full_is u y v q.0 (filled t x q.0) (cc (q.1)) refl refl (rw k.0) k.1 k.2
 ]
 
 -- ---- the words of a node's frames
@@ -202,7 +202,7 @@ module _ (t : Tree) (s : IsSound t) where
   -- the layout of a page of configuration is the word of its role
   pub layout_config : (f i : ℕ) (x : Node) (r : Role) → In x (nodes t) → role x f ≡ Some r
       → layout t f i ≡ role_word x (cells_of (full_rows t x)) r i
-  layout_config f i x r j e = config-layout t f i x s j (role_config x f r e) ∙ ap (λ o. config_word t x o i) e
+  layout_config f i x r j e = rw (config-layout t f i x s j (role_config x f r e), e)
 
   -- so the memory has the words of each node
   pub laid_node : (m : Memory) → LaysOut t m → (f i : ℕ) (x : Node) (r : Role) → In x (nodes t) → role x f ≡ Some r
@@ -212,7 +212,7 @@ module _ (t : Tree) (s : IsSound t) where
       lays.word f i (page_small t f s x j (held_config x f (role_config x f r e))) i_in ∙ layout_config f i x r j e
 
 odd : (r : ℕ) → AreAmong 1 r → r % 2 ≡ 1
-odd r h = sym (numeral_and 0 r refl) ∙ h
+odd r h = rw (← numeral_and 0 r refl) h
 
 -- each node of the tree is a space in the frames
 pub laid_space : (t : Tree) → IsSound t → (m : Memory) → LaysOut t m → (a : ℕ) (x : Node) → find_node t a ≡ Some x
@@ -224,8 +224,8 @@ laid_space t s m lays a x e =
     record {
       node = record {
         shape = lays.shape;
-        small = omega (arith, count, large);
-        inside = λ f h. let below = page_small t f s x i (held_config x f h) in omega (arith, count, below);
+        small = omega arith;
+        inside = λ f h. omega (arith, page_small t f s x i (held_config x f h));
         once = Distinct-left (config x) (row_pages x) (s.pages_apart x i).pages;
         dirs = (s.tables x i).differ;
         small_dirs = (s.tables x i).small;
@@ -236,10 +236,11 @@ laid_space t s m lays a x e =
           let (q, at, same) = full_back t x v r is in
           let j = (row_in x v q at).0 in
           let below = page_small t q.frame s x i (held_row x v q at) in
-          subst IsFullRow (sym same) (record {
+          rw same (record {
             frame = omega (arith, below, large);
             read = odd q.rights (s.readable x i q j);
-            low = rights_small t s x i q j;
+            low =
+                rights_small t s x i q j;
             given = given_packed t s x.name q.frame;
             from = from_packed t s x q.frame;
           });
@@ -248,8 +249,8 @@ laid_space t s m lays a x e =
           let j = row_in x v q at in
           let here : q.at ≡ v = j.1 in
           let small = at_small t s x i q j.0 in (
-            omega (arith, here, small),
-            has_index x v (subst (λ k. In (dir k) (map (λ b. b.index) x.tables)) here ((s.tables x i).tabled q j.0)),
+            omega arith,
+            has_index x v (rw (← here) ((s.tables x i).tabled q j.0)),
           );
     }
 
@@ -269,8 +270,7 @@ pub layout_none : (t : Tree) (f i : ℕ) → t.words f ≡ None → ((x : Node) 
     → layout t f i ≡ 0
 unfolding layout
 layout_none t f i e n =
-    ap (λ o. cond (is_some o) (word_of o i) (owned_word t f i (find (λ z. has (config z) f) (nodes t)))) e
-    ∙ ap (owned_word t f i) nobody
+    rw (e, nobody)
   where
     nobody : find (λ z. has (config z) f) (nodes t) ≡ None
     nobody = elim (cases_option (find (λ z. has (config z) f) (nodes t))) [
@@ -286,7 +286,7 @@ laid_none t m lays f i f_in i_in e n = lays.word f i f_in i_in ∙ layout_none t
 
 -- frame 0 is nobody's configuration
 pub zero_owner : (t : Tree) → IsSound t → (x : Node) → In x (nodes t) → In 0 (config x) → ⊥
-zero_owner t s x i h = let some = page_positive t 0 s x i (held_config x 0 h) in absurd (omega (arith, some))
+zero_owner t s x i h = let some = page_positive t 0 s x i (held_config x 0 h) in absurd (omega arith)
 
 -- and no page of words
 pub no_words_zero : (t : Tree) → IsSound t → t.words 0 ≡ None
@@ -295,10 +295,10 @@ no_words_zero t s = elim (cases_option (t.words 0)) [
   | inr w ↦
       let r = (words_row t s 0 w.0 w.1).0 in
       let some = page_positive t 0 s t.root (inl refl) (In-append_right 0 (config t.root) (row_pages t.root) r) in
-      absurd (omega (arith, some))
+      absurd (omega arith)
 ]
 
 -- so it holds zeros
 pub laid_zero : (t : Tree) → IsSound t → (m : Memory) → LaysOut t m → (i : ℕ) → i < 1024 → word_at m 0 i ≡ 0
 laid_zero t s m lays i i_in = let some = s.boot_root.small in
-    laid_none t m lays 0 i (omega (arith, some)) i_in (no_words_zero t s) (zero_owner t s)
+    laid_none t m lays 0 i (omega arith) i_in (no_words_zero t s) (zero_owner t s)

@@ -105,10 +105,8 @@ lays_from t m shape count each words none = record {
   shape = shape;
   count = count;
   word = λ f i f_in i_in. elim (cases_option (t.words f)) [
-    | inr w ↦ words f i w.0 w.1 i_in
-        ∙ sym (ap (λ o. cond (is_some o) (word_of o i) (owned_word t f i (find (λ z. has (config z) f) (nodes t)))) w.1)
-    | inl e ↦ word f i f_in i_in e
-        ∙ sym (ap (λ o. cond (is_some o) (word_of o i) (owned_word t f i (find (λ z. has (config z) f) (nodes t)))) e)
+    | inr w ↦ cc (words f i w.0 w.1 i_in, w.1)
+    | inl e ↦ cc (word f i f_in i_in e)
   ];
 }
   where
@@ -116,14 +114,13 @@ lays_from t m shape count each words none = record {
         → word_at m f i ≡ owned_word t f i (find (λ z. has (config z) f) (nodes t))
     word f i f_in i_in e = elim (cases_option (find (λ z. has (config z) f) (nodes t))) [
       | inl nobody ↦
-          none f i f_in i_in e (λ x j h. let off : has (config x) f ≡ false =
-          find_none (λ z. has (config z) f) x (nodes t) nobody j in
-          let on : has (config x) f ≡ true = in_has f (config x) h in absurd (both_ways (has (config x) f) off on))
-          ∙ sym (ap (owned_word t f i) nobody)
+          cc (none f i f_in i_in e (λ x j h. let off : has (config x) f ≡ false =
+          find_none (λ z. has (config z) f) x (nodes t) nobody j in let on : has (config x) f ≡ true =
+          in_has f (config x) h in absurd (both_ways (has (config x) f) off on)))
       | inr y ↦
           let k = find_in (λ z. has (config z) f) y.0 (nodes t) y.1 in
           let r = config_role y.0 f (has_in f (config y.0) k.1) in
-          each y.0 k.0 f i r.0 r.1 i_in ∙ sym (ap (owned_word t f i) y.1 ∙ ap (λ o. config_word t y.0 o i) r.1)
+          cc (each y.0 k.0 f i r.0 r.1 i_in, r.1, y.1)
     ]
 
 -- of a sound tree the nodes by name, the pages of words and frame 0 are enough
@@ -135,7 +132,7 @@ pub lays_sound : (t : Tree) → IsSound t → (m : Memory) → IsMemory m → le
 lays_sound t s m shape count each words zeros = lays_from t m shape count
     (λ x j f i r e i_in. (each x.name x (in_found t s x j)).each f i r e i_in)
     words
-    (λ f i f_in i_in e free. ap (λ g. word_at m g i) (only_zero t s f f_in e free) ∙ zeros i i_in)
+    (λ f i f_in i_in e free. rw (only_zero t s f f_in e free, zeros i i_in))
 
 -- the middle of a call is over where each node's rows are those of the new tree
 pub lays_rows : (t : Tree) → IsSound t → (m : Memory) → IsMemory m → length m ≡ t.frames

@@ -41,11 +41,6 @@ pub like_back : (o : Option FullRow) (q : FullRow) → Like o (Some q)
 like_back None q h = absurd h
 like_back (Some r) q h = (r, refl, h.0, h.1, h.2)
 
--- and where it has none, they have none
-pub like_none : (o : Option FullRow) → Like o None → o ≡ None
-like_none None h = refl
-like_none (Some r) h = absurd h
-
 -- a row changed in its user bit or its given page stays like the tree's
 like_changed : (r new : FullRow) (o : Option FullRow) → new.frame ≡ r.frame → new.rights ≡ r.rights → new.from ≡ r.from
     → Like (Some r) o → Like (Some new) o
@@ -58,7 +53,7 @@ pub like_put : (rows full : ℕ → Option FullRow) → ((v : ℕ) → Like (row
     → Like (put_row rows v (Some new) u) (full u)
 like_put rows full like v r new e f g h u = elim (cases_eq u v) [
   | inl same ↦ rw (eq-eqb u v same)
-      (like_changed r new (full u) f g h (subst (λ o. Like o (full u)) (ap rows same ∙ e) (like u)))
+      (like_changed r new (full u) f g h (rw (← e, ← same) (like u)))
   | inr ne ↦ rw (ne_eqb u v ne) (like u)
 ]
 
@@ -87,9 +82,9 @@ module _ (t : Tree) (s : IsSound t) (a : ℕ) (x : Node) (x_is : find_node t a �
   pub like_row : (v : ℕ) (r : FullRow) → rows v ≡ Some r → (q : Row) × (row_at x.rows v ≡ Some q) × (r.frame ≡ q.frame)
       × (r.rights ≡ q.rights) × (r.from ≡ from_word t x q.frame)
   like_row v r e =
-      let k = like_some r (full_rows t x v) (subst (λ o. Like o (full_rows t x v)) e (like v)) in
+      let k = like_some r (full_rows t x v) (rw (← e) (like v)) in
       let q = full_back t x v k.0 k.1 in
-      (q.0, q.1, k.2 ∙ ap (λ f. f.frame) q.2, k.3 ∙ ap (λ f. f.rights) q.2, k.4 ∙ ap (λ f. f.from) q.2)
+      (q.0, q.1, cc (k.2, q.2), cc (k.3, q.2), cc (k.4, q.2))
 
   -- one page is in one of them
   pub one_like : (v u : ℕ) (r q : FullRow) → rows v ≡ Some r → rows u ≡ Some q → r.frame ≡ q.frame → v ≡ u
@@ -97,18 +92,18 @@ module _ (t : Tree) (s : IsSound t) (a : ℕ) (x : Node) (x_is : find_node t a �
   one_like v u r q d e p =
       let k = like_row v r d in
       let l = like_row u q e in
-      (one_row x (s.pages_apart x (found_in t a x x_is)) v u k.0 l.0 k.1 l.1 (sym k.2 ∙ p ∙ l.2)).1
+      (one_row x (s.pages_apart x (found_in t a x x_is)) v u k.0 l.0 k.1 l.1 (cc (k.2, l.2))).1
 
   -- so the bit of one row is the bit of its page
   pub user_row : (v : ℕ) (r : FullRow) (b : Bool) → rows v ≡ Some r → (u : ℕ)
       → put_row rows v (Some (record r { user = b })) u ≡ put_user rows r.frame b u
   unfolding one_like
   user_row v r b e u = elim (cases_eq u v) [
-    | inl same ↦ rw (eq-eqb u v same) (sym (ap (user_at r.frame b) (ap rows same ∙ e) ∙ user_at_same r.frame b r refl))
+    | inl same ↦ rw (eq-eqb u v same) (cc (user_at_same r.frame b r refl))
     | inr ne ↦ rw (ne_eqb u v ne) (elim (cases_option (rows u)) [
-      | inl none ↦ none ∙ sym (ap (user_at r.frame b) none)
+      | inl none ↦ rw (none, ← none)
       | inr q ↦
-          q.1 ∙ sym (ap (user_at r.frame b) q.1 ∙ user_at_other r.frame b q.0 (λ p. ne (one_like u v q.0 r q.1 e p)))
+          cc (q.1, user_at_other r.frame b q.0 (λ p. ne (one_like u v q.0 r q.1 e p)), q.1)
     ])
   ]
 
@@ -124,14 +119,14 @@ module _ (t : Tree) (s : IsSound t) (a : ℕ) (x : Node) (x_is : find_node t a �
   -- and in the root there is none
   pub root_from : x ≡ t.root → (v : ℕ) (r : FullRow) → rows v ≡ Some r → r.from ≡ 0
   unfolding like_row
-  root_from root v r e = let k = like_row v r e in k.4 ∙ from_root_word t x k.0.frame (ap (λ z. z.name) root)
+  root_from root v r e = let k = like_row v r e in k.4 ∙ from_root_word t x k.0.frame (rw root)
 
 -- ---- all nodes
 
 -- what lays a sound tree out holds its nodes with the tree's own rows
 pub laid_nodes : (t : Tree) → IsSound t → (m : Memory) → LaysOut t m → HoldsNodes m t (tree_rows t)
 laid_nodes t s m lays a x e =
-    subst (λ z. Space m x (full_rows t z)) (sym (node_is t a x e)) (laid_space t s m lays a x e)
+    rw (node_is t a x e) (laid_space t s m lays a x e)
 
 -- so it is in the middle of a call
 pub laid_midway : (t : Tree) → IsSound t → (m : Memory) → LaysOut t m → Midway m t (tree_rows t)
@@ -140,7 +135,7 @@ laid_midway t s m lays = record {
   count = lays.count;
   each = laid_nodes t s m lays;
   like = λ a x v e.
-      subst (λ z. Like (full_rows t z v) (full_rows t x v)) (sym (node_is t a x e)) (Like-refl (full_rows t x v));
+      rw (node_is t a x e) (Like-refl (full_rows t x v));
 }
 
 -- of all nodes, those of one chain
@@ -150,14 +145,14 @@ midway_chain m t caller rows k =
     record { count = k.count; each = λ a x e r. k.each a x e; like = λ a x v e r. k.like a x v e }
 
 same_node : (t : Tree) (a b : ℕ) (x y : Node) → find_node t a ≡ Some x → find_node t b ≡ Some y → b ≡ a → x ≡ y
-same_node t a b x y d e q = same_found t a x y d (subst (λ z. find_node t z ≡ Some y) q e)
+same_node t a b x y d e q = same_found t a x y d (cc)
 
 -- writing into one node's frames leaves the other nodes
 pub nodes_put : (t : Tree) → IsSound t → (m n : Memory) (rows : ℕ → ℕ → Option FullRow) → HoldsNodes m t rows
     → (a : ℕ) (x : Node) (new : ℕ → Option FullRow) → find_node t a ≡ Some x → Space n x new → OthersStay x m n
     → HoldsNodes n t (put_rows rows a new)
 nodes_put t s m n rows k a x new x_is space stay b y y_is = elim (cases_eq b a) [
-  | inl e ↦ rw (eq-eqb b a e) (subst (λ z. Space n z new) (same_node t a b x y x_is y_is e) space)
+  | inl e ↦ rw (eq-eqb b a e) (rw (← same_node t a b x y x_is y_is e) space)
   | inr ne ↦ rw (ne_eqb b a ne) (Space-stays m n y x (rows b) (k b y y_is) space.node.shape stay
       (λ f h j. config_apart t s b a f y x y_is x_is ne h j))
 ]
@@ -171,7 +166,7 @@ midway_put t s m n rows k a x new x_is space stay like = record {
   count = stay.count ∙ k.count;
   each = nodes_put t s m n rows k.each a x new x_is space stay;
   like = λ b y v y_is. elim (cases_eq b a) [
-    | inl e ↦ rw (eq-eqb b a e) (subst (λ z. Like (new v) (full_rows t z v)) (same_node t a b x y x_is y_is e) (like v))
+    | inl e ↦ rw (eq-eqb b a e) (rw (← same_node t a b x y x_is y_is e) (like v))
     | inr ne ↦ rw (ne_eqb b a ne) (k.like b y v y_is)
   ];
 }
@@ -181,7 +176,7 @@ pub nodes_changed : (f : Node → Node) (t : Tree) → ((x : Node) → (own : Li
     → (m : Memory) (rows : ℕ → ℕ → Option FullRow) → HoldsNodes m t rows → HoldsNodes m (on_nodes f t) rows
 nodes_changed f t same m rows k a x e =
     let (z, z_is, x_is) = changed_back f t (λ x. ap (λ w. w.name) (same x).1) a x e in
-    subst (λ w. Space m w (rows a)) (sym (x_is ∙ (same z).1)) (Space-rows m z (rows a) (same z).0 (k a z z_is))
+    rw (x_is, (same z).1) (Space-rows m z (rows a) (same z).0 (k a z z_is))
 
 -- ---- a page hidden or opened all up a chain
 
@@ -197,7 +192,7 @@ module _ (t : Tree) (s : IsSound t) (m n : Memory) (rows : ℕ → ℕ → Optio
   holder_above a y y_is on = elim (common_chain t s a caller g y p y_is p_is on holds_it) [
     | inl up ↦ up
     | inr down ↦ elim (first_step t caller a down) [
-      | inl e ↦ subst (λ z. OnChain t z caller) (sym e) here
+      | inl e ↦ rw e here
       | inr c ↦ absurd (unheld c.1 (other_in t c.0 c.1 c.2) c.3
           (held_up t s c.0 a g c.4 c.1 y (other_found t s c.0 c.1 c.2) y_is on))
     ]
@@ -206,7 +201,7 @@ module _ (t : Tree) (s : IsSound t) (m n : Memory) (rows : ℕ → ℕ → Optio
   no_row : (a : ℕ) (y : Node) → find_node t a ≡ Some y → (In g (held_pages y) → ⊥) → (v : ℕ)
       → rows a v ≡ put_user (rows a) g b v
   no_row a y y_is off v = elim (cases_option (rows a v)) [
-    | inl none ↦ none ∙ sym (ap (user_at g b) none)
+    | inl none ↦ rw (none, ← none)
     | inr r ↦
         let q = like_row t s a y y_is (rows a) (λ u. k.like a y u y_is) v r.0 r.1 in
         r.1 ∙ sym (ap (user_at g b) r.1
@@ -230,7 +225,7 @@ module _ (t : Tree) (s : IsSound t) (m n : Memory) (rows : ℕ → ℕ → Optio
           → In f (config x) → In f (config y) → In g (held_pages y)
       held_there f a c x y x_is y_is r j h =
           let same : c ≡ a = one_owner t s c a f x y x_is y_is j h in
-          held_up t s a caller g (subst (λ z. OnChain t z caller) same r) y p y_is p_is holds_it
+          held_up t s a caller g (rw (← same) r) y p y_is p_is holds_it
 
   -- so the memory is in the middle of a call with these rows
   pub midway_hidden : Midway n t (λ a. put_user (rows a) g b)

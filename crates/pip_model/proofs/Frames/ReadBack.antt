@@ -29,7 +29,7 @@ owner_found t f i x None s j h e =
     let l = in_has f (config x) h in absurd (grind (arith, k, l))
 owner_found t f i x (Some y) s j h e =
     let k = find_in (λ x. has (config x) f) y (nodes t) e in
-    ap (λ z. config_word t z (role z f) i) (one_config t f s y x k.0 j (has_in f (config y) k.1) h)
+    rw (one_config t f s y x k.0 j (has_in f (config y) k.1) h)
 
 pub config-layout : (t : Tree) (f i : ℕ) (x : Node) → IsSound t → In x (nodes t) → In f (config x)
     → layout t f i ≡ config_word t x (role x f) i
@@ -37,24 +37,22 @@ unfolding layout
 config-layout t f i x s j h =
     let n : is_some (t.words f) ≡ false =
     s.words f ∙ and_not (has (row_pages t.root) f) (hidden t f) (hidden_by t f x j h) in
-    ap (λ b. cond b (word_of (t.words f) i) (owned_word t f i (find (λ x. has (config x) f) (nodes t)))) n
-    ∙ owner_found t f i x (find (λ x. has (config x) f) (nodes t)) s j h refl
+    rw (n, owner_found t f i x (find (λ x. has (config x) f) (nodes t)) s j h refl)
   where
     and_not : (a b : Bool) → b ≡ true → (a && not b) ≡ false
-    and_not true b e = ap not e
+    and_not true b e = rw e
     and_not false b e = refl
 
 -- the pages with roles are the pages of the configuration
 table_pages_same : (ts : List Table) (gs : List Pair) (k : ℕ) → map (λ q. q.frame) (flat_map table_roles ts
     ++ list_roles k gs) ≡ map (λ g. g.frame) (flat_map table_pairs ts ++ gs)
 table_pages_same [] [] k = refl
-table_pages_same [] (g ∷ gs) k = ap (λ l. g.frame ∷ l) (table_pages_same [] gs (k + 1))
+table_pages_same [] (g ∷ gs) k = rw (table_pages_same [] gs (k + 1))
 table_pages_same (b ∷ ts) gs k =
-    ap (λ l. b.mmu.frame ∷ b.shadow1.frame ∷ b.shadow2.frame ∷ l) (table_pages_same ts gs k)
+    rw (table_pages_same ts gs k)
 
 pub roles_pages : (x : Node) → map (λ q. q.frame) (roles x) ≡ config x
-roles_pages x = ap (λ l. x.base.descriptor.frame ∷ x.base.mmu.frame ∷ x.base.shadow1.frame ∷ x.base.shadow2.frame
-    ∷ x.base.list.frame ∷ l) (table_pages_same x.tables x.more 1)
+roles_pages x = rw (table_pages_same x.tables x.more 1)
 
 -- no two of them are one page
 pub roles_distinct : (t : Tree) (x : Node) → IsSound t → In x (nodes t) → Distinct (map (λ q. q.frame) (roles x))
@@ -68,13 +66,13 @@ pub role_found : (t : Tree) (x : Node) (q : RolePage) → IsSound t → In x (no
     → role x q.frame ≡ Some q.role
 unfolding role
 role_found t x q s j h =
-    ap (option_map (λ q. q.role)) (find_member (λ q. q.frame) q (roles x) (roles_distinct t x s j) h)
+    rw (find_member (λ q. q.frame) q (roles x) (roles_distinct t x s j) h)
 
 -- each word of a configuration page
 pub role-layout : (t : Tree) (i : ℕ) (x : Node) (q : RolePage) → IsSound t → In x (nodes t) → In q (roles x)
     → layout t q.frame i ≡ role_word x (cells_of (full_rows t x)) q.role i
 role-layout t i x q s j h =
-    config-layout t q.frame i x s j (role_in_config x q h) ∙ ap (λ o. config_word t x o i) (role_found t x q s j h)
+    rw (config-layout t q.frame i x s j (role_in_config x q h), role_found t x q s j h)
 
 pub descriptor-layout : (t : Tree) (i : ℕ) (x : Node) → IsSound t → In x (nodes t)
     → layout t x.base.descriptor.frame i ≡ descriptor_word x i
@@ -93,7 +91,7 @@ in_all_tables : (b : Table) (ts : List Table) (q : RolePage) → In b ts → In 
     → In q (flat_map table_roles ts)
 in_all_tables b [] q i h = absurd i
 in_all_tables b (c ∷ ts) q (inl e) h =
-    In-append_left q (table_roles c) (flat_map table_roles ts) (subst (λ z. In q (table_roles z)) e h)
+    In-append_left q (table_roles c) (flat_map table_roles ts) (rw (← e) h)
 in_all_tables b (c ∷ ts) q (inr i) h =
     In-append_right q (table_roles c) (flat_map table_roles ts) (in_all_tables b ts q i h)
 
@@ -111,7 +109,7 @@ table-layout level t k x b s j i = role-layout t k x
 
 pub full-at : (t : Tree) (x : Node) (v : ℕ) (o : Option Row) → row_at x.rows v ≡ o → full_rows t x v ≡ full_row t x o
 unfolding full_rows
-full-at t x v o e = ap (full_row t x) e
+full-at t x v o e = rw e
 
 -- the directories' pages have roles
 pub directory_role : (level : Level) (x : Node)
@@ -178,6 +176,6 @@ use-cases x g = go (x.name == g) (has (config x) g) refl
 pub child-read : (y : Node) (g d : ℕ) → y.born % 4096 ≡ 0 → d % 4096 ≡ 0
     → given_by (Some y) g ≡ shadow1_word 1 (vpage d) → (y.born ≡ d) × (y.name ≡ g)
 child-read y g d a b w = elim (use-cases y g) [
-  | inl u ↦ let k = u.0 in (omega (arith, k, w, a, b), u.1)
-  | inr u ↦ let lo = u.0 in let hi = u.1 in absurd (omega (arith, lo, hi, w, a, b))
+  | inl u ↦ let k = u.0 in (omega arith, u.1)
+  | inr u ↦ absurd (omega (arith, b))
 ]

@@ -33,18 +33,7 @@ index_in (x ∷ xs) (suc k) d h = inr (index_in xs k d (omega arith))
 list_same : {A : Type 0} (xs ys : List A) (d : A) → length xs ≡ length ys
     → ((k : ℕ) → k < length xs → slice_index_or xs k d ≡ slice_index_or ys k d) → xs ≡ ys
 list_same xs ys d l h = same_lists xs ys l
-    (λ k e below. get_or_default xs k e d below ∙ (h k below ∙ get_or_default ys k d e (omega (arith, l, below))))
-
--- lists of numbers of one length, the same by index
-numbers_same : (xs ys : List ℕ) → length xs ≡ length ys
-    → ((k : ℕ) → k < length xs → slice_index xs k ≡ slice_index ys k) → xs ≡ ys
-numbers_same [] [] l h = refl
-numbers_same [] (y ∷ ys) l h = absurd (omega (arith, l))
-numbers_same (x ∷ xs) [] l h = absurd (omega (arith, l))
-numbers_same (x ∷ xs) (y ∷ ys) l h =
-    let e : x ≡ y = h 0 (omega arith) in
-    let t = numbers_same xs ys (omega (arith, l)) (λ k b. h (suc k) (omega (arith, b))) in
-    λ i. e i ∷ t i
+    (λ k e below. get_or_default xs k e d below ∙ (h k below ∙ get_or_default ys k d e (omega arith)))
 
 -- rising lines are known by their bits
 unfoldable pub bits : ℕ → List ℕ → ℕ
@@ -58,7 +47,7 @@ bits_sum (j ∷ js) = sum_by-cons (λ j. 2 ^ j) j js ∙ (let e : j ≡ j - 0 = 
     ap₂ (λ m n. 2 ^ m + n) e (bits_sum js))
 
 pub pow_step : (j low : ℕ) → suc low ≤ j → 2 ^ (j - low) ≡ 2 * 2 ^ (j - suc low)
-pow_step j low h = let e : j - low ≡ suc (j - suc low) = omega arith in ap (λ n. 2 ^ n) e ∙ pow_suc (j - suc low)
+pow_step j low h = let e : j - low ≡ suc (j - suc low) = omega arith in rw (e, pow_suc (j - suc low))
   where
     pow_suc : (n : ℕ) → 2 ^ suc n ≡ 2 * 2 ^ n
     pow_suc n = omega arith
@@ -67,35 +56,32 @@ pub bits_double : (low more : ℕ) (js : List ℕ) → suc low ≤ more → AreL
 unfolding bits
 bits_double low more [] h l = refl
 bits_double low more (j ∷ js) h l =
-    let a = l.0 in
-    let p = pow_step j low (omega arith) in
-    let r = bits_double low (suc j) js (omega arith) l.2 in
-    omega (arith, p, r)
+    omega (arith, pow_step j low (omega arith), bits_double low (suc j) js (omega arith) l.2)
 
 pow_pos : (n : ℕ) → 1 ≤ 2 ^ n
 pow_pos zero = omega arith
-pow_pos (suc n) = let h = pow_pos n in omega (arith, h)
+pow_pos (suc n) = omega (arith, pow_pos n)
 
 lines_step : (low : ℕ) (js ks : List ℕ) → ((js ks : List ℕ) → AreLines (suc low) js → AreLines (suc low) ks
     → bits (suc low) js ≡ bits (suc low) ks → js ≡ ks) → AreLines low js → AreLines low ks → bits low js ≡ bits low ks
     → js ≡ ks
 unfolding bits
 lines_step low [] [] ih l m e = refl
-lines_step low [] (k ∷ ks) ih l m e = let p = pow_pos (k - low) in absurd (omega (arith, p, e))
-lines_step low (j ∷ js) [] ih l m e = let p = pow_pos (j - low) in absurd (omega (arith, p, e))
+lines_step low [] (k ∷ ks) ih l m e = absurd (omega (arith, pow_pos (k - low), e))
+lines_step low (j ∷ js) [] ih l m e = absurd (omega (arith, pow_pos (j - low), e))
 lines_step low (j ∷ js) (k ∷ ks) ih l m e = elim (cases_eq j low) [
   | inl a ↦ elim (cases_eq k low) [
     | inl b ↦
-        let p : 2 ^ (j - low) ≡ 1 = ap (λ n. 2 ^ n) (zero_less j low a) in
-        let q : 2 ^ (k - low) ≡ 1 = ap (λ n. 2 ^ n) (zero_less k low b) in
-        let f = bits_double low (suc j) js (omega (arith, a)) l.2 in
-        let g = bits_double low (suc k) ks (omega (arith, b)) m.2 in
-        let t = ih js ks (subst (λ n. AreLines (suc n) js) a l.2) (subst (λ n. AreLines (suc n) ks) b m.2)
-        (omega (arith, p, q, f, g, e)) in
+        let p : 2 ^ (j - low) ≡ 1 = rw (zero_less j low a) in
+        let q : 2 ^ (k - low) ≡ 1 = rw (zero_less k low b) in
+        let f = bits_double low (suc j) js (omega arith) l.2 in
+        let g = bits_double low (suc k) ks (omega arith) m.2 in
+        let t = ih js ks (rw (← a) l.2) (rw (← b) m.2)
+        (omega arith) in
         λ i. (a ∙ sym b) i ∷ t i
     | inr b ↦
         let lo = m.0 in
-        let p : 2 ^ (j - low) ≡ 1 = ap (λ n. 2 ^ n) (zero_less j low a) in
+        let p : 2 ^ (j - low) ≡ 1 = rw (zero_less j low a) in
         let f = bits_double low (suc j) js (omega (arith, a)) l.2 in
         let g = bits_double low k (k ∷ ks) (omega (arith, b, lo)) (below k, m.1, m.2) in
         absurd (omega (arith, p, f, g, e))
@@ -125,13 +111,13 @@ lines_step low (j ∷ js) (k ∷ ks) ih l m e = elim (cases_eq j low) [
 lines_same : (fuel low : ℕ) (js ks : List ℕ) → low + fuel ≡ 16 → AreLines low js → AreLines low ks
     → bits low js ≡ bits low ks → js ≡ ks
 lines_same zero low [] [] e l m h = refl
-lines_same zero low (j ∷ js) ks e l m h = let a = l.0 in let b = l.1 in absurd (omega (arith, a, b, e))
-lines_same zero low [] (k ∷ ks) e l m h = let a = m.0 in let b = m.1 in absurd (omega (arith, a, b, e))
+lines_same zero low (j ∷ js) ks e l m h = absurd (omega (arith, e))
+lines_same zero low [] (k ∷ ks) e l m h = absurd (omega (arith, e))
 lines_same (suc fuel) low js ks e l m h =
-    lines_step low js ks (λ js ks. lines_same fuel (suc low) js ks (omega (arith, e))) l m h
+    lines_step low js ks (λ js ks. lines_same fuel (suc low) js ks (omega arith)) l m h
 
 sum_same : (js ks : List ℕ) → AreLines 0 js → AreLines 0 ks → sum_by (λ j. 2 ^ j) js ≡ sum_by (λ j. 2 ^ j) ks → js ≡ ks
-sum_same js ks l m e = lines_same 16 0 js ks refl l m (sym (bits_sum js) ∙ e ∙ bits_sum ks)
+sum_same js ks l m e = lines_same 16 0 js ks refl l m (rw (← bits_sum js, e, bits_sum ks))
 
 flags : (a b : Bool) → flag a 1 ≡ flag b 1 → a ≡ b
 flags true true e = refl
@@ -148,7 +134,7 @@ skip low v r o k l false e h = h
 below_none : (low v : ℕ) (rs : List Row) → Rising low (map (λ r. r.at) rs) → v < low → row_at rs v ≡ None
 below_none low v [] h l = refl
 below_none low v (r ∷ rs) h l = let k = h.0 in
-    skip low v r (row_at rs v) h.0 l (r.at == v) refl (below_none (r.at + 1) v rs h.1 (omega (arith, k, l)))
+    skip low v r (row_at rs v) h.0 l (r.at == v) refl (below_none (r.at + 1) v rs h.1 (omega arith))
 
 first_row : (r : Row) (rs : List Row) → row_at (r ∷ rs) r.at ≡ Some r
 first_row r rs = let e = eq-eqb r.at r.at refl in rw e refl
@@ -159,7 +145,7 @@ rows_equal low [] [] h k e = refl
 rows_equal low [] (y ∷ ys) h k e = let q = e y.at ∙ first_row y ys in cc
 rows_equal low (x ∷ xs) [] h k e = let q = sym (first_row x xs) ∙ e x.at in cc
 rows_equal low (x ∷ xs) (y ∷ ys) h k e = go (x.at == y.at) refl (λ z. rows_equal (x.at + 1) xs ys h.1
-    (subst (λ n. Rising (n + 1) (map (λ r. r.at) ys)) (sym z) k.1) (λ v. tails z v (x.at == v) refl))
+    (rw z k.1) (λ v. tails z v (x.at == v) refl))
   where
     low_x : y.at + 1 ≤ x.at → Rising (y.at + 1) (map (λ r. r.at) (x ∷ xs))
     low_x l = (l, h.1)
@@ -169,17 +155,17 @@ rows_equal low (x ∷ xs) (y ∷ ys) h k e = go (x.at == y.at) refl (λ z. rows_
 
     tails : x.at ≡ y.at → (v : ℕ) → (b : Bool) → (x.at == v) ≡ b → row_at xs v ≡ row_at ys v
     tails z v true q = let n : x.at ≡ v = eqb-true x.at v q in
-        below_none (x.at + 1) v xs h.1 (omega (arith, n)) ∙ sym (below_none (y.at + 1) v ys k.1 (omega (arith, n, z)))
-    tails z v false q = let p : (y.at == v) ≡ false = ap (λ a. a == v) (sym z) ∙ q in
-        sym (ap (λ b. cond b (Some x) (row_at xs v)) q) ∙ e v ∙ ap (λ b. cond b (Some y) (row_at ys v)) p
+        cc (below_none (x.at + 1) v xs h.1 (omega (arith, n)), below_none (y.at + 1) v ys k.1 (omega (arith, n, z)))
+    tails z v false q = let p : (y.at == v) ≡ false = rw (← z, q) in
+        cc (e v)
 
     go : (b : Bool) → (x.at == y.at) ≡ b → (x.at ≡ y.at → xs ≡ ys) → x ∷ xs ≡ y ∷ ys
     go true q f = let z : x.at ≡ y.at = eqb-true x.at y.at q in
-        let s : Some x ≡ Some y = sym (first_row x xs) ∙ e x.at ∙ ap (row_at (y ∷ ys)) z ∙ first_row y ys in
+        let s : Some x ≡ Some y = cc (first_row x xs, e x.at, first_row y ys) in
         let w : x ≡ y = cc in ap₂ (λ a b. a ∷ b) w (f z)
     go false q f = elim (cases_lt x.at y.at) [
       | inl l ↦ let s = sym (first_row x xs) ∙ e x.at
-          ∙ below_none (x.at + 1) x.at (y ∷ ys) (low_y (omega (arith, l))) (omega arith) in cc
+          ∙ below_none (x.at + 1) x.at (y ∷ ys) (low_y (omega arith)) (omega arith) in cc
       | inr l ↦ let m : y.at + 1 ≤ x.at = grind (arith, l, q) in
           let s = sym (first_row y ys) ∙ sym (e y.at) ∙ below_none (y.at + 1) y.at (x ∷ xs) (low_x m) (omega arith) in
           cc
@@ -196,8 +182,7 @@ list_in k j [] h = absurd (omega arith)
 list_in k zero (g ∷ gs) h = let z : k + 0 ≡ k = omega arith in
     inl (λ i. record { frame = g.frame; role = ListPage (z i) })
 list_in k (suc j) (g ∷ gs) h = let z : k + 1 + j ≡ k + suc j = omega arith in
-    inr (subst (λ n. In (record { frame = (next_list_page gs j).frame; role = ListPage n }) (list_roles (k + 1) gs)) z
-    (list_in (k + 1) j gs (omega arith)))
+    inr (rw z at (list_in (k + 1) j gs (omega arith)))
 
 list_role : (x : Node) (k : ℕ) → k ≤ length x.more → In (record { frame = list_page x k; role = ListPage k }) (roles x)
 unfolding list_page
@@ -229,7 +214,7 @@ module _ (t u : Tree) (s : IsSound t) (r : IsSound u) (w : HasSameLayout t u) (x
   tables_long = (base_equal t u s r w x y i j e).2
 
   more_long : length x.more ≡ length y.more
-  more_long = (s.tables x i).listed ∙ ap (λ n. lists n - 1) tables_long ∙ sym (r.tables y j).listed
+  more_long = rw ((s.tables x i).listed, tables_long, sym (r.tables y j).listed)
 
   -- the words of list page k, where it is the same page in both
   list_words : (k : ℕ) → k ≤ length x.more → list_page x k ≡ list_page y k → (m : ℕ) → m < 1024
@@ -244,25 +229,25 @@ module _ (t u : Tree) (s : IsSound t) (r : IsSound u) (w : HasSameLayout t u) (x
   unfolding page_word
   next_same k h q =
       let p : (next_list_page x.more k).frame ≡ (next_list_page y.more k).frame =
-      list_words k (omega (arith, h)) q 0 (omega arith) in
+      list_words k (omega arith) q 0 (omega arith) in
       let v : (next_list_page x.more k).va ≡ (next_list_page y.more k).va =
-      list_words k (omega (arith, h)) q 1 (omega arith) in
+      list_words k (omega arith) q 1 (omega arith) in
       λ i. record { va = v i; frame = p i }
 
   page_same : (k : ℕ) → k ≤ length x.more → list_page x k ≡ list_page y k
   unfolding list_page
-  page_same zero h = ap (λ b. b.list.frame) base_is
-  page_same (suc k) h = ap (λ g. g.frame) (next_same k (omega arith) (page_same k (omega arith)))
+  page_same zero h = rw base_is
+  page_same (suc k) h = cc (next_same k (omega arith) (page_same k (omega arith)))
 
   pub more_same : x.more ≡ y.more
-  more_same = list_same x.more y.more (own 0) more_long (λ k h. next_same k h (page_same k (omega (arith, h))))
+  more_same = list_same x.more y.more (own 0) more_long (λ k h. next_same k h (page_same k (omega arith)))
 
   -- the six words of slot k
   slot_same : (k m : ℕ) → k < length x.tables → m < 6
       → slice_index (slot_words (slots x.tables k)) m ≡ slice_index (slot_words (slots y.tables k)) m
   slot_same k m h l =
       let z = (s.tables x i).listed in
-      let a : k / 170 ≤ length x.more = omega (arith, z, h) in
+      let a : k / 170 ≤ length x.more = omega arith in
       slot_word x k m l ∙ list_words (k / 170) a (page_same (k / 170) a) (2 + 6 * (k % 170) + m) (omega arith)
       ∙ sym (slot_word y k m l)
 
@@ -272,7 +257,7 @@ module _ (t u : Tree) (s : IsSound t) (r : IsSound u) (w : HasSameLayout t u) (x
       let layouts-same : ◌≡◌ {A = RolePage} (record { frame = d.mmu.frame; role = TablePage Mmu d.index })
       (record { frame = c.mmu.frame; role = TablePage Mmu c.index }) = same_at_key (λ q. q.frame) _ _ (roles y)
       (roles_distinct u y r j) (table_role Mmu y d m) (table_role Mmu y c l) (q Mmu ∙ p) in
-      sym ix ∙ index_of d c layouts-same
+      cc (index_of d c layouts-same)
     where
       index_of : (d c : Table) → ◌≡◌ {A = RolePage} (record { frame = d.mmu.frame; role = TablePage Mmu d.index })
           (record { frame = c.mmu.frame; role = TablePage Mmu c.index }) → d.index ≡ c.index
@@ -291,7 +276,7 @@ module _ (t u : Tree) (s : IsSound t) (r : IsSound u) (w : HasSameLayout t u) (x
       let w4 : b.shadow2.va ≡ c.shadow2.va = slot_same k 4 h (omega arith) in
       let w5 : b.shadow2.frame ≡ c.shadow2.frame = slot_same k 5 h (omega arith) in
       let ix =
-      index_same b c (index_in x.tables k no_table h) (index_in y.tables k no_table (omega (arith, z, h))) w1 in
+      index_same b c (index_in x.tables k no_table h) (index_in y.tables k no_table (omega arith)) w1 in
       λ i. record {
         index = ix i;
         mmu = record { va = w0 i; frame = w1 i };
@@ -312,8 +297,8 @@ module _ (t u : Tree) (s : IsSound t) (r : IsSound u) (w : HasSameLayout t u) (x
   lines_sum = word_same 15 (omega arith)
 
   lines_are : (t : Tree) → IsSound t → (x : Node) → In x (nodes t) → AreLines 0 x.pending
-  lines_are t s x (inl e) = subst (λ z. AreLines 0 z.pending) (sym e) s.lines
-  lines_are t s x (inr i) = subst (AreLines 0) (sym (s.no_lines_but_the_root x i)) tt
+  lines_are t s x (inl e) = rw e s.lines
+  lines_are t s x (inr i) = rw (s.no_lines_but_the_root x i) tt
 
   pub pending_same : x.pending ≡ y.pending
   pending_same = sum_same x.pending y.pending (lines_are t s x i) (lines_are u r y j) lines_sum
@@ -328,7 +313,7 @@ module _ (t u : Tree) (s : IsSound t) (r : IsSound u) (w : HasSameLayout t u) (x
       let b = base_is in
       let p = (base_equal t u s r w x y i j e).1 in
       let n = e in
-      let o : x.born ≡ y.born = born_is t s x i ∙ ap (λ b. b.descriptor.va) b ∙ sym (born_is u r y j) in
+      let o : x.born ≡ y.born = rw (born_is t s x i, b, ← born_is u r y j) in
       let ts = tables_same in
       let ms = more_same in
       let rs = rows_equal 0 x.rows y.rows (s.pages_apart x i).places (r.pages_apart y j).places
@@ -363,10 +348,10 @@ module _ (t u : Tree) (s : IsSound t) (r : IsSound u) (w : HasSameLayout t u) wh
 
   root_rows : row_pages t.root ≡ row_pages u.root
   root_rows =
-      ap row_pages s.boot_root.same ∙ ap (λ n. row_pages (boot_root n)) w.frames ∙ sym (ap row_pages r.boot_root.same)
+      ap row_pages s.boot_root.same ∙ ap (λ n. row_pages (boot_root n)) w.frames ∙ sym (cc (r.boot_root.same))
 
   pages : (g : ℕ) → is_some (t.words g) ≡ is_some (u.words g)
-  pages g = s.words g ∙ ap₂ (λ l h. has l g && not h) root_rows (hidden_same g) ∙ sym (r.words g)
+  pages g = rw (s.words g, ap₂ (λ l h. has l g && not h) root_rows (hidden_same g), ← r.words g)
 
   words : (g i : ℕ) → i < 1024 → word_of (t.words g) i ≡ word_of (u.words g) i
   unfolding layout
@@ -374,23 +359,23 @@ module _ (t u : Tree) (s : IsSound t) (r : IsSound u) (w : HasSameLayout t u) wh
     where
       small : is_some (t.words g) ≡ true → g < t.frames
       small e = page_small t g s t.root (inl refl) (In-append_right g (config t.root) (row_pages t.root)
-          (has_in g (row_pages t.root) (left (has (row_pages t.root) g) (not (hidden t g)) (sym (s.words g) ∙ e))))
+          (has_in g (row_pages t.root) (left (has (row_pages t.root) g) (not (hidden t g)) (rw (← s.words g) e))))
         where
           left : (a b : Bool) → (a && b) ≡ true → a ≡ true
           left a b e = grind arith
 
       go : (a b : Option (ℕ → ℕ)) → t.words g ≡ a → u.words g ≡ b → word_of (t.words g) i ≡ word_of (u.words g) i
-      go None None e f = ap (λ o. word_of o i) (e ∙ sym f)
+      go None None e f = cc
       go (Some a) None e f = let p = pages g in
-          let m : ◌≡◌ {A = Bool} true false = sym (ap is_some e) ∙ p ∙ ap is_some f in absurd (grind (arith, m))
+          let m : ◌≡◌ {A = Bool} true false = cc in absurd (grind (arith, m))
       go None (Some b) e f = let p = pages g in
-          let m : ◌≡◌ {A = Bool} false true = sym (ap is_some e) ∙ p ∙ ap is_some f in absurd (grind (arith, m))
+          let m : ◌≡◌ {A = Bool} false true = cc in absurd (grind (arith, m))
       go (Some a) (Some b) e f =
-          sym (shown t (ap is_some e)) ∙ w.word g i (small (ap is_some e)) l ∙ shown u (ap is_some f)
+          rw (← shown t (ap is_some e), w.word g i (small (ap is_some e)) l, shown u (ap is_some f))
         where
           shown : (t : Tree) → is_some (t.words g) ≡ true → layout t g i ≡ word_of (t.words g) i
           shown t q =
-              ap (λ b. cond b (word_of (t.words g) i) (owned_word t g i (find (λ x. has (config x) g) (nodes t)))) q
+              rw q
 
   pub layouts-same : AreSame t u
   layouts-same = record {
@@ -408,6 +393,6 @@ pub frames-same : (t u : Tree) (m : Memory) → IsSound t → IsSound u → Lays
 frames-same t u m s r a b =
     let p = a.count in
     let q = b.count in
-    let n : t.frames ≡ u.frames = omega (arith, p, q) in
+    let n : t.frames ≡ u.frames = omega arith in
     layouts-same t u s r
-    (record { frames = n; word = λ f i l k. sym (a.word f i l k) ∙ b.word f i (omega (arith, n, l)) k })
+    (record { frames = n; word = λ f i l k. cc (a.word f i l k, b.word f i (omega (arith, n, l)) k) })

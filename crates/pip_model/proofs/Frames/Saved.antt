@@ -30,7 +30,7 @@ pub saved_layout : (t : Tree) (c : Ctx) (h i f j : ℕ) → is_some (t.words h) 
     j ≡ cond (h == f && (nat_le i j && nat_lt j (i + 17))) (context_word c (j - i)) (layout t f j)
 unfolding layout full_rows given_word from_word
 saved_layout t c h i f j on = word_saved c h i f j (owned_word t f j (find (λ y. has (config y) f) (nodes t)))
-    (t.words f) (λ e. subst (λ v. is_some (t.words v) ≡ true) (eqb-true h f e) on)
+    (t.words f) (λ e. rw (← eqb-true h f e) on)
 
 context_at : (c : Ctx) (n : ℕ) → slice_index (c.pc ∷ c.regs) n ≡ context_word c n
 context_at c zero = refl
@@ -42,31 +42,31 @@ pub saved_lays : (t : Tree) (m : List (List ℕ)) → LaysOut t m → (c : Ctx) 
 saved_lays t m lays c h i long on h_in room = record {
   shape = IsMemory-put_words m h i ws lays.shape inside;
   count = length-put_words m h i ws ∙ lays.count;
-  word = λ f j f_in j_in. at f j f_in j_in (h == f) refl ∙ sym (saved_layout t c h i f j on);
+  word = λ f j f_in j_in. cc (at f j f_in j_in (h == f) refl, saved_layout t c h i f j on);
 }
   where
     ws : List ℕ
     ws = c.pc ∷ c.regs
 
     inside : h < length m
-    inside = let count = lays.count in omega (arith, count, h_in)
+    inside = omega arith
 
     fits : i + length (c.pc ∷ c.regs) ≤ 1024
-    fits = omega (arith, long, room)
+    fits = omega arith
 
     here : (j : ℕ) → j < 1024 → (a b : Bool) → nat_le i j ≡ a → nat_lt j (i + 17) ≡ b
         → word_at (put_words m h i (c.pc ∷ c.regs)) h j ≡ cond (a && b) (context_word c (j - i)) (layout t h j)
     here j l true true e d =
         let x = leb-true i j e in
         let y = ltb-true j (i + 17) d in
-        let same : j ≡ i + (j - i) = omega (arith, x) in
+        let same : j ≡ i + (j - i) = omega arith in
         ap (λ k. word_at (put_words m h i (c.pc ∷ c.regs)) h k) same ∙ (word_at-put_words_here m h i
         (c.pc ∷ c.regs) (j - i) lays.shape inside fits (omega (arith, x, y, long)) ∙ context_at c (j - i))
     here j l false b e d = let x = leb-false i j e in
-        word_at-put_words_index m h i (c.pc ∷ c.regs) j lays.shape inside fits (inl (omega (arith, x)))
+        word_at-put_words_index m h i (c.pc ∷ c.regs) j lays.shape inside fits (inl (omega arith))
         ∙ lays.word h j h_in l
     here j l true false e d = let y = ltb-false j (i + 17) d in
-        word_at-put_words_index m h i (c.pc ∷ c.regs) j lays.shape inside fits (inr (omega (arith, y, long)))
+        word_at-put_words_index m h i (c.pc ∷ c.regs) j lays.shape inside fits (inr (omega arith))
         ∙ lays.word h j h_in l
 
     at : (f j : ℕ) → f < t.frames → j < 1024 → (b : Bool) → (h == f) ≡ b → word_at (put_words m h i (c.pc ∷ c.regs)) f j
@@ -77,7 +77,6 @@ saved_lays t m lays c h i long on h_in room = record {
         ∙ (lays.word f j f_in j_in
         ∙ sym (ap (λ b. cond (b && (nat_le i j && nat_lt j (i + 17))) (context_word c (j - i)) (layout t f j)) e))
     at f j f_in j_in true e =
-        subst (λ v. word_at (put_words m h i (c.pc ∷ c.regs)) v j ≡ cond (h == v
-        && (nat_le i j && nat_lt j (i + 17))) (context_word c (j - i)) (layout t v j)) (eqb-true h f e)
-        (here j j_in (nat_le i j) (nat_lt j (i + 17)) refl refl ∙ sym (ap (λ b.
-        cond (b && (nat_le i j && nat_lt j (i + 17))) (context_word c (j - i)) (layout t h j)) (eq-eqb h h refl)))
+        rw (← eqb-true h f e) (here j j_in (nat_le i j) (nat_lt j (i + 17)) refl refl ∙ sym
+        (ap (λ b. cond (b && (nat_le i j && nat_lt j (i + 17))) (context_word c (j - i)) (layout t h j))
+        (eq-eqb h h refl)))

@@ -19,32 +19,27 @@ use Rattle.pip_model.proofs.Frames.Laid.{born_place, use_bounds}
 -- the first shadow's word of a page that no child holds is 0
 pub given_none : (t : Tree) (p g : ℕ) → holder t p g ≡ None → given_word t p g ≡ 0
 unfolding given_word
-given_none t p g e = ap (λ o. given_by o g) e
+given_none t p g e = rw e
 
 -- and of one that a child holds it names the child's birthplace and the use
 pub given_some : (t : Tree) (p g : ℕ) (y : Node) → holder t p g ≡ Some y
     → given_word t p g ≡ shadow1_word (use_of y g) (vpage y.born)
 unfolding given_word
-given_some t p g y e = ap (λ o. given_by o g) e
+given_some t p g y e = rw e
 
 -- so a page is free where the word is 0
 pub given_free : (t : Tree) → IsSound t → (p g : ℕ) → given_word t p g ≡ 0 → holder t p g ≡ None
 given_free t s p g z = elim (cases_option (holder t p g)) [
   | inl e ↦ e
   | inr y ↦
-      let low = (use_bounds t s y.0 g).0 in
-      let w = given_some t p g y.0 y.1 in
-      absurd (omega (arith, low, w, z))
+      absurd (omega (arith, (use_bounds t s y.0 g).0, given_some t p g y.0 y.1, z))
 ]
 
 -- the birthplace is read off the word
 pub given_born : (t : Tree) → IsSound t → (p g : ℕ) (y : Node) → holder t p g ≡ Some y
     → given_word t p g / 4096 * 4096 ≡ y.born
 given_born t s p g y e =
-    let w = given_some t p g y e in
-    let high = (use_bounds t s y g).1 in
-    let even = (born_place t s y.name y (holder_back t s p g y e).0).0 in
-    omega (arith, w, high, even)
+    omega (arith, given_some t p g y e, (use_bounds t s y g).1, (born_place t s y.name y (holder_back t s p g y e).0).0)
 
 -- a child uses the page that it is named by as its descriptor
 pub use_descriptor : (y : Node) → use_of y y.name ≡ as_descriptor
@@ -68,7 +63,7 @@ born_row t s b x y k e =
     let (r, at, page) =
     page_at_row x (vpage y.base.descriptor.va) y.base.descriptor.frame (lent.placed y.base.descriptor (inl refl)) in
     let born = (s.named_by_descriptor y i).born in
-    (r, ap (λ d. row_at x.rows (vpage d)) born ∙ at, page ∙ sym (s.named_by_descriptor y i).name)
+    (r, cc, cc (sym (s.named_by_descriptor y i).name))
 
 -- where a child was born, the parent's row has its descriptor, and the word says so
 pub child_row : (t : Tree) → IsSound t → (p d : ℕ) (x y : Node) → find_node t p ≡ Some x → child_at t p d ≡ Some y
@@ -76,15 +71,13 @@ pub child_row : (t : Tree) → IsSound t → (p d : ℕ) (x y : Node) → find_n
     × (given_word t p y.name ≡ shadow1_word as_descriptor (vpage d))
 child_row t s p d x y e c =
     let (k, u, b) = child_back t s p d y c in
-    let (r, at, page) = born_row t s y.name x y k (ap (find_node t) u ∙ e) in
+    let (r, at, page) = born_row t s y.name x y k (cc) in
     let on = held_config y y.name (name-config t s y (inr (other_in t y.name y k))) in
     let word = given_some t p y.name y (holder_is t s p y.name y.name y k u on) in (
       r,
-      ap (λ a. row_at x.rows (vpage a)) (sym b) ∙ at,
+      cc,
       page,
-      word
-          ∙ ap (λ n. shadow1_word n (vpage y.born)) (use_descriptor y)
-          ∙ ap (λ a. shadow1_word as_descriptor (vpage a)) b,
+      rw (word, use_descriptor y, b),
     )
 
 -- and where a row's word says so, a child was born there
@@ -92,7 +85,7 @@ pub row_child : (t : Tree) → IsSound t → (p d : ℕ) (x : Node) (r : Row) �
     → row_at x.rows (vpage d) ≡ Some r → given_word t p r.frame % 4096 ≡ as_descriptor
     → (y : Node) × (child_at t p d ≡ Some y) × (y.name ≡ r.frame)
 row_child t s p d x r e even at word = elim (cases_option (holder t p r.frame)) [
-  | inl none ↦ let z = given_none t p r.frame none in absurd (omega (arith, z, word))
+  | inl none ↦ absurd (omega (arith, given_none t p r.frame none, word))
   | inr h ↦ found h.0 h.1
 ]
   where
@@ -103,14 +96,14 @@ row_child t s p d x r e even at word = elim (cases_option (holder t p r.frame)) 
         let bounds = use_bounds t s y r.frame in
         let low = bounds.0 in
         let high = bounds.1 in
-        let use_is : use_of y r.frame ≡ as_descriptor = omega (arith, w, word, low, high) in
+        let use_is : use_of y r.frame ≡ as_descriptor = omega arith in
         let name = descriptor_used y r.frame use_is in
-        let (q, there, page) = born_row t s y.name x y k (ap (find_node t) u ∙ e) in
+        let (q, there, page) = born_row t s y.name x y k (cc) in
         let same : vpage d ≡ vpage y.born = (one_row x (s.pages_apart x (found_in t p x e)) (vpage d) (vpage y.born) r q
-        at there (sym name ∙ sym page)).1 in
+        at there (cc)).1 in
         let born_even = (born_place t s y.name y k).0 in
-        let born : y.born ≡ d = omega (arith, same, even, born_even) in
-        (y, subst (λ a. child_at t p a ≡ Some y) born (child_is t s p y.name x y e k u), name)
+        let born : y.born ≡ d = omega arith in
+        (y, rw (← born) (child_is t s p y.name x y e k u), name)
 
 -- the second shadow's word is 0 in the root
 pub from_root_word : (t : Tree) (x : Node) (g : ℕ) → x.name ≡ t.root.name → from_word t x g ≡ 0
@@ -122,8 +115,8 @@ pub from_other_word : (t : Tree) → IsSound t → (b : ℕ) (x p : Node) (g v :
     → find_node t x.up ≡ Some p → vpage_of_page p g ≡ Some v → from_word t x g ≡ shadow2_word v
 unfolding from_word
 from_other_word t s b x p g v k e at =
-    let ne : x.name ≢ t.root.name = λ z. other_differs t s b x k (sym z ∙ other_name t b x k) in
-    rw (ne_eqb x.name t.root.name ne) (ap (λ z. place_word (vpage_in_parent z g)) e ∙ ap place_word at)
+    let ne : x.name ≢ t.root.name = λ z. other_differs t s b x k (cc (other_name t b x k)) in
+    rw (ne_eqb x.name t.root.name ne) (rw (e, at))
 
 -- the parent has what a node holds, in a row at that place
 pub parent_place : (t : Tree) → IsSound t → (b : ℕ) (x : Node) → find_other t b ≡ Some x → (g : ℕ) → In g (held_pages x)

@@ -27,7 +27,7 @@ use Rattle.pip_model.proofs.Events.Soundness.{read_small, store-sound}
 module _ (t : Tree) (s : IsSound t) (p va g i : ℕ) (x : Node) (a : Access) (z : Size) (found : find_node t p ≡ Some x)
     (e : reach t p va a z ≡ Place g i) where
   in_rows : In g (row_pages x)
-  in_rows = subst (λ y. In g (row_pages y)) (node_is t p x found) (reached_row t p va g i a z e)
+  in_rows = rw (← node_is t p x found) (reached_row t p va g i a z e)
 
   -- a page that can be read
   pub reached_page : (w : ℕ → ℕ) × (t.words g ≡ Some w)
@@ -44,7 +44,7 @@ module _ (t : Tree) (s : IsSound t) (p va g i : ℕ) (x : Node) (a : Access) (z 
   unfolding reached_page
   reached_word m lays =
       let page = reached_page in
-      laid_words t s m lays g i page.0 page.1 (reached_small t p va g i a z e) ∙ sym (ap (λ o. word_of o i) page.1)
+      cc (laid_words t s m lays g i page.0 page.1 (reached_small t p va g i a z e), page.1)
 
 -- ---- what is written
 
@@ -54,15 +54,14 @@ word_written : (b : Bool) (i x j rest : ℕ) (o v : Option (ℕ → ℕ)) → (b
     ≡ cond (b && (j == i)) x (cond (is_some o) (word_of o j) rest)
 word_written false i x j rest o v same on = refl
 word_written true i x j rest o v same on =
-    ap (λ w. cond (j == i) x w)
-    (sym (ap (λ u. cond (is_some u) (word_of u j) rest) (same refl) ∙ ap (λ b. cond b (word_of v j) rest) on))
+    cc (same refl)
 
 -- the layout of a tree with one word stored differs in this word alone
 pub stored_layout : (t : Tree) (g i x f j : ℕ) → is_some (t.words g) ≡ true
     → layout (with_word t g i x) f j ≡ cond ((f == g) && (j == i)) x (layout t f j)
 unfolding layout full_rows given_word from_word
 stored_layout t g i x f j on = word_written (f == g) i x j (owned_word t f j (find (λ y. has (config y) f) (nodes t)))
-    (t.words f) (t.words g) (λ e. ap t.words (eqb-true f g e)) on
+    (t.words f) (t.words g) (λ e. rw (eqb-true f g e)) on
 
 -- so the memory with the word written lays it out
 pub stored_lays : (t : Tree) (m : Memory) → LaysOut t m → (g i x : ℕ) → is_some (t.words g) ≡ true → g < t.frames
@@ -72,7 +71,7 @@ stored_lays t m lays g i x on g_in i_in =
     let inside : g < length m = omega arith in
     record {
       shape = IsMemory-put m g i x lays.shape inside;
-      count = length-put_word m g i x ∙ count;
+      count = cc (length-put_word m g i x);
       word = λ f j f_in j_in. word_at-put m g i x f j lays.shape inside i_in
           ∙ (ap (λ w. cond ((f == g) && (j == i)) x w) (lays.word f j f_in j_in) ∙ sym (stored_layout t g i x f j on));
     }

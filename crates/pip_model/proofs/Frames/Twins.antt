@@ -32,17 +32,14 @@ pub role-same : (t u : Tree) → IsSound t → IsSound u → HasSameLayout t u �
     → In y (nodes u) → (k : ℕ) → k < 1024 → (q v : RolePage) → In q (roles x) → In v (roles y) → q.frame ≡ v.frame
     → role_word x (cells_of (full_rows t x)) q.role k ≡ role_word y (cells_of (full_rows u y)) v.role k
 role-same t u s r w x y i j k l q v h m e =
-    sym (role-layout t k x q s i h)
-    ∙ w.word q.frame k (role_small t x q s i h) l
-    ∙ ap (λ f. layout u f k) e
-    ∙ role-layout u k y v r j m
+    rw (← role-layout t k x q s i h, w.word q.frame k (role_small t x q s i h) l, e, role-layout u k y v r j m)
 
 module _ (t u : Tree) (s : IsSound t) (r : IsSound u) (w : HasSameLayout t u) where
   -- the descriptors of two nodes of one name
   pub descriptor-same : (x y : Node) → In x (nodes t) → In y (nodes u) → x.name ≡ y.name → (i : ℕ) → i < 1024
       → descriptor_word x i ≡ descriptor_word y i
   descriptor-same x y i j e k l =
-      let a : x.base.descriptor.frame ≡ y.base.descriptor.frame = sym (name-page t s x i) ∙ e ∙ name-page u r y j in
+      let a : x.base.descriptor.frame ≡ y.base.descriptor.frame = rw (← name-page t s x i, e, name-page u r y j) in
       sym (descriptor-layout t k x s i)
       ∙ w.word x.base.descriptor.frame k (page_small t x.base.descriptor.frame s x i (inl refl)) l
       ∙ ap (λ f. layout u f k) a
@@ -62,8 +59,8 @@ module _ (t u : Tree) (s : IsSound t) (r : IsSound u) (w : HasSameLayout t u) wh
   -- the tables of x are those of y, by their indexes
   entry_some : (level : Level) (o : Option Table) (n : ℕ) → directory_entry level o ≡ directory_word n
       → (c : Table) × (o ≡ Some c) × ((table_page level c).frame ≡ n)
-  entry_some level None n e = absurd (omega (arith, e))
-  entry_some level (Some c) n e = (c, refl, omega (arith, e))
+  entry_some level None n e = absurd (omega arith)
+  entry_some level (Some c) n e = (c, refl, omega arith)
 
   pub table_twin : (x y : Node) → In x (nodes t) → In y (nodes u) → x.name ≡ y.name → (b : Table) → In b x.tables
       → (c : Table) × In c y.tables × (c.index ≡ b.index)
@@ -72,18 +69,18 @@ module _ (t u : Tree) (s : IsSound t) (r : IsSound u) (w : HasSameLayout t u) wh
       let small = (s.tables x i).small b k in
       let found : table_at x.tables b.index ≡ Some b = find_member (λ t. t.index) b x.tables (s.tables x i).differ k in
       let entry : (level : Level) → directory_entry level (table_at y.tables b.index) ≡ directory_entry level (Some b) =
-      λ level. sym (directories level x y i j e b.index small) ∙ ap (directory_entry level) found in
+      λ level. rw (← directories level x y i j e b.index small, found) in
       let (c, f, p) = entry_some Mmu (table_at y.tables b.index) b.mmu.frame (entry Mmu) in
       let g = find_in (λ t. t.index == b.index) c y.tables f in (
         c,
         g.0,
         eqb-true c.index b.index g.1,
-        (λ level. same level c b (sym (ap (directory_entry level) f) ∙ entry level)),
+        (λ level. same level c b (cc (entry level))),
       )
     where
       same : (level : Level) (c b : Table) → directory_word (table_page level c).frame
           ≡ directory_word (table_page level b).frame → (table_page level c).frame ≡ (table_page level b).frame
-      same level c b e = omega (arith, e)
+      same level c b e = omega arith
 
 -- the word of v in the tables of two nodes of one name, where v has a table
 cell_same : (t u : Tree) → IsSound t → IsSound u → HasSameLayout t u → (level : Level) (x y : Node) → In x (nodes t)
@@ -92,9 +89,9 @@ cell_same : (t u : Tree) → IsSound t → IsSound u → HasSameLayout t u → (
 cell_same t u s r w level x y i j e v h =
     let (b, k, d) = In-map_from (λ b. b.index) (dir v) x.tables h in
     let (c, l, ix, p) = table_twin t u s r w x y i j e b k in
-    let n : 1024 * b.index + v % 1024 ≡ v = omega (arith, d) in
-    let n' : 1024 * c.index + v % 1024 ≡ v = omega (arith, d, ix) in
-    sym (table-layout level t (v % 1024) x b s i k ∙ ap (λ z. row_word level (full_rows t x z)) n)
+    let n : 1024 * b.index + v % 1024 ≡ v = omega arith in
+    let n' : 1024 * c.index + v % 1024 ≡ v = omega arith in
+    sym (rw (table-layout level t (v % 1024) x b s i k, n))
     ∙ w.word (table_page level b).frame (v % 1024) (role_small t x _ s i (table_role level x b k)) (omega arith)
     ∙ ap (λ g. layout u g (v % 1024)) (sym (p level))
     ∙ table-layout level u (v % 1024) y c r j l ∙ ap (λ z. row_word level (full_rows u y z)) n'
@@ -106,29 +103,29 @@ row_some t u s r w x y i j e v q h =
     let f = find_in (λ z. z.at == v) q x.rows h in
     let at : q.at ≡ v = eqb-true q.at v f.1 in
     let tabled : In (dir v) (map (λ b. b.index) x.tables) =
-    subst (λ z. In (dir z) (map (λ b. b.index) x.tables)) at ((s.tables x i).tabled q f.0) in
+    rw (← at) ((s.tables x i).tabled q f.0) in
     at_row (row_at y.rows v) refl (sym (ap (row_word Mmu) (full-at t x v (Some q) h)) ∙ cell_same t u s r w Mmu x y i j
     e v tabled ∙ ap (row_word Mmu) (full-at u y v (row_at y.rows v) refl)) (rights_small t s x i q f.0) at
   where
     at_row : (o : Option Row) → row_at y.rows v ≡ o
         → row_word Mmu (full_row t x (Some q)) ≡ row_word Mmu (full_row u y o) → q.rights < 8 → q.at ≡ v → o ≡ Some q
-    at_row None k a small at = absurd (omega (arith, a))
+    at_row None k a small at = absurd (omega arith)
     at_row (Some z) k a small at =
         let g = find_in (λ z. z.at == v) z y.rows k in
-        ap Some (sym (leaf-same (not (hidden t q.frame)) (not (hidden u z.frame)) q z small (rights_small u r y j z g.0)
-        (at ∙ sym (eqb-true z.at v g.1)) a))
+        rw (← leaf-same (not (hidden t q.frame)) (not (hidden u z.frame)) q z small (rights_small u r y j z g.0)
+        (at ∙ sym (eqb-true z.at v g.1)) a)
 
 pub same_sides : (t u : Tree) → HasSameLayout t u → HasSameLayout u t
 same_sides t u w =
-    record { frames = sym w.frames; word = λ f i l h. sym (w.word f i (subst (λ n. f < n) (sym w.frames) l) h) }
+    record { frames = sym w.frames; word = λ f i l h. sym (w.word f i (rw w.frames l) h) }
 
 pub rows-same : (t u : Tree) (s : IsSound t) (r : IsSound u) (w : HasSameLayout t u) (x y : Node) → In x (nodes t)
     → In y (nodes u) → x.name ≡ y.name → (v : ℕ) → row_at x.rows v ≡ row_at y.rows v
 rows-same t u s r w x y i j e v = go (row_at x.rows v) (row_at y.rows v) refl refl
   where
     go : (a b : Option Row) → row_at x.rows v ≡ a → row_at y.rows v ≡ b → a ≡ b
-    go (Some q) b h k = sym (row_some t u s r w x y i j e v q h) ∙ k
-    go None (Some z) h k = let m = row_some u t r s (same_sides t u w) y x j i (sym e) v z k in sym h ∙ m
+    go (Some q) b h k = rw (← row_some t u s r w x y i j e v q h) k
+    go None (Some z) h k = let m = row_some u t r s (same_sides t u w) y x j i (sym e) v z k in cc
     go None None h k = refl
 
 -- a child of x has a twin below y
@@ -138,25 +135,24 @@ unfolding given_word
 child_twin t u s r w c x y h i j up e =
     let nm = s.named_by_descriptor c h in
     let lent = s.lent c x h i up in
-    let al : c.born % 4096 ≡ 0 = ap (λ v. v % 4096) nm.born ∙ lent.aligned c.base.descriptor (inl refl) in
+    let al : c.born % 4096 ≡ 0 = rw (nm.born, lent.aligned c.base.descriptor (inl refl)) in
     let pl : page_at x (vpage c.born) ≡ Some c.name =
-    ap (λ v. page_at x (vpage v)) nm.born ∙ lent.placed c.base.descriptor (inl refl) ∙ ap Some (sym nm.name) in
+    rw (nm.born, lent.placed c.base.descriptor (inl refl), ← nm.name) in
     let (q, k, at, pg) = row_found x (vpage c.born) c.name pl in
     let rx : row_at x.rows (vpage c.born) ≡ Some q = sym (ap (row_at x.rows) at)
     ∙ find_member (λ z. z.at) q x.rows (Rising-distinct 0 _ (s.pages_apart x i).places) k in
     let ry : row_at y.rows (vpage c.born) ≡ Some q = row_some t u s r w x y i j e (vpage c.born) q rx in
     let tabled : In (dir (vpage c.born)) (map (λ b. b.index) x.tables) =
-    subst (λ z. In (dir z) (map (λ b. b.index) x.tables)) at ((s.tables x i).tabled q k) in
+    rw (← at) ((s.tables x i).tabled q k) in
     let word : given_by (holder t x.name q.frame) q.frame ≡ given_by (holder u y.name q.frame) q.frame =
-    sym (ap (row_word Shadow1) (full-at t x (vpage c.born) (Some q) rx)) ∙ cell_same t u s r w Shadow1 x y i j e
+    sym (rw (full-at t x (vpage c.born) (Some q) rx)) ∙ cell_same t u s r w Shadow1 x y i j e
     (vpage c.born) tabled ∙ ap (row_word Shadow1) (full-at u y (vpage c.born) (Some q) ry) in
     let ch : In c (children t x.name) = In-filter (λ z. z.up == x.name) c t.others h (eq-eqb c.up x.name up) in
     let hc : holds c q.frame ≡ true = in_has q.frame (held_pages c)
-    (subst (λ f. In f (held_pages c)) (sym pg) (subst (λ f. In f (held_pages c)) (sym nm.name) (inl refl))) in
+    (subst (λ f. In f (held_pages c)) (sym pg) (rw nm.name (inl refl))) in
     let ho : holder t x.name q.frame ≡ Some c = found_holder t x.name q.frame s c ch hc in
-    let one : given_by (Some c) q.frame ≡ shadow1_word 1 (vpage c.born) = ap (λ z.
-    shadow1_word (cond z 1 (cond (has (config c) q.frame) 2 3)) (vpage c.born)) (eq-eqb c.name q.frame (sym pg)) in
-    at_holder (holder u y.name q.frame) refl (sym one ∙ sym (ap (λ o. given_by o q.frame) ho) ∙ word) al pg
+    let one : given_by (Some c) q.frame ≡ shadow1_word 1 (vpage c.born) = rw (eq-eqb c.name q.frame (sym pg)) in
+    at_holder (holder u y.name q.frame) refl (cc) al pg
   where
     found_holder : (t : Tree) (p g : ℕ) → IsSound t → (c : Node) → In c (children t p) → holds c g ≡ true
         → holder t p g ≡ Some c
@@ -165,18 +161,18 @@ child_twin t u s r w c x y h i j up e =
         go : (o : Option Node) → holder t p g ≡ o → o ≡ Some c
         go None e = let n = find_none (λ z. holds z g) c (children t p) e i in absurd (grind (arith, n, h))
         go (Some d) e = let f = find_in (λ z. holds z g) d (children t p) e in
-            ap Some (holder_unique t p g s d c f.0 i f.1 h)
+            rw (holder_unique t p g s d c f.0 i f.1 h)
 
     at_holder : (o : Option Node) {q : ℕ} → holder u y.name q ≡ o → shadow1_word 1 (vpage c.born) ≡ given_by o q
         → c.born % 4096 ≡ 0 → q ≡ c.name → (d : Node) × In d u.others × (d.name ≡ c.name)
-    at_holder None k a al pg = absurd (omega (arith, a))
+    at_holder None k a al pg = absurd (omega arith)
     at_holder (Some d) {q} k a al pg =
         let f = find_in (λ z. holds z q) d (children u y.name) k in
         let o = In-filter_from (λ z. z.up == y.name) d u.others f.0 in
         let du : d.up ≡ y.name = eqb-true d.up y.name o.1 in
         let dn = r.named_by_descriptor d o.0 in
         let da : d.born % 4096 ≡ 0 =
-        ap (λ v. v % 4096) dn.born ∙ (r.lent d y o.0 j du).aligned d.base.descriptor (inl refl) in
+        rw (dn.born, (r.lent d y o.0 j du).aligned d.base.descriptor (inl refl)) in
         let z = child-read d q c.born da al (sym a) in
         (d, o.0, z.1 ∙ pg)
 
@@ -187,7 +183,7 @@ pub twin_in : (t u : Tree) (s : IsSound t) (r : IsSound u) (w : HasSameLayout t 
 twin_in t u s r w xs o n x (inl e) = (
   u.root,
   inl refl,
-  ap (λ z. z.name) r.boot_root.same ∙ sym (ap (λ z. z.name) s.boot_root.same) ∙ sym (ap (λ z. z.name) e),
+  ap (λ z. z.name) r.boot_root.same ∙ sym (ap (λ z. z.name) s.boot_root.same) ∙ sym (rw e),
 )
 twin_in t u s r w [] o n x (inr i) = absurd i
 twin_in t u s r w (z ∷ xs) o n x (inr (inr i)) = twin_in t u s r w xs o.2 (λ v j. n v (inr j)) x (inr i)
@@ -195,5 +191,5 @@ twin_in t u s r w (z ∷ xs) o n x (inr (inl e)) =
     let (v, k, up) = In-map_from (λ z. z.name) z.up (t.root ∷ xs) o.1 in
     let (y, l, q) = twin_in t u s r w xs o.2 (λ v j. n v (inr j)) v k in
     let kn : In v (nodes t) = elim k [ inl a ↦ inl a | inr a ↦ inr (n v (inr a)) ] in
-    let (d, m, p) = child_twin t u s r w x v y (n x (inl e)) kn l (ap (λ z. z.up) e ∙ up) (sym q) in
+    let (d, m, p) = child_twin t u s r w x v y (n x (inl e)) kn l (rw e up) (sym q) in
     (d, inr m, p)

@@ -62,14 +62,14 @@ pub above_is_ancestry : (t : Tree) (x y : Node) → IsSound t → In x (nodes t)
     → Above t y x ↔ (y.name ≢ x.name) × In y.name (ancestry t x.name)
 above_is_ancestry t x y s i j = (
   (λ a. (
-    (λ e. above-acyclic t s x i (subst (λ z. Above t z x) (same_name t y x s j i e) a)),
+    (λ e. above-acyclic t s x i (rw (same_name t y x s j i e) at a)),
     over_ancestry t s y x j (inr a),
   )),
   (λ h.
       let (z, k, e, o) = ancestry_over t s x i y.name h.1 in
       elim o [
-        | inl d ↦ absurd (h.0 (sym e ∙ ap (λ z. z.name) d))
-        | inr a ↦ subst (λ z. Above t z x) (same_name t z y s k j e) a
+        | inl d ↦ absurd (h.0 (rw (← e, d)))
+        | inr a ↦ rw (← same_name t z y s k j e) a
       ]),
 )
 
@@ -78,11 +78,11 @@ pub child_not_above : (t : Tree) (p : ℕ) → IsSound t → IsName t p → (c :
     → In c.name (ancestry t p) → ⊥
 child_not_above t p s n c i u h =
     let f = node_found t p n in
-    let (z, j, e, o) = ancestry_over t s (node t p) f.0 c.name (subst (λ q. In c.name (ancestry t q)) (sym f.1) h) in
+    let (z, j, e, o) = ancestry_over t s (node t p) f.0 c.name (rw f.1 h) in
     let q : z ≡ c = same_name t z c s j (inr i) e in
     elim o [
-      | inl d ↦ not_own_parent t s c i (u ∙ sym f.1 ∙ ap (λ z. z.name) (sym d ∙ q))
-      | inr a ↦ above-acyclic t s c (inr i) (further i f.0 (u ∙ sym f.1) (subst (λ z. Above t z (node t p)) q a))
+      | inl d ↦ not_own_parent t s c i (rw (u, ← f.1, ← d, q))
+      | inr a ↦ above-acyclic t s c (inr i) (further i f.0 (cc (f.1)) (rw (← q) a))
     ]
 
 pub kids_to : (t u : Tree) (p : ℕ) → IsSound t → IsSound u → IsName t p → ((x : Node) → IsBelow t p x → IsBelow u p x)
@@ -112,8 +112,8 @@ below_to t u p s r to c b x (i, l) =
     let bx : IsBelow t p x = (i, ancestry_trans t s x i p c.name l b.1) in (
       (to x bx).0,
       over_ancestry u r c x (to c b).0 (elim o [
-        | inl d ↦ inl (sym q ∙ d)
-        | inr v ↦ inr (above_agrees t u p s r to c x (subst (λ z. Above t z x) q v) b).1
+        | inl d ↦ inl (cc)
+        | inr v ↦ inr (above_agrees t u p s r to c x (rw (← q) v) b).1
       ]),
     )
 
@@ -123,16 +123,17 @@ pub agree_down : (t u : Tree) (p : ℕ) → IsSound t → IsSound u → IsName t
 agree_down t u p s r n a c b = record {
   to = below_to t u p s r a.to c b;
   from = below_to u t p r s a.from c (a.to c b);
-  words = λ g i h l. a.words g i (up g (subst (λ x. In g (row_pages x)) (named_node t c.name s c b.0 refl) h)) l;
+  words = λ g i h l. a.words g i (up g (rw (← named_node t c.name s c b.0 refl) h)) l;
 }
   where
     up : (g : ℕ) → In g (row_pages c) → In g (row_pages (node t p))
     up g h =
         let (z, k, e, o) = ancestry_over t s c b.0 p b.1 in
         let q : node t p ≡ z = named_node t p s z k e in
-        subst (λ x. In g (row_pages x)) (sym q) (elim o [
+        rw q (elim o [
           | inl d ↦ subst (λ x. In g (row_pages x)) (sym d) h
-          | inr v ↦ holds_up t g s z c v (In-append_right g (config c) (row_pages c) h)
+          | inr v ↦
+              holds_up t g s z c v (In-append_right g (config c) (row_pages c) h)
         ])
 
 -- the same change of each node
@@ -141,13 +142,12 @@ agree_on : (f : Node → Node) → ((x : Node) → (f x).name ≡ x.name) → ((
     → IsBelow (on_nodes f u) p x
 agree_on f names ups p t u to x (i, l) =
     let (z, j, e) = In-map_from f x (nodes t) i in
-    let q : x.name ≡ z.name = ap (λ n. n.name) e ∙ names z in
-    let k : In p (ancestry t z.name) = subst (In p) (ancestry_in f names ups t.root t.others z.name)
+    let q : x.name ≡ z.name = cc (names z) in
+    let k : In p (ancestry t z.name) = rw (← ancestry_in f names ups t.root t.others z.name)
     (subst (λ n. In p (ancestry (on_nodes f t) n)) q l) in
     let b = to z (j, k) in (
       subst (λ n. In n (nodes (on_nodes f u))) (sym e) (In-map f z (nodes u) b.0),
-      subst (λ n. In p (ancestry (on_nodes f u) n)) (sym q)
-          (subst (In p) (sym (ancestry_in f names ups u.root u.others z.name)) b.1),
+      rw q (subst (In p) (sym (ancestry_in f names ups u.root u.others z.name)) b.1),
     )
 
 pub agree_changed : (f : Node → Node) → ((x : Node) → (f x).name ≡ x.name) → ((x : Node) → (f x).up ≡ x.up)
@@ -157,14 +157,14 @@ pub agree_changed : (f : Node → Node) → ((x : Node) → (f x).name ≡ x.nam
 agree_changed f names ups p t u v w a rows h = record {
   to = agree_on f names ups p t u a.to;
   from = agree_on f names ups p u t a.from;
-  words = λ g i k l. h g i (subst (In g) (ap row_pages (node_on f names t p) ∙ rows) k) l;
+  words = λ g i k l. h g i (rw (← rows, ← node_on f names t p) k) l;
 }
 
 -- the pages of p are hidden in the one where they are in the other
 pub hidden_below : (t u : Tree) (p : ℕ) → IsSound t → IsSound u → IsName t p → AgreeTrees p t u → (g : ℕ)
     → In g (row_pages (node t p)) → hidden t g ≡ hidden u g
 hidden_below t u p s r n a g h = tests_agree (hidden t g) (hidden u g) (one t u p s r n a.to g h)
-    (one u t p r s (is_name t u p s r n a) a.from g (subst (λ x. In g (row_pages x)) (node_same t u p s r n a) h))
+    (one u t p r s (is_name t u p s r n a) a.from g (rw (← node_same t u p s r n a) h))
   where
     one : (t u : Tree) (p : ℕ) → IsSound t → IsSound u → IsName t p → ((x : Node) → IsBelow t p x → IsBelow u p x)
         → (g : ℕ) → In g (row_pages (node t p)) → hidden t g ≡ true → hidden u g ≡ true
@@ -173,13 +173,13 @@ hidden_below t u p s r n a g h = tests_agree (hidden t g) (hidden u g) (one t u 
         let f = node_found t p n in
         let v = row_above t g s z (node t p) i f.0 k h in
         let l : In p (ancestry t z.name) =
-        subst (λ q. In q (ancestry t z.name)) f.1 (over_ancestry t s (node t p) z f.0 (inr v)) in
+        rw (← f.1) (over_ancestry t s (node t p) z f.0 (inr v)) in
         hidden_by u g z (to z (i, l)).0 k
 
 -- where words agree, they agree when the same pages can't be read any more
 pub without_same : (gs hs : List ℕ) (v w : ℕ → Option (ℕ → ℕ)) (g i : ℕ) → gs ≡ hs → word_of (w g) i ≡ word_of (v g) i
     → word_of (words_without hs w g) i ≡ word_of (words_without gs v g) i
-without_same gs hs v w g i e h = ap (λ l. word_of (words_without l w g) i) (sym e) ∙ go (has gs g)
+without_same gs hs v w g i e h = rw (← e, go (has gs g))
   where
     go : (b : Bool) → word_of (cond b None (w g)) i ≡ word_of (cond b None (v g)) i
     go true = refl
@@ -201,7 +201,7 @@ module _ {p : ℕ} {t u : Tree} (g : Agreeing p t u) where
     trees = record {
       to = g.trees.from;
       from = g.trees.to;
-      words = λ h i j b. sym (g.trees.words h i (subst (λ x. In h (row_pages x)) (sym caller-same) j) b);
+      words = λ h i j b. sym (g.trees.words h i (rw caller-same j) b);
     };
   }
 
@@ -221,13 +221,13 @@ module _ {p : ℕ} {t u : Tree} (g : Agreeing p t u) where
   free-same v = free_same t u p g.sound g.sound' g.name name-same kids back caller-same v
 
   pub child_name-same : (d : ℕ) → child_name t p d ≡ child_name u p d
-  child_name-same d = ap (λ o. unwrap_or (option_map (λ x. x.name) o) 0) (child-same d)
+  child_name-same d = rw (child-same d)
 
   pub child_of-same : (d : ℕ) → child_of t p d ≡ child_of u p d
-  child_of-same d = ap (λ o. unwrap_or o nobody) (child-same d)
+  child_of-same d = rw (child-same d)
 
   pub page-same : (v : ℕ) → page_of t p v ≡ page_of u p v
-  page-same v = ap (λ x. unwrap_or (page_at x (vpage v)) 0) caller-same
+  page-same v = rw caller-same
 
   -- below a child the trees agree, too
   pub agree_at_child : (d : ℕ) (c : Node) → child_at t p d ≡ Some c → Agreeing c.name t u
@@ -251,13 +251,12 @@ module _ {p : ℕ} {t u : Tree} (g : Agreeing p t u) where
       → ((c : Node) → child_at t p d ≡ Some c → xs ≡ ys)
       → first_met (off ∷ nil ∷ no_child t p d ∷ xs) ≡ first_met (off ∷ nil ∷ no_child u p d ∷ ys)
   refused-same off nil d xs ys h =
-      ap (λ o. first_met (off ∷ nil ∷ (is_none o, S.NotChild) ∷ xs)) (child-same d)
-      ∙ go (child_at u p d) (λ c k. h c (child-same d ∙ k))
+      rw (child-same d, go (child_at u p d) (λ c k. h c (child-same d ∙ k)))
     where
       go : (o : Option Node) → ((c : Node) → o ≡ Some c → xs ≡ ys)
           → first_met (off ∷ nil ∷ (is_none o, S.NotChild) ∷ xs) ≡ first_met (off ∷ nil ∷ (is_none o, S.NotChild) ∷ ys)
       go None f = refl
-      go (Some c) f = ap (λ l. first_met (off ∷ nil ∷ (false, S.NotChild) ∷ l)) (f c refl)
+      go (Some c) f = rw (f c refl)
 
   -- the same change of the same child
   pub agree_child : (f : Node → Node) → ((x : Node) → (f x).name ≡ x.name) → ((x : Node) → (f x).up ≡ x.up)
@@ -270,10 +269,10 @@ module _ {p : ℕ} {t u : Tree} (g : Agreeing p t u) where
       let same = change-else c.name f (node t p) (λ q. own (sym (node_found t p g.name).1 ∙ q)) in
       let keep_names = change-keeps c.name f (λ z. z.name) names in
       let keep_ups = change-keeps c.name f (λ z. z.up) ups in
-      let is = agree_changed (change_at c.name f) keep_names keep_ups p t u v w g.trees (ap row_pages same) h in
+      let is = agree_changed (change_at c.name f) keep_names keep_ups p t u v w g.trees (rw same) h in
       let changed : ℕ → ℕ → Type 0 =
       λ q r. AgreeTrees p (record (change_node q f t) { words = v }) (record (change_node r f u) { words = w }) in
-      subst (changed (child_name t p d)) (child_name-same d) (subst (λ q. changed q q) (sym k.name) is)
+      rw (← child_name-same d) (subst (λ q. changed q q) (sym k.name) is)
 
   -- vcli, vsti
   pub mask-agrees : (b : Bool) → AgreeTrees p (with_masked p b t) (with_masked p b u)

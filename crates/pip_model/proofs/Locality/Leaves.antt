@@ -45,7 +45,7 @@ leaves_on : (f : Node → Node) → ((x : Node) → (f x).name ≡ x.name) → (
     → LeavesTree p t (record (on_nodes f t) { words = w })
 leaves_on f names ups t p c w l same own words = record {
   outside = λ x. (to x, from x);
-  own = subst (IsButForMask (node t p)) (sym (node_on f names t p)) own;
+  own = rw (node_on f names t p) own;
   words = words;
   lines = λ q n i j. (
     subst (In n) (sym (ancestry_in f names ups t.root t.others q)),
@@ -54,30 +54,30 @@ leaves_on f names ups t p c w l same own words = record {
 }
   where
     is_same : (x : Node) → (In p (ancestry t x.name) → ⊥) → f x ≡ x
-    is_same x h = same x (λ e. h (subst (λ q. In p (ancestry t q)) (sym e) l))
+    is_same x h = same x (λ e. h (rw e l))
 
     to : (x : Node) → IsOutside t p x → IsOutside (on_nodes f t) p x
     to x (i, h) = (
       subst (λ z. In z (nodes (on_nodes f t))) (is_same x h) (In-map f x (nodes t) i),
-      (λ k. h (subst (In p) (ancestry_in f names ups t.root t.others x.name) k)),
+      (λ k. h (rw (← ancestry_in f names ups t.root t.others x.name) k)),
     )
 
     from : (x : Node) → IsOutside (on_nodes f t) p x → IsOutside t p x
     from x (i, h) =
         let (z, j, e) = In-map_from f x (nodes t) i in
-        let q : x.name ≡ z.name = ap (λ z. z.name) e ∙ names z in
-        let k : In p (ancestry t z.name) → ⊥ = λ k. h (subst (λ v. In p (ancestry (on_nodes f t) v)) (sym q)
-        (subst (In p) (sym (ancestry_in f names ups t.root t.others z.name)) k)) in
+        let q : x.name ≡ z.name = cc (names z) in
+        let k : In p (ancestry t z.name) → ⊥ = λ k. h
+        (rw q (subst (In p) (sym (ancestry_in f names ups t.root t.others z.name)) k)) in
         let d : x ≡ z = e ∙ is_same z k in
-        (subst (λ v. In v (nodes t)) (sym d) j, subst (λ v. In p (ancestry t v.name) → ⊥) (sym d) k)
+        (subst (λ v. In v (nodes t)) (sym d) j, rw d k)
 
 -- pages that can't be read any more
 pub without_out : (t : Tree) (gs : List ℕ) (g : ℕ) → (In g gs → ⊥) → words_without gs t.words g ≡ t.words g
-without_out t gs g h = ap (λ b. cond b None (t.words g)) (false_from_ne_true (has gs g) (λ e. h (has_in g gs e)))
+without_out t gs g h = rw (false_from_ne_true (has gs g) (λ e. h (has_in g gs e)))
 
 module _ (t : Tree) (p : ℕ) (s : IsSound t) (n : IsName t p) where
   pub own_in : In p (ancestry t p)
-  own_in = let f = node_found t p n in subst (λ q. In q (ancestry t q)) f.1 (own_ancestry t s (node t p) f.0)
+  own_in = let f = node_found t p n in rw (← f.1) (own_ancestry t s (node t p) f.0)
 
   -- a change of a child of p
   pub leaves_child : (f : Node → Node) → ((x : Node) → (f x).name ≡ x.name) → ((x : Node) → (f x).up ≡ x.up)
@@ -89,8 +89,7 @@ module _ (t : Tree) (p : ℕ) (s : IsSound t) (n : IsName t p) where
       let own = ap {A = Node} (λ z. record z { masked = false }) (sym (change-else c.name f (node t p) other)) in
       let keep_names = change-keeps c.name f (λ z. z.name) names in
       let keep_ups = change-keeps c.name f (λ z. z.up) ups in
-      subst (λ q. LeavesTree p t (record (change_node q f t) { words = w })) (sym k.name)
-      (leaves_on (change_at c.name f) keep_names keep_ups t p c.name w (child_in t p s n d c k.found).1
+      rw k.name (leaves_on (change_at c.name f) keep_names keep_ups t p c.name w (child_in t p s n d c k.found).1
       (change-else c.name f) own words)
 
   -- the pages of a child are rows of p
@@ -109,8 +108,7 @@ module _ (t : Tree) (p : ℕ) (s : IsSound t) (n : IsName t p) where
   store-leaves g i x h = record {
     outside = λ y. ((λ h. h), (λ h. h));
     own = refl;
-    words = λ k l. ap (λ b. cond b (Some (λ j. cond (j == i) x (word_of (t.words g) j))) (t.words k))
-        (ne_eqb k g (λ e. l (subst (λ v. In v (row_pages (node t p))) (sym e) h)));
+    words = λ k l. rw (ne_eqb k g (λ e. l (subst (λ v. In v (row_pages (node t p))) (sym e) h)));
     lines = λ q m i j. ((λ h. h), (λ h. h));
   }
 
@@ -118,7 +116,7 @@ module _ (t : Tree) (p : ℕ) (s : IsSound t) (n : IsName t p) where
 module _ (t u : Tree) (p : ℕ) (s : IsSound t) (r : IsSound u) (n : IsName t p) (n' : IsName u p) (l : LeavesTree p t u)
     (q : ℕ) (a : IsAside t p q) where
   aside_node : IsOutside t p (node t q)
-  aside_node = let f = node_found t q a.there in (f.0, (λ h. a.not_below (subst (λ v. In p (ancestry t v)) f.1 h)))
+  aside_node = let f = node_found t q a.there in (f.0, (λ h. a.not_below (rw (← f.1) h)))
 
   aside_in : IsOutside u p (node t q)
   aside_in = (l.outside (node t q)).0 aside_node
@@ -134,9 +132,9 @@ module _ (t u : Tree) (p : ℕ) (s : IsSound t) (r : IsSound u) (n : IsName t p)
       let v = row_above t g s z x j i k h in
       let (y, m, e, o) = ancestry_over t s z j p b in
       elim (over_related t s x y z i m j (inr v) o) [
-        | inl d ↦ nb (subst (λ w. In w (ancestry t x.name)) (ap (λ w. w.name) d ∙ e) (own_ancestry t s x i))
-        | inr (inl d) ↦ na (subst (λ w. In x.name (ancestry t w)) e (over_ancestry t s x y i (inr d)))
-        | inr (inr d) ↦ nb (subst (λ w. In w (ancestry t x.name)) e (over_ancestry t s y x m (inr d)))
+        | inl d ↦ nb (rw (← e, ← d) (own_ancestry t s x i))
+        | inr (inl d) ↦ na (rw (← e) (over_ancestry t s x y i (inr d)))
+        | inr (inr d) ↦ nb (rw (← e) (over_ancestry t s y x m (inr d)))
       ]
 
   hidden_kept : (g : ℕ) → In g (row_pages (node t q)) → hidden u g ≡ hidden t g
@@ -152,11 +150,9 @@ module _ (t u : Tree) (p : ℕ) (s : IsSound t) (r : IsSound u) (n : IsName t p)
 
   pub reach_kept : (va : ℕ) (c : Access) (z : Size) → reach u q va c z ≡ reach t q va c z
   reach_kept va c z =
-      ap (λ x. cond (is_misaligned va z) (Faulted Alignment) (reach_by_row u va c (row_at x.rows (vpage va)))) node_kept
-      ∙ ap (cond (is_misaligned va z) (Faulted Alignment)) (at (row_at (node t q).rows (vpage va)) refl)
+      rw (node_kept, at (row_at (node t q).rows (vpage va)) refl)
     where
       at : (o : Option Row) → row_at (node t q).rows (vpage va) ≡ o → reach_by_row u va c o ≡ reach_by_row t va c o
       at None e = refl
-      at (Some b) e = ap (λ h. cond h (Faulted Hidden) (cond (not (bit_and (right c) b.rights == right c))
-          (Faulted Right) (Place b.frame (va % 4096 / 4)))) (hidden_kept b.frame
-          (In-map (λ b. b.frame) b (node t q).rows (find_in (λ b. b.at == vpage va) b (node t q).rows e).0))
+      at (Some b) e = rw (hidden_kept b.frame (In-map (λ b. b.frame) b (node t q).rows
+          (find_in (λ b. b.at == vpage va) b (node t q).rows e).0))

@@ -48,7 +48,7 @@ at_set_other o [] i j n = refl
 at_set_other o (c ∷ cs) zero zero n = absurd (n refl)
 at_set_other o (c ∷ cs) zero (suc j) n = refl
 at_set_other o (c ∷ cs) (suc i) zero n = refl
-at_set_other o (c ∷ cs) (suc i) (suc j) n = at_set_other o cs i j (λ e. n (ap suc e))
+at_set_other o (c ∷ cs) (suc i) (suc j) n = at_set_other o cs i j (λ e. n (rw e))
 
 pub at_set_here : (o : Option Occupant) (cs : List (Option Occupant)) (i : ℕ) (r : Occupant) → at_cpu cs i ≡ Some r
     → at_cpu (slice_set cs i o) i ≡ o
@@ -60,10 +60,10 @@ pub names_set : (cs : List (Option Occupant)) (i : ℕ) (r q : Occupant) → at_
     → names_at (slice_set cs i (Some q)) ≡ names_at cs
 names_set [] i r q e n = refl
 names_set (None ∷ cs) zero r q e n = cc
-names_set (Some c ∷ cs) zero r q e n = let k : c ≡ r = cc in let h : q.name ≡ c.name = n ∙ sym (ap (λ z. z.name) k) in
-    ap (λ v. v ∷ names_at cs) h
+names_set (Some c ∷ cs) zero r q e n = let k : c ≡ r = cc in let h : q.name ≡ c.name = rw (n, ← k) in
+    rw h
 names_set (None ∷ cs) (suc i) r q e n = names_set cs i r q e n
-names_set (Some c ∷ cs) (suc i) r q e n = ap (λ l. c.name ∷ l) (names_set cs i r q e n)
+names_set (Some c ∷ cs) (suc i) r q e n = rw (names_set cs i r q e n)
 
 pub own_name : (p : ℕ) (t u : Tree) → LeavesTree p t u → IsName t p → IsName u p
 own_name p t u l n =
@@ -106,7 +106,7 @@ replied_to Unknown w cpu r a h s e = (refuse w.tree S.UnknownCall, refl, leaves_
 
 pub called_by : (k : CallName) (w : World) (cpu : ℕ) (r : Occupant) (a : Five) → runs_on w cpu ≡ Some r
     → call_happens k w cpu a ≡ call k w cpu r a
-called_by k w cpu r a e = ap (λ o. on_running w cpu o (λ r. call k w cpu r a)) e
+called_by k w cpu r a e = rw e
 
 -- an event that was answered was not delivered
 pub deliver-fails : (w : World) (cpu : ℕ) (r : Occupant) (k a b : ℕ) → Succeeded (deliver w cpu r k a b).outcome → ⊥
@@ -126,7 +126,7 @@ reached_row t p va g i a z e = off (is_misaligned va z) (row_at (node t p).rows 
     at r true f k q = cc
     at r false true k q = cc
     at r false false k q = let u : r.frame ≡ g = cc in
-        subst (λ v. In v (row_pages (node t p))) u (In-map (λ r. r.frame) r (node t p).rows k)
+        rw (← u) (In-map (λ r. r.frame) r (node t p).rows k)
 
     off : (b : Bool) (o : Option Row) → row_at (node t p).rows (vpage va) ≡ o
         → cond b (Faulted Alignment) (reach_by_row t va a o) ≡ Place g i → In g (row_pages (node t p))
@@ -146,7 +146,7 @@ replied-leaves : (w : World) (cpu : ℕ) (r : Occupant) (a : Answer) → IsSound
 replied-leaves w cpu r a s s' e l = world_leaves w (reply_happens w cpu r a).world cpu r s s' e l
     (λ i n. at_set_other _ w.cpus cpu i n)
     (ap but_reply (at_set_here _ w.cpus cpu r e) ∙ (let h = reply_hides (status_number a.status) a.value r.ctx.regs in
-    λ i. Some (record r { ctx = record r.ctx { regs = h i } })) ∙ sym (ap but_reply e))
+    λ i. Some (record r { ctx = record r.ctx { regs = h i } })) ∙ sym (rw e))
     (length-set w.cpus cpu _)
 
 pub loaded_world : (w : World) (cpu : ℕ) (r : Occupant) (va : ℕ) (a : Access) (z : Size) (q : Reached)
@@ -168,30 +168,25 @@ wrote-leaves w cpu va r z x (Faulted f) s s' e h k =
 acted-leaves : (w : World) (e : Event) (r : Occupant) → IsSoundWorld w → IsEvent e → IsPlain w e
     → runs_on w (cpu_of e) ≡ Some r → LeavesOthers r.name (cpu_of e) w (what_happens w e).world
 acted-leaves w (E.Load cpu va z) r s v h e =
-    let k : Succeeded (load_happens w cpu r va Load z (reach w.tree r.name va Load z)).outcome = subst (λ o.
-    Succeeded (on_running w cpu o (λ r. load_happens w cpu r va Load z (reach w.tree r.name va Load z))).outcome) e h in
-    subst (LeavesOthers r.name cpu w)
-    (sym (ap (λ o. (on_running w cpu o (λ r. load_happens w cpu r va Load z (reach w.tree r.name va Load z))).world) e
-    ∙ loaded_world w cpu r va Load z (reach w.tree r.name va Load z) k)) (same_leaves w cpu r s e)
+    let k : Succeeded (load_happens w cpu r va Load z (reach w.tree r.name va Load z)).outcome = rw e at h in
+    rw (e, loaded_world w cpu r va Load z (reach w.tree r.name va Load z) k) (same_leaves w cpu r s e)
 acted-leaves w (E.Fetch cpu) r s v h e =
     let k : Succeeded (load_happens w cpu r r.ctx.pc Fetch Word (reach w.tree r.name r.ctx.pc Fetch Word)).outcome =
-    subst (λ o. Succeeded (on_running w cpu o
-    (λ r. load_happens w cpu r r.ctx.pc Fetch Word (reach w.tree r.name r.ctx.pc Fetch Word))).outcome) e h in
+    rw e at h in
     subst (LeavesOthers r.name cpu w) (sym (ap (λ o. (on_running w cpu o
     (λ r. load_happens w cpu r r.ctx.pc Fetch Word (reach w.tree r.name r.ctx.pc Fetch Word))).world) e ∙ loaded_world w
     cpu r r.ctx.pc Fetch Word (reach w.tree r.name r.ctx.pc Fetch Word) k)) (same_leaves w cpu r s e)
 acted-leaves w (E.Store cpu va z x) r s v h e =
     let q : what_happens w (E.Store cpu va z x) ≡ wrote w cpu r va z x (reach w.tree r.name va Store z) =
-    ap (λ o. on_running w cpu o (λ r. wrote w cpu r va z x (reach w.tree r.name va Store z))) e in
+    rw e in
     let k = subst (λ y. Succeeded y.outcome) q h in
     let s' = subst (λ y. IsSoundWorld y.world) q (acted-sound w (E.Store cpu va z x) s v) in
-    subst (λ y. LeavesOthers r.name cpu w y.world) (sym q)
-    (wrote-leaves w cpu va r z x (reach w.tree r.name va Store z) s s' e refl k)
+    rw q (wrote-leaves w cpu va r z x (reach w.tree r.name va Store z) s s' e refl k)
 acted-leaves w (E.Call cpu number a) r s v h e =
     let (b, c, l) = replied_to (call_named number) w cpu r a h s e in
     let q = called_by (call_named number) w cpu r a e ∙ c in
     let s' = subst (λ y. IsSoundWorld y.world) q (acted-sound w (E.Call cpu number a) s v) in
-    subst (λ y. LeavesOthers r.name cpu w y.world) (sym q) (replied-leaves w cpu r b s s' e l)
+    rw q (replied-leaves w cpu r b s s' e l)
 acted-leaves w (E.Trap cpu k a b) r s v h e = absurd h
 acted-leaves w (E.Raise j) r s v h e = absurd h
 acted-leaves w (E.Poll cpu) r s v h e = absurd h
@@ -201,15 +196,7 @@ pub event-leaves : (w : World) (e : Event) (r : Occupant) → IsSoundWorld w →
     → runs_on w (cpu_of e) ≡ Some r → LeavesOthers r.name (cpu_of e) w (event w e).world
 event-leaves w e r s v h f =
     let l = acted-leaves w e r s v h f in
-    record {
-      outside = l.outside;
-      own = l.own;
-      words = l.words;
-      cpus = l.cpus;
-      cpu = l.cpu;
-      count = l.count;
-      reach = l.reach;
-    }
+    assumption
 
 -- the second half
 pub to_trees : (p : ℕ) (w v : World) → AgreeBelow p w v → AgreeTrees p w.tree v.tree
@@ -228,22 +215,18 @@ record Again (p cpu : ℕ) (w v : World) (a b : Happened) : Type 0 where
 pub reach_same : (t u : Tree) (p : ℕ) → IsSound t → IsSound u → IsName t p → AgreeTrees p t u
     → (va : ℕ) (c : Access) (z : Size) → reach t p va c z ≡ reach u p va c z
 reach_same t u p s r n a va c z =
-    ap (cond (is_misaligned va z) (Faulted Alignment)) (at (row_at (node t p).rows (vpage va)) refl)
-    ∙ ap (λ x. cond (is_misaligned va z) (Faulted Alignment) (reach_by_row u va c (row_at x.rows (vpage va))))
-    (node_same t u p s r n a)
+    rw (at (row_at (node t p).rows (vpage va)) refl, node_same t u p s r n a)
   where
     at : (o : Option Row) → row_at (node t p).rows (vpage va) ≡ o → reach_by_row t va c o ≡ reach_by_row u va c o
     at None e = refl
-    at (Some b) e = ap (λ h. cond h (Faulted Hidden) (cond (not (bit_and (right c) b.rights == right c)) (Faulted Right)
-        (Place b.frame (va % 4096 / 4)))) (hidden_below t u p s r n a b.frame
+    at (Some b) e = rw (hidden_below t u p s r n a b.frame
         (In-map (λ b. b.frame) b (node t p).rows (find_in (λ b. b.at == vpage va) b (node t p).rows e).0))
 
 loaded-again : (w v : World) (cpu va : ℕ) (r : Occupant) (c : Access) (z : Size) (q : Reached) → AgreeBelow r.name w v
     → runs_on w cpu ≡ runs_on v cpu → reach w.tree r.name va c z ≡ q → Succeeded (load_happens w cpu r va c z q).outcome
     → Again r.name cpu w v (load_happens w cpu r va c z q) (load_happens v cpu r va c z q)
 loaded-again w v cpu va r c z (Place g i) a o e k = record {
-  outcome = ap (λ x. O.Word (read_of va z x))
-      (sym (a.words g i (reached_row w.tree r.name va g i c z e) (reached_small w.tree r.name va g i c z e)));
+  outcome = rw (← a.words g i (reached_row w.tree r.name va g i c z e) (reached_small w.tree r.name va g i c z e));
   below = a;
   on = o;
   run = λ h. h;
@@ -283,13 +266,14 @@ wrote-again w v cpu va r z x (Faulted f) a o e k =
 run_after : (p : ℕ) (w v w' v' : World) → IsSoundWorld w → IsSoundWorld v → LeavesTree p w.tree w'.tree
     → LeavesTree p v.tree v'.tree → AgreeBelow p w v → AgreeBelow p w' v' → running w' ≡ running w
     → running v' ≡ running v → SameRun p w v → SameRun p w' v'
-run_after p w v w' v' s r l m a b e f run x h = ap (λ rs. has rs x.name) e ∙ tests_agree _ _
-    (λ q. let (i, o) = old w w' s l (has_in x.name _ q) h in at i o ∙ q)
-    (λ q. let (i, o) = old v v' r m (has_in x.name _ q) ((b.nodes x).0 h) in
-    let g = node_found v.tree x.name i in
-    let k = (a.nodes (node v.tree x.name)).1 (g.0, subst (λ n. In p (ancestry v.tree n)) (sym g.1) o) in
-    ap (has (running w)) (sym g.1) ∙ run (node v.tree x.name) k ∙ ap (has (running v)) g.1 ∙ q)
-    ∙ sym (ap (λ rs. has rs x.name) f)
+run_after p w v w' v' s r l m a b e f run x h = rw (
+  e,
+  tests_agree _ _ (λ q. let (i, o) = old w w' s l (has_in x.name _ q) h in at i o ∙ q)
+      (λ q. let (i, o) = old v v' r m (has_in x.name _ q) ((b.nodes x).0 h) in let g = node_found v.tree x.name i in
+      let k = (a.nodes (node v.tree x.name)).1 (g.0, subst (λ n. In p (ancestry v.tree n)) (sym g.1) o) in
+      ap (has (running w)) (sym g.1) ∙ run (node v.tree x.name) k ∙ ap (has (running v)) g.1 ∙ q),
+  ← f,
+)
   where
     old : (w w' : World) → IsSoundWorld w → LeavesTree p w.tree w'.tree → In x.name (running w) → IsBelow w'.tree p x
         → IsName w.tree x.name × In p (ancestry w.tree x.name)
@@ -321,14 +305,14 @@ replied-again w v cpu r a b s s' e f l m g h =
 again_recached : (p cpu : ℕ) (w v : World) (a b : Happened) (cs ds : List Places) → Again p cpu w v a b
     → Again p cpu w v (with_caches cs a) (with_caches ds b)
 again_recached p cpu w v a b cs ds g =
-    record { outcome = g.outcome; below = to_worlds p _ _ (to_trees p a.world b.world g.below); on = g.on; run = g.run }
+    assumption
 
 again : (p : ℕ) (e : Event) (w v : World) → Again p (cpu_of e) w v (what_happens w e) (what_happens v e)
     → IsSameAgain p e w v
 again p e w v g =
     let a = again_recached p (cpu_of e) w v (what_happens w e) (what_happens v e) (caches_after w e) (caches_after v e)
     g in
-    record { outcome = a.outcome; below = a.below; cpu = a.on; run = a.run }
+    assumption
 
 call-again : (k : CallName) (w v : World) (cpu : ℕ) (r : Occupant) (c : Five) → (IsSwitching k → ⊥) → IsSoundWorld w
     → IsSoundWorld v → runs_on w cpu ≡ Some r → runs_on v cpu ≡ Some r → AgreeBelow r.name w v
@@ -350,7 +334,7 @@ call-again k w v cpu r c h s s' e f a d = go k h d
         let l = laws_of k in
         let one = (l.keeps w r.name c s.tree n).leaves in
         let other = (l.keeps v r.name c s'.tree n').leaves in
-        replied-again w v cpu r _ _ s s' e f one other a (l.agrees w v r.name c g (λ q. d (ap OnMemory q)))
+        replied-again w v cpu r _ _ s s' e f one other a (l.agrees w v r.name c g (λ q. d (rw q)))
     go Yields h d = absurd (h tt)
     go (Masks b) h d =
         let one = mask-leaves w.tree r.name s.tree n b in
@@ -369,12 +353,9 @@ event-again w v (E.Load cpu va z) r s s' ev h e f a d =
     let q = reach_same w.tree v.tree r.name s.tree s'.tree (s.names_nodes r.name (runs_named w cpu r s e))
     (to_trees r.name w v a) va Load z in
     again r.name (E.Load cpu va z) w v
-    (subst (λ o. Again r.name cpu w v (on_running w cpu o
-    (λ r. load_happens w cpu r va Load z (reach w.tree r.name va Load z))) (what_happens v (E.Load cpu va z))) (sym e)
-    (subst (λ o. Again r.name cpu w v (load_happens w cpu r va Load z (reach w.tree r.name va Load z))
+    (rw e (subst (λ o. Again r.name cpu w v (load_happens w cpu r va Load z (reach w.tree r.name va Load z))
     (on_running v cpu o (λ r. load_happens v cpu r va Load z (reach v.tree r.name va Load z)))) (sym f)
-    (subst (λ p.
-    Again r.name cpu w v (load_happens w cpu r va Load z (reach w.tree r.name va Load z))
+    (subst (λ p. Again r.name cpu w v (load_happens w cpu r va Load z (reach w.tree r.name va Load z))
     (load_happens v cpu r va Load z p)) q
     (loaded-again w v cpu va r Load z (reach w.tree r.name va Load z) a (e ∙ sym f) refl k))))
 event-again w v (E.Fetch cpu) r s s' ev h e f a d =
@@ -383,36 +364,31 @@ event-again w v (E.Fetch cpu) r s s' ev h e f a d =
     let q = reach_same w.tree v.tree r.name s.tree s'.tree (s.names_nodes r.name (runs_named w cpu r s e))
     (to_trees r.name w v a) r.ctx.pc Fetch Word in
     again r.name (E.Fetch cpu) w v
-    (subst (λ o. Again r.name cpu w v (on_running w cpu o (λ r.
-    load_happens w cpu r r.ctx.pc Fetch Word (reach w.tree r.name r.ctx.pc Fetch Word))) (what_happens v (E.Fetch cpu)))
-    (sym e)
-    (subst (λ o. Again r.name cpu w v (load_happens w cpu r r.ctx.pc Fetch Word
+    (rw e (subst (λ o. Again r.name cpu w v (load_happens w cpu r r.ctx.pc Fetch Word
     (reach w.tree r.name r.ctx.pc Fetch Word))
-    (on_running v cpu o (λ r. load_happens v cpu r r.ctx.pc Fetch Word (reach v.tree r.name r.ctx.pc Fetch Word))))
-    (sym f)
-    (subst (λ p. Again r.name cpu w v (load_happens w cpu r r.ctx.pc Fetch Word
-    (reach w.tree r.name r.ctx.pc Fetch Word))
+    (on_running v cpu o (λ r. load_happens v cpu r r.ctx.pc Fetch Word
+    (reach v.tree r.name r.ctx.pc Fetch Word)))) (sym f)
+    (subst (λ p. Again r.name cpu w v
+    (load_happens w cpu r r.ctx.pc Fetch Word (reach w.tree r.name r.ctx.pc Fetch Word))
     (load_happens v cpu r r.ctx.pc Fetch Word p)) q
-    (loaded-again w v cpu r.ctx.pc r Fetch Word (reach w.tree r.name r.ctx.pc Fetch Word) a (e ∙ sym f) refl k))))
+    (loaded-again w v cpu r.ctx.pc r Fetch Word (reach w.tree r.name r.ctx.pc Fetch Word) a
+    (e ∙ sym f) refl k))))
 event-again w v (E.Store cpu va z x) r s s' ev h e f a d =
     let k = subst (λ o.
     Succeeded (on_running w cpu o (λ r. wrote w cpu r va z x (reach w.tree r.name va Store z))).outcome) e h in
     let q = reach_same w.tree v.tree r.name s.tree s'.tree (s.names_nodes r.name (runs_named w cpu r s e))
     (to_trees r.name w v a) va Store z in
     again r.name (E.Store cpu va z x) w v
-    (subst (λ o. Again r.name cpu w v (on_running w cpu o (λ r. wrote w cpu r va z x (reach w.tree r.name va Store z)))
-    (what_happens v (E.Store cpu va z x))) (sym e)
-    (subst (λ o. Again r.name cpu w v (wrote w cpu r va z x (reach w.tree r.name va Store z))
+    (rw e (subst (λ o. Again r.name cpu w v (wrote w cpu r va z x (reach w.tree r.name va Store z))
     (on_running v cpu o (λ r. wrote v cpu r va z x (reach v.tree r.name va Store z)))) (sym f)
-    (subst (λ p. Again r.name cpu w v (wrote w cpu r va z x (reach w.tree r.name va Store z)) (wrote v cpu r va z x p))
-    q
-    (wrote-again w v cpu va r z x (reach w.tree r.name va Store z) a (e ∙ sym f) refl k))))
+    (subst (λ p. Again r.name cpu w v (wrote w cpu r va z x (reach w.tree r.name va Store z))
+    (wrote v cpu r va z x p)) q (wrote-again w v cpu va r z x (reach w.tree r.name va Store z) a (e ∙ sym f)
+    refl k))))
 event-again w v (E.Call cpu number c) r s s' ev h e f a d =
     let k = call_named number in
     again r.name (E.Call cpu number c) w v
-    (subst (λ y. Again r.name cpu w v y (call_happens k v cpu c)) (sym (called_by k w cpu r c e))
-    (subst (λ y. Again r.name cpu w v (call k w cpu r c) y) (sym (called_by k v cpu r c f))
-    (call-again k w v cpu r c h s s' e f a d)))
+    (rw (called_by k w cpu r c e) (subst (λ y. Again r.name cpu w v (call k w cpu r c) y)
+    (sym (called_by k v cpu r c f)) (call-again k w v cpu r c h s s' e f a d)))
 event-again w v (E.Trap cpu k x b) r s s' ev h e f a d = absurd h
 event-again w v (E.Raise j) r s s' ev h e f a d = absurd h
 event-again w v (E.Poll cpu) r s s' ev h e f a d = absurd h

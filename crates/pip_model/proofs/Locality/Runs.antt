@@ -41,12 +41,9 @@ meet t s p q x i h k =
     let (y, j, e, o) = ancestry_over t s x i p h in
     let (z, l, f, v) = ancestry_over t s x i q k in
     elim (over_related t s y z x j l i o v) [
-      | inl d ↦ inl (subst (λ n. In n (ancestry t q))
-          (ap (λ z. z.name) (sym d) ∙ e) (subst (λ n. In z.name (ancestry t n)) f (own_ancestry t s z l)))
-      | inr (inl a) ↦ inl (subst (λ n. In n (ancestry t q)) e
-          (subst (λ n. In y.name (ancestry t n)) f (over_ancestry t s y z j (inr a))))
-      | inr (inr a) ↦ inr (subst (λ n. In n (ancestry t p)) f
-          (subst (λ n. In z.name (ancestry t n)) e (over_ancestry t s z y l (inr a))))
+      | inl d ↦ inl (rw (← e, d) (subst (λ n. In z.name (ancestry t n)) f (own_ancestry t s z l)))
+      | inr (inl a) ↦ inl (rw (← e) (subst (λ n. In y.name (ancestry t n)) f (over_ancestry t s y z j (inr a))))
+      | inr (inr a) ↦ inr (rw (← f) (subst (λ n. In z.name (ancestry t n)) e (over_ancestry t s z y l (inr a))))
     ]
 
 -- two in each other's ancestry are one
@@ -55,16 +52,16 @@ pub meet_same : (t : Tree) → IsSound t → (p q : ℕ) → IsName t p → IsNa
 meet_same t s p q n m h k =
     let f = node_found t p n in
     let g = node_found t q m in
-    let (y, j, e, o) = ancestry_over t s (node t q) g.0 p (subst (λ v. In p (ancestry t v)) (sym g.1) h) in
-    let (z, l, d, v) = ancestry_over t s (node t p) f.0 q (subst (λ w. In q (ancestry t w)) (sym f.1) k) in
+    let (y, j, e, o) = ancestry_over t s (node t q) g.0 p (rw g.1 h) in
+    let (z, l, d, v) = ancestry_over t s (node t p) f.0 q (rw f.1 k) in
     let y≡ : node t p ≡ y = named_node t p s y j e in
     let z≡ : node t q ≡ z = named_node t q s z l d in
     elim o [
-      | inl a ↦ sym e ∙ ap (λ w. w.name) a ∙ g.1
+      | inl a ↦ rw (← e, a, g.1)
       | inr a ↦ elim v [
-        | inl b ↦ sym f.1 ∙ ap (λ w. w.name) (sym b) ∙ d
+        | inl b ↦ rw (← f.1, ← b, d)
         | inr b ↦ absurd (above-acyclic t s (node t p) f.0 (above_two t (node t p) (node t q)
-            (subst (λ w. Above t w (node t p)) (sym z≡) b) (subst (λ w. Above t w (node t q)) (sym y≡) a)))
+            (rw z≡ b) (rw y≡ a)))
       ]
     ]
   where
@@ -76,20 +73,20 @@ module _ (q : ℕ) (t t' : Tree) (s : IsSound t) (s' : IsSound t') (n : IsName t
   pub stays_out : (p : ℕ) → IsName t p → (In q (ancestry t p) → ⊥) → node t' p ≡ node t p
   stays_out p i h =
       let f = node_found t p i in
-      let o = (l.outside (node t p)).0 (f.0, (λ k. h (subst (λ v. In q (ancestry t v)) f.1 k))) in
+      let o = (l.outside (node t p)).0 (f.0, (λ k. h (rw (← f.1) k))) in
       named_node t' p s' (node t p) o.0 f.1
 
   out_name : (p : ℕ) → IsName t p → (In q (ancestry t p) → ⊥) → IsName t' p
   out_name p i h =
       let f = node_found t p i in
-      let o = (l.outside (node t p)).0 (f.0, (λ k. h (subst (λ v. In q (ancestry t v)) f.1 k))) in
+      let o = (l.outside (node t p)).0 (f.0, (λ k. h (rw (← f.1) k))) in
       subst (IsName t') f.1 (name_in (node t p) (nodes t') o.0)
 
   rows_over : (p : ℕ) → IsName t p → In p (ancestry t q) → row_pages (node t' p) ≡ row_pages (node t p)
   rows_over p i h = elim (cases_Bool (has (ancestry t p) q)) [
     | inl e ↦ let z = meet_same t s p q i n h (has_in q _ e) in
         subst (λ v. row_pages (node t' v) ≡ row_pages (node t v)) (sym z) (sym (ap row_pages l.own))
-    | inr e ↦ ap row_pages (stays_out p i (λ k. let j = in_has q _ k in absurd (grind (arith, e, j))))
+    | inr e ↦ rw (stays_out p i (λ k. let j = in_has q _ k in absurd (grind (arith, e, j))))
   ]
 
   name_over : (p : ℕ) → IsName t p → In p (ancestry t q) → IsName t' p
@@ -119,7 +116,7 @@ pub agree_up : (p q : ℕ) (t u t' u' : Tree) → IsSound t → IsSound u → Is
     → AgreeTrees p t' u'
 agree_up p q t u t' u' s r s' r' np n h l k a b =
     let f = node_found t q n in
-    let bq : IsBelow t p (node t q) = (f.0, subst (λ v. In p (ancestry t v)) (sym f.1) h) in
+    let bq : IsBelow t p (node t q) = (f.0, rw f.1 h) in
     let d = subst (λ v. AgreeTrees v t u) f.1 (agree_down t u p s r np a (node t q) bq) in
     let m = is_name t u q s r n d in
     let n' = own_name q t t' l n in
@@ -134,9 +131,8 @@ agree_up p q t u t' u' s r s' r' np n h l k a b =
             let o : In g (row_pages (node t q)) → ⊥ = λ z. let y = in_has g _ (subst (In g) (ap row_pages l.own) z) in
             absurd (grind (arith, e, y)) in
             let v : In g (row_pages (node u q)) → ⊥ =
-            λ z. o (subst (λ x. In g (row_pages x)) (sym (node_same t u q s r n d)) z) in
-            ap (λ w. word_of w i) (k.words g v) ∙ a.words g i (subst (In g) (rows_over q t t' s s' n l p np h) j) c
-            ∙ sym (ap (λ w. word_of w i) (l.words g o))
+            λ z. o (rw (node_same t u q s r n d) z) in
+            rw (k.words g v, a.words g i (subst (In g) (rows_over q t t' s s' n l p np h) j) c, ← l.words g o)
       ];
     }
 
@@ -156,8 +152,8 @@ agree_aside p q t u t' s r s' np n nb na l a = record {
       let o = (l.outside x).0 (b.0, (λ j. elim (meet t s p q x b.0 b.1 j) [ inl c ↦ nb c | inr c ↦ na c ])) in
       (o.0, (l.lines x.name p (name_in x (nodes t) b.0) (name_in x (nodes t') o.0)).0 b.1);
   words = λ g i j c.
-      let jt : In g (row_pages (node t p)) = subst (λ x. In g (row_pages x)) (stays_out q t t' s s' n l p np na) j in
-      a.words g i jt c ∙ sym (ap (λ w. word_of w i) (l.words g (λ z. apart g jt z)));
+      let jt : In g (row_pages (node t p)) = rw (← stays_out q t t' s s' n l p np na) j in
+      rw (a.words g i jt c, ← l.words g (λ z. apart g jt z));
 }
   where
     n' : IsName t' q
@@ -174,10 +170,10 @@ agree_aside p q t u t' s r s' np n nb na l a = record {
         subst (λ v. In (node t q).name (ancestry t v)) k.1 (own_ancestry t s (node t q) k.0) in
         elim (holders-related t g s (node t p) (node t q) f.0 k.0 (In-append_right g (config (node t p))
         (row_pages (node t p)) j) (In-append_right g (config (node t q)) (row_pages (node t q)) z)) [
-          | inl e ↦ nb (subst (λ v. In v (ancestry t q)) (ap (λ x. x.name) (sym e) ∙ f.1) in_q)
-          | inr (inl c) ↦ nb (subst (λ v. In v (ancestry t q)) f.1 (subst (λ v. In (node t p).name (ancestry t v)) k.1
+          | inl e ↦ nb (rw (← f.1, e) in_q)
+          | inr (inl c) ↦ nb (rw (← f.1) (subst (λ v. In (node t p).name (ancestry t v)) k.1
               (over_ancestry t s (node t p) (node t q) f.0 (inr c))))
-          | inr (inr c) ↦ na (subst (λ v. In v (ancestry t p)) k.1 (subst (λ v. In (node t q).name (ancestry t v)) f.1
+          | inr (inr c) ↦ na (rw (← k.1) (subst (λ v. In (node t q).name (ancestry t v)) f.1
               (over_ancestry t s (node t q) (node t p) k.0 (inr c))))
         ]
 
@@ -193,7 +189,7 @@ still w cpu r e = record {
   leaves = leaves_same r.name w.tree;
   cpus = λ i n. refl;
   names = refl;
-  own = λ q f. let k : Some q ≡ Some r = sym f ∙ e in let d : q ≡ r = cc in ap (λ z. z.name) d;
+  own = λ q f. let k : Some q ≡ Some r = cc in let d : q ≡ r = cc in rw d;
 }
 
 moved_put : (w : World) (t : Tree) (cpu : ℕ) (r q : Occupant) → runs_on w cpu ≡ Some r → q.name ≡ r.name
@@ -202,8 +198,8 @@ moved_put w t cpu r q e n l = record {
   leaves = l;
   cpus = λ i d. at_set_other (Some q) w.cpus cpu i d;
   names = names_set w.cpus cpu r q e n;
-  own = λ z f. let k : Some z ≡ Some q = sym f ∙ at_set_here (Some q) w.cpus cpu r e in let d : z ≡ q = cc in
-      ap (λ z. z.name) d ∙ n;
+  own = λ z f. let k : Some z ≡ Some q = cc (at_set_here (Some q) w.cpus cpu r e) in let d : z ≡ q = cc in
+      rw (d, n);
 }
 
 wrote-moved : (w : World) (cpu va : ℕ) (r : Occupant) (z : Size) (x : ℕ) (q : Reached) → IsSoundWorld w
@@ -224,28 +220,20 @@ acted-moved : (w : World) (e : Event) (r : Occupant) → IsSoundWorld w → IsPl
 acted-moved w (E.Load cpu va z) r s h e =
     let k = subst (λ o.
     Succeeded (on_running w cpu o (λ r. load_happens w cpu r va Load z (reach w.tree r.name va Load z))).outcome) e h in
-    subst (Moved r.name cpu w)
-    (sym (ap (λ o. (on_running w cpu o (λ r. load_happens w cpu r va Load z (reach w.tree r.name va Load z))).world) e
-    ∙ loaded_world w cpu r va Load z (reach w.tree r.name va Load z) k)) (still w cpu r e)
+    rw (e, loaded_world w cpu r va Load z (reach w.tree r.name va Load z) k) (still w cpu r e)
 acted-moved w (E.Fetch cpu) r s h e =
     let k = subst (λ o. Succeeded (on_running w cpu o
     (λ r. load_happens w cpu r r.ctx.pc Fetch Word (reach w.tree r.name r.ctx.pc Fetch Word))).outcome) e h in
-    subst (Moved r.name cpu w) (sym (ap (λ o.
-    (on_running w cpu o (λ r. load_happens w cpu r r.ctx.pc Fetch Word
-    (reach w.tree r.name r.ctx.pc Fetch Word))).world)
-    e ∙ loaded_world w cpu r r.ctx.pc Fetch Word (reach w.tree r.name r.ctx.pc Fetch Word) k)) (still w cpu r e)
+    rw (e, loaded_world w cpu r r.ctx.pc Fetch Word (reach w.tree r.name r.ctx.pc Fetch Word) k) (still w cpu r e)
 acted-moved w (E.Store cpu va z x) r s h e =
     let q : what_happens w (E.Store cpu va z x) ≡ wrote w cpu r va z x (reach w.tree r.name va Store z) =
-    ap (λ o. on_running w cpu o (λ r. wrote w cpu r va z x (reach w.tree r.name va Store z))) e in
-    subst (λ y. Moved r.name cpu w y.world) (sym q)
-    (wrote-moved w cpu va r z x (reach w.tree r.name va Store z) s e refl (subst (λ y. Succeeded y.outcome) q h))
+    rw e in
+    rw q (wrote-moved w cpu va r z x (reach w.tree r.name va Store z) s e refl (subst (λ y. Succeeded y.outcome) q h))
 acted-moved w (E.Call cpu number a) r s h e =
     let (b, c, l) = replied_to (call_named number) w cpu r a h s e in
-    subst (λ y. Moved r.name cpu w y.world)
-    (sym (called_by (call_named number) w cpu r a e ∙ c)) (moved_put w b.tree cpu r _ e refl l)
-acted-moved w (E.SetContext cpu c) r s h e = subst (λ o.
-    Moved r.name cpu w (on_running w cpu o (λ r. done (with_running w cpu (Some (record r { ctx = c }))))).world)
-    (sym e) (moved_put w w.tree cpu r (record r { ctx = c }) e refl (leaves_same r.name w.tree))
+    rw (called_by (call_named number) w cpu r a e, c) (moved_put w b.tree cpu r _ e refl l)
+acted-moved w (E.SetContext cpu c) r s h e = rw e (moved_put w w.tree cpu r (record r { ctx = c }) e refl
+    (leaves_same r.name w.tree))
 acted-moved w (E.Trap cpu k a b) r s h e = absurd h
 acted-moved w (E.Raise j) r s h e = absurd h
 acted-moved w (E.Poll cpu) r s h e = absurd h
@@ -254,7 +242,7 @@ event-moved : (w : World) (e : Event) (r : Occupant) → IsSoundWorld w → IsPl
     → Moved r.name (cpu_of e) w (event w e).world
 event-moved w e r s h f =
     let m = acted-moved w e r s h f in
-    record { leaves = m.leaves; cpus = m.cpus; names = m.names; own = m.own }
+    assumption
 
 -- the same event in two worlds that agree
 record Equal (q : ℕ) (e : Event) (w v : World) : Type 0 where
@@ -264,9 +252,9 @@ record Equal (q : ℕ) (e : Event) (w v : World) : Type 0 where
   quiet : IsPlainOrSet v e
 
 plain_again : (w v : World) (e : Event) → IsPlain w e → (event w e).outcome ≡ (event v e).outcome → IsPlain v e
-plain_again w v (E.Load cpu va z) h q = subst Succeeded q h
-plain_again w v (E.Fetch cpu) h q = subst Succeeded q h
-plain_again w v (E.Store cpu va z x) h q = subst Succeeded q h
+plain_again w v (E.Load cpu va z) h q = rw (← q) h
+plain_again w v (E.Fetch cpu) h q = rw (← q) h
+plain_again w v (E.Store cpu va z x) h q = rw (← q) h
 plain_again w v (E.Call cpu number a) h q = h
 plain_again w v (E.Trap cpu k a b) h q = absurd h
 plain_again w v (E.Raise j) h q = absurd h
@@ -287,28 +275,23 @@ plain-equal : (w v : World) (e : Event) (r : Occupant) → IsSoundWorld w → Is
     → runs_on w (cpu_of e) ≡ Some r → runs_on v (cpu_of e) ≡ Some r → AgreeBelow r.name w v → running w ≡ running v
     → Equal r.name e w v
 plain-equal w v e r s s' ev h k f a d =
-    let g = event-again w v e r s s' ev h k f a (λ y x b. ap (λ l. has l x.name) d) in
+    let g = event-again w v e r s s' ev h k f a (λ y x b. rw d) in
     record { outcome = g.outcome; below = g.below; on = g.cpu; quiet = plain_quiet v e (plain_again w v e h g.outcome) }
 
 quiet-equal : (w v : World) (e : Event) (r : Occupant) → IsSoundWorld w → IsSoundWorld v → IsEvent e → IsPlainOrSet w e
     → runs_on w (cpu_of e) ≡ Some r → runs_on v (cpu_of e) ≡ Some r → AgreeBelow r.name w v → running w ≡ running v
     → Equal r.name e w v
 quiet-equal w v (E.SetContext cpu c) r s s' ev h k f a d = record {
-  outcome = ap (λ o. (on_running w cpu o (λ r. done (with_running w cpu (Some (record r { ctx = c }))))).outcome) k
-      ∙ sym (ap (λ o. (on_running v cpu o (λ r. done (with_running v cpu (Some (record r { ctx = c }))))).outcome) f);
+  outcome = cc;
   below =
       let agree : AgreeBelow r.name (what_happens w (E.SetContext cpu c)).world
       (what_happens v (E.SetContext cpu c)).world =
-      subst (λ o. AgreeBelow r.name (on_running w cpu o (λ r.
-      done (with_running w cpu (Some (record r { ctx = c }))))).world (what_happens v (E.SetContext cpu c)).world)
-      (sym k)
-      (subst (λ o. AgreeBelow r.name (with_running w cpu (Some (record r { ctx = c })))
+      rw k (subst (λ o. AgreeBelow r.name (with_running w cpu (Some (record r { ctx = c })))
       (on_running v cpu o (λ r. done (with_running v cpu (Some (record r { ctx = c }))))).world) (sym f)
       (to_worlds r.name _ _ (to_trees r.name w v a))) in
       to_worlds r.name _ _ (to_trees r.name _ _ agree);
   on = ap (λ o. runs_on (on_running w cpu o (λ r. done (with_running w cpu (Some (record r { ctx = c }))))).world cpu) k
-      ∙ at_set_here _ w.cpus cpu r k ∙ sym (at_set_here (Some (record r { ctx = c })) v.cpus cpu r f) ∙ sym (ap (λ o.
-      runs_on (on_running v cpu o (λ r. done (with_running v cpu (Some (record r { ctx = c }))))).world cpu) f);
+      ∙ at_set_here _ w.cpus cpu r k ∙ sym (at_set_here (Some (record r { ctx = c })) v.cpus cpu r f) ∙ sym (rw f);
   quiet = tt;
 }
 quiet-equal w v (E.Load cpu va z) r s s' ev h k f a d = plain-equal w v (E.Load cpu va z) r s s' ev h k f a d
@@ -356,7 +339,7 @@ module _ (t : Tree) (p : ℕ) (w v : World) (e : Event) (r : Occupant) (g : Pair
   lines_after : IsName (event w e).world.tree p → (q n : ℕ) → In q (running (event w e).world) ⊎ (q ≡ p)
       → In n (ancestry t q) ↔ In n (ancestry (event w e).world.tree q)
   lines_after np q n (inl i) =
-      let j : In q (running w) = subst (In q) moved.names i in
+      let j : In q (running w) = rw (← moved.names) i in
       let a = g.lines q n (inl j) in
       let b = moved.leaves.lines q n (g.sound.names_nodes q j) (sound-1.names_nodes q i) in
       ((λ x. b.0 (a.0 x)), (λ x. a.1 (b.1 x)))
@@ -372,8 +355,8 @@ module _ (t : Tree) (p : ℕ) (w v : World) (e : Event) (r : Occupant) (g : Pair
       let f = node_found w.tree r.name q_name in
       let tr = to_trees p w v g.agree in
       let d : AgreeTrees r.name w.tree v.tree =
-      subst (λ n. AgreeTrees n w.tree v.tree) f.1 (agree_down w.tree v.tree p g.sound.tree g.sound'.tree g.name tr
-      (node w.tree r.name) (f.0, subst (λ n. In p (ancestry w.tree n)) (sym f.1) b')) in
+      rw (← f.1) (agree_down w.tree v.tree p g.sound.tree g.sound'.tree g.name tr (node w.tree r.name)
+      (f.0, subst (λ n. In p (ancestry w.tree n)) (sym f.1) b')) in
       let kv = (g.same (cpu_of e) r b).0 k in
       let q = quiet-equal w v e r g.sound g.sound' ev h k kv (to_worlds r.name w v d) g.names in
       let m' = event-moved v e r g.sound' q.quiet kv in
@@ -389,15 +372,14 @@ module _ (t : Tree) (p : ℕ) (w v : World) (e : Event) (r : Occupant) (g : Pair
               (agree_up p r.name w.tree v.tree (event w e).world.tree (event v e).world.tree g.sound.tree g.sound'.tree
               sound-1.tree s'.tree g.name q_name b' moved.leaves m'.leaves tr (to_trees r.name _ _ q.below));
           same = λ i z c. elim (cases_eq i (cpu_of e)) [
-            | inl y ↦ subst (λ i. (runs_on (event w e).world i ≡ Some z) ↔ (runs_on (event v e).world i ≡ Some z))
-                (sym y) ((λ x. sym q.on ∙ x), (λ x. q.on ∙ x))
+            | inl y ↦ rw y ((λ x. sym q.on ∙ x), (λ x. q.on ∙ x))
             | inr y ↦ let o = g.same i z c in (
-              (λ x. m'.cpus i y ∙ o.0 (sym (moved.cpus i y) ∙ x)),
-              (λ x. moved.cpus i y ∙ o.1 (sym (m'.cpus i y) ∙ x)),
+              (λ x. m'.cpus i y ∙ o.0 (rw (← moved.cpus i y) x)),
+              (λ x. moved.cpus i y ∙ o.1 (rw (← m'.cpus i y) x)),
             )
           ];
           lines = lines_after np;
-          names = moved.names ∙ g.names ∙ sym m'.names;
+          names = cc (moved.names, g.names, m'.names);
         },
       )
 
@@ -415,14 +397,13 @@ module _ (t : Tree) (p : ℕ) (w v : World) (e : Event) (r : Occupant) (g : Pair
             sound-1.tree g.name q_name nb' na' moved.leaves (to_trees p w v g.agree));
         same = λ i z c. elim (cases_eq i (cpu_of e)) [
           | inl y ↦ (
-            (λ x. absurd (nb (subst (λ n. In p (ancestry t n))
-                (moved.own z (subst (λ i. runs_on (event w e).world i ≡ Some z) y x)) c))),
-            (λ x. let u : runs_on w (cpu_of e) ≡ Some z = subst (λ i. runs_on w i ≡ Some z) y ((g.same i z c).1 x) in
-                let j : Some z ≡ Some r = sym u ∙ k in
+            (λ x. absurd (nb (rw (← moved.own z (subst (λ i. runs_on (event w e).world i ≡ Some z) y x)) c))),
+            (λ x. let u : runs_on w (cpu_of e) ≡ Some z = rw (← y) ((g.same i z c).1 x) in
+                let j : Some z ≡ Some r = cc in
                 let d : z ≡ r = cc in
-                absurd (nb (subst (λ n. In p (ancestry t n.name)) d c))),
+                absurd (nb (rw (← d) c))),
           )
-          | inr y ↦ let o = g.same i z c in ((λ x. o.0 (sym (moved.cpus i y) ∙ x)), (λ x. moved.cpus i y ∙ o.1 x))
+          | inr y ↦ let o = g.same i z c in ((λ x. o.0 (rw (← moved.cpus i y) x)), (λ x. moved.cpus i y ∙ o.1 x))
         ];
         lines = lines_after np;
         names = moved.names ∙ g.names;
@@ -435,25 +416,18 @@ runs t p st [] w v g h f = (refl, g)
 runs t p st (e ∷ es) w v g h f = elim f.1 [
   | inl b ↦
       let (r, k, n) = actor_runs w e (name_positive t st (actor w e) b.0) in
-      let c : In p (ancestry t r.name) = subst (λ q. In p (ancestry t q)) n b.1 in
+      let c : In p (ancestry t r.name) = rw (← n) b.1 in
       let z : by_below t p w e ≡ true = in_has p _ b.1 in
       let (q, g') = step_below t p w v e r g h.0 f.0 k c in
       let (a, g'') = runs t p st es (event w e).world (event v e).world g' h.1 f.2 in
-      subst (λ y. (cond y ((event w e).outcome ∷ outcomes_below t p (event w e).world es)
-      (outcomes_below t p (event w e).world es) ≡ outcomes v (cond y (e ∷ only_below t p (event w e).world es)
-      (only_below t p (event w e).world es))) × Pair t p (after (event w e).world es)
-      (after v (cond y (e ∷ only_below t p (event w e).world es) (only_below t p (event w e).world es)))) (sym z)
-      (ap₂ (λ x l. x ∷ l) q.outcome a, g'')
+      rw z (ap₂ (λ x l. x ∷ l) q.outcome a, g'')
   | inr b ↦
       let (r, k, n) = actor_runs w e (name_positive t st (actor w e) b.there) in
       let z : by_below t p w e ≡ false = false_from_ne_true _ (λ x. b.not_below (has_in p _ x)) in
-      let g' = step_aside t p w v e r g h.0 f.0 k (λ x. b.not_below (subst (λ q. In p (ancestry t q)) (sym n) x))
-      (λ x. b.not_above (subst (λ q. In q (ancestry t p)) (sym n) x)) in
+      let g' = step_aside t p w v e r g h.0 f.0 k (λ x. b.not_below (rw n x))
+      (λ x. b.not_above (rw n x)) in
       let i = runs t p st es (event w e).world v g' h.1 f.2 in
-      subst (λ y. (cond y ((event w e).outcome ∷ outcomes_below t p (event w e).world es)
-      (outcomes_below t p (event w e).world es) ≡ outcomes v (cond y (e ∷ only_below t p (event w e).world es)
-      (only_below t p (event w e).world es))) × Pair t p (after (event w e).world es)
-      (after v (cond y (e ∷ only_below t p (event w e).world es) (only_below t p (event w e).world es)))) (sym z) i
+      rw z i
 ]
 
 pub others_do_not_matter : (w : World) (p : ℕ) (es : List Event) → IsSoundWorld w → In p (names_of (nodes w.tree))

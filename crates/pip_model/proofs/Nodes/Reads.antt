@@ -23,7 +23,7 @@ module _ (m : Memory) (x : Node) (cells : Level → ℕ → ℕ) (n : NodeIn m x
 
   -- the page that names the node is its descriptor
   pub name_role : role x x.name ≡ Some DescriptorPage
-  name_role = ap (role x) n.is_named ∙ role_of_descriptor x n.once
+  name_role = cc (n.is_named, role_of_descriptor x n.once)
 
   -- so the name is a frame of the memory
   pub name_inside : x.name < length m
@@ -79,7 +79,7 @@ module _ (m : Memory) (x : Node) (cells : Level → ℕ → ℕ) (n : NodeIn m x
         let f = table_found x.tables (dir v) b e in
         let index = f.1 in
         let back : 1024 * b.index + v % 1024 ≡ v = omega arith in
-        read_table level b f.0 (v % 1024) (omega arith) ∙ ap (cells level) back
+        rw (read_table level b f.0 (v % 1024) (omega arith), back)
 
     -- writing it changes this one cell
     pub put_at : (w : ℕ) → NodeIn (put_word m (table_page level b).frame (v % 1024) w) x (put_cell cells level v w)
@@ -87,8 +87,7 @@ module _ (m : Memory) (x : Node) (cells : Level → ℕ → ℕ) (n : NodeIn m x
         let f = table_found x.tables (dir v) b e in
         let index = f.1 in
         let back : 1024 * b.index + v % 1024 ≡ v = omega arith in
-        subst (λ k. NodeIn (put_word m (table_page level b).frame (v % 1024) w) x (put_cell cells level k w)) back
-        (NodeIn-put m x cells n level b.index (table_page level b).frame (v % 1024) w
+        rw back at (NodeIn-put m x cells n level b.index (table_page level b).frame (v % 1024) w
         (role_of_table x n.once level b f.0) (omega arith))
 
     -- and no frame of another node

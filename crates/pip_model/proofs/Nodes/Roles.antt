@@ -24,7 +24,7 @@ use Rattle.pip_model.proofs.Trees.Lookup.{cases_option}
 pub role_in : (x : Node) → Distinct (config x) → (q : RolePage) → In q (roles x) → role x q.frame ≡ Some q.role
 unfolding role
 role_in x d q i =
-    ap (option_map (λ q. q.role)) (find_member (λ q. q.frame) q (roles x) (subst Distinct (sym (roles_pages x)) d) i)
+    rw (find_member (λ q. q.frame) q (roles x) (subst Distinct (sym (roles_pages x)) d) i)
 
 -- a page with a role is listed
 pub role_back : (x : Node) (f : ℕ) (r : Role) → role x f ≡ Some r
@@ -49,7 +49,7 @@ config_role x f h = go (find (λ q. q.frame == f) (roles x)) refl
   where
     go : (o : Option RolePage) → find (λ q. q.frame == f) (roles x) ≡ o
         → (r : Role) × (option_map (λ q. q.role) (find (λ q. q.frame == f) (roles x)) ≡ Some r)
-    go (Some q) k = (q.role, ap (option_map (λ q. q.role)) k)
+    go (Some q) k = (q.role, rw k)
     go None k =
         let (q, i, p) = In-map_from (λ q. q.frame) f (roles x) (subst (In f) (sym (roles_pages x)) h) in
         let off : (q.frame == f) ≡ false = find_none (λ q. q.frame == f) q (roles x) k i in
@@ -86,11 +86,10 @@ in_list : (k j : ℕ) (gs : List Pair) (none : Pair) → j < length gs
     → In (record { frame = (slice_index_or gs j none).frame; role = ListPage (k + j) }) (list_roles k gs)
 in_list k j [] none h = absurd (omega arith)
 in_list k zero (g ∷ gs) none h = let e : k + 0 ≡ k = omega arith in
-    inl (ap (λ n. record { frame = g.frame; role = ListPage n }) e)
+    inl (rw e)
 in_list k (suc j) (g ∷ gs) none h =
     let e : k + 1 + j ≡ k + suc j = omega arith in
-    inr (subst (λ n. In (record { frame = (slice_index_or gs j none).frame; role = ListPage n })
-    (list_roles (k + 1) gs)) e (in_list (k + 1) j gs none (omega arith)))
+    inr (rw e at (in_list (k + 1) j gs none (omega arith)))
 
 -- each list page has its role
 pub role_of_list : (x : Node) → Distinct (config x) → (k : ℕ) → k ≤ length x.more
@@ -117,33 +116,33 @@ data Stand (x : Node) (q : RolePage) : Type 0 where
 table_stand : (ts : List Table) (q : RolePage) → In q (flat_map table_roles ts) → (level : Level) × (b : Table)
     × In b ts × (q.frame ≡ (table_page level b).frame) × (q.role ≡ TablePage level b.index)
 table_stand [] q i = absurd i
-table_stand (b ∷ ts) q (inl e) = (Mmu, b, inl refl, ap (λ z. z.frame) e, ap (λ z. z.role) e)
-table_stand (b ∷ ts) q (inr (inl e)) = (Shadow1, b, inl refl, ap (λ z. z.frame) e, ap (λ z. z.role) e)
-table_stand (b ∷ ts) q (inr (inr (inl e))) = (Shadow2, b, inl refl, ap (λ z. z.frame) e, ap (λ z. z.role) e)
+table_stand (b ∷ ts) q (inl e) = (Mmu, b, inl refl, rw e, rw e)
+table_stand (b ∷ ts) q (inr (inl e)) = (Shadow1, b, inl refl, rw e, rw e)
+table_stand (b ∷ ts) q (inr (inr (inl e))) = (Shadow2, b, inl refl, rw e, rw e)
 table_stand (b ∷ ts) q (inr (inr (inr i))) = let r = table_stand ts q i in (r.0, r.1, inr r.2, r.3, r.4)
 
 list_stand : (k : ℕ) (gs : List Pair) (none : Pair) (q : RolePage) → In q (list_roles k gs)
     → (j : ℕ) × (j < length gs) × (q.frame ≡ (slice_index_or gs j none).frame) × (q.role ≡ ListPage (k + j))
 list_stand k [] none q i = absurd i
 list_stand k (g ∷ gs) none q (inl e) = let z : k ≡ k + 0 = omega arith in
-    (0, omega arith, ap (λ w. w.frame) e, ap (λ w. w.role) e ∙ ap ListPage z)
+    (0, omega arith, rw e, cc)
 list_stand k (g ∷ gs) none q (inr i) =
     let r = list_stand (k + 1) gs none q i in
     let small = r.1 in
     let z : k + 1 + r.0 ≡ k + suc r.0 = omega arith in
-    (suc r.0, omega arith, r.2, r.3 ∙ ap ListPage z)
+    (suc r.0, omega arith, r.2, cc (r.3))
 
 stand : (x : Node) (q : RolePage) → In q (roles x) → Stand x q
-stand x q (inl e) = AsDescriptor (ap (λ z. z.frame) e) (ap (λ z. z.role) e)
-stand x q (inr (inl e)) = AsDirectory Mmu (ap (λ z. z.frame) e) (ap (λ z. z.role) e)
-stand x q (inr (inr (inl e))) = AsDirectory Shadow1 (ap (λ z. z.frame) e) (ap (λ z. z.role) e)
-stand x q (inr (inr (inr (inl e)))) = AsDirectory Shadow2 (ap (λ z. z.frame) e) (ap (λ z. z.role) e)
-stand x q (inr (inr (inr (inr (inl e))))) = AsList 0 (omega arith) (ap (λ z. z.frame) e) (ap (λ z. z.role) e)
+stand x q (inl e) = AsDescriptor (rw e) (rw e)
+stand x q (inr (inl e)) = AsDirectory Mmu (rw e) (rw e)
+stand x q (inr (inr (inl e))) = AsDirectory Shadow1 (rw e) (rw e)
+stand x q (inr (inr (inr (inl e)))) = AsDirectory Shadow2 (rw e) (rw e)
+stand x q (inr (inr (inr (inr (inl e))))) = AsList 0 (omega arith) (rw e) (rw e)
 stand x q (inr (inr (inr (inr (inr i))))) =
     elim (In-append_cases q (flat_map table_roles x.tables) (list_roles 1 x.more) i) [
       | inl j ↦ let r = table_stand x.tables q j in AsTable r.0 r.1 r.2 r.3 r.4
       | inr j ↦ let r = list_stand 1 x.more (own 0) q j in let small = r.1 in let z : 1 + r.0 ≡ suc r.0 = omega arith in
-          AsList (suc r.0) (omega arith) r.2 (r.3 ∙ ap ListPage z)
+          AsList (suc r.0) (omega arith) r.2 (cc (r.3))
     ]
 
 descriptor_at : (x : Node) (q : RolePage) → Stand x q → q.role ≡ DescriptorPage → q.frame ≡ x.base.descriptor.frame
@@ -156,7 +155,7 @@ directory_at : (x : Node) (q : RolePage) (level : Level) → Stand x q → q.rol
     → q.frame ≡ (directory_of level x.base).frame
 directory_at x q level (AsDescriptor e h) r = cc
 directory_at x q level (AsDirectory k e h) r = let same : k ≡ level = cc in
-    e ∙ ap (λ l. (directory_of l x.base).frame) same
+    rw (e, same)
 directory_at x q level (AsTable k b i e h) r = cc
 directory_at x q level (AsList k n e h) r = cc
 
@@ -167,7 +166,7 @@ table_at_role x q level d (AsDirectory k e h) r = cc
 table_at_role x q level d (AsTable k b i e h) r =
     let same : k ≡ level = cc in
     let index : b.index ≡ d = cc in
-    (b, i, index, ap (λ l. (table_page l b).frame) (sym same) ∙ sym e)
+    (b, i, index, rw (← same, ← e))
 table_at_role x q level d (AsList k n e h) r = cc
 
 list_at : (x : Node) (q : RolePage) (k : ℕ) → Stand x q → q.role ≡ ListPage k
@@ -176,18 +175,18 @@ list_at x q k (AsDescriptor e h) r = cc
 list_at x q k (AsDirectory l e h) r = cc
 list_at x q k (AsTable l b i e h) r = cc
 list_at x q k (AsList j n e h) r = let same : j ≡ k = cc in
-    (subst (λ z. z ≤ length x.more) same n, e ∙ ap (λ z. (list_page x z).frame) same)
+    (rw (← same) n, rw (e, same))
 
 -- the page of the role is the descriptor
 pub descriptor_role_back : (x : Node) (f : ℕ) → role x f ≡ Some DescriptorPage → f ≡ x.base.descriptor.frame
 descriptor_role_back x f e = let (q, i, p, h) = role_back x f DescriptorPage e in
-    sym p ∙ descriptor_at x q (stand x q i) h
+    cc (descriptor_at x q (stand x q i) h)
 
 -- the page of the role is the directory of the level
 pub directory_role_back : (x : Node) (level : Level) (f : ℕ) → role x f ≡ Some (DirectoryPage level)
     → f ≡ (directory_of level x.base).frame
 directory_role_back x level f e = let (q, i, p, h) = role_back x f (DirectoryPage level) e in
-    sym p ∙ directory_at x q level (stand x q i) h
+    cc (directory_at x q level (stand x q i) h)
 
 -- the page of the role is a page of the table of that index
 pub table_role_back : (x : Node) (level : Level) (d f : ℕ) → role x f ≡ Some (TablePage level d)
@@ -203,7 +202,7 @@ pub list_role_back : (x : Node) (k f : ℕ) → role x f ≡ Some (ListPage k)
 list_role_back x k f e =
     let (q, i, p, h) = role_back x f (ListPage k) e in
     let r = list_at x q k (stand x q i) h in
-    (r.0, sym p ∙ r.1)
+    (r.0, cc (r.1))
 
 -- one role has one page, where the directory indexes differ
 pub one_table_page : (x : Node) → Distinct (map (λ b. b.index) x.tables) → (level : Level) (d f g : ℕ)
@@ -212,7 +211,7 @@ one_table_page x dirs level d f g e h =
     let a = table_role_back x level d f e in
     let b = table_role_back x level d g h in
     let same : a.0 ≡ b.0 = same_at_key (λ z. z.index) a.0 b.0 x.tables dirs a.1 b.1 (a.2 ∙ sym b.2) in
-    sym a.3 ∙ ap (λ z. (table_page level z).frame) same ∙ b.3
+    rw (← a.3, same, b.3)
 
 -- ---- directories
 
@@ -259,12 +258,12 @@ has_index x v h = let (b, j, k) = In-map_from (λ b. b.index) (dir v) x.tables h
 pub entry_found : (level : Level) (ts : List Table) (i : ℕ) → directory_entry level (table_at ts i) ≢ 0 → (b : Table)
     × (table_at ts i ≡ Some b) × (directory_entry level (table_at ts i) ≡ directory_word (table_page level b).frame)
 entry_found level ts i n = elim (cases_option (table_at ts i)) [
-  | inl e ↦ absurd (n (ap (directory_entry level) e))
-  | inr b ↦ (b.0, b.1, ap (directory_entry level) b.1)
+  | inl e ↦ absurd (n (rw e))
+  | inr b ↦ (b.0, b.1, rw b.1)
 ]
 
 -- where a table is found, the word is not 0
 pub entry_some : (level : Level) (ts : List Table) (i : ℕ) (b : Table) → table_at ts i ≡ Some b
     → directory_entry level (table_at ts i) ≢ 0
 entry_some level ts i b e = λ z. let k : directory_word (table_page level b).frame ≡ 0 =
-    sym (ap (directory_entry level) e) ∙ z in absurd (omega arith)
+    cc in absurd (omega arith)

@@ -81,7 +81,7 @@ module _ (m : Memory) (x : Node) (cells : Level → ℕ → ℕ) (n : NodeIn m x
       | inl same ↦
           let k_is : l ≡ k = same_level-true l k on in
           let g_is2 : role x g ≡ Some (TablePage l d) =
-          g_is ∙ (ap (λ q. Some (TablePage q e)) (sym k_is) ∙ ap (λ q. Some (TablePage l q)) same) in
+          rw (g_is, ← k_is, same) in
           absurd (ne (one_table_page x n.dirs l d g f g_is2 f_is))
     ]
   ]
@@ -90,7 +90,7 @@ module _ (m : Memory) (x : Node) (cells : Level → ℕ → ℕ) (n : NodeIn m x
       → word_at (put_word m f i w) f j ≡ role_word x (put_cell cells l (1024 * d + i) w) (TablePage l d) j
   unfolding role_word
   same_page j j_in = elim (cases_eq j i) [
-    | inl here ↦ rw here (word_at-put_same m f i w n.shape f_in i_in ∙ sym (put_cell-same cells l (1024 * d + i) w))
+    | inl here ↦ rw here (cc (word_at-put_same m f i w n.shape f_in i_in, put_cell-same cells l (1024 * d + i) w))
     | inr there ↦
         let apart : 1024 * d + j ≢ 1024 * d + i = λ z. there (omega arith) in
         word_at-put_index m f i w f j n.shape f_in i_in there ∙ (n.each f j (TablePage l d) f_is j_in
@@ -111,10 +111,9 @@ module _ (m : Memory) (x : Node) (cells : Level → ℕ → ℕ) (n : NodeIn m x
       | inr ne ↦
           word_at-put_frame m f i w g j n.shape f_in i_in ne ∙ (n.each g j r g_is j_in ∙ other_page g j r g_is ne j_in)
       | inl e ↦
-          let r_is : Some (TablePage l d) ≡ Some r = sym f_is ∙ (ap (role x) (sym e) ∙ g_is) in
+          let r_is : Some (TablePage l d) ≡ Some r = rw (← f_is, ← e, g_is) in
           let same : TablePage l d ≡ r = cc in
-          ap (λ k. word_at (put_word m f i w) k j) e
-          ∙ (same_page j j_in ∙ ap (λ q. role_word x (put_cell cells l (1024 * d + i) w) q j) same)
+          rw (e, same_page j j_in, same)
     ];
   }
 
@@ -138,8 +137,8 @@ pub NodeIn-kept : (m n : Memory) (x : Node) (cells : Level → ℕ → ℕ) → 
     → length n ≡ length m → ((f i : ℕ) → In f (config x) → i < 1024 → word_at n f i ≡ word_at m f i) → NodeIn n x cells
 NodeIn-kept m n x cells k shape count same = record {
   shape = shape;
-  small = let s = k.small in omega arith;
-  inside = λ f on. let s = k.inside f on in omega arith;
+  small = omega arith;
+  inside = λ f on. omega (arith, k.inside f on);
   once = k.once;
   dirs = k.dirs;
   small_dirs = k.small_dirs;
@@ -170,11 +169,11 @@ Space-stays m n x y rows k shape stay apart =
 -- equal cells
 pub NodeIn-same : (m : Memory) (x : Node) (a b : Level → ℕ → ℕ) → ((l : Level) (v : ℕ) → a l v ≡ b l v) → NodeIn m x a
     → NodeIn m x b
-NodeIn-same m x a b same n = subst (NodeIn m x) (fun_ext (λ l. fun_ext (λ v. same l v))) n
+NodeIn-same m x a b same n = rw (← fun_ext (λ l. fun_ext (λ v. same l v))) n
 
 -- equal rows
 pub Space-same : (m : Memory) (x : Node) (a b : ℕ → Option FullRow) → ((v : ℕ) → a v ≡ b v) → Space m x a → Space m x b
-Space-same m x a b same n = subst (Space m x) (fun_ext same) n
+Space-same m x a b same n = rw (← fun_ext same) n
 
 -- a node's own rows aren't read: they are in what its tables hold
 pub NodeIn-rows : (m : Memory) (x : Node) (cells : Level → ℕ → ℕ) (rows : List Row) → NodeIn m x cells
@@ -214,12 +213,12 @@ Space-put m n x rows s v r packed small on node = record {
   node = node;
   packed = λ u q is. elim (put_cases rows v u (Some r) (Some q) is) [
     | inl new ↦ let e : r ≡ q = let z = new.1 in cc in
-        subst IsFullRow e packed
+        rw (← e) packed
     | inr old ↦ s.packed u q old
   ];
   tabled = λ u q is. elim (put_cases rows v u (Some r) (Some q) is) [
     | inl new ↦
-        subst (λ k. (k < 2 ^ 20) × (has_table x k ≡ true)) (sym new.0) (small, on)
+        rw new.0 (small, on)
     | inr old ↦ s.tabled u q old
   ];
 }
@@ -272,13 +271,11 @@ pub one_cell : (rows : ℕ → Option FullRow) (l : Level) (v : ℕ) (r : Option
     → put_cell (cells_of rows) l v (row_word l r) k u ≡ cells_of (put_row rows v r) k u
 one_cell rows l v r same k u = elim (cases_eq u v) [
   | inr ne ↦
-      put_cell-vpage (cells_of rows) l v (row_word l r) k u ne ∙ ap (row_word k) (sym (put_row-other rows v r u ne))
+      cc (put_cell-vpage (cells_of rows) l v (row_word l r) k u ne, put_row-other rows v r u ne)
   | inl e ↦ elim (cases_Bool (same_level l k)) [
     | inl on ↦
         let one : l ≡ k = same_level-true l k on in
-        rw e (ap (λ z. put_cell (cells_of rows) l v (row_word l r) z v) (sym one) ∙ put_cell-same (cells_of rows) l v
-        (row_word l r) ∙ ap (λ z. row_word z r) one ∙ ap (row_word k) (sym (put_row-same rows v r)))
-    | inr off ↦ rw e (put_cell-level (cells_of rows) l v (row_word l r) k v off ∙ sym (same k off)
-        ∙ ap (row_word k) (sym (put_row-same rows v r)))
+        rw e (cc (put_cell-same (cells_of rows) l v (row_word l r), put_row-same rows v r))
+    | inr off ↦ rw e (cc (put_cell-level (cells_of rows) l v (row_word l r) k v off, same k off, put_row-same rows v r))
   ]
 ]

@@ -15,23 +15,17 @@ after-append w (Writes l ∷ xs) ys = after-append w xs ys
 pub text-append : (xs ys : List Act) → text_of (xs ++ ys) ≡ text_of xs ++ text_of ys
 text-append [] ys = refl
 text-append (Makes e ∷ xs) ys = text-append xs ys
-text-append (Writes l ∷ xs) ys = ap (λ k. l ++ k) (text-append xs ys) ∙ sym (append_assoc l (text_of xs) (text_of ys))
+text-append (Writes l ∷ xs) ys = rw (text-append xs ys, ← append_assoc l (text_of xs) (text_of ys))
 
 -- raises write nothing
 pub text-raises : (ps : List Plan) (t : ℕ) → text_of (raises ps t) ≡ []
 text-raises [] t = refl
 text-raises (p ∷ ps) t = grind (arith, text-raises ps t)
 
--- a trace leads where its steps lead, and its text has theirs in the middle
-pub after-trace : (w : World) (line : List ℕ) (plans : List Plan) (seed c count : ℕ)
-    → after_acts w (trace w line plans seed c count) ≡ after_acts w (steps w plans seed c count 0)
-after-trace w line plans seed c count = after-append w (steps w plans seed c count 0) (Writes (end_line count) ∷ [])
-
 pub text-trace : (w : World) (line : List ℕ) (plans : List Plan) (seed c count : ℕ)
     → text_of (trace w line plans seed c count) ≡ line ++ (text_of (steps w plans seed c count 0) ++ end_line count)
 text-trace w line plans seed c count =
-    ap (λ k. line ++ k) (text-append (steps w plans seed c count 0) (Writes (end_line count) ∷ [])
-    ∙ ap (λ k. text_of (steps w plans seed c count 0) ++ k) (append-nil (end_line count)))
+    rw (text-append (steps w plans seed c count 0) (Writes (end_line count) ∷ []), append-nil (end_line count))
 
 -- the world after acts is the world after their events
 pub after-events : (w : World) (acts : List Act) → after_acts w acts ≡ after w (events_made acts)

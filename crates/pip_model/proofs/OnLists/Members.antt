@@ -21,7 +21,7 @@ In-append_cases x (y ∷ xs) ys (inl e) = inl (inl e)
 In-append_cases x (y ∷ xs) ys (inr i) = elim (In-append_cases x xs ys i) [ inl j ↦ inl (inr j) | inr j ↦ inr j ]
 
 pub In-map : {A B : Type 0} (f : A → B) (x : A) (xs : List A) → In x xs → In (f x) (map f xs)
-In-map f x (y ∷ xs) (inl e) = inl (ap f e)
+In-map f x (y ∷ xs) (inl e) = inl (rw e)
 In-map f x (y ∷ xs) (inr i) = inr (In-map f x xs i)
 In-map f x [] i = absurd i
 
@@ -32,8 +32,8 @@ In-map_from f z [] i = absurd i
 
 pub In-filter : {A : Type 0} (p : A → Bool) (x : A) (xs : List A) → In x xs → p x ≡ true → In x (filter p xs)
 In-filter p x [] i h = i
-In-filter p x (y ∷ xs) (inl e) h = let k : p y ≡ true = ap p (sym e) ∙ h in
-    subst (λ b. In x (cond b (y ∷ filter p xs) (filter p xs))) (sym k) (inl e)
+In-filter p x (y ∷ xs) (inl e) h = let k : p y ≡ true = rw (← e, h) in
+    rw k (inl e)
 In-filter p x (y ∷ xs) (inr i) h = elim (p y) as (λ b. In x (cond b (y ∷ filter p xs) (filter p xs)))
     [ true ↦ inr (In-filter p x xs i h) | false ↦ In-filter p x xs i h ]
 
@@ -43,7 +43,7 @@ In-filter_from p x (y ∷ xs) i = go (p y) refl (In-filter_from p x xs) i
   where
     go : (b : Bool) → p y ≡ b → (In x (filter p xs) → In x xs × (p x ≡ true))
         → In x (cond b (y ∷ filter p xs) (filter p xs)) → In x (y ∷ xs) × (p x ≡ true)
-    go true e ih (inl h) = (inl h, ap p h ∙ e)
+    go true e ih (inl h) = (inl h, rw (h, e))
     go true e ih (inr j) = let r = ih j in (inr r.0, r.1)
     go false e ih j = let r = ih j in (inr r.0, r.1)
 
@@ -79,16 +79,16 @@ in_has x (y ∷ xs) i = grind (arith, in_has x xs, eq-eqb)
 pub same_at_key : {A : Type 0} (f : A → ℕ) (x y : A) (xs : List A) → Distinct (map f xs) → In x xs → In y xs → f x ≡ f y
     → x ≡ y
 same_at_key f x y [] d i j e = absurd i
-same_at_key f x y (z ∷ xs) d (inl i) (inl j) e = i ∙ sym j
+same_at_key f x y (z ∷ xs) d (inl i) (inl j) e = cc
 same_at_key f x y (z ∷ xs) d (inl i) (inr j) e =
-    absurd (d.0 (subst (λ k. In k (map f xs)) (sym e ∙ ap f i) (In-map f y xs j)))
+    absurd (d.0 (rw (← i, e) (In-map f y xs j)))
 same_at_key f x y (z ∷ xs) d (inr i) (inl j) e =
-    absurd (d.0 (subst (λ k. In k (map f xs)) (e ∙ ap f j) (In-map f x xs i)))
+    absurd (d.0 (rw (← j, ← e) (In-map f x xs i)))
 same_at_key f x y (z ∷ xs) d (inr i) (inr j) e = same_at_key f x y xs d.1 i j e
 
 pub Distinct-apart : (g : ℕ) (xs ys : List ℕ) → Distinct (xs ++ ys) → In g xs → In g ys → ⊥
 Distinct-apart g [] ys d i j = i
-Distinct-apart g (x ∷ xs) ys d (inl e) j = d.0 (In-append_right x xs ys (subst (λ k. In k ys) e j))
+Distinct-apart g (x ∷ xs) ys d (inl e) j = d.0 (In-append_right x xs ys (rw (← e) j))
 Distinct-apart g (x ∷ xs) ys d (inr i) j = Distinct-apart g xs ys d.1 i j
 
 pub Distinct-left : (xs ys : List ℕ) → Distinct (xs ++ ys) → Distinct xs
@@ -106,7 +106,7 @@ Distinct-map f [] e h = tt
 Distinct-map f (x ∷ xs) e h = (
   (λ i. let (y, j, q) = In-map_from f (f x) xs i in
       let k : x ≡ y = h x y (inl refl) (inr j) q in
-      let m : has xs x ≡ true = in_has x xs (subst (λ n. In n xs) (sym k) j) in
+      let m : has xs x ≡ true = in_has x xs (rw k j) in
       grind (arith, m, e)),
   Distinct-map f xs (grind (arith, e)) (λ a b i j. h a b (inr i) (inr j)),
 )
@@ -114,9 +114,9 @@ Distinct-map f (x ∷ xs) e h = (
 pub In-map_filter : {A : Type 0} (f : A → ℕ) (p : A → Bool) (g : ℕ) (xs : List A) → In g (map f (filter p xs))
     → In g (map f xs)
 In-map_filter f p g xs i = let (x, j, e) = In-map_from f g (filter p xs) i in
-    subst (λ k. In k (map f xs)) (sym e) (In-map f x xs (In-filter_from p x xs j).0)
+    rw e (In-map f x xs (In-filter_from p x xs j).0)
 
-Distinct-filter : {A : Type 0} (f : A → ℕ) (p : A → Bool) (xs : List A) → Distinct (map f xs)
+pub Distinct-filter : {A : Type 0} (f : A → ℕ) (p : A → Bool) (xs : List A) → Distinct (map f xs)
     → Distinct (map f (filter p xs))
 Distinct-filter f p [] d = tt
 Distinct-filter f p (x ∷ xs) d = elim (p x) as (λ b. Distinct (map f (cond b (x ∷ filter p xs) (filter p xs)))) [
@@ -146,7 +146,7 @@ In-flat_from f g (x ∷ xs) i = elim (In-append_cases g (f x) (flat_map f xs) i)
 
 pub In-flat : {A : Type 0} (f : A → List ℕ) (g : ℕ) (x : A) (xs : List A) → In x xs → In g (f x) → In g (flat_map f xs)
 In-flat f g x [] i h = absurd i
-In-flat f g x (y ∷ xs) (inl e) h = In-append_left g (f y) (flat_map f xs) (subst (λ z. In g (f z)) e h)
+In-flat f g x (y ∷ xs) (inl e) h = In-append_left g (f y) (flat_map f xs) (rw (← e) h)
 In-flat f g x (y ∷ xs) (inr i) h = In-append_right g (f y) (flat_map f xs) (In-flat f g x xs i h)
 
 -- how often a number is in a list: each law on order or repetition of a list is arithmetic on these
@@ -156,38 +156,38 @@ count g (x ∷ xs) = cond (x == g) 1 0 + count g xs
 
 pub count-append : (g : ℕ) (xs ys : List ℕ) → count g (xs ++ ys) ≡ count g xs + count g ys
 count-append g [] ys = omega arith
-count-append g (x ∷ xs) ys = let h = count-append g xs ys in omega (arith, h)
+count-append g (x ∷ xs) ys = omega (arith, count-append g xs ys)
 
 pub count-in : (g : ℕ) (xs : List ℕ) → In g xs → 1 ≤ count g xs
 count-in g [] i = absurd i
 count-in g (x ∷ xs) (inl e) = let k : (x == g) ≡ true = eq-eqb x g (sym e) in
-    subst (λ b. 1 ≤ cond b 1 0 + count g xs) (sym k) (omega arith)
-count-in g (x ∷ xs) (inr i) = let h = count-in g xs i in omega (arith, h)
+    rw k (omega arith)
+count-in g (x ∷ xs) (inr i) = omega (arith, count-in g xs i)
 
 pub in-count : (g : ℕ) (xs : List ℕ) → 1 ≤ count g xs → In g xs
 in-count g [] h = absurd (omega arith)
 in-count g (x ∷ xs) h = grind (arith, in-count g xs, eqb-true)
 
 pub no_count : (g : ℕ) (xs : List ℕ) → (In g xs → ⊥) → count g xs ≡ 0
-no_count g xs n = elim (cases_lt 0 (count g xs)) [ inl h ↦ absurd (n (in-count g xs h)) | inr h ↦ omega (arith, h) ]
+no_count g xs n = elim (cases_lt 0 (count g xs)) [ inl h ↦ absurd (n (in-count g xs h)) | inr h ↦ omega arith ]
 
 pub count-distinct : (xs : List ℕ) → ((g : ℕ) → count g xs ≤ 1) → Distinct xs
 count-distinct [] h = tt
 count-distinct (x ∷ xs) h = (
   (λ i. let n = count-in x xs i in
       let k : (x == x) ≡ true = eq-eqb x x refl in
-      let m : cond true 1 0 + count x xs ≤ 1 = subst (λ b. cond b 1 0 + count x xs ≤ 1) k (h x) in
-      absurd (omega (arith, m, n))),
-  count-distinct xs (λ g. let m = h g in omega (arith, m)),
+      let m : cond true 1 0 + count x xs ≤ 1 = rw k at (h x) in
+      absurd (omega arith)),
+  count-distinct xs (λ g. omega (arith, h g)),
 )
 
 pub distinct-count : (xs : List ℕ) → Distinct xs → (g : ℕ) → count g xs ≤ 1
 distinct-count [] d g = omega arith
 distinct-count (x ∷ xs) d g = elim (cases_Bool (x == g)) [
   | inl e ↦
-      let n : count g xs ≡ 0 = no_count g xs (λ i. d.0 (subst (λ k. In k xs) (sym (eqb-true x g e)) i)) in
-      subst (λ b. cond b 1 0 + count g xs ≤ 1) (sym e) (omega (arith, n))
-  | inr e ↦ let h = distinct-count xs d.1 g in subst (λ b. cond b 1 0 + count g xs ≤ 1) (sym e) (omega (arith, h))
+      let n : count g xs ≡ 0 = no_count g xs (λ i. d.0 (rw (eqb-true x g e) i)) in
+      rw e (omega (arith, n))
+  | inr e ↦ let h = distinct-count xs d.1 g in rw e (omega (arith, h))
 ]
 
 -- members that one key distinguishes are distinguished by another that agrees with it
@@ -196,45 +196,45 @@ pub Distinct-by : {A : Type 0} (f h : A → ℕ) (xs : List A) → Distinct (map
 Distinct-by f h [] d k = tt
 Distinct-by f h (x ∷ xs) d k = (
   (λ i. let (y, j, e) = In-map_from h (h x) xs i in
-      d.0 (subst (λ n. In n (map f xs)) (sym (k x y (inl refl) (inr j) e)) (In-map f y xs j))),
+      d.0 (rw (k x y (inl refl) (inr j) e) (In-map f y xs j))),
   Distinct-by f h xs d.1 (λ a b i j. k a b (inr i) (inr j)),
 )
 
 pub map_append : {A B : Type 0} (f : A → B) (xs ys : List A) → map f (xs ++ ys) ≡ map f xs ++ map f ys
 map_append f [] ys = refl
-map_append f (x ∷ xs) ys = ap (λ l. f x ∷ l) (map_append f xs ys)
+map_append f (x ∷ xs) ys = rw (map_append f xs ys)
 
 -- a member is found by its key, where keys differ
 pub find_member : {A : Type 0} (f : A → ℕ) (x : A) (xs : List A) → Distinct (map f xs) → In x xs
     → find (λ y. f y == f x) xs ≡ Some x
 find_member f x [] d i = absurd i
-find_member f x (y ∷ xs) d (inl e) = let k : (f y == f x) ≡ true = eq-eqb (f y) (f x) (ap f (sym e)) in
-    ap (λ b. cond b (Some y) (find (λ z. f z == f x) xs)) k ∙ ap Some (sym e)
+find_member f x (y ∷ xs) d (inl e) = let k : (f y == f x) ≡ true = eq-eqb (f y) (f x) (rw (← e)) in
+    rw (k, ← e)
 find_member f x (y ∷ xs) d (inr i) =
     let n : (f y == f x) ≡ false =
-    ne_eqb (f y) (f x) (λ e. d.0 (subst (λ k. In k (map f xs)) (sym e) (In-map f x xs i))) in
-    ap (λ b. cond b (Some y) (find (λ z. f z == f x) xs)) n ∙ find_member f x xs d.1 i
+    ne_eqb (f y) (f x) (λ e. d.0 (rw e (In-map f x xs i))) in
+    rw (n, find_member f x xs d.1 i)
 
 pub flat_append : {A B : Type 0} (f : A → List B) (xs ys : List A)
     → flat_map f (xs ++ ys) ≡ flat_map f xs ++ flat_map f ys
 flat_append f [] ys = refl
 flat_append f (x ∷ xs) ys =
-    ap (λ l. f x ++ l) (flat_append f xs ys) ∙ sym (append_assoc (f x) (flat_map f xs) (flat_map f ys))
+    rw (flat_append f xs ys, ← append_assoc (f x) (flat_map f xs) (flat_map f ys))
 
 -- members that rise
 pub Rising-low : (low x : ℕ) (xs : List ℕ) → Rising low xs → In x xs → low ≤ x
 Rising-low low x [] r i = absurd i
-Rising-low low x (y ∷ xs) r (inl e) = let h = r.0 in subst (λ k. low ≤ k) (sym e) h
-Rising-low low x (y ∷ xs) r (inr i) = let h = r.0 in let k = Rising-low (y + 1) x xs r.1 i in omega arith
+Rising-low low x (y ∷ xs) r (inl e) = let h = r.0 in rw e h
+Rising-low low x (y ∷ xs) r (inr i) = omega (arith, Rising-low (y + 1) x xs r.1 i)
 
 pub Rising-distinct : (low : ℕ) (xs : List ℕ) → Rising low xs → Distinct xs
 Rising-distinct low [] r = tt
 Rising-distinct low (x ∷ xs) r =
-    ((λ i. let k = Rising-low (x + 1) x xs r.1 i in absurd (omega arith)), Rising-distinct (x + 1) xs r.1)
+    ((λ i. absurd (omega (arith, Rising-low (x + 1) x xs r.1 i))), Rising-distinct (x + 1) xs r.1)
 
 pub Rising-less : (low less : ℕ) (xs : List ℕ) → less ≤ low → Rising low xs → Rising less xs
 Rising-less low less [] h r = tt
-Rising-less low less (x ∷ xs) h r = let k = r.0 in (omega (arith, h, k), r.1)
+Rising-less low less (x ∷ xs) h r = let k = r.0 in (omega arith, r.1)
 
 pub Rising-filter : {A : Type 0} (low : ℕ) (f : A → ℕ) (p : A → Bool) (xs : List A) → Rising low (map f xs)
     → Rising low (map f (filter p xs))
@@ -242,7 +242,7 @@ Rising-filter low f p [] r = tt
 Rising-filter low f p (x ∷ xs) r = elim (p x) as (λ b. Rising low (map f (cond b (x ∷ filter p xs) (filter p xs)))) [
   | true ↦ (r.0, Rising-filter (f x + 1) f p xs r.1)
   | false ↦ let k = r.0 in
-      Rising-less (f x + 1) low (map f (filter p xs)) (omega (arith, k)) (Rising-filter (f x + 1) f p xs r.1)
+      Rising-less (f x + 1) low (map f (filter p xs)) (omega arith) (Rising-filter (f x + 1) f p xs r.1)
 ]
 
 pub Distinct-insert : (g : ℕ) (xs ys : List ℕ) → Distinct (xs ++ ys) → (In g (xs ++ ys) → ⊥) → Distinct (xs ++ g ∷ ys)

@@ -31,13 +31,13 @@ reads n (d ∷ ds) a h =
     grind (arith, nat_tests, g, h, a, reads (10 * n + (d - 48)) ds)
 
 from_digits : (bs : List ℕ) → 0 < length bs → (48 < get_or bs 0 0) → number_of bs ≡ decimal_from 0 bs
-from_digits [] h f = absurd (omega (arith, h))
+from_digits [] h f = absurd (omega arith)
 from_digits (d ∷ []) h f = grind (arith, nat_tests, f)
 from_digits (d ∷ e ∷ ds) h f = grind (arith, nat_tests, f)
 
 -- the decimal text of a number is read as it
 pub number_decimal : (n : ℕ) → n < 2 ^ 32 → number_of (decimal n) ≡ Some n
-number_decimal zero h = ap number_of (decimal_digit 0 (omega arith))
+number_decimal zero h = rw (decimal_digit 0 (omega arith))
 number_decimal (suc m) h =
     let n = suc m in
     let a = digits_decimal own n (omega arith) in
@@ -60,8 +60,7 @@ digit_again d h = grind (arith, nat_tests, h)
 
 digits_again : (n : ℕ) (ds : List ℕ) → AllDigits ds → hex_from n (map hex_digit ds) ≡ Some (value_on n ds)
 digits_again n [] h = refl
-digits_again n (d ∷ ds) h = ap (option_and_then (λ x. hex_from (16 * n + x) (map hex_digit ds))) (digit_again d h.0)
-    ∙ digits_again (16 * n + d) ds h.1
+digits_again n (d ∷ ds) h = rw (digit_again d h.0, digits_again (16 * n + d) ds h.1)
 
 -- the eight digits of a word, the highest first
 abbrev pub digits_of : ℕ → List ℕ
@@ -88,4 +87,4 @@ digits_value w h =
 
 -- the eight hexadecimal digits of a word are read as it
 pub hex_word : (w : ℕ) → w < 2 ^ 32 → hex_from 0 (word_digits w) ≡ Some w
-hex_word w h = digits_again 0 (digits_of w) (digits_small w) ∙ ap Some (digits_value w h)
+hex_word w h = rw (digits_again 0 (digits_of w) (digits_small w), digits_value w h)

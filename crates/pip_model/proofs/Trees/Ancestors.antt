@@ -14,7 +14,7 @@ name_in x xs i = In-map (λ y. y.name) x xs i
 -- names are distinct, so a name has one node
 names_distinct : (root : Node) (xs : List Node) → IsRooted root xs → (x y : Node) → In x (root ∷ xs) → In y (root ∷ xs)
     → x.name ≡ y.name → x ≡ y
-names_distinct root [] r x y (inl i) (inl j) e = i ∙ sym j
+names_distinct root [] r x y (inl i) (inl j) e = cc
 names_distinct root [] r x y (inl i) (inr j) e = absurd j
 names_distinct root [] r x y (inr i) j e = absurd i
 names_distinct root (z ∷ xs) r x y i j e =
@@ -28,7 +28,7 @@ pub parent_in : (root : Node) (xs : List Node) → IsRooted root xs → (x : Nod
     → (y : Node) × In y (root ∷ xs) × (x.up ≡ y.name)
 parent_in root [] r x i = absurd i
 parent_in root (z ∷ xs) r x (inl i) = let (y, j, e) = In-map_from (λ w. w.name) z.up (root ∷ xs) r.1 in
-    (y, grind (arith, j), ap (λ w. w.up) i ∙ e)
+    (y, grind (arith, j), rw i e)
 parent_in root (z ∷ xs) r x (inr i) = let (y, j, e) = parent_in root xs r.2 x i in (y, grind (arith, j), e)
 
 -- what a node holds is in rows of all its ancestors
@@ -43,7 +43,7 @@ pub child_on_way : (t : Tree) (y x : Node) → Above t y x
 child_on_way t y x (parent i j e) = (x, i, e, inl refl)
 child_on_way t y x (further {z = z} i j e a) =
     let (c, k, d, w) = child_on_way t y z a in
-    (c, k, d, elim w [ inl q ↦ inr (parent i (inr k) (e ∙ ap (λ n. n.name) (sym q))) | inr b ↦ inr (further i j e b) ])
+    (c, k, d, elim w [ inl q ↦ inr (parent i (inr k) (cc)) | inr b ↦ inr (further i j e b) ])
 
 -- a part of the nodes, with the root
 abbrev Within : Tree → List Node → Type 0
@@ -57,7 +57,7 @@ abbrev pub IsTop : Tree → Node → Type 0
 IsTop t x = (t.root ≡ x) ⊎ Above t t.root x
 
 top_through : (t : Tree) (x y : Node) → In x t.others → In y (nodes t) → x.up ≡ y.name → IsTop t y → IsTop t x
-top_through t x y i j e (inl r) = inr (parent i (inl refl) (e ∙ ap (λ n. n.name) (sym r)))
+top_through t x y i j e (inl r) = inr (parent i (inl refl) (rw (e, ← r)))
 top_through t x y i j e (inr a) = inr (further i j e a)
 
 top_in : (t : Tree) (xs : List Node) → IsRooted t.root xs → Within t xs → (x : Node) → In x (t.root ∷ xs) → IsTop t x
@@ -68,7 +68,7 @@ top_in t (z ∷ xs) r w x (inr (inr i)) = top_in t xs r.2 (λ y j. w y (inr j)) 
 top_in t (z ∷ xs) r w x (inr (inl e)) =
     let (y, j, u) = In-map_from (λ n. n.name) z.up (t.root ∷ xs) r.1 in
     let w' : Within t xs = λ v k. w v (inr k) in
-    top_through t x y (w x (inl e)) (in_nodes t xs w' y j) (ap (λ n. n.up) e ∙ u) (top_in t xs r.2 w' y j)
+    top_through t x y (w x (inl e)) (in_nodes t xs w' y j) (rw e u) (top_in t xs r.2 w' y j)
 
 -- the root is above every other node
 pub root_is_top : (t : Tree) → IsSound t → (x : Node) → In x (nodes t) → IsTop t x
@@ -79,7 +79,7 @@ AreRelated t x y = (x ≡ y) ⊎ (Above t x y ⊎ Above t y x)
 
 above_child : (t : Tree) (x y : Node) → In x t.others → In y (nodes t) → x.up ≡ y.name → (z : Node)
     → (z ≡ y) ⊎ Above t z y → Above t z x
-above_child t x y i j e z (inl q) = parent i (subst (λ n. In n (nodes t)) (sym q) j) (e ∙ ap (λ n. n.name) (sym q))
+above_child t x y i j e z (inl q) = parent i (subst (λ n. In n (nodes t)) (sym q) j) (rw (e, ← q))
 above_child t x y i j e z (inr a) = further i j e a
 
 -- x and b hold a page, y is x's parent and is above b: x is the child on the way, or is above
@@ -90,14 +90,13 @@ through_sibling t g s x y b i j e h k a = go (child_on_way t y b a)
     same : (c : Node) → In c t.others → c.up ≡ y.name → In g (held_pages c) → x ≡ c
     same c l u m = elim (cases_eq x.name c.name) [
       | inl q ↦ same_name t x c s (inr i) (inr l) q
-      | inr n ↦ absurd (s.siblings_apart x c i l (e ∙ sym u) n g h m)
+      | inr n ↦ absurd (s.siblings_apart x c i l (cc) n g h m)
     ]
 
     go : (c : Node) × In c t.others × (c.up ≡ y.name) × ((c ≡ b) ⊎ Above t c b) → AreRelated t x b
     go (c, l, u, w) = elim w [
-      | inl q ↦ inl (same c l u (subst (λ n. In g (held_pages n)) (sym q) k) ∙ q)
-      | inr d ↦ inr (inl (subst (λ n. Above t n b)
-          (sym (same c l u (In-append_right g (config c) (row_pages c) (holds_up t g s c b d k)))) d))
+      | inl q ↦ inl (same c l u (rw q k) ∙ q)
+      | inr d ↦ inr (inl (rw (same c l u (In-append_right g (config c) (row_pages c) (holds_up t g s c b d k))) d))
     ]
 
 related_through : (t : Tree) (g : ℕ) → IsSound t → (x y b : Node) → In x t.others → In y (nodes t) → x.up ≡ y.name
@@ -109,13 +108,13 @@ related_through t g s x y b i j e h k (inr (inr a)) = inr (inr (further i j e a)
 related_in : (t : Tree) (g : ℕ) → IsSound t → (b : Node) → In b (nodes t) → In g (held_pages b) → (xs : List Node)
     → IsRooted t.root xs → Within t xs → (x : Node) → In x (t.root ∷ xs) → In g (held_pages x) → AreRelated t x b
 related_in t g s b j k xs r w x (inl e) h =
-    elim (root_is_top t s b j) [ inl q ↦ inl (e ∙ q) | inr a ↦ inr (inl (subst (λ n. Above t n b) (sym e) a)) ]
+    elim (root_is_top t s b j) [ inl q ↦ inl (cc) | inr a ↦ inr (inl (rw e a)) ]
 related_in t g s b j k [] r w x (inr i) h = absurd i
 related_in t g s b j k (z ∷ xs) r w x (inr (inr i)) h = related_in t g s b j k xs r.2 (λ v l. w v (inr l)) x (inr i) h
 related_in t g s b j k (z ∷ xs) r w x (inr (inl e)) h =
     let (y, l, u) = In-map_from (λ n. n.name) z.up (t.root ∷ xs) r.1 in
     let w' : Within t xs = λ v m. w v (inr m) in
-    let u' : x.up ≡ y.name = ap (λ n. n.up) e ∙ u in
+    let u' : x.up ≡ y.name = rw e u in
     let l' = in_nodes t xs w' y l in
     let i' = w x (inl e) in
     let hy = In-append_right g (config y) (row_pages y) ((s.lent x y i' l' u').rows g h) in
@@ -134,7 +133,7 @@ pub row_above : (t : Tree) (g : ℕ) → IsSound t → (x y : Node) → In x (no
     → In g (row_pages y) → Above t y x
 row_above t g s x y i j h k = elim (holders-related t g s x y i j (In-append_left g (config x) (row_pages x) h)
     (In-append_right g (config y) (row_pages y) k)) [
-      | inl e ↦ absurd (not_both t g s x i h (subst (λ n. In g (row_pages n)) (sym e) k))
+      | inl e ↦ absurd (not_both t g s x i h (rw e k))
       | inr (inl a) ↦
           absurd (not_both t g s x i h (holds_up t g s x y a (In-append_right g (config y) (row_pages y) k)))
       | inr (inr a) ↦ a
@@ -155,12 +154,12 @@ pub name-config : (t : Tree) → IsSound t → (x : Node) → In x (nodes t) →
 name-config t s x (inl e) =
     let b : t.root.name ≡ t.root.base.descriptor.frame =
     ap (λ n. n.name) s.boot_root.same ∙ sym (ap (λ n. n.base.descriptor.frame) s.boot_root.same) in
-    inl (ap (λ n. n.name) e ∙ b ∙ sym (ap (λ n. n.base.descriptor.frame) e))
+    inl (rw (e, b, ← e))
 name-config t s x (inr i) = inl (s.named_by_descriptor x i).name
 
 pub root_differs : (root : Node) (xs : List Node) → IsRooted root xs → (x : Node) → In x xs → root.name ≢ x.name
 root_differs root [] r x i e = i
-root_differs root (z ∷ xs) r x (inl i) e = r.0 (inl (sym (ap (λ n. n.name) i) ∙ sym e))
+root_differs root (z ∷ xs) r x (inl i) e = r.0 (inl (rw (← i, ← e)))
 root_differs root (z ∷ xs) r x (inr i) e = root_differs root xs r.2 x i e
 
 pub not_root : (t : Tree) → IsSound t → (x : Node) → In x t.others → t.root.name ≢ x.name
@@ -168,10 +167,10 @@ not_root t s x i = root_differs t.root t.others s.parents_come_first x i
 
 -- the chain of a node goes on with that of its parent
 chain_miss : (root y : Node) (ys : List Node) (p : ℕ) → y.name ≢ p → chain_in root (y ∷ ys) p ≡ chain_in root ys p
-chain_miss root y ys p n = ap (λ b. cond b (y ∷ chain_in root ys y.up) (chain_in root ys p)) (ne_eqb y.name p n)
+chain_miss root y ys p n = rw (ne_eqb y.name p n)
 
 chain_hit : (root y : Node) (ys : List Node) (p : ℕ) → y.name ≡ p → chain_in root (y ∷ ys) p ≡ y ∷ chain_in root ys y.up
-chain_hit root y ys p e = ap (λ b. cond b (y ∷ chain_in root ys y.up) (chain_in root ys p)) (eq-eqb y.name p e)
+chain_hit root y ys p e = rw (eq-eqb y.name p e)
 
 up_named : (root : Node) (xs : List Node) → IsRooted root xs → (x : Node) → In x xs → In x.up (names_of (root ∷ xs))
 up_named root xs r x i = let (y, j, e) = parent_in root xs r x i in
@@ -183,12 +182,12 @@ chain_in-node root [] r x i = absurd i
 chain_in-node root (y ∷ ys) r x (inl e) =
     let n : y.name ≢ y.up = λ q. r.0 (subst (λ k. In k (names_of (root ∷ ys))) (sym q) r.1) in
     let h : chain_in root (y ∷ ys) y.name ≡ y ∷ chain_in root (y ∷ ys) y.up =
-    chain_hit root y ys y.name refl ∙ ap (λ c. y ∷ c) (sym (chain_miss root y ys y.up n)) in
-    subst (λ z. chain_in root (y ∷ ys) z.name ≡ z ∷ chain_in root (y ∷ ys) z.up) (sym e) h
+    cc (chain_hit root y ys y.name refl, chain_miss root y ys y.up n) in
+    rw e h
 chain_in-node root (y ∷ ys) r x (inr i) =
     let n : y.name ≢ x.name = λ q. r.0 (subst (λ k. In k (names_of (root ∷ ys))) (sym q) (inr (name_in x ys i))) in
     let m : y.name ≢ x.up = λ q. r.0 (subst (λ k. In k (names_of (root ∷ ys))) (sym q) (up_named root ys r.2 x i)) in
-    chain_miss root y ys x.name n ∙ chain_in-node root ys r.2 x i ∙ ap (λ c. x ∷ c) (sym (chain_miss root y ys x.up m))
+    cc (chain_miss root y ys x.name n, chain_in-node root ys r.2 x i, chain_miss root y ys x.up m)
 
 pub chain-node : (t : Tree) → IsSound t → (x : Node) → In x t.others → chain t x.name ≡ x ∷ chain t x.up
 chain-node t s x i = chain_in-node t.root t.others s.parents_come_first x i
@@ -212,26 +211,26 @@ chain_step t s y ys r w z x i h ih = elim (cases_eq y.name x.name) [ inl e ↦ h
     hit e =
         let q : y ≡ x = same_name t y x s (inr here) (in_nodes t (y ∷ ys) w x i) e in
         let (v, j, u) = In-map_from (λ n. n.name) y.up (t.root ∷ ys) r.1 in
-        elim (subst (In z) (chain_hit t.root y ys x.name e) h) [
-          | inl a ↦ inl (a ∙ q)
-          | inr b ↦ inr (subst (Above t z) q (above_child t y v here (in_nodes t ys w' v j) u z
+        elim (rw (chain_hit t.root y ys x.name e) at h) [
+          | inl a ↦ inl (cc)
+          | inr b ↦ inr (rw (← q) (above_child t y v here (in_nodes t ys w' v j) u z
               (ih v j (subst (λ p. In z (chain_in t.root ys p)) u b))))
         ]
 
     miss : (y.name ≡ x.name → ⊥) → (z ≡ x) ⊎ Above t z x
     miss n = elim i [
-      | inl e ↦ ih x (inl e) (subst (In z) (chain_miss t.root y ys x.name n) h)
+      | inl e ↦ ih x (inl e) (rw (← chain_miss t.root y ys x.name n) h)
       | inr k ↦ elim k [
-        | inl e ↦ absurd (n (ap (λ a. a.name) (sym e)))
-        | inr l ↦ ih x (inr l) (subst (In z) (chain_miss t.root y ys x.name n) h)
+        | inl e ↦ absurd (n (rw (← e)))
+        | inr l ↦ ih x (inr l) (rw (← chain_miss t.root y ys x.name n) h)
       ]
     ]
 
 in_chain : (t : Tree) (s : IsSound t) (xs : List Node) → IsRooted t.root xs → Within t xs → (z x : Node)
     → In x (t.root ∷ xs) → In z (chain_in t.root xs x.name) → (z ≡ x) ⊎ Above t z x
 in_chain t s [] r w z x (inl e) h = let k : (t.root.name == x.name) ≡ true =
-    eq-eqb t.root.name x.name (ap (λ n. n.name) (sym e)) in
-    elim (subst (λ b. In z (cond b (t.root ∷ []) [])) k h) [ inl q ↦ inl (q ∙ sym e) | inr j ↦ absurd j ]
+    eq-eqb t.root.name x.name (rw (← e)) in
+    elim (rw k at h) [ inl q ↦ inl (cc) | inr j ↦ absurd j ]
 in_chain t s [] r w z x (inr i) h = absurd i
 in_chain t s (y ∷ ys) r w z x i h = chain_step t s y ys r w z x i h (in_chain t s ys r.2 (λ v k. w v (inr k)) z)
 
@@ -250,5 +249,5 @@ root_alone t s z h = elim (chain-above t s z t.root (inl refl) h)
 
 pub name-page : (t : Tree) → IsSound t → (x : Node) → In x (nodes t) → x.name ≡ x.base.descriptor.frame
 name-page t s x (inl e) = ap (λ n. n.name) e ∙ ap (λ n. n.name) s.boot_root.same
-    ∙ sym (ap (λ n. n.base.descriptor.frame) s.boot_root.same) ∙ sym (ap (λ n. n.base.descriptor.frame) e)
+    ∙ sym (ap (λ n. n.base.descriptor.frame) s.boot_root.same) ∙ sym (rw e)
 name-page t s x (inr i) = (s.named_by_descriptor x i).name

@@ -56,25 +56,25 @@ index_last zero i g = inl refl
 index_last (suc k) i g = inr (index_last k (i + 1) (g + 3))
 
 index_small : (k i g : ℕ) → i + k ≤ 1023 → (t : Table) → In t (tables_from k i g) → t.index < 1024
-index_small zero i g b t (inl e) = let q = ap (λ t. t.index) e in omega arith
+index_small zero i g b t (inl e) = omega (arith, ap (λ t. t.index) e)
 index_small zero i g b t (inr j) = absurd j
-index_small (suc k) i g b t (inl e) = let q = ap (λ t. t.index) e in omega arith
+index_small (suc k) i g b t (inl e) = omega (arith, ap (λ t. t.index) e)
 index_small (suc k) i g b t (inr j) = index_small k (i + 1) (g + 3) (omega arith) t j
 
 -- a row of the root
 rows_are : (k v g : ℕ) (r : Row) → In r (rows_from k v g)
     → (r.rights ≡ 7) × ((r.at ≡ 1048575) ⊎ ((v ≤ r.at) × (r.at < v + k))) × (g ≤ r.frame) × (r.frame < g + k + 1)
 rows_are zero v g r (inl e) = let p = ap (λ r. r.frame) e in
-    (ap (λ r. r.rights) e, inl (ap (λ r. r.at) e), omega arith, omega arith)
+    (rw e, inl (rw e), omega arith, omega arith)
 rows_are zero v g r (inr j) = absurd j
 rows_are (suc k) v g r (inl e) = let p = ap (λ r. r.frame) e in let a = ap (λ r. r.at) e in
-    (ap (λ r. r.rights) e, inr (omega arith), omega arith, omega arith)
+    (rw e, inr (omega arith), omega arith, omega arith)
 rows_are (suc k) v g r (inr j) = let h = rows_are k (v + 1) (g + 1) r j in
-    (h.0, elim h.1 [ inl q ↦ inl q | inr q ↦ inr (omega (arith, q)) ], omega (arith, h.2), omega (arith, h.3))
+    (h.0, elim h.1 [ inl q ↦ inl q | inr q ↦ inr (omega arith) ], omega arith, omega arith)
 
 length_tables : (k i g : ℕ) → length (tables_from k i g) ≡ k + 1
 length_tables zero i g = refl
-length_tables (suc k) i g = let h = length_tables k (i + 1) (g + 3) in omega (arith, h)
+length_tables (suc k) i g = omega (arith, length_tables k (i + 1) (g + 3))
 
 -- which pages are in the rows
 has_rows : (k v g x : ℕ) → has (map (λ r. r.frame) (rows_from k v g)) x ≡ (nat_le g x && nat_lt x (g + k + 1))
@@ -122,15 +122,15 @@ apart_root n z = let few = z.few in let fit = z.fit in record {
 tables_root : (n : ℕ) → Sizes n → RowsHaveTables (boot_root n)
 tables_root n z = let few = z.few in let fit = z.fit in let some = z.some in record {
   first = λ r i e.
-      elim (rows_are (user_rows n) 1024 (first_user n) r i).1 [ inl q ↦ omega (arith, q) | inr q ↦ omega (arith, q) ];
+      elim (rows_are (user_rows n) 1024 (first_user n) r i).1 [ inl q ↦ omega arith | inr q ↦ omega arith ];
   differ = Rising-distinct 0 _ (indexes_rise (tables_of_root n) 1 6 0 (omega arith) (omega arith));
   tabled = λ r i. elim (rows_are (user_rows n) 1024 (first_user n) r i).1 [
     | inl q ↦
-        subst (λ v. In (dir v) (map (λ t. t.index) (boot_root n).tables)) (sym q) (index_last (tables_of_root n) 1 6)
+        rw q (index_last (tables_of_root n) 1 6)
     | inr q ↦ let lo = q.0 in let hi = q.1 in index_in (tables_of_root n) 1 6 (dir r.at) (omega arith) (omega arith)
   ];
   small = λ t i. index_small (tables_of_root n) 1 6 (omega arith) t i;
-  listed = let l = length_tables (tables_of_root n) 1 6 in omega (arith, l);
+  listed = omega (arith, length_tables (tables_of_root n) 1 6);
 }
 
 words_from : (b h : Bool) (words : ℕ → ℕ) → (b ≡ true → h ≡ true → ⊥)
@@ -143,7 +143,7 @@ boot_words : (words : ℕ → ℕ → ℕ) (n : ℕ) → Sizes n → HasVisibleW
 boot_words words n z g =
     let rows = has_rows (user_rows n) 1024 (first_user n) g in
     let b : Bool = nat_le (first_user n) g && nat_lt g n in
-    let e : has (row_pages (boot_root n)) g ≡ b = rows ∙ ap (λ k. nat_le (first_user n) g && nat_lt g k) z.all in
+    let e : has (row_pages (boot_root n)) g ≡ b = rw (rows, z.all) in
     let d = Rising-distinct 1 (held_pages (boot_root n)) (held_rise n z) in
     words_from b (has (config (boot_root n)) g) (words g) (λ k h. Distinct-apart g (config (boot_root n))
     (row_pages (boot_root n)) d (has_in g (config (boot_root n)) h) (has_in g (row_pages (boot_root n)) (e ∙ k)))
@@ -158,17 +158,16 @@ pub boot-sound_with : (words : ℕ → ℕ → ℕ) (n : ℕ) → 16 ≤ n → n
 boot-sound_with words n l h small = let z = sizes n l h in record {
   parents_come_first = refl;
   boot_root = record { small = l; large = h; same = refl };
-  pages_apart = λ x i. elim i [ inl e ↦ subst KeepsPagesApart (sym e) (apart_root n z) | inr j ↦ absurd j ];
+  pages_apart = λ x i. elim i [ inl e ↦ rw e (apart_root n z) | inr j ↦ absurd j ];
   lent = λ x y i. absurd i;
   named_by_descriptor = λ x i. absurd i;
   siblings_apart = λ x y i. absurd i;
   readable = λ x i. elim i [
-    | inl e ↦ subst CanRead (sym e) (λ r j.
-        subst (λ k. AreAmong 1 k) (sym (rows_are (user_rows n) 1024 (first_user n) r j).0) refl)
+    | inl e ↦ rw e (λ r j. subst (λ k. AreAmong 1 k) (sym (rows_are (user_rows n) 1024 (first_user n) r j).0) refl)
     | inr j ↦ absurd j
   ];
   rights = λ x y i. absurd i;
-  tables = λ x i. elim i [ inl e ↦ subst RowsHaveTables (sym e) (tables_root n z) | inr j ↦ absurd j ];
+  tables = λ x i. elim i [ inl e ↦ rw e (tables_root n z) | inr j ↦ absurd j ];
   no_lines_but_the_root = λ x i. absurd i;
   words = boot_words words n z;
   lines = tt;
@@ -190,14 +189,13 @@ config_boot_small zero i g x (inr (inr (inr e))) = absurd e
 config_boot_small (suc k) i g x (inl e) = omega arith
 config_boot_small (suc k) i g x (inr (inl e)) = omega arith
 config_boot_small (suc k) i g x (inr (inr (inl e))) = omega arith
-config_boot_small (suc k) i g x (inr (inr (inr j))) = let h = config_boot_small k (i + 1) (g + 3) x j in
-    omega (arith, h)
+config_boot_small (suc k) i g x (inr (inr (inr j))) = omega (arith, config_boot_small k (i + 1) (g + 3) x j)
 
 rows_boot_small : (n : ℕ) → Sizes n → (x : ℕ) → In x (row_pages (boot_root n)) → x < n
 rows_boot_small n z x i =
     let (r, j, e) = In-map_from (λ r. r.frame) x (boot_root n).rows i in
     let h = rows_are (user_rows n) 1024 (first_user n) r j in
-    let a = h.3 in let all = z.all in omega (arith, a, all, e)
+    omega arith
 
 -- every page of the root is a frame
 pub root_small : (n : ℕ) → 16 ≤ n → n ≤ 4096 → (x : ℕ) → In x (held_pages (boot_root n)) → x < n
@@ -208,8 +206,7 @@ root_small n l h x i = let z = sizes n l h in
       | inl (inr (inr (inl e))) ↦ omega arith
       | inl (inr (inr (inr (inl e)))) ↦ omega arith
       | inl (inr (inr (inr (inr (inl e))))) ↦ omega arith
-      | inl (inr (inr (inr (inr (inr j))))) ↦ let c = config_boot_small (tables_of_root n) 1 6 x j in let all = z.all in
-          omega (arith, c, all)
+      | inl (inr (inr (inr (inr (inr j))))) ↦ omega (arith, config_boot_small (tables_of_root n) 1 6 x j)
       | inr j ↦ rows_boot_small n z x j
     ]
 
@@ -219,11 +216,6 @@ root_rights n r i = (rows_are (user_rows n) 1024 (first_user n) r i).0
 -- and none is frame 0
 pub root_positive : (n : ℕ) → 16 ≤ n → n ≤ 4096 → (x : ℕ) → In x (held_pages (boot_root n)) → 1 ≤ x
 root_positive n l h x i = Rising-low 1 x (held_pages (boot_root n)) (held_rise n (sizes n l h)) i
-
--- the root has enough tables for its rows, and no fewer would be
-pub root_tables-enough : (n : ℕ) → 16 ≤ n → n ≤ 4096
-    → (1 ≤ tables_of_root n) × (n - 6 - 3 * (tables_of_root n + 1) - 1 ≤ 1024 * tables_of_root n)
-root_tables-enough n l h = (omega arith, omega arith)
 
 pub root_tables-least : (n t : ℕ) → 1 ≤ t → n - 6 - 3 * (t + 1) - 1 ≤ 1024 * t → tables_of_root n ≤ t
 root_tables-least n t l h = omega arith
@@ -253,21 +245,20 @@ frame-none (suc k) v g u n h =
 
 pub root-frame_last : (n v frame : ℕ) → 16 ≤ n → n ≤ 4096 → v ≡ 0xfffff → frame ≡ n - 1 → Some frame ≡ frame_of_root n v
 root-frame_last n v frame l h e f =
-    let g : frame ≡ first_user n + (n - first_user n - 1) = omega (arith, f, l, h) in
-    subst (λ u. Some frame ≡ frame_of_root n u) (sym e)
-    (ap Some g ∙ sym (frame-last (n - first_user n - 1) 1024 (first_user n) (omega arith)))
+    let g : frame ≡ first_user n + (n - first_user n - 1) = omega arith in
+    rw e (ap Some g ∙ sym (frame-last (n - first_user n - 1) 1024 (first_user n) (omega arith)))
 
 -- t is the number of its tables
 pub root-frame_between : (n t v frame : ℕ) → t ≡ tables_of_root n → 1024 ≤ v → v - 1024 < n - 1 - (9 + 3 * t)
     → frame ≡ 9 + 3 * t + (v - 1024) → Some frame ≡ frame_of_root n v
 root-frame_between n t v frame e a b f =
-    let g : frame ≡ first_user n + (v - 1024) = omega (arith, e, f) in
-    let h : v < 1024 + (n - first_user n - 1) = omega (arith, e, a, b) in
-    ap Some g ∙ sym (frame-between (n - first_user n - 1) 1024 (first_user n) v a h)
+    let g : frame ≡ first_user n + (v - 1024) = omega arith in
+    let h : v < 1024 + (n - first_user n - 1) = omega arith in
+    rw (g, ← frame-between (n - first_user n - 1) 1024 (first_user n) v a h)
 
 pub root-frame_none : (n t v : ℕ) → t ≡ tables_of_root n → v ≢ 0xfffff → (v < 1024) ⊎ (n - 1 - (9 + 3 * t) ≤ v - 1024)
     → None ≡ frame_of_root n v
 root-frame_none n t v e ne o = sym (frame-none (n - first_user n - 1) 1024 (first_user n) v ne (elim o [
   | inl a ↦ inl a
-  | inr b ↦ elim (cases_lt v 1024) [ inl a ↦ inl a | inr a ↦ inr (omega (arith, e, a, b)) ]
+  | inr b ↦ elim (cases_lt v 1024) [ inl a ↦ inl a | inr a ↦ inr (omega arith) ]
 ]))

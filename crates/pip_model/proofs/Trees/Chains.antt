@@ -25,12 +25,12 @@ pub chain_linear : (t : Tree) (a b c : ℕ) → OnChain t a c → OnChain t b c 
 chain_linear t a b _ h here = inl h
 chain_linear t a b c here (over y e r) = inr (over y e r)
 chain_linear t a b c (over z d q) (over y e r) = let same : z ≡ y = cc in
-    chain_linear t a b y.up (subst (λ w. OnChain t a w.up) same q) r
+    chain_linear t a b y.up (rw (← same) q) r
 
 -- a name on a chain is its first, or is on the chain of the parent
 pub chain_up : (t : Tree) (a b : ℕ) (y : Node) → find_other t b ≡ Some y → OnChain t a b → (a ≡ b) ⊎ OnChain t a y.up
 chain_up t a _ y e here = inl refl
-chain_up t a b y e (over z d r) = let same : z ≡ y = cc in inr (subst (λ w. OnChain t a w.up) same r)
+chain_up t a b y e (over z d r) = let same : z ≡ y = cc in inr (rw (← same) r)
 
 -- the first step down a chain: a child of its top
 pub first_step : (t : Tree) (a b : ℕ) → OnChain t a b
@@ -47,9 +47,9 @@ from_root t s a x e = by_parents t s (OnChain t t.root.name) here (λ b y d r. o
 
 -- an ancestor is on the chain
 pub above_chain : (t : Tree) → IsSound t → (y x : Node) → Above t y x → OnChain t y.name x.name
-above_chain t s y x (parent i j e) = over x (in_other t s x i) (subst (OnChain t y.name) (sym e) here)
+above_chain t s y x (parent i j e) = over x (in_other t s x i) (rw e here)
 above_chain t s y x (further {z = z} i j e a) =
-    over x (in_other t s x i) (subst (OnChain t y.name) (sym e) (above_chain t s y z a))
+    over x (in_other t s x i) (rw e (above_chain t s y z a))
 
 -- and a name on the chain is that of the node or of an ancestor
 pub chain_over : (t : Tree) → IsSound t → (a b : ℕ) → OnChain t a b → (y x : Node) → find_node t a ≡ Some y
@@ -58,10 +58,10 @@ chain_over t s a _ here y x d e = inl (same_found t a y x d e)
 chain_over t s a b (over z k r) y x d e =
     let same : x ≡ z = same_found t b x z e (other_found t s b z k) in
     let (p, q) = parent_found t s b z k in
-    let up : x.up ≡ p.name = ap (λ w. w.up) same ∙ sym (found_name t z.up p q) in
-    let i : In x t.others = subst (λ w. In w t.others) (sym same) (other_in t b z k) in
+    let up : x.up ≡ p.name = rw same (sym (found_name t z.up p q)) in
+    let i : In x t.others = rw same (other_in t b z k) in
     elim (chain_over t s a z.up r y p d q) [
-      | inl w ↦ inr (parent i (found_in t a y d) (up ∙ ap (λ n. n.name) (sym w)))
+      | inl w ↦ inr (parent i (found_in t a y d) (rw (up, ← w)))
       | inr w ↦ inr (further i (found_in t z.up p q) up w)
     ]
 
@@ -69,7 +69,7 @@ chain_over t s a b (over z k r) y x d e =
 pub held_up : (t : Tree) → IsSound t → (a b g : ℕ) → OnChain t a b → (y x : Node) → find_node t a ≡ Some y
     → find_node t b ≡ Some x → In g (held_pages x) → In g (held_pages y)
 held_up t s a b g r y x d e h = elim (chain_over t s a b r y x d e) [
-  | inl w ↦ subst (λ n. In g (held_pages n)) (sym w) h
+  | inl w ↦ rw w h
   | inr w ↦ In-append_right g (config y) (row_pages y) (holds_up t g s y x w h)
 ]
 
@@ -78,7 +78,7 @@ pub common_chain : (t : Tree) → IsSound t → (a b g : ℕ) (x y : Node) → f
     → In g (held_pages x) → In g (held_pages y) → OnChain t a b ⊎ OnChain t b a
 common_chain t s a b g x y d e h k = elim (holders-related t g s x y (found_in t a x d) (found_in t b y e) h k) [
   | inl w ↦
-      inl (subst (λ n. OnChain t n b) (sym (found_name t b y e) ∙ ap (λ n. n.name) (sym w) ∙ found_name t a x d) here)
+      inl (rw (← found_name t a x d, w, found_name t b y e) here)
   | inr (inl w) ↦ inl (named a b x y d e (above_chain t s x y w))
   | inr (inr w) ↦ inr (named b a y x e d (above_chain t s y x w))
 ]
@@ -86,7 +86,7 @@ common_chain t s a b g x y d e h k = elim (holders-related t g s x y (found_in t
     named : (p q : ℕ) (v w : Node) → find_node t p ≡ Some v → find_node t q ≡ Some w → OnChain t v.name w.name
         → OnChain t p q
     named p q v w i j r =
-        subst (λ n. OnChain t n q) (found_name t p v i) (subst (OnChain t v.name) (found_name t q w j) r)
+        rw (← found_name t p v i) (subst (OnChain t v.name) (found_name t q w j) r)
 
 -- a page of configuration has one owner
 pub one_owner : (t : Tree) → IsSound t → (a b f : ℕ) (x y : Node) → find_node t a ≡ Some x → find_node t b ≡ Some y

@@ -26,10 +26,10 @@ change-keeps {A} c f get same x = go (x.name == c)
 
 -- the node of that name changes, and no other does
 pub change-here : (c : ℕ) (f : Node → Node) (x : Node) → x.name ≡ c → change_at c f x ≡ f x
-change-here c f x e = ap (λ b. cond b (f x) x) (eq-eqb x.name c e)
+change-here c f x e = rw (eq-eqb x.name c e)
 
 pub change-else : (c : ℕ) (f : Node → Node) (x : Node) → x.name ≢ c → change_at c f x ≡ x
-change-else c f x ne = ap (λ b. cond b (f x) x) (ne_eqb x.name c ne)
+change-else c f x ne = rw (ne_eqb x.name c ne)
 
 -- the tree where the child of p with its descriptor at d becomes what f makes of it, with these words
 abbrev pub with_child : Tree → ℕ → ℕ → (Node → Node) → (ℕ → Option (ℕ → ℕ)) → Tree
@@ -39,7 +39,7 @@ with_child t p d f words = record (change_node (child_name t p d) f t) { words =
 up_in : (root : Node) (xs : List Node) (x : Node) → IsRooted root xs → In x xs → x.up ≢ x.name
 up_in root [] x r i = absurd i
 up_in root (y ∷ ys) x r (inl e) =
-    λ same. r.0 (subst (λ k. In k (names_of (root ∷ ys))) (sym (ap (λ z. z.up) e) ∙ (same ∙ ap (λ z. z.name) e)) r.1)
+    λ same. r.0 (subst (λ k. In k (names_of (root ∷ ys))) (rw (← e, same, e)) r.1)
 up_in root (y ∷ ys) x r (inr i) = up_in root ys x r.2 i
 
 pub up-apart : (t : Tree) → IsSound t → (x : Node) → In x t.others → x.up ≢ x.name
@@ -66,7 +66,7 @@ module _ (t : Tree) (s : IsSound t) (c : Node) (f : Node → Node) (names : (x :
   pub one-changes : (x : Node) → In x (nodes t)
       → ((x ≡ c) × (change_at c.name f x ≡ f c)) ⊎ ((x.name ≢ c.name) × (change_at c.name f x ≡ x))
   one-changes x i = elim (cases_eq x.name c.name) [
-    | inl e ↦ let is = same_name t x c s i (inr k.child) e in inl (is, change-here c.name f x e ∙ ap f is)
+    | inl e ↦ let is = same_name t x c s i (inr k.child) e in inl (is, rw (change-here c.name f x e, is))
     | inr ne ↦ inr (ne, change-else c.name f x ne)
   ]
 
@@ -81,8 +81,8 @@ module _ (t : Tree) (s : IsSound t) (c : Node) (f : Node → Node) (names : (x :
       let (y, i, on) = hidden_from (change_node c.name f t) g h in
       let (x, j, e) = In-map_from F y (nodes t) i in
       elim (one-changes x j) [
-        | inl d ↦ inl (subst (λ z. In g (config z)) (e ∙ d.1) on)
-        | inr d ↦ inr (x, j, d.0, subst (λ z. In g (config z)) (e ∙ d.1) on)
+        | inl d ↦ inl (rw (← d.1, ← e) on)
+        | inr d ↦ inr (x, j, d.0, rw (← d.1, ← e) on)
       ]
 
   pub hidden-child : (g : ℕ) → In g (config (f c)) → hidden (change_node c.name f t) g ≡ true
@@ -97,7 +97,7 @@ module _ (t : Tree) (s : IsSound t) (c : Node) (f : Node → Node) (names : (x :
   -- a property of nodes, and one of children with their parents
   each_of : (P : Node → Type 0) → P (f c) → (x : Node) → In x (nodes t) → P x → P (F x)
   unfolding one-changes
-  each_of P new x i old = elim (one-changes x i) [ inl e ↦ subst P (sym e.1) new | inr e ↦ subst P (sym e.1) old ]
+  each_of P new x i old = elim (one-changes x i) [ inl e ↦ rw e.1 new | inr e ↦ rw e.1 old ]
 
   pair_of : (R : Node → Node → Type 0) → ((y : Node) → In y (nodes t) → c.up ≡ y.name → R y (f c))
       → ((x : Node) → In x t.others → x.up ≡ c.name → R (f c) x)
@@ -106,12 +106,12 @@ module _ (t : Tree) (s : IsSound t) (c : Node) (f : Node → Node) (names : (x :
   unfolding one-changes
   pair_of R above under old x y i j u = elim (one-changes x (inr i)) [
     | inl e ↦ elim (one-changes y j) [
-      | inl d ↦ absurd (up-apart t s c k.child (sym (ap (λ z. z.up) e.0) ∙ (u ∙ ap (λ z. z.name) d.0)))
-      | inr d ↦ subst (λ z. R z (F x)) (sym d.1) (subst (R y) (sym e.1) (above y j (sym (ap (λ z. z.up) e.0) ∙ u)))
+      | inl d ↦ absurd (up-apart t s c k.child (cc (e.0, d.0)))
+      | inr d ↦ rw d.1 (subst (R y) (sym e.1) (above y j (sym (ap (λ z. z.up) e.0) ∙ u)))
     ]
     | inr e ↦ elim (one-changes y j) [
-      | inl d ↦ subst (λ z. R z (F x)) (sym d.1) (subst (R (f c)) (sym e.1) (under x i (u ∙ ap (λ z. z.name) d.0)))
-      | inr d ↦ subst (λ z. R z (F x)) (sym d.1) (subst (R y) (sym e.1) (old x y i j u))
+      | inl d ↦ rw d.1 (subst (R (f c)) (sym e.1) (under x i (u ∙ ap (λ z. z.name) d.0)))
+      | inr d ↦ rw d.1 (subst (R y) (sym e.1) (old x y i j u))
     ]
   ]
 
@@ -119,14 +119,13 @@ module _ (t : Tree) (s : IsSound t) (c : Node) (f : Node → Node) (names : (x :
   unfolding one-changes
   siblings_of x y i j u ne = elim (one-changes x (inr i)) [
     | inl e ↦ elim (one-changes y (inr j)) [
-      | inl d ↦ absurd (ne (ap (λ z. z.name) (e.0 ∙ sym d.0)))
-      | inr d ↦ subst (AreApart (F x)) (sym d.1)
-          (subst (λ z. AreApart z y) (sym e.1) (λ g h l. k.siblings y j (sym u ∙ ap (λ z. z.up) e.0) d.0 g l h))
+      | inl d ↦ absurd (ne (rw (e.0, ← d.0)))
+      | inr d ↦ rw d.1 (subst (λ z. AreApart z y) (sym e.1)
+          (λ g h l. k.siblings y j (sym u ∙ ap (λ z. z.up) e.0) d.0 g l h))
     ]
     | inr e ↦ elim (one-changes y (inr j)) [
-      | inl d ↦ subst (AreApart (F x)) (sym d.1)
-          (subst (λ z. AreApart z (f c)) (sym e.1) (k.siblings x i (u ∙ ap (λ z. z.up) d.0) e.0))
-      | inr d ↦ subst (AreApart (F x)) (sym d.1) (subst (λ z. AreApart z y) (sym e.1) (s.siblings_apart x y i j u ne))
+      | inl d ↦ rw d.1 (subst (λ z. AreApart z (f c)) (sym e.1) (k.siblings x i (u ∙ ap (λ z. z.up) d.0) e.0))
+      | inr d ↦ rw d.1 (subst (λ z. AreApart z y) (sym e.1) (s.siblings_apart x y i j u ne))
     ]
   ]
 
@@ -144,8 +143,7 @@ module _ (t : Tree) (s : IsSound t) (c : Node) (f : Node → Node) (names : (x :
         boot_root = record {
           small = s.boot_root.small;
           large = s.boot_root.large;
-          same = subst (λ z.
-              record z { masked = false; pending = [] } ≡ boot_root t.frames) (sym root-stays) s.boot_root.same;
+          same = rw root-stays s.boot_root.same;
         };
         pages_apart = each_node F t KeepsPagesApart (λ x i. each_of KeepsPagesApart k.apart x i (s.pages_apart x i));
         lent = each_child F t name up IsLentBy
@@ -160,7 +158,7 @@ module _ (t : Tree) (s : IsSound t) (c : Node) (f : Node → Node) (names : (x :
         no_lines_but_the_root = each_other F t (λ x. x.pending
             ≡ []) (λ x i. each_of (λ z. z.pending ≡ []) k.quiet x (inr i) (s.no_lines_but_the_root x i));
         words = λ g. seen g ∙ ap (λ z. has (row_pages z) g && not (hidden (change_node c.name f t) g)) (sym root-stays);
-        lines = subst (λ z. AreLines 0 z.pending) (sym root-stays) s.lines;
+        lines = rw root-stays s.lines;
         numbers = small;
       }
 

@@ -8,10 +8,10 @@ use Rattle.pip_model.proofs.OnLists.Members.{In-map_from}
 
 module _ (f : Node → Node) (t : Tree) where
   pub each_node : (P : Node → Type 0) → ((x : Node) → In x (nodes t) → P (f x)) → EachNode P (on_nodes f t)
-  each_node P h x i = let (z, j, e) = In-map_from f x (nodes t) i in subst P (sym e) (h z j)
+  each_node P h x i = let (z, j, e) = In-map_from f x (nodes t) i in rw e (h z j)
 
   pub each_other : (P : Node → Type 0) → ((x : Node) → In x t.others → P (f x)) → EachOther P (on_nodes f t)
-  each_other P h x i = let (z, j, e) = In-map_from f x t.others i in subst P (sym e) (h z j)
+  each_other P h x i = let (z, j, e) = In-map_from f x t.others i in rw e (h z j)
 
   module _ (names : (x : Node) → (f x).name ≡ x.name) (ups : (x : Node) → (f x).up ≡ x.up) where
     pub each_child : (R : Node → Node → Type 0)
@@ -19,25 +19,25 @@ module _ (f : Node → Node) (t : Tree) where
     each_child R h x y i j u =
         let (z, k, e) = In-map_from f x t.others i in
         let (w, l, q) = In-map_from f y (nodes t) j in
-        let u' : z.up ≡ w.name = sym (ups z) ∙ ap (λ n. n.up) (sym e) ∙ u ∙ ap (λ n. n.name) q ∙ names w in
-        subst (λ n. R n x) (sym q) (subst (λ n. R (f w) n) (sym e) (h z w k l u'))
+        let u' : z.up ≡ w.name = cc (ups z, names w) in
+        rw q (subst (λ n. R (f w) n) (sym e) (h z w k l u'))
 
     pub each_siblings : (R : Node → Node → Type 0) → ((x y : Node) → In x t.others → In y t.others → x.up ≡ y.up
         → x.name ≢ y.name → R (f x) (f y)) → EachSiblings R (on_nodes f t)
     each_siblings R h x y i j u d =
         let (z, k, e) = In-map_from f x t.others i in
         let (w, l, q) = In-map_from f y t.others j in
-        let u' : z.up ≡ w.up = sym (ups z) ∙ ap (λ n. n.up) (sym e) ∙ u ∙ ap (λ n. n.up) q ∙ ups w in
+        let u' : z.up ≡ w.up = cc (ups z, ups w) in
         let d' : z.name ≢ w.name =
-        λ v. d (ap (λ n. n.name) e ∙ names z ∙ v ∙ sym (names w) ∙ ap (λ n. n.name) (sym q)) in
-        subst (λ n. R x n) (sym q) (subst (λ n. R n (f w)) (sym e) (h z w k l u' d'))
+        λ v. d (rw (e, names z, v, ← names w, ← q)) in
+        rw q (subst (λ n. R n (f w)) (sym e) (h z w k l u' d'))
 
     pub names_kept : (xs : List Node) → names_of (map f xs) ≡ names_of xs
     names_kept [] = refl
     names_kept (x ∷ xs) = λ i. names x i ∷ names_kept xs i
 
     rooted_in : (root : Node) (xs : List Node) → IsRooted root xs → IsRooted (f root) (map f xs)
-    rooted_in root [] r = ups root ∙ r ∙ sym (names root)
+    rooted_in root [] r = cc (ups root, names root)
     rooted_in root (x ∷ xs) r = (
       (λ i.
           r.0 (subst (λ v. In v (names_of (root ∷ xs))) (names x) (subst (In (f x).name) (names_kept (root ∷ xs)) i))),

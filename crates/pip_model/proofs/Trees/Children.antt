@@ -40,7 +40,7 @@ holder_is t s p g b y d u h = elim (cases_option (holder t p g)) [
   | inl none ↦ absurd (holder_none t p g b y none d u h)
   | inr z ↦
       let k = find_in (λ x. holds x g) z.0 (children t p) z.1 in
-      z.1 ∙ ap Some (holder_unique t p g s z.0 y k.0 (in_children t p b y d u) k.1 (in_has g (held_pages y) h))
+      rw (z.1, holder_unique t p g s z.0 y k.0 (in_children t p b y d u) k.1 (in_has g (held_pages y) h))
 ]
 
 -- the child that was born at an address
@@ -80,8 +80,8 @@ named_is t p d c k = let f = child_found t p d c k in record {
   found = k;
   child = f.0;
   up = f.1;
-  name = ap (λ o. unwrap_or (option_map (λ x. x.name) o) 0) k;
-  node = ap (λ o. unwrap_or o nobody) k;
+  name = rw k;
+  node = rw k;
 }
 
 -- it is there, where it was not refused

@@ -17,17 +17,17 @@ memory x = record x { masked = false; pending = [] }
 
 module _ (x y : Node) (e : memory x ≡ memory y) where
   unique_same : KeepsPagesApart x → KeepsPagesApart y
-  unique_same k = let h = subst KeepsPagesApart e (record { pages = k.pages; places = k.places }) in
-      record { pages = h.pages; places = h.places }
+  unique_same k = let h = subst KeepsPagesApart e (assumption) in
+      assumption
 
   named_same : IsNamedByBase x → IsNamedByBase y
-  named_same k = let h = subst IsNamedByBase e (record { name = k.name; born = k.born }) in
-      record { name = h.name; born = h.born }
+  named_same k = let h = subst IsNamedByBase e (assumption) in
+      assumption
 
   tables_same : RowsHaveTables x → RowsHaveTables y
   tables_same k = let h = subst RowsHaveTables e
-      (record { first = k.first; differ = k.differ; tabled = k.tabled; small = k.small; listed = k.listed }) in
-      record { first = h.first; differ = h.differ; tabled = h.tabled; small = h.small; listed = h.listed }
+      (assumption) in
+      assumption
 
   readable_same : CanRead x → CanRead y
   readable_same k = subst CanRead e k
@@ -35,8 +35,8 @@ module _ (x y : Node) (e : memory x ≡ memory y) where
 module _ (x y v w : Node) (e : memory x ≡ memory y) (d : memory v ≡ memory w) where
   lent_same : IsLentBy v x → IsLentBy w y
   lent_same k = let h = subst (λ z. IsLentBy (memory w) z) e
-      (subst (λ z. IsLentBy z (memory x)) d (record { rows = k.rows; aligned = k.aligned; placed = k.placed })) in
-      record { rows = h.rows; aligned = h.aligned; placed = h.placed }
+      (rw (← d) (record { rows = k.rows; aligned = k.aligned; placed = k.placed })) in
+      assumption
 
   apart_same : AreApart x v → AreApart y w
   apart_same k = subst (λ z. AreApart (memory y) z) d (subst (λ z. AreApart z (memory v)) e k)
@@ -52,7 +52,7 @@ control-sound f t same quiet lines s =
     record {
       parents_come_first = rooted f t names ups s.parents_come_first;
       boot_root =
-          record { small = s.boot_root.small; large = s.boot_root.large; same = sym (same t.root) ∙ s.boot_root.same };
+          record { small = s.boot_root.small; large = s.boot_root.large; same = rw (← same t.root) s.boot_root.same };
       pages_apart = each_node f t KeepsPagesApart (λ x i. unique_same x (f x) (same x) (s.pages_apart x i));
       lent = each_child f t names ups IsLentBy
           (λ x y i j u. lent_same x (f x) y (f y) (same x) (same y) (s.lent x y i j u));
@@ -77,7 +77,7 @@ masked-sound p b t s = control-sound (masked_node p b) t (λ x. refl) (λ x i. s
 pub pending-sound : (js : List ℕ) (t : Tree) → AreLines 0 js → IsSound t → IsSound (with_pending js t)
 pending-sound js t l s = control-sound (lines_in t.root.name js) t (λ x. refl) (λ x i. ap (λ b. cond b js x.pending)
     (ne_eqb x.name t.root.name (λ e. not_root t s x i (sym e))) ∙ s.no_lines_but_the_root x i)
-    (subst (λ b. AreLines 0 (cond b js t.root.pending)) (sym (eq-eqb t.root.name t.root.name refl)) l) s
+    (rw (eq-eqb t.root.name t.root.name refl) l) s
 
 -- other words in the same pages keep a tree sound: what an image puts there, or a store
 pub words-sound : (t : Tree) (words : ℕ → Option (ℕ → ℕ)) → IsSound t
@@ -85,7 +85,7 @@ pub words-sound : (t : Tree) (words : ℕ → Option (ℕ → ℕ)) → IsSound 
     → IsSound (record t { words = words })
 words-sound t words s same small = record {
   parents_come_first = s.parents_come_first;
-  boot_root = record { small = s.boot_root.small; large = s.boot_root.large; same = s.boot_root.same };
+  boot_root = assumption;
   pages_apart = s.pages_apart;
   lent = s.lent;
   named_by_descriptor = s.named_by_descriptor;

@@ -21,8 +21,7 @@ depth t a = length (chain t a)
 -- a parent is one step higher
 pub depth_up : (t : Tree) → IsSound t → (b : ℕ) (y : Node) → find_other t b ≡ Some y → depth t b ≡ suc (depth t y.up)
 unfolding depth
-depth_up t s b y e = subst (λ k. length (chain t k) ≡ suc (length (chain t y.up))) (other_name t b y e)
-    (ap length (chain-node t s y (other_in t b y e)))
+depth_up t s b y e = rw (← other_name t b y e) (ap length (chain-node t s y (other_in t b y e)))
 
 long : {A : Type 0} (f : A → ℕ) (q : ℕ) (xs : List A) → In q (map f xs) → 1 ≤ length xs
 long f q [] i = absurd i
@@ -31,8 +30,8 @@ long f q (x ∷ xs) i = omega arith
 -- each partition is counted
 pub depth_some : (t : Tree) → IsSound t → (a : ℕ) (x : Node) → find_node t a ≡ Some x → 1 ≤ depth t a
 unfolding depth
-depth_some t s a x e = subst (λ k. 1 ≤ length (chain t k)) (found_name t a x e)
-    (long (λ z. z.name) x.name (chain t x.name) (own_ancestry t s x (found_in t a x e)))
+depth_some t s a x e = rw (← found_name t a x e) (long (λ z. z.name) x.name (chain t x.name)
+    (own_ancestry t s x (found_in t a x e)))
 
 chain_short : (root : Node) (xs : List Node) (p : ℕ) → length (chain_in root xs p) ≤ suc (length xs)
 chain_short root [] p = go (root.name == p)
@@ -55,18 +54,18 @@ depth_few t a = chain_short t.root t.others a
 -- a partition on a chain is no deeper
 pub chain_depth : (t : Tree) → IsSound t → (a b : ℕ) → OnChain t a b → depth t a ≤ depth t b
 chain_depth t s a _ here = omega arith
-chain_depth t s a b (over y e r) = let h = chain_depth t s a y.up r in let k = depth_up t s b y e in omega arith
+chain_depth t s a b (over y e r) = omega (arith, chain_depth t s a y.up r, depth_up t s b y e)
 
 -- a partition isn't on the chain of its parent
 pub chain_differs : (t : Tree) → IsSound t → (a b : ℕ) (y : Node) → find_other t b ≡ Some y → OnChain t a y.up → a ≢ b
 chain_differs t s a b y e r = λ q. let h = chain_depth t s a y.up r in let k = depth_up t s b y e in
-    let same : depth t a ≡ depth t b = ap (depth t) q in absurd (omega arith)
+    let same : depth t a ≡ depth t b = rw q in absurd (omega arith)
 
 -- no node but the root is its own parent
 pub own_parent : (t : Tree) → IsSound t → (a : ℕ) (x : Node) → find_node t a ≡ Some x → x.up ≡ a → x ≡ t.root
 own_parent t s a x e u = elim (root_or_other t a x e) [
   | inl r ↦ r
-  | inr o ↦ absurd (not_own_parent t s x (other_in t a x o) (u ∙ sym (found_name t a x e)))
+  | inr o ↦ absurd (not_own_parent t s x (other_in t a x o) (cc (found_name t a x e)))
 ]
 
 none_equal : (a : ℕ) (xs : List ℕ) → (In a xs → ⊥) → AllByRecursion (λ y. eqb a y ≡ false) xs
@@ -82,20 +81,19 @@ equal_by_test : (a x : ℕ) → eqb a x ≡ true → a ≡ x
 equal_by_test a x e = grind (arith, eqb-true)
 
 pub any_member : (a : ℕ) (xs : List ℕ) → list_any (eqb a) xs ≡ true → In a xs
-any_member a xs e = let (x, i, h) = any_from (eqb a) xs e in subst (λ k. In k xs) (sym (equal_by_test a x h)) i
+any_member a xs e = let (x, i, h) = any_from (eqb a) xs e in rw (equal_by_test a x h) i
 
 length-names : (xs : List Node) → length (names_of xs) ≡ length xs
 length-names [] = refl
-length-names (x ∷ xs) = ap suc (length-names xs)
+length-names (x ∷ xs) = rw (length-names xs)
 
 -- there are no more partitions than frames
 pub few_nodes : (t : Tree) → IsSound t → length (nodes t) ≤ t.frames
 few_nodes t s =
-    subst (λ k. k ≤ t.frames) (length-names (nodes t)) (length-le_from_distinct_below (names_of (nodes t)) t.frames
+    rw (← length-names (nodes t)) (length-le_from_distinct_below (names_of (nodes t)) t.frames
     (distinct_by_test (names_of (nodes t)) (names_apart t s)) small)
   where
     small : (q : ℕ) → list_any (eqb q) (names_of (nodes t)) ≡ true → q < t.frames
     small q h =
         let (x, j, e) = In-map_from (λ z. z.name) q (nodes t) (any_member q (names_of (nodes t)) h) in
-        subst (λ k. k < t.frames) (sym e)
-        (page_small t x.name s x j (In-append_left x.name (config x) (row_pages x) (name-config t s x j)))
+        rw e (page_small t x.name s x j (In-append_left x.name (config x) (row_pages x) (name-config t s x j)))

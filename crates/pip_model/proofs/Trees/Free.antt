@@ -42,8 +42,8 @@ pub unheld-config : (t : Tree) (p g : ℕ) → IsSound t → (y : Node) → In y
     → IsUnheld t p g → (z : Node) → In z (nodes t) → In g (config z) → ⊥
 unheld-config t p g s y j n r u z i h =
     let (c, k, e, w) = child_on_way t y z (row_above t g s z y i j h r) in
-    u c k (e ∙ n) (elim w [
-      | inl q ↦ In-append_left g (config c) (row_pages c) (subst (λ x. In g (config x)) (sym q) h)
+    u c k (cc) (elim w [
+      | inl q ↦ In-append_left g (config c) (row_pages c) (rw q h)
       | inr a ↦ In-append_right g (config c) (row_pages c)
           (holds_up t g s c z a (In-append_left g (config z) (row_pages z) h))
     ])
@@ -52,15 +52,14 @@ usable_from : (t : Tree) (p a : ℕ) (o : Option Row) → row_at (node t p).rows
     → is_some o ≡ true → free t p (vpage a) ≡ true → CanBeGiven t p a
 usable_from t p a None e l m f = cc
 usable_from t p a (Some r) e l m f =
-    let q : page_at (node t p) (vpage a) ≡ Some r.frame = ap (option_map (λ r. r.frame)) e in
-    let g : page_of t p a ≡ r.frame = ap (λ o. unwrap_or o 0) q in
+    let q : page_at (node t p) (vpage a) ≡ Some r.frame = rw e in
+    let g : page_of t p a ≡ r.frame = rw q in
     let h : is_none (holder t p r.frame) ≡ true = grind (arith, e, f) in
     let k : holder t p r.frame ≡ None = grind (arith, h) in
     record {
       aligned = eqb-true (a % 4096) 0 l;
-      placed = q ∙ ap Some (sym g);
-      row = subst (λ n. In n (row_pages (node t p))) (sym g)
-          (In-map (λ r. r.frame) r (node t p).rows (find_in (λ r. r.at == vpage a) r (node t p).rows e).0);
+      placed = rw (q, ← g);
+      row = rw g (In-map (λ r. r.frame) r (node t p).rows (find_in (λ r. r.at == vpage a) r (node t p).rows e).0);
       unheld = subst (IsUnheld t p) (sym g) (no_holder-unheld t p r.frame k);
     }
 
@@ -86,10 +85,8 @@ usable_same t p s n a b u w e =
     let (q, i, at, pg) = row_found x (vpage a) (page_of t p a) u.placed in
     let (r, j, at', pg') = row_found x (vpage b) (page_of t p b) w.placed in
     let d = Distinct-right (config x) (row_pages x) (s.pages_apart x (node_found t p n).0).pages in
-    let k : q ≡ r = same_at_key (λ r. r.frame) q r x.rows d i j (pg ∙ e ∙ sym pg') in
-    let v : vpage a ≡ vpage b = sym at ∙ ap (λ r. r.at) k ∙ at' in
-    let la = u.aligned in
-    let lb = w.aligned in
+    let k : q ≡ r = same_at_key (λ r. r.frame) q r x.rows d i j (cc) in
+    let v : vpage a ≡ vpage b = rw (← at, k, at') in
     omega arith
 
 pub not_false : (b : Bool) → not b ≡ false → b ≡ true

@@ -55,7 +55,7 @@ same_found t a x y e d = cc
 -- the root is found
 pub root_found : (t : Tree) → find_node t t.root.name ≡ Some t.root
 root_found t =
-    ap (λ b. cond b (Some t.root) (find (λ x. x.name == t.root.name) t.others)) (eq-eqb t.root.name t.root.name refl)
+    rw (eq-eqb t.root.name t.root.name refl)
 
 -- what is found among the others is found among all nodes
 pub other_found : (t : Tree) → IsSound t → (b : ℕ) (y : Node) → find_other t b ≡ Some y → find_node t b ≡ Some y
@@ -64,7 +64,7 @@ other_found t s b y e =
 
 -- and its name is not the name of the root
 pub other_differs : (t : Tree) → IsSound t → (b : ℕ) (y : Node) → find_other t b ≡ Some y → t.root.name ≢ b
-other_differs t s b y e = λ q. not_root t s y (other_in t b y e) (q ∙ sym (other_name t b y e))
+other_differs t s b y e = λ q. not_root t s y (other_in t b y e) (cc (other_name t b y e))
 
 -- a node is the root or another
 pub root_or_other : (t : Tree) (a : ℕ) (x : Node) → find_node t a ≡ Some x → (x ≡ t.root) ⊎ (find_other t a ≡ Some x)
@@ -76,7 +76,7 @@ root_or_other t a x e = go (t.root.name == a) e
 
 -- the look-up that is a node wherever it is made
 pub node_is : (t : Tree) (a : ℕ) (x : Node) → find_node t a ≡ Some x → node t a ≡ x
-node_is t a x e = ap (λ o. unwrap_or o t.root) e
+node_is t a x e = rw e
 
 -- what is found has a name of the tree
 pub found_is_name : (t : Tree) (a : ℕ) (x : Node) → find_node t a ≡ Some x → In a (names_of (nodes t))
@@ -107,7 +107,7 @@ root_up t s = root_up_in t.root t.others s.parents_come_first
 pub up_found : (t : Tree) → IsSound t → (a : ℕ) (x : Node) → find_node t a ≡ Some x
     → (p : Node) × (find_node t x.up ≡ Some p)
 up_found t s a x e = elim (root_or_other t a x e) [
-  | inl r ↦ (t.root, subst (λ k. find_node t k ≡ Some t.root) (sym (ap (λ z. z.up) r ∙ root_up t s)) (root_found t))
+  | inl r ↦ (t.root, subst (λ k. find_node t k ≡ Some t.root) (rw (← root_up t s, ← r)) (root_found t))
   | inr o ↦ parent_found t s a x o
 ]
 
@@ -115,26 +115,25 @@ module _ (t : Tree) (s : IsSound t) (P : ℕ → Type 0) (top : P t.root.name)
     (step : (b : ℕ) (y : Node) → find_other t b ≡ Some y → P y.up → P b) where
   down : (xs : List Node) → IsRooted t.root xs → ((x : Node) → In x xs → In x t.others) → (x : Node)
       → In x (t.root ∷ xs) → P x.name
-  down xs r w x (inl e) = subst P (ap (λ z. z.name) (sym e)) top
+  down xs r w x (inl e) = rw e top
   down [] r w x (inr i) = absurd i
   down (z ∷ xs) r w x (inr (inr i)) = down xs r.2 (λ y j. w y (inr j)) x (inr i)
   down (z ∷ xs) r w x (inr (inl e)) =
       let (y, j, u) = In-map_from (λ z. z.name) z.up (t.root ∷ xs) r.1 in
       let h = down xs r.2 (λ y j. w y (inr j)) y j in
-      step x.name x (in_other t s x (w x (inl e))) (subst P (sym (ap (λ z. z.up) e ∙ u)) h)
+      step x.name x (in_other t s x (w x (inl e))) (rw (e, u) h)
 
   -- what holds of the root, and of each other node where it holds of the parent, holds of every node
   pub by_parents : (a : ℕ) (x : Node) → find_node t a ≡ Some x → P a
   unfolding down
-  by_parents a x e = subst P (found_name t a x e) (down t.others s.parents_come_first (λ y j. j) x (found_in t a x e))
+  by_parents a x e = rw (← found_name t a x e) (down t.others s.parents_come_first (λ y j. j) x (found_in t a x e))
 
 -- ---- a tree whose nodes are changed, each under its name
 
 find_mapped : (f : Node → Node) → ((x : Node) → (f x).name ≡ x.name) → (a : ℕ) (xs : List Node)
     → find (λ x. x.name == a) (map f xs) ≡ option_map f (find (λ x. x.name == a) xs)
 find_mapped f names a [] = refl
-find_mapped f names a (x ∷ xs) = ap (λ n. cond (n == a) (Some (f x)) (find (λ z. z.name == a) (map f xs))) (names x)
-    ∙ go (x.name == a) (find_mapped f names a xs)
+find_mapped f names a (x ∷ xs) = cc (names x, go (x.name == a) (find_mapped f names a xs))
   where
     go : (b : Bool) → find (λ z. z.name == a) (map f xs) ≡ option_map f (find (λ z. z.name == a) xs) → cond b
         (Some (f x)) (find (λ z. z.name == a) (map f xs)) ≡ option_map f (cond b (Some x) (find (λ z. z.name == a) xs))
@@ -154,7 +153,7 @@ find_other_changed f t names b = find_mapped f names b t.others
 -- what is found there is the change of what was found before
 pub changed_back : (f : Node → Node) (t : Tree) → ((x : Node) → (f x).name ≡ x.name) → (a : ℕ) (x : Node)
     → find_node (on_nodes f t) a ≡ Some x → (z : Node) × (find_node t a ≡ Some z) × (x ≡ f z)
-changed_back f t names a x e = go (find_node t a) refl (sym (find_changed f t names a) ∙ e)
+changed_back f t names a x e = go (find_node t a) refl (rw (← find_changed f t names a) e)
   where
     go : (o : Option Node) → find_node t a ≡ o → option_map f o ≡ Some x
         → (z : Node) × (find_node t a ≡ Some z) × (x ≡ f z)

@@ -22,13 +22,13 @@ use Rattle.pip_model.proofs.Trees.Boot.{root_small, root_rights, root_positive}
 use Rattle.pip_model.proofs.Trees.Free.{row_found}
 
 root_held : (t : Tree) → IsSound t → held_pages t.root ≡ held_pages (boot_root t.frames)
-root_held t s = ap held_pages s.boot_root.same
+root_held t s = cc (s.boot_root.same)
 
 -- every page that a node holds is a frame
 pub page_small : (t : Tree) (g : ℕ) → IsSound t → (x : Node) → In x (nodes t) → In g (held_pages x) → g < t.frames
 page_small t g s x i h = elim (root_is_top t s x i) [
   | inl e ↦ root_small t.frames s.boot_root.small s.boot_root.large g
-      (subst (In g) (root_held t s) (subst (λ z. In g (held_pages z)) (sym e) h))
+      (subst (In g) (root_held t s) (rw e h))
   | inr a ↦ root_small t.frames s.boot_root.small s.boot_root.large g (subst (In g) (root_held t s)
       (In-append_right g (config t.root) (row_pages t.root) (holds_up t g s t.root x a h)))
 ]
@@ -40,26 +40,20 @@ rights_below t s y x (parent i j e) h q k =
     let g = (s.lent x y i j e).rows q.frame
     (In-append_right q.frame (config x) (row_pages x) (In-map (λ r. r.frame) q x.rows k)) in
     let (r, l, p) = In-map_from (λ r. r.frame) q.frame y.rows g in
-    let w = s.rights x y i j e q r k l p in
-    let b = and_le_r q.rights r.rights in
-    let c = h r l in
-    omega (arith, w, b, c)
+    omega (arith, s.rights x y i j e q r k l p, and_le_r q.rights r.rights, h r l)
 rights_below t s y x (further {z = z} i j e a) h q k =
     let g = (s.lent x z i j e).rows q.frame
     (In-append_right q.frame (config x) (row_pages x) (In-map (λ r. r.frame) q x.rows k)) in
     let (r, l, p) = In-map_from (λ r. r.frame) q.frame z.rows g in
-    let w = s.rights x z i j e q r k l p in
-    let b = and_le_r q.rights r.rights in
-    let c = rights_below t s y z a h r l in
-    omega (arith, w, b, c)
+    omega (arith, s.rights x z i j e q r k l p, and_le_r q.rights r.rights, rights_below t s y z a h r l)
 
 root_rows_small : (t : Tree) → IsSound t → (q : Row) → In q t.root.rows → q.rights < 8
 root_rows_small t s q k = let c : q.rights ≡ 7 =
-    root_rights t.frames q (subst (In q) (ap (λ z. z.rows) s.boot_root.same) k) in omega (arith, c)
+    root_rights t.frames q (subst (In q) (cc (s.boot_root.same)) k) in omega arith
 
 pub rights_small : (t : Tree) → IsSound t → (x : Node) → In x (nodes t) → (q : Row) → In q x.rows → q.rights < 8
 rights_small t s x i q k = elim (root_is_top t s x i) [
-  | inl e ↦ root_rows_small t s q (subst (λ z. In q z.rows) (sym e) k)
+  | inl e ↦ root_rows_small t s q (rw e k)
   | inr a ↦ rights_below t s t.root x a (root_rows_small t s) q k
 ]
 
@@ -67,55 +61,51 @@ rights_small t s x i q k = elim (root_is_top t s x i) [
 pub at_small : (t : Tree) → IsSound t → (x : Node) → In x (nodes t) → (q : Row) → In q x.rows → q.at < 2 ^ 20
 at_small t s x i q k =
     let (b, l, e) = In-map_from (λ b. b.index) (dir q.at) x.tables ((s.tables x i).tabled q k) in
-    let m = (s.tables x i).small b l in
-    omega (arith, e, m)
+    omega (arith, (s.tables x i).small b l)
 
 tables_own : (k i g : ℕ) (d : Pair) → In d (flat_map table_pairs (tables_from k i g) ++ []) → d.va ≡ 0
-tables_own zero i g d (inl e) = ap (λ d. d.va) e
-tables_own zero i g d (inr (inl e)) = ap (λ d. d.va) e
-tables_own zero i g d (inr (inr (inl e))) = ap (λ d. d.va) e
+tables_own zero i g d (inl e) = rw e
+tables_own zero i g d (inr (inl e)) = rw e
+tables_own zero i g d (inr (inr (inl e))) = rw e
 tables_own zero i g d (inr (inr (inr e))) = absurd e
-tables_own (suc k) i g d (inl e) = ap (λ d. d.va) e
-tables_own (suc k) i g d (inr (inl e)) = ap (λ d. d.va) e
-tables_own (suc k) i g d (inr (inr (inl e))) = ap (λ d. d.va) e
+tables_own (suc k) i g d (inl e) = rw e
+tables_own (suc k) i g d (inr (inl e)) = rw e
+tables_own (suc k) i g d (inr (inr (inl e))) = rw e
 tables_own (suc k) i g d (inr (inr (inr j))) = tables_own k (i + 1) (g + 3) d j
 
 -- the addresses of the root's pages are 0
 root_own : (n : ℕ) (d : Pair) → In d (pairs (boot_root n)) → d.va ≡ 0
-root_own n d (inl e) = ap (λ d. d.va) e
-root_own n d (inr (inl e)) = ap (λ d. d.va) e
-root_own n d (inr (inr (inl e))) = ap (λ d. d.va) e
-root_own n d (inr (inr (inr (inl e)))) = ap (λ d. d.va) e
-root_own n d (inr (inr (inr (inr (inl e))))) = ap (λ d. d.va) e
+root_own n d (inl e) = rw e
+root_own n d (inr (inl e)) = rw e
+root_own n d (inr (inr (inl e))) = rw e
+root_own n d (inr (inr (inr (inl e)))) = rw e
+root_own n d (inr (inr (inr (inr (inl e))))) = rw e
 root_own n d (inr (inr (inr (inr (inr j))))) = tables_own (tables_of_root n) 1 6 d j
 
 -- an address at which a page was given is a word
 pub va_small : (t : Tree) → IsSound t → (x : Node) → In x (nodes t) → (g : Pair) → In g (pairs x) → IsWord g.va
 va_small t s x (inl e) g j = let z : g.va ≡ 0 =
-    root_own t.frames g (subst (In g) (ap pairs (s.boot_root.same)) (subst (λ z. In g (pairs z)) e j)) in
-    omega (arith, z)
+    root_own t.frames g (subst (In g) (ap pairs (s.boot_root.same)) (rw (← e) j)) in
+    omega arith
 va_small t s x (inr i) g j =
     let (y, k, u) = parent_in t.root t.others s.parents_come_first x i in
     let (r, l, at, pg) = row_found y (vpage g.va) g.frame ((s.lent x y i k u).placed g j) in
-    let a = at_small t s y k r l in
-    omega (arith, a, at)
+    omega (arith, at_small t s y k r l)
 
 pub born_small : (t : Tree) → IsSound t → (x : Node) → In x (nodes t) → IsWord x.born
 born_small t s x (inl e) = let z : x.born ≡ 0 = ap (λ z. z.born) e ∙ ap (λ z. z.born) s.boot_root.same in
-    omega (arith, z)
+    omega arith
 born_small t s x (inr i) =
-    subst IsWord (sym (s.named_by_descriptor x i).born) (va_small t s x (inr i) x.base.descriptor (inl refl))
+    rw (← sym (s.named_by_descriptor x i).born) (va_small t s x (inr i) x.base.descriptor (inl refl))
 
 pub name_small : (t : Tree) → IsSound t → (x : Node) → In x (nodes t) → IsWord x.name
 name_small t s x i =
-    let a = page_small t x.name s x i (In-append_left x.name (config x) (row_pages x) (name-config t s x i)) in
-    let b = s.boot_root.large in
-    omega (arith, a, b)
+    omega (arith, page_small t x.name s x i (In-append_left x.name (config x) (row_pages x) (name-config t s x i)))
 
 pub up_small : (t : Tree) → IsSound t → (x : Node) → In x (nodes t) → IsWord x.up
-up_small t s x (inl e) = let z : x.up ≡ 1 = ap (λ z. z.up) e ∙ ap (λ z. z.up) s.boot_root.same in omega (arith, z)
+up_small t s x (inl e) = let z : x.up ≡ 1 = ap (λ z. z.up) e ∙ ap (λ z. z.up) s.boot_root.same in omega arith
 up_small t s x (inr i) = let (y, k, u) = parent_in t.root t.others s.parents_come_first x i in
-    subst IsWord (sym u) (name_small t s y k)
+    rw u (name_small t s y k)
 
 pub node-numbers : (t : Tree) → IsSound t → (x : Node) → In x (nodes t) → HasNumbers t.frames x
 node-numbers t s x i = record {
@@ -180,7 +170,7 @@ reached_index t p va g i a z e = off (is_misaligned va z) (row_at (node t p).row
     off false (Some r) q = at r (hidden t r.frame) (not (bit_and (right a) r.rights == right a)) q
 
 pub reached_small : (t : Tree) (p va g i : ℕ) (a : Access) (z : Size) → reach t p va a z ≡ Place g i → i < 1024
-reached_small t p va g i a z e = let u = reached_index t p va g i a z e in omega (arith, u)
+reached_small t p va g i a z e = omega (arith, reached_index t p va g i a z e)
 
 pub word_found : (t : Tree) (p va : ℕ) (a : Access) (z : Size) (x : ℕ) → IsSound t
     → word_reached t (reach t p va a z) ≡ Some x → IsWord x
@@ -189,13 +179,13 @@ word_found t p va a z x s e = go (reach t p va a z) refl e
     go : (q : Reached) → reach t p va a z ≡ q → word_reached t q ≡ Some x → IsWord x
     go (Faulted f) h k = cc
     go (Place g i) h k = let u : word_of (t.words g) i ≡ x = cc in
-        subst IsWord u (s.numbers g i (reached_small t p va g i a z h))
+        rw (← u) (s.numbers g i (reached_small t p va g i a z h))
 
 -- no node holds frame 0, so none is named 0
 pub page_positive : (t : Tree) (g : ℕ) → IsSound t → (x : Node) → In x (nodes t) → In g (held_pages x) → 1 ≤ g
 page_positive t g s x i h = elim (root_is_top t s x i) [
   | inl e ↦ root_positive t.frames s.boot_root.small s.boot_root.large g
-      (subst (In g) (root_held t s) (subst (λ z. In g (held_pages z)) (sym e) h))
+      (subst (In g) (root_held t s) (rw e h))
   | inr a ↦ root_positive t.frames s.boot_root.small s.boot_root.large g (subst (In g) (root_held t s)
       (In-append_right g (config t.root) (row_pages t.root) (holds_up t g s t.root x a h)))
 ]
@@ -203,5 +193,4 @@ page_positive t g s x i h = elim (root_is_top t s x i) [
 pub name_positive : (t : Tree) → IsSound t → (q : ℕ) → In q (names_of (nodes t)) → 1 ≤ q
 name_positive t s q i =
     let (x, j, e) = In-map_from (λ x. x.name) q (nodes t) i in
-    let h = page_positive t x.name s x j (In-append_left x.name (config x) (row_pages x) (name-config t s x j)) in
-    omega (arith, h, e)
+    omega (arith, page_positive t x.name s x j (In-append_left x.name (config x) (row_pages x) (name-config t s x j)))

@@ -49,7 +49,7 @@ one_row x k v w r q d e p =
     let b = row_in x w q e in
     let same : r ≡ q =
     same_at_key (λ z. z.frame) r q x.rows (Distinct-right (config x) (row_pages x) k.pages) a.0 b.0 p in
-    (same, sym a.1 ∙ ap (λ z. z.at) same ∙ b.1)
+    (same, rw (← a.1, same, b.1))
 
 -- the place of a page is that of a row with it
 pub place_row : (x : Node) → KeepsPagesApart x → (g v : ℕ) → vpage_of_page x g ≡ Some v
@@ -62,20 +62,19 @@ place_row x k g v e = go (find (λ r. r.frame == g) x.rows) refl e
     go (Some r) f q =
         let i = find_in (λ r. r.frame == g) r x.rows f in
         let at : r.at ≡ v = cc in
-        (r, subst (λ w. row_at x.rows w ≡ Some r) at (in_row x k r i.0), eqb-true r.frame g i.1)
+        (r, rw (← at) (in_row x k r i.0), eqb-true r.frame g i.1)
 
 -- and the place of a row's page is the row's
 pub place_is : (x : Node) → KeepsPagesApart x → (v : ℕ) (r : Row) → row_at x.rows v ≡ Some r
     → vpage_of_page x r.frame ≡ Some v
 place_is x k v r e =
     let a = row_in x v r e in
-    ap (option_map (λ q. q.at)) (find_member (λ q. q.frame) r x.rows (Distinct-right (config x) (row_pages x) k.pages)
-    a.0) ∙ ap Some a.1
+    rw (find_member (λ q. q.frame) r x.rows (Distinct-right (config x) (row_pages x) k.pages) a.0, a.1)
 
 -- a page in a row has a place
 pub place_some : (x : Node) → KeepsPagesApart x → (g : ℕ) → In g (row_pages x) → (v : ℕ) × (vpage_of_page x g ≡ Some v)
 place_some x k g i = let (r, e, p) = page_row x k g i in
-    (r.at, subst (λ f. vpage_of_page x f ≡ Some r.at) p (place_is x k r.at r e))
+    (r.at, rw p at (place_is x k r.at r e))
 
 -- the page at a vpage
 pub page_at_row : (x : Node) (v g : ℕ) → page_at x v ≡ Some g → (r : Row) × (row_at x.rows v ≡ Some r) × (r.frame ≡ g)

@@ -21,10 +21,10 @@ in_filter_map : (h : Row → Option Node) (r : Row) (y : Node) (rows : List Row)
     → In y (filter_map h rows)
 in_filter_map h r y [] i e = absurd i
 in_filter_map h r y (q ∷ qs) (inl same) e =
-    subst (λ o. In y (cons_option o (filter_map h qs))) (sym (ap h (sym same) ∙ e)) (inl refl)
+    rw (← same, e) (inl refl)
 in_filter_map h r y (q ∷ qs) (inr i) e = elim (cases_option (h q)) [
-  | inl none ↦ subst (λ o. In y (cons_option o (filter_map h qs))) (sym none) (in_filter_map h r y qs i e)
-  | inr z ↦ subst (λ o. In y (cons_option o (filter_map h qs))) (sym z.1) (inr (in_filter_map h r y qs i e))
+  | inl none ↦ rw none (in_filter_map h r y qs i e)
+  | inr z ↦ rw z.1 (inr (in_filter_map h r y qs i e))
 ]
 
 -- a child among those of rows is in one of them
@@ -33,10 +33,10 @@ pub child_in_rows : (t : Tree) (x c : Node) (rows : List Row) → In c (filter_m
 child_in_rows t x c [] i = absurd i
 child_in_rows t x c (r ∷ rs) i = elim (cases_option (child_of_row t x r)) [
   | inl none ↦ let (q, j, k) =
-      child_in_rows t x c rs (subst (λ o. In c (cons_option o (filter_map (child_of_row t x) rs))) none i) in
+      child_in_rows t x c rs (rw none at i) in
       (q, inr j, k)
-  | inr y ↦ elim (subst (λ o. In c (cons_option o (filter_map (child_of_row t x) rs))) y.1 i) [
-    | inl e ↦ (r, inl refl, y.1 ∙ ap Some (sym e))
+  | inr y ↦ elim (rw y.1 at i) [
+    | inl e ↦ (r, inl refl, rw (y.1, ← e))
     | inr h ↦ let (q, j, k) = child_in_rows t x c rs h in (q, inr j, k)
   ]
 ]
@@ -44,7 +44,7 @@ child_in_rows t x c (r ∷ rs) i = elim (cases_option (child_of_row t x r)) [
 -- a bound from below may be less
 rising_from : (low high : ℕ) (xs : List ℕ) → low ≤ high → Rising high xs → Rising low xs
 rising_from low high [] h r = tt
-rising_from low high (x ∷ xs) h r = let k = r.0 in (omega (arith, h, k), r.1)
+rising_from low high (x ∷ xs) h r = let k = r.0 in (omega arith, r.1)
 
 module _ (t : Tree) (s : IsSound t) where
   pub row_child_is : (x c : Node) (r : Row) → child_of_row t x r ≡ Some c
@@ -65,10 +65,9 @@ module _ (t : Tree) (s : IsSound t) where
       let (r, at, page) = born_row t s b x y other found in
       let (i, place) = row_in x (vpage y.born) r at in
       let even = (born_place t s b y other).0 in
-      let there : 4096 * r.at ≡ y.born = omega (arith, place, even) in
+      let there : 4096 * r.at ≡ y.born = omega arith in
       let name : x.name ≡ y.up = found_name t y.up x found in
-      in_filter_map (child_of_row t x) r y x.rows i (ap (λ p. child_at t p (4096 * r.at)) name
-      ∙ (ap (child_at t y.up) there ∙ child_is t s y.up b x y found other refl))
+      in_filter_map (child_of_row t x) r y x.rows i (cc (child_is t s y.up b x y found other refl))
 
   rises : (x : Node) (low : ℕ) (rows : List Row) → Rising low (map (λ r. r.at) rows)
       → Rising (4096 * low) (map (λ (y : Node). y.born) (filter_map (child_of_row t x) rows))
@@ -79,17 +78,14 @@ module _ (t : Tree) (s : IsSound t) where
       let rest = rises x (r.at + 1) rs rising.1 in
       elim (cases_option (child_of_row t x r)) [
         | inl none ↦
-            subst (λ o. Rising (4096
-            * low) (map (λ (y : Node). y.born) (cons_option o (filter_map (child_of_row t x) rs)))) (sym none)
-            (rising_from (4096 * low) (4096 * (r.at + 1)) (map (λ (y : Node).
-            y.born) (filter_map (child_of_row t x) rs)) (omega (arith, first)) rest)
+            rw none (rising_from (4096 * low) (4096 * (r.at + 1))
+            (map (λ (y : Node). y.born) (filter_map (child_of_row t x) rs)) (omega (arith, first)) rest)
         | inr y ↦
             let born = (row_child_is x y.0 r y.1).2 in
-            subst (λ o. Rising (4096
-            * low) (map (λ (y : Node). y.born) (cons_option o (filter_map (child_of_row t x) rs)))) (sym y.1) (
+            rw y.1 (
               omega (arith, born, first),
-              rising_from (y.0.born + 1) (4096 * (r.at + 1)) (map (λ (y : Node).
-                  y.born) (filter_map (child_of_row t x) rs)) (omega (arith, born)) rest,
+              rising_from (y.0.born + 1) (4096 * (r.at + 1))
+                  (map (λ (y : Node). y.born) (filter_map (child_of_row t x) rs)) (omega (arith, born)) rest,
             )
       ]
 
@@ -100,6 +96,6 @@ module _ (t : Tree) (s : IsSound t) where
     all = λ y j.
         let k = In-filter_from (λ z. z.up == x.name) y t.others j in
         let up : y.up ≡ x.name = eqb-true y.up x.name k.1 in
-        in_its_row y.name x y (in_other t s y k.0) (ap (find_node t) up ∙ in_found t s x i);
+        in_its_row y.name x y (in_other t s y k.0) (cc (in_found t s x i));
     no_others = λ y j. let (f, up) = by_rows x y j in in_children t x.name y.name y f up;
   }

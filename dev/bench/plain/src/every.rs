@@ -4,6 +4,7 @@
 use std::collections::HashSet;
 
 use crate::calls::YIELD;
+use crate::coming::{Coming, Cut, SHOWN};
 use crate::cpu::{put_line, Line};
 use crate::explorer::{Explorer, KeyList};
 use crate::frames::{PARENT, ROOT};
@@ -29,7 +30,8 @@ pub struct Bounds {
     pub begin: (u32, u32),
 }
 
-/// A guest that is searched alone: the name of its top, and the processors on which it runs, whose turns are the choices.
+/// A guest that is searched alone: the name of its top, and the processors on which it runs, whose turns are the
+/// choices.
 pub struct Guest {
     pub top: u32,
     pub cpus: Vec<usize>,
@@ -181,9 +183,11 @@ fn searched(mut loaded: Loaded<true>, menu: Menu, output: &mut Output, bounds: B
     let mut search = Search::new(loaded, menu, bounds)?;
     search.search()?;
     let lost = search.lost(output)?;
+    let coming = search.coming(output)?;
     put_head(output, &head)?;
     search.put(output)?;
-    search.put_lost(output, &lost)
+    search.put_lost(output, &lost)?;
+    search.put_coming(output, &coming)
 }
 
 /// The guest on a processor: the child of the root that runs there, or is above what does.
@@ -354,17 +358,7 @@ impl Search {
         if self.explorer.menu.labels.is_empty() || !matches!(self.end.0, End::Closed) {
             return Ok(vec![]);
         }
-        let texts: Vec<Vec<u8>> = (self.found.iter())
-            .map(|found| {
-                output.written(|output| {
-                    put_line(output.number(found.cpu).text(" "), found.line);
-                })
-            })
-            .collect();
-        let lines: Vec<Option<(u32, Line)>> = (self.explorer.menu.labels.iter())
-            .map(|label| texts.iter().position(|text| text == label))
-            .map(|at| at.map(|at| (self.found[at].cpu, self.found[at].line)))
-            .collect();
+        let lines = self.lines_of(output, &self.explorer.menu.labels);
         let (count, width) = (self.states.count() as usize, self.explorer.usual());
         let (mut edges, mut can) = (Vec::new(), vec![vec![false; count]; lines.len()]);
         edges.try_reserve_exact(count * width)?;
@@ -384,6 +378,81 @@ impl Search {
         }
         let back = Edges::of(count, width, &edges)?;
         Ok(can.iter_mut().map(|can| back.first_lost(can)).collect())
+    }
+
+    /// What shows each label, of those that were found.
+    fn lines_of(&self, output: &mut Output, labels: &[Vec<u8>]) -> Vec<Option<(u32, Line)>> {
+        let texts: Vec<Vec<u8>> = (self.found.iter())
+            .map(|found| {
+                output.written(|output| {
+                    put_line(output.number(found.cpu).text(" "), found.line);
+                })
+            })
+            .collect();
+        (labels.iter())
+            .map(|label| texts.iter().position(|text| text == label))
+            .map(|at| at.map(|at| (self.found[at].cpu, self.found[at].line)))
+            .collect()
+    }
+
+    /// Of each label of which it is asked whether it comes, where choices are fair, what is said of it.
+    fn coming(&mut self, output: &mut Output) -> Result<Vec<Coming>, Stop> {
+        if self.explorer.menu.coming.is_empty() || !matches!(self.end.0, End::Closed) {
+            return Ok(vec![]);
+        }
+        let lines = self.lines_of(output, &self.explorer.menu.coming);
+        let (count, width) = (self.states.count() as usize, self.explorer.choices());
+        let (mut targets, mut shows) = (Vec::new(), Vec::new());
+        targets.try_reserve_exact(count * width)?;
+        shows.try_reserve_exact(count * width)?;
+        for state in 0..count {
+            self.explorer.visit(self.states.key(state as u32));
+            for choice in 0..width {
+                let Some(shown) = self.explorer.made(choice) else {
+                    targets.push(state as u32);
+                    shows.push(0);
+                    continue;
+                };
+                let key = &self.explorer.key;
+                targets.push(self.states.find(key, self.states.keys.hash(key) >> 32).unwrap_or(0));
+                let bits = lines.iter().enumerate().filter(|(_, line)| shown.is_some() && **line == shown);
+                shows.push(bits.fold(0u16, |all, (at, _)| all | 1 << at));
+            }
+        }
+        let cut = |at: usize| -> Result<Coming, Stop> {
+            let mut own = Vec::new();
+            own.try_reserve_exact(targets.len())?;
+            own.extend(targets.iter().zip(&shows).map(|(&to, bits)| if bits >> at & 1 == 1 { SHOWN } else { to }));
+            Cut { targets: &own, width, classes: self.explorer.usual() }.coming()
+        };
+        (0..lines.len()).map(cut).collect()
+    }
+
+    /// What is said of each of these labels.
+    fn put_coming(&self, output: &mut Output, coming: &[Coming]) -> Result<(), Stop> {
+        for (at, label) in self.explorer.menu.coming.iter().enumerate() {
+            output.text("comes ").bytes(label);
+            match coming.get(at) {
+                None => {
+                    output.text(": unknown");
+                }
+                Some(Coming::Within(counts)) => {
+                    output.text(": within");
+                    for (choice, &count) in counts[1..].iter().enumerate() {
+                        output.text(if choice == 0 { " " } else { ", " }).number(count).text(" of");
+                        self.put_way(output, &[choice as u16]);
+                    }
+                }
+                Some(Coming::Avoided(state, choices)) => {
+                    output.text(": no");
+                    self.put_way(output, &self.states.way(*state));
+                    output.text(" :");
+                    self.put_way(output, choices);
+                }
+            }
+            output.end_line()?;
+        }
+        Ok(())
     }
 
     /// What is said of each label.

@@ -5,6 +5,7 @@ mod apart;
 mod asm;
 mod audit;
 mod calls;
+mod coming;
 mod cpu;
 mod dis;
 mod dump;

@@ -55,11 +55,13 @@ pub fn menu(input: &mut Input, output: &mut Output) -> Result<Menu, Stop> {
     }
 }
 
-/// What partitions may do, and the labels of which it is asked whether they can come again.
+/// What partitions may do, the labels of which it is asked whether they can come again, and those of which it is asked
+/// whether they come.
 #[derive(Default)]
 pub struct Menu {
     pub deeds: Vec<Deed>,
     pub labels: Vec<Vec<u8>>,
+    pub coming: Vec<Vec<u8>>,
     lines: u32,
 }
 
@@ -74,12 +76,13 @@ impl Menu {
             return if self.lines > MOST_LINES { Err(bad("many")) } else { Ok(()) };
         }
         let (who, mut words) = Words::of(line);
-        if who == b"again" {
+        if who == b"again" || who == b"comes" {
             let label = line.get(6..).filter(|label| !label.is_empty()).ok_or_else(|| bad("what"))?;
-            if self.labels.len() == MOST_LABELS || self.lines > MOST_LINES {
+            if self.labels.len() + self.coming.len() == MOST_LABELS || self.lines > MOST_LINES {
                 return Err(bad("many"));
             }
-            self.labels.push(label.to_vec());
+            let labels = if who == b"again" { &mut self.labels } else { &mut self.coming };
+            labels.push(label.to_vec());
             return Ok(());
         }
         let name = match who {

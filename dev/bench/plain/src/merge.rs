@@ -15,9 +15,15 @@ const NUMBER: usize = 9;
 const ENDING: usize = 2 + NUMBER;
 const NUMBERS: usize = 5 * NUMBER;
 
+/// The most lines that are merged.
+const MOST_LINES: u64 = u32::MAX as u64;
+
 pub fn merge(input: &mut Input, output: &mut Output) -> Result<(), Stop> {
     let mut merger = Merger::default();
-    each_line(input, |number, line| merger.take(line).map_err(|fault| fault.stop(number, line, output)))?;
+    each_line(input, |number, line| {
+        let taken = if number > MOST_LINES { Err(Fault::Many) } else { merger.take(line) };
+        taken.map_err(|fault| fault.stop(number, line, output))
+    })?;
     merger.put(output)
 }
 
@@ -142,7 +148,7 @@ impl Merger {
     #[inline]
     fn take_key(&mut self, line: &[u8]) -> Result<(), Fault> {
         let (key, ending) = line.split_at(line.len().checked_sub(ENDING).ok_or(Fault::Form)?);
-        let depth = number(&ending[2..]).ok_or(Fault::Form)?;
+        let depth = number(&ending[2..]).filter(|_| !key.is_empty()).ok_or(Fault::Form)?;
         let order = if self.keys == 0 { Ordering::Less } else { self.key.as_slice().cmp(key) };
         if order != Ordering::Equal && !is_key(key) {
             return Err(Fault::Form);
@@ -179,6 +185,9 @@ impl Merger {
     }
 
     fn take_label(&mut self, label: &[u8]) -> Result<(), Fault> {
+        if !is_label(label) {
+            return Err(Fault::Form);
+        }
         if self.about.is_some() {
             return Err(Fault::Order);
         }
@@ -201,6 +210,9 @@ impl Merger {
         let mut next = || numbers.next().unwrap_or(Err(Fault::Form));
         let numbers = [next()?, next()?, next()?, next()?, next()?];
         let [way, keys, asked, labels, sum] = numbers;
+        if !is_about(about) {
+            return Err(Fault::Form);
+        }
         match &self.about {
             None => self.about = Some(copied(about)?),
             Some(first) if first != about => return Err(Fault::Apart),
@@ -258,6 +270,36 @@ fn is_key(text: &[u8]) -> bool {
 #[inline]
 fn number(text: &[u8]) -> Option<u32> {
     digits(text.strip_prefix(b" ")?)
+}
+
+/// A pattern of words, each after a space: a letter is of one kind of word, and all else is as it is written.
+fn fits(text: &[u8], pattern: &str) -> bool {
+    let mut words = text.split(|&byte| byte == b' ');
+    pattern.split(' ').all(|kind| words.next().is_some_and(|word| is_of(word, kind))) && words.next().is_none()
+}
+
+/// Whether a word is a processor's number (P), a decimal number (N), a word of the machine (W), a sum (S), or this.
+fn is_of(word: &[u8], kind: &str) -> bool {
+    let hexadecimal = |digits: &[u8]| digits.iter().all(|byte| matches!(byte, b'0'..=b'9' | b'a'..=b'f'));
+    match kind {
+        "P" => matches!(word, [b'0'..=b'3']),
+        "N" => word == b"0" || word.iter().all(u8::is_ascii_digit) && !word.starts_with(b"0") && !word.is_empty(),
+        "W" => word.len() == 10 && word.starts_with(b"0x") && hexadecimal(&word[2..]),
+        "S" => word.len() == 16 && hexadecimal(word),
+        _ => word == kind.as_bytes(),
+    }
+}
+
+/// Whether this is a label: a line of a trace without its step.
+fn is_label(label: &[u8]) -> bool {
+    const LABELS: [&str; 5] =
+        [" P switch N N N", " P park N N", " P out W", " P call N reply N W", " P call N switch N N N"];
+    LABELS.iter().any(|pattern| fits(label, pattern))
+}
+
+/// Whether this says what a part is of.
+fn is_about(about: &[u8]) -> bool {
+    fits(about, "N N N N N S")
 }
 
 fn copied(text: &[u8]) -> Result<Vec<u8>, TryReserveError> {

@@ -21,14 +21,21 @@ pub fn part(input: &mut Input, output: &mut Output, from: u32) -> Result<(), Sto
     reader.what = "part";
     let lines = loaded.plans.iter().map(|plan| plan.line);
     let own = summed(0xcbf29ce484222325, lines.chain(loaded.world.frames.words().iter().copied()));
-    let base = base(&mut reader, loaded.world.frames.words())?;
+    let (base, booted) = base(&mut reader, loaded.world.frames.words())?;
     let (length, turns) = walk(&mut reader, &mut loaded, from)?;
+    let wrong_count = reader.bad("marks", reader.at);
     let marks = Marks::read(&mut reader)?;
     reader.end()?;
+    if let Some(at) = booted {
+        return Err(reader.bad("base", at));
+    }
     let Loaded { world, head, plans } = loaded;
     let sum = summed(own, base.iter().copied());
     let mut explorer = Explorer::new(world, plans, Menu::default(), from, base, turns);
     let checked = Checked::of(&mut explorer, length, &marks)?;
+    if marks.count as usize != checked.own.depths.len() * explorer.choices() {
+        return Err(wrong_count);
+    }
     let labels = u32::try_from(checked.labels.len()).map_err(|_| Stop::Memory)?;
     let counts = [length, checked.own.count()?, checked.asked.count()?, labels];
     let sum_of_labels = checked.put(output, head.cpus)?;
@@ -41,9 +48,10 @@ pub fn part(input: &mut Input, output: &mut Output, from: u32) -> Result<(), Sto
 
 // The text of a part
 
-/// The words to compare with: those of the frames, with others in some places.
-fn base(reader: &mut Reader, words: &[u32]) -> Result<Vec<u32>, Stop> {
-    let mut base = Vec::new();
+/// The words to compare with: those of the frames, with others in some places; and where the first is that isn't
+/// another.
+fn base(reader: &mut Reader, words: &[u32]) -> Result<(Vec<u32>, Option<usize>), Stop> {
+    let (mut base, mut booted) = (Vec::new(), None);
     base.try_reserve_exact(words.len())?;
     base.extend_from_slice(words);
     let mut least = 0;
@@ -54,10 +62,13 @@ fn base(reader: &mut Reader, words: &[u32]) -> Result<Vec<u32>, Stop> {
         if index >= WORDS || place < least || place >= base.len() {
             return Err(reader.bad("base", at));
         }
+        if base[place] == word {
+            booted.get_or_insert(at);
+        }
         base[place] = word;
         least = place + 1;
     }
-    Ok(base)
+    Ok((base, booted))
 }
 
 /// Makes the choices of the way, as they are read: how many these are, and the turns among them, counted up to `from`.
@@ -96,7 +107,10 @@ fn after(loaded: &mut Loaded<true>, choice: usize, turns: u32, from: u32) -> u32
 }
 
 /// For each choice a bit, whether the next key is to be one of the part. Where there are no more it isn't.
-struct Marks(Vec<u8>);
+struct Marks {
+    count: u32,
+    bytes: Vec<u8>,
+}
 
 impl Marks {
     fn read(reader: &mut Reader) -> Result<Self, Stop> {
@@ -114,11 +128,11 @@ impl Marks {
         if count % 8 != 0 && bytes[size - 1] >> (count % 8) != 0 {
             return Err(reader.bad("marks", reader.at - 1));
         }
-        Ok(Marks(bytes))
+        Ok(Marks { count, bytes })
     }
 
     fn is_set(&self, at: usize) -> bool {
-        self.0.get(at / 8).is_some_and(|byte| byte >> (at % 8) & 1 == 1)
+        self.bytes.get(at / 8).is_some_and(|byte| byte >> (at % 8) & 1 == 1)
     }
 }
 

@@ -4,7 +4,7 @@ use Rattle.std.specs.Prelude.{flat_map}
 use Rattle.pip_io.specs.Taken.{Appends, AppendsPart, Wrote}
 use Rattle.pip_io.proofs.Taken.{Appends-trans}
 use Rattle.pip_ways.specs.Texts.{verdict_line}
-use Rattle.pip_ways.proofs.Pieces.{part_after, part_longer, wrote_of}
+use Rattle.pip_io.proofs.Piecewise.{part_after, part_longer, wrote_of}
 use Rattle.pip_apart.specs.Searches.{alone_of}
 use Rattle.pip_apart.specs.Texts.{guest_line, turn_line}
 use Rattle.pip_apart.proofs.text.write_guest.Goals as goal

@@ -1,6 +1,6 @@
 use Rattle.std.proofs.Common.{rules, ◌∙◌}
 use Rattle.std.proofs.lemmas.Result.{MatchResult-from_err}
-use Rattle.pip_ways.proofs.Pieces.{cut_here, one_more}
+use Rattle.pip_io.proofs.Piecewise.{cut_here, one_more}
 use Rattle.pip_apart.specs.Searches.{CanBeShown, alone_of}
 use Rattle.pip_apart.specs.Texts.{guest_text}
 use Rattle.pip_apart.proofs.Writing.{all_at, read_at}

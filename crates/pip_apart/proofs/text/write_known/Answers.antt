@@ -2,7 +2,7 @@ use Rattle.std.proofs.Common.{rules, ◌++◌, map, subst}
 use Rattle.std.proofs.lemmas.Result.{MatchResult-from_err}
 use Rattle.std.specs.Prelude.{flat_map}
 use Rattle.pip_io.specs.Taken.{Appends, AppendsPart, Wrote}
-use Rattle.pip_ways.proofs.Pieces.{part_longer, wrote_of}
+use Rattle.pip_io.proofs.Piecewise.{part_longer, wrote_of}
 use Rattle.pip_apart.specs.Found.{hold_apart}
 use Rattle.pip_apart.specs.Searches.{alone_of, known_of}
 use Rattle.pip_apart.specs.Texts.{apart_line, guest_text, root_line, taken_line}

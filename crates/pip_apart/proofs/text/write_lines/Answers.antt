@@ -3,7 +3,7 @@ use Rattle.std.specs.List.{AllByRecursion, flat_map}
 use Rattle.std.proofs.lemmas.Result.{MatchResult-from_err}
 use Rattle.pip_io.specs.Taken.{Appends, AppendsPart}
 use Rattle.pip_ways.proofs.LabelLines.{all_taken, found_at, some_here}
-use Rattle.pip_ways.proofs.Pieces.{cut_here, one_more}
+use Rattle.pip_io.proofs.Piecewise.{cut_here, one_more}
 use Rattle.pip_apart.proofs.KnownWays.{known_here}
 use Rattle.pip_apart.proofs.Writing.{found_line, found_lines, line_here}
 use Rattle.pip_apart.proofs.text.write_lines.Goals as goal

@@ -1,7 +1,7 @@
 use Rattle.std.proofs.Common.{rules}
 use Rattle.std.proofs.lemmas.Result.{MatchResult-from_err}
 use Rattle.pip_io.proofs.Taken.{Appends-trans}
-use Rattle.pip_ways.proofs.Pieces.{part_after, part_longer, wrote_after}
+use Rattle.pip_io.proofs.Piecewise.{part_after, part_longer, wrote_after}
 use Rattle.pip_apart.proofs.text.write_plain.Goals as goal
 
 pub returns-in_err-write_shown : goal.returns-in_err-write_shown

@@ -2,7 +2,7 @@ use Rattle.std.proofs.Common.{rules, ◌-◌, subst}
 use Rattle.std.proofs.lemmas.Result.{MatchResult-from_err}
 use Rattle.std.specs.Prelude.{flat_map}
 use Rattle.pip_io.specs.Taken.{Wrote}
-use Rattle.pip_ways.proofs.Pieces.{part_longer, wrote_of}
+use Rattle.pip_io.proofs.Piecewise.{part_longer, wrote_of}
 use Rattle.pip_apart.specs.Texts.{shown_text, turns_text}
 use Rattle.pip_apart.proofs.text.write_turn.Goals as goal
 

@@ -1,6 +1,6 @@
 use Rattle.std.proofs.Common.{rules}
 use Rattle.std.proofs.lemmas.Result.{MatchResult-from_err}
-use Rattle.pip_ways.proofs.Pieces.{part_longer, wrote_of}
+use Rattle.pip_io.proofs.Piecewise.{part_longer, wrote_of}
 use Rattle.pip_apart.proofs.text.write_turns.Goals as goal
 
 pub returns : goal.returns

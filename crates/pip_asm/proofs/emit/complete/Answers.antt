@@ -9,8 +9,7 @@ pub returns : goal.returns
 returns c =
     let b = c.args.bytes.now in
     let e : fill_in (address_of_name c.args.names.now) c.args.notes.now (drop c.args.head b) ≡ Ok c.fill.new.pages =
-    ap (fill_in (address_of_name c.args.names.now) c.args.notes.now) (sym (take_rest b c.args.head))
-    ∙ c.in_ok-fill.ensures in
+    rw (← take_rest b c.args.head, c.in_ok-fill.ensures) in
     completed b c.fill.new.pages c.put_word.new.bytes c.args.head c.args.pages
     (fill_in (address_of_name c.args.names.now) c.args.notes.now (drop c.args.head b)) c.requires.head e
     c.put_word.ensures

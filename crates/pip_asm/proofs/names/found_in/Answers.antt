@@ -9,18 +9,16 @@ loop-i-init c = ap (found_in c.args.slots.now c.args.mark c.args.name.now c.args
 pub returns-then-is : goal.returns-then-is
 returns-then-is c =
     let inside : c.loop-i.i < length c.args.slots.now = omega arith in
-    sym (found-here c.args.slots.now c.args.mark c.args.name.now c.loop-i.i (c.args.home + 8) _ inside
-    c.loop-i-test.true (sym c.is.ensures ∙ c.if-is.true))
-    ∙ c.loop-i.invariant
+    rw (← found-here c.args.slots.now c.args.mark c.args.name.now c.loop-i.i (c.args.home + 8) _ inside
+    c.loop-i-test.true (sym c.is.ensures ∙ c.if-is.true)) c.loop-i.invariant
 
 pub loop-i-preserved : goal.loop-i-preserved
 loop-i-preserved c =
     let inside : c.loop-i.i < length c.args.slots.now = omega arith in
-    sym (found-next c.args.slots.now c.args.mark c.args.name.now c.loop-i.i (c.args.home + 8) _ inside
-    c.loop-i-test.true (sym c.is.ensures ∙ c.if-is.false))
-    ∙ c.loop-i.invariant
+    rw (← found-next c.args.slots.now c.args.mark c.args.name.now c.loop-i.i (c.args.home + 8) _ inside
+    c.loop-i-test.true (sym c.is.ensures ∙ c.if-is.false)) c.loop-i.invariant
 
 pub returns : goal.returns
 returns c =
-    sym (found-end c.args.slots.now c.args.mark c.args.name.now c.loop-i.i (c.args.home + 8) c.loop-i-test.false)
-    ∙ c.loop-i.invariant
+    rw (← found-end c.args.slots.now c.args.mark c.args.name.now c.loop-i.i (c.args.home + 8) c.loop-i-test.false)
+    c.loop-i.invariant

@@ -14,8 +14,8 @@ returns-then-slots-i-eq0 c =
 pub loop-i-preserved : goal.loop-i-preserved
 loop-i-preserved c =
     let inside : c.loop-i.i < length c.args.slots.now = omega arith in
-    sym (free-next c.args.slots.now c.loop-i.i (c.args.home + 8) _ inside c.loop-i-test.true c.if-slots-i-eq0.false)
-    ∙ c.loop-i.invariant
+    rw (← free-next c.args.slots.now c.loop-i.i (c.args.home + 8) _ inside c.loop-i-test.true c.if-slots-i-eq0.false)
+    c.loop-i.invariant
 
 pub returns : goal.returns
 returns c = sym c.loop-i.invariant ∙ free-end c.args.slots.now c.loop-i.i (c.args.home + 8) c.loop-i-test.false

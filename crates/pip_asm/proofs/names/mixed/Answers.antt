@@ -15,5 +15,5 @@ loop-byte-preserved c =
     ∙ c.loop-byte.invariant)
 
 pub returns : goal.returns
-returns c = sym (mixed-end c.loop-byte.hash c.loop-byte.byte-index c.args.name.now c.loop-byte-test.false)
-    ∙ c.loop-byte.invariant
+returns c = rw (← mixed-end c.loop-byte.hash c.loop-byte.byte-index c.args.name.now c.loop-byte-test.false)
+    c.loop-byte.invariant

@@ -10,31 +10,26 @@ use Rattle.pip_model.specs.Tree.{Node, base_pairs}
 use Rattle.pip_model.proofs.Nodes.Reads.{directory_inside, list_inside, name_inside, read_descriptor}
 
 pub part_inside : (m : Memory) (part : ℕ) → HasNode m part → part < length m
-part_inside m part h = subst (λ p. p < length m) h.name (name_inside m h.node h.cells h.is_in)
+part_inside m part h = rw (← h.name) (name_inside m h.node h.cells h.is_in)
 
 module _ (m : Memory) (part : ℕ) (x : Node) (cells : Level → ℕ → ℕ) (n : NodeIn m x cells) (name : x.name ≡ part) where
   pub word_is : (i : ℕ) → i < 1024 → word_at m part i ≡ descriptor_word x i
-  word_is i low = subst (λ p. word_at m p i ≡ descriptor_word x i) name (read_descriptor m x cells n i low)
+  word_is i low = rw (← name) (read_descriptor m x cells n i low)
 
   pub small_self : word_at m part 1 < 2 ^ 20
-  small_self = let e = word_is 1 (omega arith) in let d = n.is_named in let i = name_inside m x cells n in
-      let s = n.small in omega arith
+  small_self = omega (arith, word_is 1 (omega arith), name_inside m x cells n)
 
   pub small_mmu : word_at m part 3 < 2 ^ 20
-  small_mmu = let e = word_is 3 (omega arith) in let i = directory_inside m x cells n Mmu in let s = n.small in
-      omega arith
+  small_mmu = omega (arith, word_is 3 (omega arith), directory_inside m x cells n Mmu)
 
   pub small_shadow1 : word_at m part 5 < 2 ^ 20
-  small_shadow1 = let e = word_is 5 (omega arith) in let i = directory_inside m x cells n Shadow1 in let s = n.small in
-      omega arith
+  small_shadow1 = omega (arith, word_is 5 (omega arith), directory_inside m x cells n Shadow1)
 
   pub small_shadow2 : word_at m part 7 < 2 ^ 20
-  small_shadow2 = let e = word_is 7 (omega arith) in let i = directory_inside m x cells n Shadow2 in let s = n.small in
-      omega arith
+  small_shadow2 = omega (arith, word_is 7 (omega arith), directory_inside m x cells n Shadow2)
 
   pub small_list : word_at m part 9 < 2 ^ 20
-  small_list = let e = word_is 9 (omega arith) in let i = list_inside m x cells n 0 (omega arith) in let s = n.small in
-      omega arith
+  small_list = omega (arith, word_is 9 (omega arith), list_inside m x cells n 0 (omega arith))
 
   -- five pages with these words are the base
   pub base_is : (a b c d e : Pair) → a.va ≡ word_at m part 0 → a.frame ≡ word_at m part 1 → b.va ≡ word_at m part 2

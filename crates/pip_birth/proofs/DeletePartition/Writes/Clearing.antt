@@ -1,5 +1,5 @@
 -- A page of configuration that comes back and is zeroed.
-use Rattle.std.proofs.Common.{◌≡◌, ◌≤◌, ℕ, ◌+◌, ◌*◌, ◌<◌, ◌/◌, ◌%◌, cond, inl, inr, Bool, true, false, [], ◌∷◌, ◌++◌}
+use Rattle.std.proofs.Common.{◌≡◌, ℕ, ◌+◌, ◌*◌, ◌<◌, ◌/◌, ◌%◌, cond, inl, inr, Bool, true, false, [], ◌∷◌, ◌++◌}
 use Rattle.std.proofs.Common.{sym}
 use Rattle.std.proofs.Common.{ap, ◌∙◌, subst, arith, length, refl, Some}
 use Rattle.pip_base.specs.Memory.{Memory, word_at, zero_frame}
@@ -26,8 +26,8 @@ leaf_frame : (r : FullRow) → IsFullRow r → row_word Mmu (Some r) / 4096 ≡ 
 leaf_frame r p = go r.user
   where
     go : (b : Bool) → (r.frame * 4096 + 1 + cond b 2 0 + 4 * r.rights) / 4096 ≡ r.frame
-    go true = let low = p.low in omega (arith, low)
-    go false = let low = p.low in omega (arith, low)
+    go true = omega arith
+    go false = omega arith
 
 module _ (t : Tree) (y : Node) (can : CanEnd t y) (m n : Memory) (leaves v : ℕ) (k : IsEndingAt t y m v n)
     (c : IsConfiguration t y leaves v) where
@@ -38,7 +38,7 @@ module _ (t : Tree) (y : Node) (can : CanEnd t y) (m n : Memory) (leaves v : ℕ
   page =
       let both : Some c.parent ≡ Some x = sym c.found ∙ x_new t y can in
       let one : c.parent ≡ x = cc in
-      subst (λ z. table_frame_at Mmu z (v / 1024) ≡ Some leaves) one c.page
+      rw (← one) c.page
 
   pub leaves_inside : leaves < length n
   unfolding page
@@ -55,10 +55,7 @@ module _ (t : Tree) (y : Node) (can : CanEnd t y) (m n : Memory) (leaves v : ℕ
 
   pub frame_inside : c.row.frame < length n
   frame_inside =
-      let inside =
-      (held_frame t can.sound y.name c.row.frame y (other_found t can.sound y.name y can.found) c.held).1 in
-      let count = k.ending.midway.count in
-      omega (arith, inside, count)
+      omega (arith, (held_frame t can.sound y.name c.row.frame y (other_found t can.sound y.name y can.found) c.held).1)
 
   pub can_take : CanTakePage n y.up v
   can_take = record {
@@ -77,7 +74,7 @@ module _ (t : Tree) (y : Node) (can : CanEnd t y) (m n : Memory) (leaves v : ℕ
       let cleared : HasCleared (without t y) (tree_rows t) y.up (k.back ++ g ∷ []) (g ∷ []) n l = record {
         between = b;
         taken = says (without t y) (tree_rows t) k.back g (taking t y can v c.row c.at c.held) k.ending.midway;
-        zeroed = written ∙ ap (zero_frame b) is;
+        zeroed = rw (written, is);
       } in
       one_more t y can m n l v c.row k c.at (ending_cleared t y can m n k.back k.ending l (g ∷ [])
       (λ f i. elim i [
@@ -93,7 +90,7 @@ leaves_there n parent_name leaves v h = leaves_inside h.tree h.node h.can h.star
 pub config_can : (n : Memory) (parent_name leaves v : ℕ) → HasConfiguration n parent_name leaves v
     → CanTakePage n parent_name v
 config_can n parent_name leaves v h =
-    subst (λ p. CanTakePage n p v) h.up (can_take h.tree h.node h.can h.start n leaves v h.at h.next)
+    rw (← h.up) (can_take h.tree h.node h.can h.start n leaves v h.at h.next)
 
 pub config_inside : (n b : Memory) (parent_name leaves v number w f : ℕ) → HasConfiguration n parent_name leaves v
     → number ≡ v → w ≡ word_at n leaves (number % 1024) → f ≡ w / 4096 → length b ≡ length n → f < length b
@@ -107,9 +104,8 @@ pub config_ends : (n b l : Memory) (parent_name leaves v number w f : ℕ) → n
     → w ≡ word_at n leaves (number % 1024) → f ≡ w / 4096 → TakesPage parent_name v n b → l ≡ zero_frame b f
     → EndsPage parent_name leaves v n l
 config_ends n b l parent_name leaves v number w f same word is says written t y start can up c k =
-    page_cleared t y can start n leaves v k c b l (subst (λ p. TakesPage p v n b) (sym up) says) f
-    (is ∙ (ap (λ q. q / 4096) word
-    ∙ (ap (λ q. word_at n leaves (q % 1024) / 4096) same ∙ frame_is t y can start n leaves v k c))) written
+    page_cleared t y can start n leaves v k c b l (rw up says) f
+    (rw (is, word, same, frame_is t y can start n leaves v k c)) written
 
 -- within a bound on the steps
 pub config_in : (n : Memory) (parent_name leaves v before read after : ℕ) → read ≡ before + 1

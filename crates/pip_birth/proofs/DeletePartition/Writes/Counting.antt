@@ -1,5 +1,5 @@
 -- How many pages of configuration a child's end clears: each is another frame.
-use Rattle.std.proofs.Common.{◌≡◌, ℕ, suc, ◌+◌, ◌*◌, ◌<◌, ◌≤◌, ◌⊎◌, cond, inl, inr, true, List, [], ◌∷◌, refl, sym, ap}
+use Rattle.std.proofs.Common.{◌≡◌, ℕ, suc, ◌+◌, ◌*◌, ◌≤◌, ◌⊎◌, cond, inl, inr, true, List, [], ◌∷◌, refl, sym, ap}
 use Rattle.std.proofs.Common.{◌∙◌}
 use Rattle.std.proofs.Common.{subst, arith, eq-eqb, length, ne_eqb, Some}
 use Rattle.std.specs.Prelude.{flat_map, is_some, map}
@@ -32,8 +32,8 @@ use Rattle.pip_model.proofs.Trees.Lookup.{other_name}
 use Rattle.pip_model.proofs.Trees.Lookup.{root_found}
 use Rattle.pip_model.proofs.Trees.Numbers.{page_small}
 use Rattle.pip_model.proofs.Trees.RowLookup.{one_row}
+use Rattle.pip_model.specs.Work.{ending_work}
 use Rattle.pip_birth.specs.Ending.{AreClearedPages, AreWalked, CanEnd, CountsWalked, EndsChildIn, IsConfiguration}
-use Rattle.pip_birth.specs.Ending.{ending_work}
 use Rattle.pip_birth.specs.Ending.{page_work}
 use Rattle.pip_birth.specs.Ending.{without}
 use Rattle.pip_birth.proofs.DeletePartition.Tree.{ended_sound, node_stays, open_then, other_stays, parent, y_goes}
@@ -51,7 +51,7 @@ pub cleared_further : (t : Tree) (y : Node) (k q : ℕ) (gs : List ℕ) → k �
 cleared_further t y k q gs up c = record {
   once = c.once;
   held = c.held;
-  place = λ g i. let (v, low, r, at, page) = c.place g i in (v, omega (arith, low, up), r, at, page);
+  place = λ g i. let (v, low, r, at, page) = c.place g i in (v, omega arith, r, at, page);
 }
 
 -- the parent has a page at one vpage
@@ -61,7 +61,7 @@ one_place t y can v w r q at there same =
     let (a, a_at, a_is) = row_back t y can v r at in
     let (b, b_at, b_is) = row_back t y can w q there in
     (one_row _ (can.sound.pages_apart _ (found_in t y.up _ (x_old t y can))) v w a b a_at b_at
-    (sym (ap (λ z. z.frame) a_is) ∙ (same ∙ ap (λ z. z.frame) b_is))).1
+    (cc)).1
 
 -- the next page of configuration is one more
 pub one_cleared : (t : Tree) (y : Node) (can : CanEnd t y) (leaves k v : ℕ) (gs : List ℕ) → k ≤ v
@@ -71,7 +71,7 @@ one_cleared t y can leaves k v gs up h c = record {
   once = (
     λ i. let (w, low, r, at, page) = h.place c.row.frame i in
         let same = one_place t y can w v r c.row at c.at page in
-        absurd (omega (arith, low, up, same)),
+        absurd (omega arith),
     h.once,
   );
   held = λ g i. elim i [
@@ -90,11 +90,11 @@ one_cleared t y can leaves k v gs up h c = record {
 remove : (x : ℕ) (ys : List ℕ) → In x ys
     → (zs : List ℕ) × (length ys ≡ suc (length zs)) × ((g : ℕ) → In g ys → (g ≡ x) ⊎ In g zs)
 remove x [] i = absurd i
-remove x (y ∷ ys) (inl e) = (ys, refl, λ g i. elim i [ inl f ↦ inl (f ∙ sym e) | inr j ↦ inr j ])
+remove x (y ∷ ys) (inl e) = (ys, refl, λ g i. elim i [ inl f ↦ inl (cc) | inr j ↦ inr j ])
 remove x (y ∷ ys) (inr i) =
     let (zs, l, f) = remove x ys i in (
       y ∷ zs,
-      ap suc l,
+      rw l,
       λ g j. elim j [
         | inl e ↦ inr (inl e)
         | inr k ↦ elim (f g k) [ inl e ↦ inl e | inr m ↦ inr (inr m) ]
@@ -105,11 +105,11 @@ fewer : (xs ys : List ℕ) → Distinct xs → ((g : ℕ) → In g xs → In g y
 fewer [] ys d into = omega arith
 fewer (x ∷ xs) ys d into =
     let (zs, l, f) = remove x ys (into x (inl refl)) in
-    let h = fewer xs zs d.1 (λ g i. elim (f g (into g (inr i))) [
-      | inl e ↦ absurd (d.0 (subst (λ z. In z xs) e i))
-      | inr m ↦ m
-    ]) in
-    omega (arith, l, h)
+    omega (
+      arith,
+      fewer xs zs d.1 (λ g i. elim (f g (into g (inr i)))
+          [ inl e ↦ absurd (d.0 (subst (λ z. In z xs) e i)) | inr m ↦ m ]),
+    )
 
 module _ (t : Tree) (y : Node) (can : CanEnd t y) where
   -- what y holds and a node hides is configuration of what ends
@@ -143,17 +143,16 @@ module _ (t : Tree) (y : Node) (can : CanEnd t y) where
       let (q, l, name, o) = ancestry_over t can.sound z (inr (other_in t b z e)) y.name h in
       let over : OnChain t q.name z.name =
       elim o [
-        | inl same ↦ subst (λ w. OnChain t q.name w.name) same here
+        | inl same ↦ simp (← same) here
         | inr a ↦ above_chain t can.sound q z a
       ] in
       let top : OnChain t y.name b =
-      subst (OnChain t y.name) (other_name t b z e) (subst (λ w. OnChain t w z.name) name over) in
+      rw (← other_name t b z e) (subst (λ w. OnChain t w z.name) name over) in
       chain_differs t can.sound y.name y.name y can.found (chain-trans t y.name b y.up top on) refl
 
   root_chain_in : (root : Node) (xs : List Node) → IsRooted root xs → chain_in root xs root.name ≡ root ∷ []
-  root_chain_in root [] r = ap (λ b. cond b (root ∷ []) []) (eq-eqb root.name root.name refl)
-  root_chain_in root (x ∷ xs) r = ap (λ b. cond b (x ∷ chain_in root xs x.up) (chain_in root xs root.name))
-      (ne_eqb x.name root.name (λ e. r.0 (inl e))) ∙ root_chain_in root xs r.2
+  root_chain_in root [] r = rw (eq-eqb root.name root.name refl)
+  root_chain_in root (x ∷ xs) r = rw (ne_eqb x.name root.name (λ e. r.0 (inl e)), root_chain_in root xs r.2)
 
   root_depth : depth (without t y) t.root.name ≤ depth t t.root.name
   unfolding depth root_chain_in
@@ -182,18 +181,18 @@ module _ (t : Tree) (y : Node) (can : CanEnd t y) where
       let j = In-filter (λ z. has (ancestry t z.name) y.name) y (nodes t) i
       (in_has y.name (ancestry t y.name) (y_goes t y can)) in
       let own : 5 ≤ length (config y) = omega arith in
-      let all = fewer (config y) (flat_map config (below t y.name))
-      (Distinct-left (config y) (row_pages y) (can.sound.pages_apart y i).pages)
-      (λ g h. In-flat config g y (below t y.name) j h) in
-      omega (arith, own, all)
+      omega (
+        arith,
+        fewer (config y) (flat_map config (below t y.name))
+            (Distinct-left (config y) (row_pages y) (can.sound.pages_apart y i).pages)
+            (λ g h. In-flat config g y (below t y.name) j h),
+      )
 
   -- nor is it longer than there are frames
   pub chain_short : length (chain (without t y) y.up) ≤ t.frames
   unfolding depth
   chain_short =
-      let most = depth_few (without t y) y.up in
-      let few = few_nodes (without t y) (ended_sound t y can) in
-      omega (arith, most, few)
+      omega (arith, depth_few (without t y) y.up, few_nodes (without t y) (ended_sound t y can))
 
 -- ---- the walk over the caller's tables
 
@@ -204,7 +203,7 @@ none_walked x = record { once = tt; small = λ i j. absurd j; tabled = λ i j. a
 pub one_walked : (x : Node) (from i : ℕ) (ws : List ℕ) → from ≤ i → is_some (table_at x.tables i) ≡ true
     → AreWalked x from ws → AreWalked x (i + 1) (i ∷ ws)
 one_walked x from i ws up on w = record {
-  once = (λ j. let low = w.small i j in absurd (omega (arith, low, up)), w.once);
+  once = (λ j. absurd (omega (arith, w.small i j, up)), w.once);
   small = λ k j. elim j [ inl e ↦ omega (arith, e) | inr h ↦ let low = w.small k h in omega (arith, low, up) ];
   tabled = λ k j. elim j [
     | inl e ↦ subst (λ z. is_some (table_at x.tables z) ≡ true) (sym e) on
@@ -214,17 +213,16 @@ one_walked x from i ws up on w = record {
 
 pub walked_further : (x : Node) (from to : ℕ) (ws : List ℕ) → from ≤ to → AreWalked x from ws → AreWalked x to ws
 walked_further x from to ws up w =
-    record { once = w.once; small = λ k j. let low = w.small k j in omega (arith, low, up); tabled = w.tabled }
+    record { once = w.once; small = λ k j. omega (arith, w.small k j); tabled = w.tabled }
 
 -- there are no more of them than tables
 few_walked : (x : Node) (k : ℕ) (ws : List ℕ) → AreWalked x k ws → length ws ≤ length x.tables
 few_walked x k ws w =
-    subst (λ n. length ws ≤ n) (length-map x.tables (λ b. b.index))
-    (fewer ws (map (λ b. b.index) x.tables) w.once (λ i j. elim (cases_option (table_at x.tables i)) [
+    rw (← length-map x.tables (λ b. b.index)) (fewer ws (map (λ b. b.index) x.tables) w.once
+    (λ i j. elim (cases_option (table_at x.tables i)) [
       | inl none ↦ absurd (both_ways (is_some (table_at x.tables i)) (ap is_some none) (w.tabled i j))
       | inr q ↦
-          let (b, e) = q in
-          let (h, index) = table_found x.tables i b e in
+          let (b, e) = q in let (h, index) = table_found x.tables i b e in
           subst (λ z. In z (map (λ b. b.index) x.tables)) index (In-map (λ b. b.index) b x.tables h)
     ]))
 
@@ -242,14 +240,14 @@ ends_in_pages m parent_name child born before after says t y can lays name up pl
     let few = few_cleared t y can (1024 * 1024) hs there in
     let kept = chain_kept t y can in
     let all = mul-le (page_work t y) (length hs) (7 * length (chain t y.up) + 67)
-    (length (flat_map config (below t y.name))) (omega (arith, kept)) few in
-    let most : after ≤ before + ending_work t y.up y.name = omega (arith, so, all, tables, own) in
+    (length (flat_map config (below t y.name))) (omega arith) few in
+    let most : after ≤ before + ending_work t y.up y.name = omega arith in
     let frames = few_frames t y can (1024 * 1024) hs there in
     let short = chain_short t y can in
-    let rough = mul-le (page_work t y) (length hs) (7 * t.frames + 67) t.frames (omega (arith, short)) frames in (
+    let rough = mul-le (page_work t y) (length hs) (7 * t.frames + 67) t.frames (omega arith) frames in (
       subst (λ p. after ≤ before + ending_work t p child) up
           (subst (λ p. after ≤ before + ending_work t y.up p) name most),
-      omega (arith, so, rough, tables, thousand),
+      omega arith,
     )
 
 pub ends_in_base : (m : Memory) (parent_name child born before read after : ℕ) (ps : List Pair)
@@ -259,9 +257,9 @@ pub ends_in_base : (m : Memory) (parent_name child born before read after : ℕ)
 ends_in_base m parent_name child born before read after ps says tests takes t y can lays name up place =
     let node = (laid_space t can.sound m lays y.name y (other_found t can.sound y.name y can.found)).node in
     let pages : ps ≡ base_pairs y.base = says y (cells_of (full_rows t y)) node name in
-    let five : length ps ≡ 5 = ap length pages in
+    let five : length ps ≡ 5 = rw pages in
     let took = subst (λ n. after ≤ read + n * (7 * length (chain (without t y) parent_name) + 2)) five
-    (takes (without t y) (tree_rows t) [] (subst (λ p. CanTakeEach (without t y) p ps) up
+    (takes (without t y) (tree_rows t) [] (rw (← up)
     (subst (CanTakeEach (without t y) y.up) (sym pages) (base_each t y can m lays)))
     (subst (λ p. Midway m (without t y) (rows_taken (tree_rows t) p [])) up (ending_start t y can m lays).midway)) in
     let kept = subst (λ p. length (chain (without t y) p) ≤ length (chain t p)) up (chain_kept t y can) in
@@ -270,5 +268,5 @@ ends_in_base m parent_name child born before read after ps says tests takes t y 
     (7 * length (chain t parent_name) + 67) many (omega arith) in
     let short = subst (λ p. length (chain (without t y) p) ≤ t.frames) up (chain_short t y can) in
     let some = can.sound.boot_root.small in
-    let rough = mul-le 5 (7 * t.frames + 67) t.frames (7 * t.frames + 67) (omega (arith, some)) (omega arith) in
-    (omega (arith, tests, took, kept, all), omega (arith, tests, took, short, rough))
+    let rough = mul-le 5 (7 * t.frames + 67) t.frames (7 * t.frames + 67) (omega arith) (omega arith) in
+    (omega arith, omega arith)

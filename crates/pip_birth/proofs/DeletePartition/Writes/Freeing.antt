@@ -33,7 +33,7 @@ none_freed leaves born k ws low = record {
   order = omega arith;
   below = low;
   count = refl;
-  freed = λ j above under names. absurd (omega (arith, above, under));
+  freed = λ j above under names. absurd (omega arith);
   kept = λ j above under other. refl;
   outside = λ j away. refl;
 }
@@ -51,7 +51,7 @@ zeros_freed leaves born from to ws ne up low zeros = record {
   below = low;
   count = refl;
   freed = λ j above under names. absurd (ne (let z = zeros j above under in
-      let e : slice_index ws j / 4096 ≡ born = names in omega (arith, z, e)));
+      let e : slice_index ws j / 4096 ≡ born = names in omega arith));
   kept = λ j above under other. refl;
   outside = λ j away. refl;
 }
@@ -63,21 +63,21 @@ freed_more leaves born k old i ws j new a b =
     let low = a.order in
     let high = b.order in
     record {
-      order = omega (arith, low, high);
+      order = omega arith;
       below = b.below;
       count = b.count ∙ a.count;
       freed = λ n above under names. elim (cases_lt n i) [
         | inl h ↦ let f = a.freed n above h names in (b.outside n (inl h) ∙ f.0, f.1)
-        | inr h ↦ b.freed n h under (subst (NamesBirthplace born) (sym (a.outside n (inr h))) names)
+        | inr h ↦ b.freed n h under (rw (a.outside n (inr h)) names)
       ];
       kept = λ n above under other. elim (cases_lt n i) [
         | inl h ↦ b.outside n (inl h) ∙ a.kept n above h other
-        | inr h ↦ b.kept n h under (λ names. other (subst (NamesBirthplace born) (a.outside n (inr h)) names))
+        | inr h ↦ b.kept n h under (λ names. other (rw (← a.outside n (inr h)) names))
             ∙ a.outside n (inr h)
       ];
       outside = λ n away. elim away [
-        | inl h ↦ b.outside n (inl (omega (arith, low, h))) ∙ a.outside n (inl h)
-        | inr h ↦ b.outside n (inr h) ∙ a.outside n (inr (omega (arith, high, h)))
+        | inl h ↦ b.outside n (inl (omega arith)) ∙ a.outside n (inl h)
+        | inr h ↦ b.outside n (inr h) ∙ a.outside n (inr (omega arith))
       ];
     }
 
@@ -107,25 +107,24 @@ word_freed_at : (leaves : List ℕ) (born j : ℕ) (ws : List ℕ) → j < 1024 
     → NamesBirthplace born (slice_index ws j) → AreFreed leaves born j ws (j + 1) (slice_set ws j 0)
 word_freed_at leaves born j ws low opens names = record {
   order = omega arith;
-  below = omega (arith, low);
+  below = omega arith;
   count = length-set ws j 0;
-  freed = λ n above under named. let same : j ≡ n = omega (arith, above, under) in
-      subst (λ i. (slice_index (slice_set ws j 0) i ≡ 0) × IsOpenLeaf (slice_index leaves i)) same
-      (word_zero ws j, opens);
-  kept = λ n above under other. let same : j ≡ n = omega (arith, above, under) in
-      absurd (other (subst (λ i. NamesBirthplace born (slice_index ws i)) same names));
+  freed = λ n above under named. let same : j ≡ n = omega arith in
+      rw (← same) (word_zero ws j, opens);
+  kept = λ n above under other. let same : j ≡ n = omega arith in
+      absurd (other (rw (← same) names));
   outside = λ n away. get_or-set_other ws j n 0 0
-      (λ e. elim away [ inl h ↦ absurd (omega (arith, e, h)) | inr h ↦ absurd (omega (arith, e, h)) ]);
+      (λ e. elim away [ inl h ↦ absurd (omega arith) | inr h ↦ absurd (omega arith) ]);
 }
 
 word_kept_at : (leaves : List ℕ) (born j : ℕ) (ws : List ℕ) → j < 1024 → (NamesBirthplace born (slice_index ws j) → ⊥)
     → AreFreed leaves born j ws (j + 1) ws
 word_kept_at leaves born j ws low other = record {
   order = omega arith;
-  below = omega (arith, low);
+  below = omega arith;
   count = refl;
-  freed = λ n above under names. let same : n ≡ j = omega (arith, above, under) in
-      absurd (other (subst (λ i. NamesBirthplace born (slice_index ws i)) same names));
+  freed = λ n above under names. let same : n ≡ j = omega arith in
+      absurd (other (rw (← same) names));
   kept = λ n above under others. refl;
   outside = λ n away. refl;
 }
@@ -138,16 +137,16 @@ pub some_freed : (leaves : List ℕ) (born k : ℕ) (old : List ℕ) (j : ℕ) (
 some_freed leaves born k old j ws new number hides at low names same shown iff is =
     let opens : IsOpenLeaf (slice_index leaves j) = elim (cases_eq (slice_index leaves j / 2 % 2) 0) [
       | inl z ↦ absurd (both_ways hides shown (iff.1 z))
-      | inr ne ↦ omega (arith, ne)
+      | inr ne ↦ omega arith
     ] in
-    subst (AreFreed leaves born k old (j + 1)) (sym is) (freed_more leaves born k old j ws (j + 1) (slice_set ws j 0) at
+    rw is (freed_more leaves born k old j ws (j + 1) (slice_set ws j 0) at
     (word_freed_at leaves born j ws low opens (names ∙ same)))
 
 pub some_kept : (leaves : List ℕ) (born k : ℕ) (old : List ℕ) (j : ℕ) (ws new : List ℕ) (number : ℕ)
     → AreFreed leaves born k old j ws → j < 1024 → slice_index ws j / 4096 ≢ number → number ≡ born → new ≡ ws
     → AreFreed leaves born k old (j + 1) new
 some_kept leaves born k old j ws new number at low other same is =
-    subst (AreFreed leaves born k old (j + 1)) (sym is) (freed_more leaves born k old j ws (j + 1) ws at
+    rw is (freed_more leaves born k old j ws (j + 1) ws at
     (word_kept_at leaves born j ws low (λ e. other (e ∙ sym same))))
 
 -- one word less: there is a word that doesn't name the child, or one that did and became 0
@@ -165,16 +164,16 @@ one_less leaves born k old j new order a = elim (cases_eq (slice_index old j / 4
         new,
         record {
           order = order;
-          below = omega (arith, low);
+          below = omega arith;
           count = a.count;
-          freed = λ n above under names. a.freed n above (omega (arith, under)) names;
-          kept = λ n above under others. a.kept n above (omega (arith, under)) others;
+          freed = λ n above under names. a.freed n above (omega arith) names;
+          kept = λ n above under others. a.kept n above (omega arith) others;
           outside = λ n away. elim (cases_eq n j) [
-            | inl e ↦ subst (λ i. slice_index new i ≡ slice_index old i) (sym e) stays
+            | inl e ↦ rw e stays
             | inr ne ↦ a.outside n (away_more n k j ne away)
           ];
         },
-        inl (λ names. other (ap (λ w. w / 4096) (sym stays) ∙ names), refl),
+        inl (λ names. other (rw (← stays, names)), refl),
       )
   | inl names ↦
       let f = a.freed j order (omega arith) names in
@@ -184,27 +183,27 @@ one_less leaves born k old j new order a = elim (cases_eq (slice_index old j / 4
         put,
         record {
           order = order;
-          below = omega (arith, low);
+          below = omega arith;
           count = length-set new j (slice_index old j) ∙ a.count;
-          freed = λ n above under named. let h = a.freed n above (omega (arith, under)) named in
-              (get_or-set_other new j n _ 0 (λ e. absurd (omega (arith, under, e))) ∙ h.0, h.1);
-          kept = λ n above under others. get_or-set_other new j n _ 0 (λ e. absurd (omega (arith, under, e)))
-              ∙ a.kept n above (omega (arith, under)) others;
+          freed = λ n above under named. let h = a.freed n above (omega arith) named in
+              (get_or-set_other new j n _ 0 (λ e. absurd (omega arith)) ∙ h.0, h.1);
+          kept = λ n above under others. get_or-set_other new j n _ 0 (λ e. absurd (omega arith))
+              ∙ a.kept n above (omega arith) others;
           outside = λ n away. elim (cases_eq n j) [
-            | inl e ↦ subst (λ i. slice_index put i ≡ slice_index old i) (sym e) back
+            | inl e ↦ rw e back
             | inr ne ↦ get_or-set_other new j n _ 0 ne ∙ a.outside n (away_more n k j ne away)
           ];
         },
         inr (
-          ap (λ w. w / 4096) back ∙ names,
+          rw (back, names),
           f.1,
-          sym (set-set new j (slice_index old j) 0 ∙ ap (slice_set new j) (sym f.0) ∙ set-get_or new j 0),
+          cc (set-get_or new j 0, f.0, set-set new j (slice_index old j) 0),
         ),
       )
 ]
   where
     away_more : (n k j : ℕ) → n ≢ j → (n < k) ⊎ (j ≤ n) → (n < k) ⊎ (j + 1 ≤ n)
-    away_more n k j ne away = elim away [ inl h ↦ inl h | inr h ↦ inr (omega (arith, h, ne)) ]
+    away_more n k j ne away = elim away [ inl h ↦ inl h | inr h ↦ inr (omega arith) ]
 
 -- ---- one table
 
@@ -220,7 +219,7 @@ module _ (t : Tree) (y : Node) (can : CanEnd t y)
       let node = (space t y can m n (1024 * i + k) at).node in
       let a = page_role n x _ node Mmu i leaves leaf_page in
       let b = page_role n x _ node Shadow1 i shadow page in
-      let both : Some (TablePage Mmu i) ≡ Some (TablePage Shadow1 i) = sym a ∙ (ap (role x) e ∙ b) in
+      let both : Some (TablePage Mmu i) ≡ Some (TablePage Shadow1 i) = rw (← a, e, b) in
       cc
 
   pub leaves_inside : leaves < length n
@@ -235,73 +234,75 @@ module _ (t : Tree) (y : Node) (can : CanEnd t y)
 
   shadow_word : (ws : List ℕ) (j : ℕ) → word_at (now ws) shadow j ≡ slice_index ws j
   unfolding word_at shadow_inside
-  shadow_word ws j = ap (λ zs. slice_index zs j) (get_or-set_same n shadow ws [] shadow_inside)
+  shadow_word ws j = rw (get_or-set_same n shadow ws [] shadow_inside)
 
   leaf_word : (ws : List ℕ) (j : ℕ) → word_at (now ws) leaves j ≡ slice_index (frame_at n leaves) j
   unfolding word_at frame_at two_frames
-  leaf_word ws j = ap (λ zs. slice_index zs j) (get_or-set_other n shadow leaves ws [] two_frames)
+  leaf_word ws j = rw (get_or-set_other n shadow leaves ws [] two_frames)
 
   one_word : (ws : List ℕ) (j : ℕ) → now (slice_set ws j 0) ≡ put_word (now ws) shadow j 0
   unfolding put_word shadow_inside
-  one_word ws j = sym (set-set n shadow ws (slice_set ws j 0))
-      ∙ ap (λ zs. slice_set (now ws) shadow (slice_set zs j 0)) (sym (get_or-set_same n shadow ws [] shadow_inside))
+  one_word ws j = cc (set-set n shadow ws (slice_set ws j 0), get_or-set_same n shadow ws [] shadow_inside)
 
   place : (j : ℕ) → j < 1024 → (1024 * i + j) % 1024 ≡ j
-  place j low = omega (arith, low)
+  place j low = omega arith
 
   page_here : (level : Level) (f j : ℕ) → j < 1024 → table_frame_at level x i ≡ Some f
       → table_frame_at level x ((1024 * i + j) / 1024) ≡ Some f
-  page_here level f j low e = let q : (1024 * i + j) / 1024 ≡ i = omega (arith, low) in
-      ap (table_frame_at level x) q ∙ e
+  page_here level f j low e = let q : (1024 * i + j) / 1024 ≡ i = omega arith in
+      rw (q, e)
 
   -- a number of words on, the pages there have come back
   words_on : (d j : ℕ) (ws : List ℕ) → j ≡ k + d → AreFreed (frame_at n leaves) (vpage y.born) k (frame_at n shadow) j
       ws → IsEndingAt t y m (1024 * i + j) (now ws)
   unfolding frame_at shadow_word leaf_word one_word place page_here
   words_on zero j ws is a =
-      let same : k ≡ j = omega (arith, is) in
+      let same : k ≡ j = omega arith in
       let none : frame_at n shadow ≡ ws = sym (none_changed (frame_at n leaves) (vpage y.born) k (frame_at n shadow) ws
-      (subst (λ q. AreFreed (frame_at n leaves) (vpage y.born) k (frame_at n shadow) q ws) (sym same) a)) in
-      subst (λ q. IsEndingAt t y m (1024 * i + q) (now ws)) same (subst (λ zs. IsEndingAt t y m (1024 * i + k) (now zs))
-      none (subst (IsEndingAt t y m (1024 * i + k)) (sym (set-get_or n shadow [])) at))
+      (rw (← same) at a)) in
+      rw (← same) (subst (λ zs. IsEndingAt t y m (1024 * i + k) (now zs)) none
+      (subst (IsEndingAt t y m (1024 * i + k)) (sym (set-get_or n shadow [])) at))
   words_on (suc d) j new is a =
       let last = k + d in
-      let next : j ≡ last + 1 = omega (arith, is) in
-      let low : last < 1024 = let h = a.below in omega (arith, h, next) in
+      let next : j ≡ last + 1 = omega arith in
+      let low : last < 1024 = omega arith in
       let less = one_less (frame_at n leaves) (vpage y.born) k (frame_at n shadow) last new (omega arith)
-      (subst (λ q. AreFreed (frame_at n leaves) (vpage y.born) k (frame_at n shadow) q new) next a) in
+      (rw (← next) a) in
       let ws = less.0 in
       let before = words_on d last ws refl less.1 in
-      let e : 1024 * i + last + 1 ≡ 1024 * i + j = omega (arith, next) in
-      subst (λ v. IsEndingAt t y m v (now new)) e (elim less.2 [
+      let e : 1024 * i + last + 1 ≡ 1024 * i + j = omega arith in
+      rw (← e) (elim less.2 [
         | inl h ↦ subst (λ zs. IsEndingAt t y m (1024 * i + last + 1) (now zs)) (sym h.1)
             (word_kept t y can m (now ws) (1024 * i + last) before shadow (slice_index ws last)
             (omega (arith, i_low, low)) (page_here Shadow1 shadow last low page)
             (ap (word_at (now ws) shadow) (place last low) ∙ shadow_word ws last) h.0)
-        | inr h ↦ subst (λ zs. IsEndingAt t y m (1024 * i + last + 1) (now zs)) (sym h.2)
+        | inr h ↦
+            subst (λ zs. IsEndingAt t y m (1024 * i + last + 1) (now zs)) (sym h.2)
             (word_freed t y can m (now ws) (1024 * i + last) before shadow (slice_index ws last)
             (omega (arith, i_low, low)) (page_here Shadow1 shadow last low page)
             (ap (word_at (now ws) shadow) (place last low) ∙ shadow_word ws last) h.0 leaves
             (slice_index (frame_at n leaves) last) (page_here Mmu leaves last low leaf_page)
-            (ap (word_at (now ws) leaves) (place last low) ∙ leaf_word ws last) h.1 (now (slice_set ws last 0))
-            (one_word ws last ∙ ap (λ q. put_word (now ws) shadow q 0) (sym (place last low))))
+            (ap (word_at (now ws) leaves) (place last low) ∙ leaf_word ws last) h.1
+            (now (slice_set ws last 0))
+            (one_word ws last ∙ ap (λ q. put_word (now ws) shadow q 0)
+            (sym (place last low))))
       ])
 
   pub so_far : {j : ℕ} → {ws : List ℕ} → AreFreed (frame_at n leaves) (vpage y.born) k (frame_at n shadow) j ws
       → IsEndingAt t y m (1024 * i + j) (now ws)
   unfolding words_on
-  so_far {j = j} {ws = ws} a = let h = a.order in words_on (j - k) j ws (omega (arith, h)) a
+  so_far {j = j} {ws = ws} a = let h = a.order in words_on (j - k) j ws (omega arith) a
 
   -- and the word there is of a page of configuration
   pub taken_there : (j : ℕ) (ws : List ℕ) → AreFreed (frame_at n leaves) (vpage y.born) k (frame_at n shadow) j ws
       → IsTaken (frame_at n leaves) ws (vpage y.born) j → IsConfiguration t y leaves (1024 * i + j)
   unfolding shadow_word leaf_word place page_here so_far
   taken_there j ws a h =
-      word_taken t y can m (now ws) (1024 * i + j) (so_far a) shadow (slice_index ws j) (let low = h.below in
-      omega (arith, i_low, low)) (page_here Shadow1 shadow j h.below page)
-      (ap (word_at (now ws) shadow) (place j h.below) ∙ shadow_word ws j) h.named leaves
+      word_taken t y can m (now ws) (1024 * i + j) (so_far a) shadow (slice_index ws j) (omega arith)
+      (page_here Shadow1 shadow j h.below page)
+      (rw (place j h.below, shadow_word ws j)) h.named leaves
       (slice_index (frame_at n leaves) j) (page_here Mmu leaves j h.below leaf_page)
-      (ap (word_at (now ws) leaves) (place j h.below) ∙ leaf_word ws j) h.hidden
+      (rw (place j h.below, leaf_word ws j)) h.hidden
 
 -- ---- as the code asks
 
@@ -315,14 +316,14 @@ pub table_is : (t : Tree) (y : Node) (can : CanEnd t y) (m : Memory) (k : ℕ) (
     → (parent_name : ℕ) → y.up ≡ parent_name → (level : Level) (i v f : ℕ) → v ≡ 1024 * i
     → TableSays n parent_name level v f → table_frame_at level (parent t y can).0 i ≡ Some f
 table_is t y can m k n at parent_name up level i v f is says =
-    let index : i ≡ v / 1024 = omega (arith, is) in
+    let index : i ≡ v / 1024 = omega arith in
     ap (table_frame_at level (parent t y can).0) index ∙ says (parent t y can).0 _ (space t y can m n k at).node
     (found_name (without t y) y.up (parent t y can).0 (x_new t y can) ∙ up)
 
 -- the first vpage of a directory index
 pub room_first : (n : Memory) (parent_name i v : ℕ) → v ≡ 1024 * i → HasTableFor n parent_name (1024 * i)
     → HasTableFor n parent_name v
-room_first n parent_name i v is h = subst (HasTableFor n parent_name) (sym is) h
+room_first n parent_name i v is h = rw is h
 
 -- further on
 pub ending_next : (m n : Memory) (parent_name born k q : ℕ) → EndsEachChild parent_name born k q m n
@@ -362,9 +363,8 @@ module _ (m n : Memory) (parent_name born i k leaves shadow : ℕ) (i_low : i < 
       → l ≡ slice_set n shadow ws → EndsEachChild parent_name born (1024 * i) (1024 * i + j) m l
   unfolding leaf_page page
   freed_to l j ws a written t y start can up place at =
-      subst (IsEndingAt t y start (1024 * i + j)) (sym written)
-      (so_far t y can start i k leaves shadow i_low n (so t y start can up place at) (leaf_page t y can start at up)
-      (page t y can start at up)
+      rw written (so_far t y can start i k leaves shadow i_low n (so t y start can up place at)
+      (leaf_page t y can start at up) (page t y can start at up)
       (subst (λ b. AreFreed (frame_at n leaves) b k (frame_at n shadow) j ws) (sym place) a))
 
   pub next_page : (l : Memory) (j : ℕ) (ws : List ℕ) → AreFreed (frame_at n leaves) born k (frame_at n shadow) j ws
@@ -374,21 +374,23 @@ module _ (m n : Memory) (parent_name born i k leaves shadow : ℕ) (i_low : i < 
   next_page l j ws a h t y start can up place at =
       taken_there t y can start i k leaves shadow i_low n (so t y start can up place at) (leaf_page t y can start at up)
       (page t y can start at up) j ws
-      (subst (λ b. AreFreed (frame_at n leaves) b k (frame_at n shadow) j ws) (sym place) a)
-      (subst (λ b. IsTaken (frame_at n leaves) ws b j) (sym place) h)
+      (rw place a)
+      (rw place h)
 
   pub has_page : (l : Memory) (j : ℕ) (ws : List ℕ) → AreFreed (frame_at n leaves) born k (frame_at n shadow) j ws
       → IsTaken (frame_at n leaves) ws born j → l ≡ slice_set n shadow ws → (w : ℕ) → w ≡ 1024 * i + j
       → HasConfiguration l parent_name leaves w
   unfolding freed_to next_page
-  has_page l j ws a taken written w at = subst (HasConfiguration l parent_name leaves) (sym at) (record {
+  has_page l j ws a taken written w at = rw at (record {
     tree = h.tree;
     node = h.node;
     start = h.start;
     can = h.can;
     up = h.up;
-    at = freed_to l j ws a written h.tree h.node h.start h.can h.up h.place h.at;
-    next = next_page l j ws a taken h.tree h.node h.start h.can h.up h.place h.at;
+    at =
+        freed_to l j ws a written h.tree h.node h.start h.can h.up h.place h.at;
+    next =
+        next_page l j ws a taken h.tree h.node h.start h.can h.up h.place h.at;
   })
 
   -- and after that page
@@ -398,8 +400,8 @@ module _ (m n : Memory) (parent_name born i k leaves shadow : ℕ) (i_low : i < 
   unfolding freed_to next_page
   next_ended l j ws a taken written q w there says t y start can up place at =
       let e : 1024 * i + j + 1 ≡ 1024 * i + (j + 1) = omega arith in
-      subst (λ p. IsEndingAt t y start p q) e (subst (λ p. EndsPage parent_name leaves p l q) there says t y start can
-      up (next_page l j ws a taken t y start can up place at) (freed_to l j ws a written t y start can up place at))
+      rw (← e) (subst (λ p. EndsPage parent_name leaves p l q) there says t y start can up
+      (next_page l j ws a taken t y start can up place at) (freed_to l j ws a written t y start can up place at))
 
 -- ---- table after table
 
@@ -408,12 +410,12 @@ pub tables_past : (t : Tree) (y : Node) (can : CanEnd t y) (m : Memory) (from to
     → IsEndingAt t y m (1024 * from) n → ((i : ℕ) → from ≤ i → i < to → table_at (parent t y can).0.tables i ≡ None)
     → IsEndingAt t y m (1024 * to) n
 tables_past t y can m from to n up k none =
-    none_here t y can m n (1024 * from) (1024 * to) (omega (arith, up)) k (λ a r low high at h.
+    none_here t y can m n (1024 * from) (1024 * to) (omega arith) k (λ a r low high at h.
     let x = (parent t y can).0 in
     let on = ((space t y can m n (1024 * from) k).tabled a (row_taken k.back true r)
     (row_now t y can m n (1024 * from) k a r at)).1 in
-    let off = none (a / 1024) (omega (arith, low)) (omega (arith, high)) in
-    absurd (both_ways (is_some (table_at x.tables (a / 1024))) (ap is_some off) (sym (has_table_found x a) ∙ on)))
+    let off = none (a / 1024) (omega arith) (omega arith) in
+    absurd (both_ways (is_some (table_at x.tables (a / 1024))) (rw off) (rw (← has_table_found x a) on)))
 
 -- what the code's next_tables says
 abbrev pub NextSays : Memory → ℕ → ℕ → Option ℕ → Type 0
@@ -462,7 +464,7 @@ room_next n parent_name born from i h says =
     let index : 1024 * i / 1024 ≡ i = omega arith in
     record {
       held = parent_there n parent_name born (1024 * from) h;
-      tabled = has_table_found x (1024 * i) ∙ (ap (λ k. is_some (table_at x.tables k)) index ∙ d.2);
+      tabled = rw (has_table_found x (1024 * i), index, d.2);
     }
 
 -- which is above the last
@@ -481,5 +483,5 @@ pub one_table : (m n l : Memory) (parent_name born from i : ℕ) → EndsEachChi
 unfolding next_tables_at
 one_table m n l parent_name born from i so says takes t y start can up place at =
     let e : 1024 * i + 1024 ≡ 1024 * (i + 1) = omega arith in
-    subst (λ k. IsEndingAt t y start k l) e
-    (takes t y start can up place (next_tables_at m n parent_name born from i so says t y start can up place at))
+    rw (← e) (takes t y start can up place (next_tables_at m n parent_name born from i so says t y start can up place
+    at))

@@ -35,9 +35,7 @@ pub pages_below : (t : Tree) (p : ℕ) (ps : List Pair) → CanTakeEach t p ps �
     → All (λ (q : Pair). q.frame < length n) ps
 pages_below t p ps each n count k d low =
     let c = each k d low in
-    let inside = (held_frame t c.sound p c.row.frame c.taker c.found (held_row c.taker _ c.row c.at)).1 in
-    let page = c.page in
-    omega (arith, inside, page, count)
+    omega (arith, (held_frame t c.sound p c.row.frame c.taker c.found (held_row c.taker _ c.row c.at)).1)
 
 -- a row in the middle of the call whose page was open at first is open
 open_marked : (t : Tree) (p : ℕ) (gs : List ℕ) (a u g : ℕ) (r : FullRow) → hidden t g ≡ false
@@ -45,10 +43,10 @@ open_marked : (t : Tree) (p : ℕ) (gs : List ℕ) (a u g : ℕ) (r : FullRow) �
 open_marked t p gs a u g r shown e page =
     let (q, is, same) = marked_from true (λ f. 0) gs (p == a) (tree_rows t a u) r e in
     let (o, at, full) = full_back t (node t a) u q is in
-    let frame : q.frame ≡ g = sym (marked_frame true (λ f. 0) gs (p == a) q) ∙ (sym (ap (λ z. z.frame) same) ∙ page) in
+    let frame : q.frame ≡ g = rw (← marked_frame true (λ f. 0) gs (p == a) q, ← same, page) in
     let before : q.user ≡ true =
-    ap (λ z. z.user) full ∙ ap not (ap (hidden t) (sym (ap (λ z. z.frame) full) ∙ frame) ∙ shown) in
-    ap (λ z. z.user) same ∙ stays (has gs q.frame) (p == a) q before
+    ap (λ z. z.user) full ∙ ap not (ap (hidden t) (cc) ∙ shown) in
+    rw (same, stays (has gs q.frame) (p == a) q before)
   where
     stays : (on own : Bool) (q : FullRow) → q.user ≡ true
         → (cond on (record q { user = true; given = cond own 0 q.given }) q).user ≡ true
@@ -75,53 +73,50 @@ module _ (t : Tree) (y : Node) (can : CanEnd t y) where
 
   pub born_positive : vpage y.born ≢ 0
   unfolding s
-  born_positive e = let b = born_place t s y.name y can.found in let low = b.1 in omega (arith, low, e)
+  born_positive e = let b = born_place t s y.name y can.found in omega arith
 
   -- a row of its parent is one of the tree's
   pub row_back : (v : ℕ) (r : FullRow) → tree_rows t y.up v ≡ Some r
       → (q : Row) × (row_at x.rows v ≡ Some q) × (r ≡ filled t x q)
   unfolding x_old
-  row_back v r e = full_back t x v r (sym (ap (λ z. full_rows t z v) (node_is t y.up x x_old)) ∙ e)
+  row_back v r e = full_back t x v r (rw (← node_is t y.up x x_old, e))
 
   pub row_there : (v : ℕ) (q : Row) → row_at x.rows v ≡ Some q → tree_rows t y.up v ≡ Some (filled t x q)
   unfolding x_old
-  row_there v q e = ap (λ z. full_rows t z v) (node_is t y.up x x_old) ∙ full-at t x v (Some q) e
+  row_there v q e = rw (node_is t y.up x x_old, full-at t x v (Some q) e)
 
   row_given : (v : ℕ) (r : FullRow) → tree_rows t y.up v ≡ Some r → r.given ≡ given_word t y.up r.frame
   unfolding row_back x_old
   row_given v r e =
       let (q, at, is) = row_back v r e in
-      ap (λ z. z.given) is ∙ (ap (λ a. given_word t a q.frame) (found_name t y.up x x_old)
-      ∙ ap (given_word t y.up) (sym (ap (λ z. z.frame) is)))
+      cc (found_name t y.up x x_old)
 
   row_user : (v : ℕ) (r : FullRow) → tree_rows t y.up v ≡ Some r → r.user ≡ not (hidden t r.frame)
   unfolding row_back
   row_user v r e = let (q, at, is) = row_back v r e in
-      ap (λ z. z.user) is ∙ ap not (ap (hidden t) (sym (ap (λ z. z.frame) is)))
+      cc
 
   -- the first shadow names it exactly for what it holds
   held_named : (g : ℕ) → In g (held_pages y) → NamesBirthplace (vpage y.born) (given_word t y.up g)
   unfolding s
   held_named g h =
-      let w = given_some t y.up g y (holder_is t s y.up g y.name y can.found refl h) in
-      let high = (use_bounds t s y g).1 in
-      omega (arith, w, high)
+      omega (arith, given_some t y.up g y (holder_is t s y.up g y.name y can.found refl h), (use_bounds t s y g).1)
 
   named_held : (g : ℕ) → NamesBirthplace (vpage y.born) (given_word t y.up g) → In g (held_pages y)
   unfolding s x_old born_positive
   named_held g e = elim (cases_option (holder t y.up g)) [
-    | inl none ↦ absurd (born_positive (let w = given_none t y.up g none in omega (arith, w, e)))
+    | inl none ↦ absurd (born_positive (omega (arith, given_none t y.up g none)))
     | inr z ↦
         let (f, up, h) = holder_back t s y.up g z.0 z.1 in
         let w = given_some t y.up g z.0 z.1 in
         let high = (use_bounds t s z.0 g).1 in
         let even = (born_place t s z.0.name z.0 f).0 in
         let own_even = (born_place t s y.name y can.found).0 in
-        let born : z.0.born ≡ y.born = omega (arith, w, high, e, even, own_even) in
+        let born : z.0.born ≡ y.born = omega arith in
         let both : Some z.0 ≡ Some y = sym (child_is t s y.up z.0.name x z.0 x_old f up)
         ∙ (ap (child_at t y.up) born ∙ child_is t s y.up y.name x y x_old can.found refl) in
         let one : z.0 ≡ y = cc in
-        subst (λ k. In g (held_pages k)) one h
+        rw (← one) h
   ]
 
   -- so its parent can take the page back
@@ -136,7 +131,7 @@ module _ (t : Tree) (y : Node) (can : CanEnd t y) where
         found = x_new;
         row = q;
         at = at;
-        page = sym (ap (λ z. z.frame) is);
+        page = cc;
         unheld = unheld t y can r.frame h;
       }
 
@@ -147,11 +142,11 @@ module _ (t : Tree) (y : Node) (can : CanEnd t y) where
     back = k.back ++ r.frame ∷ [];
     ending = more;
     freed = λ w q less at h. elim (cases_eq w v) [
-      | inr ne ↦ In-append_left q.frame k.back (r.frame ∷ []) (k.freed w q (omega (arith, less, ne)) at h)
+      | inr ne ↦ In-append_left q.frame k.back (r.frame ∷ []) (k.freed w q (omega arith) at h)
       | inl same ↦
-          let both : Some q ≡ Some r = sym at ∙ (ap (tree_rows t y.up) same ∙ e) in
+          let both : Some q ≡ Some r = rw (← at, same, e) in
           let one : q ≡ r = cc in
-          In-append_right q.frame k.back (r.frame ∷ []) (inl (ap (λ f. f.frame) one))
+          In-append_right q.frame k.back (r.frame ∷ []) (inl (rw one))
     ];
   }
 
@@ -178,20 +173,20 @@ module _ (t : Tree) (y : Node) (can : CanEnd t y) where
 
     pub row_now : (w : ℕ) (r : FullRow) → tree_rows t y.up w ≡ Some r → rows w ≡ Some (row_taken k.back true r)
     unfolding own
-    row_now w r e = ap (option_map (row_taken k.back (y.up == y.up))) e ∙ ap (λ b. Some (row_taken k.back b r)) own
+    row_now w r e = rw (e, own)
 
     -- of a page that hasn't come back the row is as it was
     row_same : (r : FullRow) → has k.back r.frame ≡ false → row_taken k.back true r ≡ r
-    row_same r e = ap (λ b. cond b (record r { user = true; given = 0 }) r) e
+    row_same r e = rw e
 
     row_back_now : (r : FullRow) → has k.back r.frame ≡ true → (row_taken k.back true r).given ≡ 0
-    row_back_now r e = ap (λ b. (cond b (record r { user = true; given = 0 }) r).given) e
+    row_back_now r e = rw e
 
     module _ (shadow w : ℕ) (small : v < 2 ^ 20) (page : table_frame_at Shadow1 x (v / 1024) ≡ Some shadow)
         (word : word_at n shadow (v % 1024) ≡ w) where
       says : row_word Shadow1 (rows v) ≡ w
       unfolding space
-      says = sym (row_of_page n x rows space Shadow1 v v shadow refl small page) ∙ word
+      says = rw (← row_of_page n x rows space Shadow1 v v shadow refl small page) word
 
       -- a word that doesn't name it
       pub word_kept : (NamesBirthplace (vpage y.born) w → ⊥) → IsEndingAt t y m (v + 1) n
@@ -200,11 +195,10 @@ module _ (t : Tree) (y : Node) (can : CanEnd t y) where
           none_here m n v (v + 1) (omega arith) k (λ a r low high at h. elim (cases_Bool (has k.back r.frame)) [
             | inl on ↦ has_in r.frame k.back on
             | inr off ↦
-                let same : a ≡ v = omega (arith, low, high) in
+                let same : a ≡ v = omega arith in
                 let here : rows v ≡ Some r =
-                row_now v r (ap (tree_rows t y.up) (sym same) ∙ at) ∙ ap Some (row_same r off) in
-                absurd (other (subst (NamesBirthplace (vpage y.born))
-                (sym (row_given a r at) ∙ (ap (row_word Shadow1) (sym here) ∙ says)) (held_named r.frame h)))
+                rw (row_now v r (ap (tree_rows t y.up) (sym same) ∙ at), row_same r off) in
+                absurd (other (rw (← says, here, row_given a r at) (held_named r.frame h)))
           ])
 
       -- one that does
@@ -214,14 +208,14 @@ module _ (t : Tree) (y : Node) (can : CanEnd t y) where
         named_row = elim (cases_option (tree_rows t y.up v)) [
           | inl none ↦
               let e : 0 ≡ w =
-              sym (ap (λ o. row_word Shadow1 (option_map (row_taken k.back (y.up == y.up)) o)) none) ∙ says in
-              absurd (born_positive (omega (arith, e, names)))
+              sym (rw none) ∙ says in
+              absurd (born_positive (omega arith))
           | inr r ↦ (
             r.0,
             r.1,
             false_from_ne_true _ (λ on.
                 let e : 0 ≡ w = sym (row_back_now r.0 on) ∙ (ap (row_word Shadow1) (sym (row_now v r.0 r.1)) ∙ says) in
-                born_positive (omega (arith, e, names))),
+                born_positive (omega arith)),
           )
         ]
 
@@ -230,23 +224,22 @@ module _ (t : Tree) (y : Node) (can : CanEnd t y) where
 
         here : rows v ≡ Some r
         unfolding row_now row_same
-        here = row_now v r named_row.1 ∙ ap Some (row_same r named_row.2)
+        here = rw (row_now v r named_row.1, row_same r named_row.2)
 
         held : In r.frame (held_pages y)
         unfolding says here row_given named_held
-        held = named_held r.frame (subst (NamesBirthplace (vpage y.born))
-            (sym (sym (row_given v r named_row.1) ∙ (ap (row_word Shadow1) (sym here) ∙ says))) names)
+        held = named_held r.frame (rw (← says, here, row_given v r named_row.1) at names)
 
         module _ (leaves leaf : ℕ) (leaf_page : table_frame_at Mmu x (v / 1024) ≡ Some leaves)
             (leaf_word : word_at n leaves (v % 1024) ≡ leaf) where
           leaf_is : leaf ≡ row_word Mmu (Some r)
           unfolding space here
           leaf_is =
-              sym leaf_word ∙ (row_of_page n x rows space Mmu v v leaves refl small leaf_page ∙ ap (row_word Mmu) here)
+              rw (← leaf_word, row_of_page n x rows space Mmu v v leaves refl small leaf_page, here)
 
           user_is : (b : Bool) → hidden t r.frame ≡ b → r.user ≡ not b
           unfolding row_user
-          user_is b e = row_user v r named_row.1 ∙ ap not e
+          user_is b e = rw (row_user v r named_row.1, e)
 
           -- of a page that is open: the word becomes 0
           pub word_freed : IsOpenLeaf leaf → (l : Memory) → l ≡ put_word n shadow (v % 1024) 0
@@ -257,8 +250,8 @@ module _ (t : Tree) (y : Node) (can : CanEnd t y) where
               let user = user_is true e in
               let low = (space.packed v r here).low in
               let word : leaf ≡ r.frame * 4096 + 1 + 0 + 4 * r.rights =
-              leaf_is ∙ ap (λ b. r.frame * 4096 + 1 + cond b 2 0 + 4 * r.rights) user in
-              omega (arith, word, opens)) in
+              rw (leaf_is, user) in
+              omega arith) in
               let take = taking v r named_row.1 held in
               let is_open : UserSet u (rows_taken (tree_rows t) y.up k.back) y.up r.frame true n n =
               set_already u y.up v r.frame take (tree_rows t) true (λ g. 0) k.back n k.ending.midway
@@ -282,8 +275,8 @@ module _ (t : Tree) (y : Node) (can : CanEnd t y) where
               | inr off ↦
                   let user = user_is false off in
                   let word : leaf ≡ r.frame * 4096 + 1 + 2 + 4 * r.rights =
-                  leaf_is ∙ ap (λ b. r.frame * 4096 + 1 + cond b 2 0 + 4 * r.rights) user in
-                  absurd (omega (arith, word, hides))
+                  rw (leaf_is, user) in
+                  absurd (omega arith)
             ];
             small = small;
             parent = x;

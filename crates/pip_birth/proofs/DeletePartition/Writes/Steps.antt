@@ -85,7 +85,7 @@ module _ (t : Tree) (y : Node) (can : CanEnd t y) where
       zeros = λ f i on hides low. elim (In-append_cases f gs (g ∷ []) on) [
         | inl j ↦ let (w, e) = words_then f (k.back f j) in h.stay.words f i w e ∙ k.zeros f i j hides low
         | inr j ↦ elim j [
-          | inl e ↦ absurd (both_ways (hidden t g) shown (subst (λ z. hidden t z ≡ true) e hides))
+          | inl e ↦ absurd (both_ways (hidden t g) shown (cc))
           | inr none ↦ absurd none
         ]
       ];
@@ -99,13 +99,13 @@ module _ (t : Tree) (y : Node) (can : CanEnd t y) where
         let b = h.between in
         let old : PagesStay t m b = stay_then m n b k.stay h.taken.stay in
         let word : (f i : ℕ) → (In f fs → ⊥) → word_at l f i ≡ word_at b f i =
-        λ f i off. ap (λ x. word_at x f i) h.zeroed ∙ word_at-zero_frames b fs f i off in
-        let shape : IsMemory l = subst IsMemory (sym h.zeroed) (IsMemory-zero_frames b fs h.taken.midway.shape) in
-        let count : length l ≡ length b = ap length h.zeroed ∙ length-zero_frames b fs in
+        λ f i off. rw (h.zeroed, word_at-zero_frames b fs f i off) in
+        let shape : IsMemory l = rw h.zeroed (IsMemory-zero_frames b fs h.taken.midway.shape) in
+        let count : length l ≡ length b = rw (h.zeroed, length-zero_frames b fs) in
         record {
           midway = record {
             shape = shape;
-            count = count ∙ h.taken.midway.count;
+            count = cc (h.taken.midway.count);
             each = λ a x e. Space-kept b l x (rows_taken (tree_rows t) y.up (gs ++ fs) a) (h.taken.midway.each a x e)
                 shape count (λ f i on low. word f i (λ j. open_then t y can f (of_y f j).0 x (found_in u a x e) on));
             like = h.taken.midway.like;
@@ -122,8 +122,7 @@ module _ (t : Tree) (y : Node) (can : CanEnd t y) where
                 let j = has_in f fs there in
                 let inside = (held_frame t s y.name f y y_found (of_y f j).0).1 in
                 let all_frames = h.taken.midway.count in
-                ap (λ x. word_at x f i) h.zeroed
-                ∙ word_at-zero_frames_same b fs f i j (omega (arith, inside, all_frames))
+                rw (h.zeroed, word_at-zero_frames_same b fs f i j (omega (arith, inside, all_frames)))
             | inr not_there ↦
                 let out : In f fs → ⊥ = λ j. both_ways (has fs f) not_there (in_has f fs j) in
                 elim (In-append_cases f gs fs on) [

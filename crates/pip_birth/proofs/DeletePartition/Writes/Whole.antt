@@ -34,11 +34,11 @@ in_get (p ∷ ps) (suc k) d low = inr (in_get ps k d (omega arith))
 
 no_tables : (ts : List Table) → length ts ≡ 0 → ts ≡ []
 no_tables [] e = refl
-no_tables (b ∷ ts) e = absurd (omega (arith, e))
+no_tables (b ∷ ts) e = absurd (omega arith)
 
 no_pairs : (gs : List Pair) → length gs ≡ 0 → gs ≡ []
 no_pairs [] e = refl
-no_pairs (g ∷ gs) e = absurd (omega (arith, e))
+no_pairs (g ∷ gs) e = absurd (omega arith)
 
 module _ (t : Tree) (y : Node) (can : CanEnd t y) (m : Memory) (lays : LaysOut t m) where
   s : IsSound t
@@ -58,7 +58,7 @@ module _ (t : Tree) (y : Node) (can : CanEnd t y) (m : Memory) (lays : LaysOut t
 
   pub nothing_yet : IsEndingAt t y m 0 m
   nothing_yet =
-      record { back = []; ending = ending_start t y can m lays; freed = λ v r less. absurd (omega (arith, less)) }
+      record { back = []; ending = ending_start t y can m lays; freed = λ v r less. absurd (omega arith) }
 
   pub child_there : HasNode m y.name
   unfolding s y_found
@@ -79,8 +79,8 @@ module _ (t : Tree) (y : Node) (can : CanEnd t y) (m : Memory) (lays : LaysOut t
       let row = row_there t y can r.at r at in
       let low = ((space t y can m n (1024 * 1024) k).tabled r.at (row_taken k.back true (filled t x r))
       (row_now t y can m n (1024 * 1024) k r.at (filled t x r) row)).0 in
-      subst (λ f. In f k.back) page
-      (k.freed r.at (filled t x r) (omega (arith, low)) row (subst (λ f. In f (held_pages y)) (sym page) h)))
+      rw (← page) (k.freed r.at (filled t x r) (omega (arith, low)) row
+      (subst (λ f. In f (held_pages y)) (sym page) h)))
 
   -- ---- its base alone
 
@@ -91,8 +91,8 @@ module _ (t : Tree) (y : Node) (can : CanEnd t y) (m : Memory) (lays : LaysOut t
       let lent = s.lent y x y_other (found_in t y.up x (x_old t y can)) (sym (found_name t y.up x (x_old t y can))) in
       let (q, at, page) = page_at_row x (vpage g.va) g.frame (lent.placed g i) in
       let h : In g.frame (held_pages y) = held_config y g.frame (In-map (λ (k : Pair). k.frame) g (pairs y) i) in
-      subst (CanTake (without t y) y.up (vpage g.va)) page (taking t y can (vpage g.va) (filled t x q)
-      (row_there t y can (vpage g.va) q at) (subst (λ f. In f (held_pages y)) (sym page) h))
+      rw (← page) (taking t y can (vpage g.va) (filled t x q) (row_there t y can (vpage g.va) q at)
+      (subst (λ f. In f (held_pages y)) (sym page) h))
 
   in_pairs : (g : Pair) → In g (base_pairs y.base) → In g (pairs y)
   in_pairs g h = In-append_left g (base_pairs y.base) (flat_map table_pairs y.tables ++ y.more) h
@@ -114,14 +114,13 @@ module _ (t : Tree) (y : Node) (can : CanEnd t y) (m : Memory) (lays : LaysOut t
     no_more : y.more ≡ []
     unfolding s y_other empty
     no_more =
-        let few : lists (length y.tables) - 1 ≡ 0 = ap (λ (ts : List Table). lists (length ts) - 1) empty in
-        no_pairs y.more ((s.tables y (inr y_other)).listed ∙ few)
+        let few : lists (length y.tables) - 1 ≡ 0 = rw empty in
+        no_pairs y.more (cc ((s.tables y (inr y_other)).listed))
 
     all_base : config y ≡ pair_frames (base_pairs y.base)
     unfolding empty no_more
     all_base =
-        ap (λ (ts : List Table). pair_frames (base_pairs y.base ++ (flat_map table_pairs ts ++ y.more))) empty
-        ∙ ap (λ (gs : List Pair). pair_frames (base_pairs y.base ++ gs)) no_more
+        rw (empty, no_more)
 
     -- it holds nothing else
     only_base : (g : ℕ) → In g (held_pages y) → In g (pair_frames (base_pairs y.base))
@@ -131,7 +130,7 @@ module _ (t : Tree) (y : Node) (can : CanEnd t y) (m : Memory) (lays : LaysOut t
       | inr row ↦
           let (r, at, page) = row in
           let i = (s.tables y (inr y_other)).tabled r (row_in y r.at r at).0 in
-          absurd (subst (λ (ts : List Table). In (dir r.at) (map (λ (b : Table). b.index) ts)) empty i)
+          absurd (rw empty at i)
     ]
 
     pub base_ends : (n : Memory) → ClearsPages y.up (base_pairs y.base) m n → LaysOut (without t y) n
@@ -149,7 +148,7 @@ module _ (t : Tree) (y : Node) (can : CanEnd t y) (m : Memory) (lays : LaysOut t
 -- ---- as the code asks
 
 pub child_node : (m : Memory) (parent_name child born : ℕ) → HasChild m parent_name child born → HasNode m child
-child_node m parent_name child born h = subst (HasNode m) h.name (child_there h.tree h.node h.can m h.laid)
+child_node m parent_name child born h = rw (← h.name) (child_there h.tree h.node h.can m h.laid)
 
 pub child_pages : (m : Memory) (parent_name child born : ℕ) (h : HasChild m parent_name child born) (ps : List Pair)
     → ((z : Node) (cells : Level → ℕ → ℕ) → NodeIn m z cells → z.name ≡ child → ps ≡ base_pairs z.base)
@@ -159,11 +158,13 @@ child_pages m parent_name child born h ps says =
     let pages : ps ≡ base_pairs h.node.base =
     says h.node (cells_of (full_rows h.tree h.node)) (laid_space h.tree h.can.sound m h.laid h.node.name h.node
     (other_found h.tree h.can.sound h.node.name h.node h.can.found)).node h.name in
-    subst (λ p. CanTakePages m p ps) h.up (subst (CanTakePages m h.node.up) (sym pages) (record {
+    rw (← h.up) (subst (CanTakePages m h.node.up) (sym pages)
+    (record {
       tree = without h.tree h.node;
       rows = tree_rows h.tree;
       taken = [];
-      each = base_each h.tree h.node h.can m h.laid;
+      each =
+          base_each h.tree h.node h.can m h.laid;
       midway = (ending_start h.tree h.node h.can m h.laid).midway;
     }))
 
@@ -186,9 +187,9 @@ ends_by_base m n parent_name child born none ps says clears t y can laid name up
     let node = (laid_space t can.sound m laid y.name y (other_found t can.sound y.name y can.found)).node in
     let pages : ps ≡ base_pairs y.base = says y (cells_of (full_rows t y)) node name in
     let few : length y.tables ≡ 0 =
-    sym (word_is m child y (cells_of (full_rows t y)) node name 12 (omega arith)) ∙ none in
+    rw (← word_is m child y (cells_of (full_rows t y)) node name 12 (omega arith)) none in
     base_ends t y can m laid few n
-    (subst (λ qs. ClearsPages y.up qs m n) pages (subst (λ p. ClearsPages p ps m n) (sym up) clears))
+    (rw pages at (subst (λ p. ClearsPages p ps m n) (sym up) clears))
 
 pub ends_by_pages : (m n : Memory) (parent_name child born : ℕ) → EndsEachChild parent_name born 0 (1024 * 1024) m n
     → EndsChild parent_name child born m n

@@ -22,12 +22,7 @@ use Rattle.pip_kern.proofs.Marking.{NameSays, OthersSay}
 pub set-set : {X : Type 0} (xs : List X) (i : ℕ) (a b : X) → set (set xs i a) i b ≡ set xs i b
 set-set [] i a b = refl
 set-set (x ∷ xs) zero a b = refl
-set-set (x ∷ xs) (suc i) a b = ap (λ ys. x ∷ ys) (set-set xs i a b)
-
--- a word of a frame
-pub word_slice : (m : Memory) (f j : ℕ) → slice_index (frame_at m f) j ≡ word_at m f j
-unfolding word_at frame_at
-word_slice m f j = refl
+set-set (x ∷ xs) (suc i) a b = rw (set-set xs i a b)
 
 -- ---- the table
 
@@ -37,7 +32,7 @@ pub page_role : (m : Memory) (x : Node) (cells : Level → ℕ → ℕ) → Node
 page_role m x cells n level i f e =
     let (b, at, page) = page_table level x i f e in
     let (on, index) = table_found x.tables i b at in
-    ap (role x) (sym page) ∙ (role_of_table x n.once level b on ∙ ap (λ d. Some (TablePage level d)) index)
+    rw (← page, role_of_table x n.once level b on, index)
 
 -- the table of the first shadow is the same for each node of a name
 same_page : (m : Memory) (x z : Node) (a b : Level → ℕ → ℕ) → NodeIn m x a → NodeIn m z b → z.name ≡ x.name → (i f : ℕ)
@@ -45,17 +40,17 @@ same_page : (m : Memory) (x z : Node) (a b : Level → ℕ → ℕ) → NodeIn m
 same_page m x z a b n k same i f low e =
     let (t, at, page) = page_table Shadow1 x i f e in
     let top : x.base.shadow1.frame ≡ z.base.shadow1.frame =
-    sym (read_place m x a n z.name (sym same) Shadow1 5 refl) ∙ read_place m z b k z.name refl Shadow1 5 refl in
+    cc (read_place m x a n z.name (sym same) Shadow1 5 refl, read_place m z b k z.name refl Shadow1 5 refl) in
     let word : word_at m x.base.shadow1.frame i ≡ directory_word f =
-    read_directory m x a n Shadow1 i low ∙ (ap (directory_entry Shadow1) at ∙ ap directory_word page) in
-    entry_some m z b k Shadow1 i f low (ap (λ g. word_at m g i) (sym top) ∙ word)
+    rw (read_directory m x a n Shadow1 i low, at, page) in
+    entry_some m z b k Shadow1 i f low (rw (← top, word))
 
 -- one word of it becomes 0
 module _ (m l : Memory) (x : Node) (cells : Level → ℕ → ℕ) (n : NodeIn m x cells)
     (name f p : ℕ) (is : x.name ≡ name) (low : p < 2 ^ 20) (page : table_frame_at Shadow1 x (p / 1024) ≡ Some f)
     (written : l ≡ put_word m f (p % 1024) 0) where
   page_of : (z : Node) (b : Level → ℕ → ℕ) → NodeIn m z b → z.name ≡ name → table_frame_at Shadow1 z (p / 1024) ≡ Some f
-  page_of z b k same = same_page m x z cells b n k (same ∙ sym is) (p / 1024) f (omega (arith, low)) page
+  page_of z b k same = same_page m x z cells b n k (cc) (p / 1024) f (omega arith) page
 
   pub named_free : NameSays m l name p 0
   unfolding page_of

@@ -1,4 +1,4 @@
-use Rattle.std.proofs.Common.{◌≡◌, ◌≤◌, ◌+◌, ◌*◌, ◌∙◌, arith, subst, sym}
+use Rattle.std.proofs.Common.{◌≡◌, ◌+◌, ◌∙◌, arith, subst, sym}
 use Rattle.pip_birth.specs.Ending.{CountsWalked}
 use Rattle.pip_birth.proofs.DeletePartition.Writes.Counting.{ends_in_base, ends_in_pages}
 use Rattle.pip_birth.proofs.DeletePartition.Writes.Base.{part_inside}
@@ -37,12 +37,11 @@ returns-then-word-eq0-clause-steps g c =
     let one = c.word.ensures.step in
     let ten = c.base_of-base.ensures.steps in
     ends_in_base (g.M.Frames.memory c.args.mem.now) c.args.caller c.args.child c.args.born c.args.steps.now
-    c.base_of-base.new.steps _ c.base_of-base.result c.base_of-base.ensures.base (omega (arith, one, ten))
+    c.base_of-base.new.steps _ c.base_of-base.result c.base_of-base.ensures.base (omega arith)
     c.clear_pages.ensures.steps
 
 pub returns-else-word-eq0-clause-steps : goal.returns-else-word-eq0-clause-steps
 returns-else-word-eq0-clause-steps g c =
-    let e : c.word.new.steps + 34 ≡ c.args.steps.now + 35 = (let one = c.word.ensures.step in omega (arith, one)) in
+    let e : c.word.new.steps + 34 ≡ c.args.steps.now + 35 = (omega arith) in
     ends_in_pages (g.M.Frames.memory c.args.mem.now) c.args.caller c.args.child c.args.born c.args.steps.now _
-    (subst (λ n. CountsWalked c.args.caller c.args.born 1024 (g.M.Frames.memory c.args.mem.now) n
-    c.take_tables.new.steps) e c.take_tables.ensures.steps)
+    (rw (← e) c.take_tables.ensures.steps)

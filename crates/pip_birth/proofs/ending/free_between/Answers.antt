@@ -8,9 +8,8 @@ returns-clause-freed g c =
     let m = g.M.Frames.memory c.args.mem.now in
     record {
       words = c.free_open.new.given;
-      freed = subst (λ ws. AreFreedTo ws c.args.born c.args.k (frame_at m c.args.shadow) c.free_open.result
-          c.free_open.new.given) c.pair-given.ensures.read
-          (subst (λ ws. AreFreedTo c.pair-given.result.0.now c.args.born c.args.k ws c.free_open.result
-          c.free_open.new.given) c.pair-given.ensures.write c.free_open.ensures);
+      freed = rw (← c.pair-given.ensures.read) (subst
+          (λ ws. AreFreedTo c.pair-given.result.0.now c.args.born c.args.k ws c.free_open.result c.free_open.new.given)
+          c.pair-given.ensures.write c.free_open.ensures);
       written = g.met.M.Frames.puts c.args.mem.now c.args.shadow c.free_open.new.given;
     }

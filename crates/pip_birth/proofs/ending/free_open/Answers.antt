@@ -11,7 +11,7 @@ loop-j-preserved c =
     let h = c.in-Some.ensures in
     let low = h.0 in
     let at = zeros_kept c.args.leaves.now c.args.born c.args.k c.args.given.now c.requires.place c.loop-j.from
-    c.in-Some.j c.loop-j.given h.3 (omega (arith, low)) h.2 c.loop-j.invariant in
+    c.in-Some.j c.loop-j.given h.3 (omega arith) h.2 c.loop-j.invariant in
     elim c.if-given-j.branch [
       | then-given-j+else-is_hidden w ↦ some_freed c.args.leaves.now c.args.born c.args.k c.args.given.now c.in-Some.j
           c.loop-j.given c.if-given-j.given c.number.result w.is_hidden.result at low w.if-given-j.true

@@ -29,9 +29,7 @@ clear_page-requires g c =
 pub loop-j-smaller : goal.loop-j-smaller
 loop-j-smaller g c =
     let f = c.in-Some.ensures.freed in
-    let up = f.freed.1.order in
-    let low = f.freed.0.below in
-    omega (arith, up, low)
+    omega arith
 
 pub loop-j-preserved : goal.loop-j-preserved
 loop-j-preserved g c =
@@ -39,7 +37,7 @@ loop-j-preserved g c =
     let low = f.freed.0.below in
     record {
       count = c.clear_page.ensures.count ∙ (c.free_between.ensures.count ∙ c.loop-j.invariant.count);
-      high = omega (arith, low);
+      high = omega arith;
       ended = next_ended (g.M.Frames.memory c.args.mem.now) (g.M.Frames.memory c.loop-j.mem) c.args.caller c.args.born
           c.args.i c.loop-j.k c.table_for-leaves.result c.table_for-shadow.result c.requires.index c.requires.ending
           c.loop-j.invariant.ended
@@ -69,8 +67,8 @@ loop-j-preserved g c =
             more.row.frame ∷ hs,
             subst (λ k. AreClearedPages t y k (more.row.frame ∷ hs)) (omega arith)
                 (one_cleared t y can c.table_for-leaves.result (1024 * c.args.i + c.loop-j.k)
-                (1024 * c.args.i + c.in-Some.j) hs (omega (arith, above)) there more),
-            omega (arith, so, one, two),
+                (1024 * c.args.i + c.in-Some.j) hs (omega arith) there more),
+            omega arith,
           );
     }
 
@@ -92,7 +90,7 @@ loop-j-init g c = record {
   cleared = λ t y start gs can up place at cl.
       let one = c.table_for-leaves.ensures.steps in
       let two = c.table_for-shadow.ensures.steps in
-      (gs, subst (λ k. AreClearedPages t y k gs) (omega arith) cl, omega (arith, one, two));
+      (gs, subst (λ k. AreClearedPages t y k gs) (omega arith) cl, omega arith);
 }
 
 pub returns-clause-steps : goal.returns-clause-steps
@@ -101,6 +99,6 @@ returns-clause-steps g c t y start gs can up place at cl =
     let high = c.loop-j.invariant.high in
     let one = c.free_between.ensures.steps in (
       hs,
-      cleared_further t y (1024 * c.args.i + c.loop-j.k) (1024 * c.args.i + 1024) hs (omega (arith, high)) there,
-      omega (arith, so, one),
+      cleared_further t y (1024 * c.args.i + c.loop-j.k) (1024 * c.args.i + 1024) hs (omega arith) there,
+      omega arith,
     )

@@ -1,4 +1,4 @@
-use Rattle.std.proofs.Common.{◌≡◌, ◌+◌, ◌*◌, ◌∙◌, [], ◌∷◌, true, Some, refl, subst, sym, arith}
+use Rattle.std.proofs.Common.{◌≡◌, ◌*◌, ◌∙◌, [], ◌∷◌, true, Some, refl, subst, sym, arith}
 use Rattle.pip_birth.specs.Ending.{AreClearedPages}
 use Rattle.pip_birth.proofs.DeletePartition.Writes.Counting.{cleared_further, none_cleared, none_walked, one_walked}
 use Rattle.pip_birth.proofs.DeletePartition.Writes.Counting.{walked_further}
@@ -44,9 +44,7 @@ pub loop-i-smaller : goal.loop-i-smaller
 loop-i-smaller g c =
     let h = index_next (g.M.Frames.memory c.args.mem.now) (g.M.Frames.memory c.loop-i.mem) c.args.caller c.args.born
     c.loop-i.from c.in-Some.i c.loop-i.invariant.ended c.requires c.in-Some.ensures.next in
-    let low = h.0 in
-    let high = h.1 in
-    omega (arith, low, high)
+    omega arith
 
 pub loop-i-preserved : goal.loop-i-preserved
 loop-i-preserved g c = record {
@@ -65,19 +63,19 @@ loop-i-preserved g c = record {
       let d = next_is t y can start (1024 * c.loop-i.from) (g.M.Frames.memory c.loop-i.mem) now c.args.caller up
       c.loop-i.from (Some c.in-Some.i) says in
       let low = d.0 in
-      let both : Some (parent t y can).0 ≡ Some x = sym (x_old t y can) ∙ found in
+      let both : Some (parent t y can).0 ≡ Some x = rw (← x_old t y can) found in
       let same : (parent t y can).0 ≡ x = cc in
       let here = next_tables_at (g.M.Frames.memory c.args.mem.now) (g.M.Frames.memory c.loop-i.mem) c.args.caller
       c.args.born c.loop-i.from c.in-Some.i c.loop-i.invariant.ended says t y start can up place at in
       let (ks, more, then) = c.take_table.ensures.steps t y start hs can up place here
-      (cleared_further t y (1024 * c.loop-i.from) (1024 * c.in-Some.i) hs (omega (arith, low)) there) in
+      (cleared_further t y (1024 * c.loop-i.from) (1024 * c.in-Some.i) hs (omega arith) there) in
       let next = c.in-Some.ensures.steps in (
         c.in-Some.i ∷ ws,
         ks,
         one_walked x c.loop-i.from c.in-Some.i ws low
-            (subst (λ z. is_some (table_at z.tables c.in-Some.i) ≡ true) same d.2) walked,
+            (rw (← same) d.2) walked,
         subst (λ k. AreClearedPages t y k ks) (omega arith) more,
-        omega (arith, so, then, next),
+        omega arith,
       );
 }
 
@@ -101,6 +99,6 @@ returns-clause-steps g c t y start x can found up place at =
       ws,
       hs,
       walked_further x c.loop-i.from 1024 ws high walked,
-      cleared_further t y (1024 * c.loop-i.from) (1024 * 1024) hs (omega (arith, high)) there,
-      omega (arith, so, next),
+      cleared_further t y (1024 * c.loop-i.from) (1024 * 1024) hs (omega arith) there,
+      omega arith,
     )

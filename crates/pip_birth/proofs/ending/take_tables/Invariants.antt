@@ -1,4 +1,4 @@
-use Rattle.std.proofs.Common.{◌≡◌, ◌+◌, ◌*◌, ◌-◌, ◌≤◌, length}
+use Rattle.std.proofs.Common.{◌≡◌, ◌*◌, ◌-◌, ◌≤◌, length}
 use Rattle.pip_birth.specs.Ending.{CountsWalked, EndsEachChild}
 use Rattle.pip_birth.proofs.ending.take_tables.Given as goal
 

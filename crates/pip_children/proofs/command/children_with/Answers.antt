@@ -1,11 +1,11 @@
 use Rattle.std.proofs.Common.{◌∙◌, ap, refl}
 use Rattle.pip_io.proofs.Taken.{Keeps-refl}
-use Rattle.pip_watch.specs.Watching.{short_line}
-use Rattle.pip_due.proofs.Endings.{ends_same}
+use Rattle.pip_native_run.specs.Watching.{short_line}
+use Rattle.pip_command_contracts.proofs.Endings.{ends_same}
 use Rattle.pip_children.proofs.Monitored.{children_cut, children_faulted, children_lacks, children_short}
 use Rattle.pip_children.proofs.Monitored.{children_shown}
 use Rattle.pip_children.proofs.Waiting.{children_waits}
-use Rattle.pip_due.proofs.Waiting.{waits_after}
+use Rattle.pip_command_contracts.proofs.Waiting.{waits_after}
 use Rattle.pip_children.proofs.command.children_with.Goals as goal
 
 pub returns-in-Ok-show-clause-ends : goal.returns-in-Ok-show-clause-ends

@@ -3,9 +3,9 @@ use Rattle.pip_image.specs.Coming.{coming, header_parts}
 use Rattle.pip_image.specs.Reading.{Refuses}
 use Rattle.pip_image.proofs.Steps.{after_parts}
 use Rattle.pip_model.specs.Images.{image_parts}
-use Rattle.pip_due.specs.Loading.{StoppedAfter}
-use Rattle.pip_due.specs.declared.loading.LoadError.TheVariants as R
-use Rattle.pip_due.proofs.Begins.{lacks_memory, pages_paced}
+use Rattle.pip_command_contracts.specs.Loading.{StoppedAfter}
+use Rattle.pip_command_contracts.specs.declared.loading.LoadError.TheVariants as R
+use Rattle.pip_command_contracts.proofs.Begins.{lacks_memory, pages_paced}
 use Rattle.pip_children.proofs.Shortness.{unshort_header, unshort_lacking, unshort_roomy, unshort_told}
 use Rattle.pip_children.proofs.loading.load.Goals as goal
 

@@ -1,5 +1,5 @@
 use Rattle.pip_model.specs.Boot.{zero_words}
-use Rattle.pip_due.proofs.Begins.{are_zeros}
+use Rattle.pip_command_contracts.proofs.Begins.{are_zeros}
 use Rattle.pip_commands.proofs.Lines.{boots_zeros}
 use Rattle.pip_commands.proofs.machines.new_machine.Goals as goal
 

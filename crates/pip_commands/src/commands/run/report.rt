@@ -9,11 +9,11 @@ ghost use Rattle.pip_model.specs.Partitions.{HasPartition, IsHeld};
 ghost use Rattle.pip_model.specs.Run.{end_line};
 ghost use Rattle.pip_model.specs.Tree.{Tree};
 ghost use Rattle.pip_commands.specs.Shown.{ShowsOut, ShowsReport};
-ghost use Rattle.pip_due.specs.Loading.{Begins, HasImage};
+ghost use Rattle.pip_command_contracts.specs.Loading.{Begins, HasImage};
 
 use pip_base::Steps;
-use pip_due::loading::Loaded;
-use pip_due::pass;
+use pip_command_contracts::loading::Loaded;
+use pip_command_contracts::pass;
 use pip_dump::{frames_text, tree_text};
 use pip_frames::Frames;
 use pip_io::{Failed, Sink};

@@ -7,7 +7,7 @@ ghost use Rattle.pip_model.specs.Text.{line_text, outcome_text, said_text};
 ghost use Rattle.pip_model.specs.Worlds.{World};
 ghost use Rattle.pip_script.specs.Phrases.{HasWords};
 ghost use Rattle.pip_script.specs.Proper.{IsProper};
-ghost use Rattle.pip_due.specs.Machines.{StandsIfAny};
+ghost use Rattle.pip_command_contracts.specs.Machines.{StandsIfAny};
 ghost use Rattle.pip_commands.specs.Runs.{Runs, RunsIn, Stopped};
 
 use crate::machines::new_machine;

@@ -28,7 +28,7 @@ loop-preserved g c = record {
       c.new-page.ensures
       ∙ (c.word.ensures.word ∙ next_is (g.M.Frames.memory c.args.mem.now) c.args.first more slot list c.loop.counter
       c.loop.page (c.loop.invariant.frame more slot list (omega arith)) (omega arith));
-  steps = let read = c.word.ensures.step in let so = c.loop.invariant.steps in omega (arith, read, so);
+  steps = omega arith;
 }
 
 pub returns-clause-inside : goal.returns-clause-inside
@@ -42,5 +42,4 @@ returns-clause-inside g c =
 pub returns-clause-frame : goal.returns-clause-frame
 returns-clause-frame g c more slot list upto =
     let same : c.loop.counter ≡ c.args.k = grind arith in
-    c.loop.invariant.frame more slot list (subst (λ k. k ≤ length more) (sym same) upto)
-    ∙ ap (list_frame c.args.first more) same
+    rw (c.loop.invariant.frame more slot list (subst (λ k. k ≤ length more) (sym same) upto), same)

@@ -33,7 +33,7 @@ returns-then-word-number-clause-place g c more ts list count =
     let read = page_of_word _ c.args.first c.loop-k.k c.loop-k.page more ts list inside l.page
     c.page_of_slot-page.result c.page_of_slot-page.ensures.same c.page_of_slot-page.ensures.next in
     table_found ts c.args.table c.loop-k.k inside
-    (sym read ∙ (sym c.word.ensures.word ∙ (c.if-word-number.true ∙ c.number.ensures.same))) l.none
+    (rw (← read, ← c.word.ensures.word, c.if-word-number.true, c.number.ensures.same)) l.none
 
 pub loop-k-preserved : goal.loop-k-preserved
 loop-k-preserved g c = record {
@@ -46,13 +46,12 @@ loop-k-preserved g c = record {
       c.page_of_slot-page.result c.page_of_slot-page.ensures.same c.page_of_slot-page.ensures.next in
       let next : c.loop-k.k + 1 - 1 ≡ c.loop-k.k = omega arith in
       record {
-        page = at ∙ ap (λ j. list_frame c.args.first more (j / 170)) (sym next);
+        page = cc;
         none = below_more _ _ l.none
-            (λ e. c.if-word-number.false (c.word.ensures.word ∙ (read ∙ (e ∙ sym c.number.ensures.same))));
+            (λ e. c.if-word-number.false (rw (c.word.ensures.word, read, e, ← c.number.ensures.same)));
       };
   steps =
-      let next = c.page_of_slot-page.ensures.steps in let read = c.word.ensures.step in
-      let so = c.loop-k.invariant.steps in omega (arith, next, read, so);
+      omega arith;
 }
 
 pub returns-clause-place : goal.returns-clause-place

@@ -9,7 +9,6 @@ returns-clause-list g c more ts t list count room pairs =
     let put = c.write_slot.ensures.pages more (slots ts) t list.pages (omega arith) pairs in (
       push_list (g.M.Frames.memory c.args.mem.now) (g.M.Frames.memory c.write_slot.new.mem) c.args.first more ts t list
           (omega arith) (c.write_slot.ensures.small t pairs)
-          (subst (λ n. PagesIn (g.M.Frames.memory c.write_slot.new.mem) c.args.first more (put_slot (slots ts) n t))
-          (sym count) put.0),
+          (rw count put.0),
       put.1,
     )

@@ -27,14 +27,12 @@ returns-clause-list g c more ts t list count =
     let room = list.room in
     let last_place : c.args.m - 1 ≡ length ts = omega arith in
     let last : table_pairs t ≡ c.slot_at-last.result =
-    sym (c.slot_at-last.ensures.slot more (ts ++ t ∷ []) list (omega arith)
-    ∙ (ap (λ q. table_pairs (slots (ts ++ t ∷ []) q)) last_place ∙ ap table_pairs (slots_last ts t))) in
+    rw (← slots_last ts t, ← last_place, ← c.slot_at-last.ensures.slot more (ts ++ t ∷ []) list (omega arith)) in
     let one = c.write_slot.ensures.pages more (slots (ts ++ t ∷ [])) t list.pages (omega arith) last in
     let two = c.write_slot-2.ensures.pages more (put_slot (slots (ts ++ t ∷ [])) c.args.k t) no_table one.0
     (omega arith) (sym c.no_slot.ensures) in (
       swap_list (g.M.Frames.memory c.args.mem.now) (g.M.Frames.memory c.write_slot-2.new.mem) c.args.first more ts t
           c.args.k list (omega arith)
-          (subst (λ n. PagesIn (g.M.Frames.memory c.write_slot-2.new.mem) c.args.first more
-          (put_slot (put_slot (slots (ts ++ t ∷ [])) c.args.k t) n no_table)) last_place two.0),
+          (rw (← last_place) two.0),
       ListStays-trans c.args.first more _ _ _ one.1 two.1,
     )

@@ -1,5 +1,6 @@
 use Rattle.std.proofs.Common.{rules}
 use Rattle.pip_cpu.proofs.Carrying.{load_moved}
+use Rattle.pip_cpu.proofs.Working.{load_takes}
 use Rattle.pip_cpu.proofs.carry.load.Goals as goal
 
 pub returns : goal.returns
@@ -8,4 +9,5 @@ returns g c = record {
       c.write_moved.ensures.wrote;
   cause = search rules;
   count = search rules;
+  work = load_takes _ c.args.t c.args.cpu _ _ c.args.register c.args.va c.args.size c.load-outcome.ensures.work;
 }

@@ -1,5 +1,6 @@
 use Rattle.std.proofs.Common.{rules}
 use Rattle.pip_cpu.proofs.Carrying.{store_moved}
+use Rattle.pip_cpu.proofs.Working.{store_takes}
 use Rattle.pip_cpu.proofs.carry.store.Goals as goal
 
 pub returns : goal.returns
@@ -8,4 +9,5 @@ returns g c = record {
       c.write_moved.ensures.wrote;
   cause = search rules;
   count = search rules;
+  work = store_takes _ c.args.t c.args.cpu _ _ c.args.va c.args.word c.args.size c.store-outcome.ensures.work;
 }

@@ -1,5 +1,6 @@
 use Rattle.std.proofs.Common.{rules}
 use Rattle.pip_cpu.proofs.Stages.{fetched_cut, fetch_cut}
+use Rattle.pip_cpu.proofs.Working.{fetch_takes, fetched_takes}
 use Rattle.pip_cpu.proofs.turns.fetch.Goals as goal
 
 pub returns-in-Err-clause-acts : goal.returns-in-Err-clause-acts
@@ -13,4 +14,16 @@ returns-in-Err-write_moved g c = record {
   end = λ w h. tt;
   cause = search rules;
   count = search rules;
+  work = fetch_takes _ c.args.t c.args.cpu _ _ c.fetch-outcome.ensures.work;
 }
+
+pub returns-in-Ok-clause-work : goal.returns-in-Ok-clause-work
+returns-in-Ok-clause-work g c = fetched_takes _ _ c.args.t c.args.cpu _ _ _ _ c.fetch-outcome.ensures.event _
+    c.in-Word.is c.fetch-outcome.ensures.work c.execute.ensures.work
+
+pub returns-in-Err-clause-work : goal.returns-in-Err-clause-work
+returns-in-Err-clause-work g c = fetched_takes _ _ c.args.t c.args.cpu _ _ _ _ c.fetch-outcome.ensures.event _
+    c.in-Word.is c.fetch-outcome.ensures.work c.execute.ensures.work
+
+pub returns-in-Ok-write_moved-clause-work : goal.returns-in-Ok-write_moved-clause-work
+returns-in-Ok-write_moved-clause-work g c = fetch_takes _ c.args.t c.args.cpu _ _ c.fetch-outcome.ensures.work

@@ -4,7 +4,8 @@ use Rattle.pip_io.proofs.Taken.{Appends-nil}
 use Rattle.pip_io.specs.Taken.{Appends, AppendsPart, Wrote}
 use Rattle.pip_model.specs.Text.{line_text}
 use Rattle.pip_dump.proofs.Groups.{frame_none, frame_some, tells_none, tells_one}
-use Rattle.pip_dump.proofs.Pieces.{part_longer, wrote_after, wrote_err}
+use Rattle.pip_io.proofs.Piecewise.{part_longer, wrote_of}
+use Rattle.pip_dump.proofs.Pieces.{wrote_err}
 use Rattle.pip_dump.proofs.frames.words_text.Goals as goal
 
 pub returns-in_default-clause-text : goal.returns-in_default-clause-text
@@ -34,5 +35,5 @@ returns-clause-text g c =
     tells_one c.args.words.now c.in-Some.first inside some) in
     subst (λ text. Wrote c.groups_text.result (g.K.Sink.history c.args.sink.now).written
     (g.K.Sink.history c.groups_text.new.sink).written text) whole
-    (wrote_after _ _ _ _ _ c.groups_text.result (subst (Appends (g.K.Sink.history c.args.sink.now).written
+    (wrote_of _ _ _ _ _ c.groups_text.result (subst (Appends (g.K.Sink.history c.args.sink.now).written
     (g.K.Sink.history c.write_all.new.sink).written) piece c.in_ok-write_all.ensures.whole) c.groups_text.ensures.text)

@@ -5,7 +5,8 @@ use Rattle.std.proofs.lemmas.Option.{slice_get-map, slice_get_read}
 use Rattle.pip_search.specs.Summary.{HasOneKey}
 use Rattle.pip_search.specs.Systems.{IsKey}
 use Rattle.pip_every.specs.Again.{IsSaid, shown_line}
-use Rattle.pip_every.proofs.Saying.{AreSaidYet, one_more_said}
+use Rattle.pip_every.specs.declared.again.Again.{Again}
+use Rattle.pip_every.proofs.Saying.{AreYet, one_more_said}
 use Rattle.pip_every.proofs.again.say_all.Goals as goal
 
 pub say-requires-clause-key : goal.say-requires-clause-key
@@ -36,10 +37,10 @@ loop-line-preserved g c =
     record {
       base = c.in_ok-said.ensures.base ∙ was.base;
       count = ap length c.in_ok-push.ensures.items ∙ length-append said (r ∷ []) ∙ ap (λ n. n + 1) was.count;
-      said = λ x stands. subst (AreSaidYet (g.S.System.model (g.S.System.base c.args.system.now)) c.args.width x lines
-          c.args.extent) (sym c.in_ok-push.ensures.items)
-          (one_more_said (g.S.System.model (g.S.System.base c.args.system.now)) c.args.width x lines c.args.extent said
-          c.loop-line.line-index r (was.said x stands) was.count (λ line at.
-          subst (λ l. IsSaid (g.S.System.model (g.S.System.base c.args.system.now)) c.args.width x (shown_line l)
-          c.args.extent r) (same line at) (own x stands)));
+      said = λ x stands.
+          let IsOwn : List ℕ → Again → Type 0 = λ line v. IsSaid (g.S.System.model (g.S.System.base c.args.system.now))
+          c.args.width x (shown_line line) c.args.extent v in
+          subst (AreYet IsOwn lines) (sym c.in_ok-push.ensures.items)
+          (one_more_said IsOwn lines said c.loop-line.line-index r (was.said x stands) was.count (λ line at.
+          subst (λ l. IsOwn l r) (same line at) (own x stands)));
     }

@@ -37,11 +37,11 @@ returns-in-None-clause-user g c t rows x r s k x_is r_is =
 pub returns-in-None-clause-chain : goal.returns-in-None-clause-chain
 returns-in-None-clause-chain g c t rows x r s k x_is r_is =
     let h = c.loop-i.invariant.climb t rows x r s k x_is r_is in
-    let long = setting_chain t s rows c.args.caller r.frame c.args.user (g.M.Frames.memory c.args.mem.now)
-    (g.M.Frames.memory c.loop-i.mem) c.loop-i.at c.loop-i.place c.loop-i._i h in
-    let one = c.set_user_in.ensures.steps in
-    let so = c.loop-i.invariant.steps in
-    omega (arith, long, one, so)
+    omega (
+      arith,
+      setting_chain t s rows c.args.caller r.frame c.args.user (g.M.Frames.memory c.args.mem.now)
+          (g.M.Frames.memory c.loop-i.mem) c.loop-i.at c.loop-i.place c.loop-i._i h,
+    )
 
 pub loop-i-preserved : goal.loop-i-preserved
 loop-i-preserved g c = record {
@@ -54,7 +54,7 @@ loop-i-preserved g c = record {
       (g.M.Frames.memory c.loop-i.mem) (g.M.Frames.memory c.set_user_in.new.mem) c.loop-i.at c.loop-i.place
       c.loop-i._i h (Some c.in-Some.above) set
       c.in-Some.above.part c.in-Some.above.v set.above.0 set.above.1;
-  steps = let one = c.set_user_in.ensures.steps in let so = c.loop-i.invariant.steps in omega (arith, one, so);
+  steps = omega arith;
 }
 
 pub never-assert_unchecked-requires : goal.never-assert_unchecked-requires

@@ -22,7 +22,7 @@ returns-in-Descriptor-clause-child g c t x s lays is =
     let rows = full_rows t x in
     let v = c.of_address-v.result in
     let one : packed_sh1 c.given.result % 4096 ≡ 1 = rw c.in-Descriptor.is (omega arith) in
-    child_by_word t s c.args.caller c.args.va x is c.requires.place (rows v) (ap rows c.of_address-v.ensures)
+    child_by_word t s c.args.caller c.args.va x is c.requires.place (rows v) (rw c.of_address-v.ensures)
     (packed_sh1 c.given.result) (c.given.ensures.word x rows space name) one
     c.page_of.result (c.page_of.ensures (rows v) (packed_row m x rows space v)
     (c.leaf_word.ensures.word x rows space name))
@@ -32,7 +32,7 @@ returns-in-Free-clause-child g c t x s lays is =
     let rows = full_rows t x in
     let v = c.of_address-v.result in
     let kind : packed_sh1 c.given.result % 4096 ≡ 0 = rw c.in-Free.is (omega arith) in
-    no_child_by_word t s c.args.caller c.args.va x is c.requires.place (rows v) (ap rows c.of_address-v.ensures)
+    no_child_by_word t s c.args.caller c.args.va x is c.requires.place (rows v) (rw c.of_address-v.ensures)
     (packed_sh1 c.given.result)
     (c.given.ensures.word x rows (laid_space t s (g.M.Frames.memory c.args.mem.now) lays c.args.caller x is)
     (found_name t c.args.caller x is)) (λ e. omega arith)
@@ -42,7 +42,7 @@ returns-in-Config-clause-child g c t x s lays is =
     let rows = full_rows t x in
     let v = c.of_address-v.result in
     let kind : packed_sh1 c.given.result % 4096 ≡ 2 = rw c.in-Config.is (omega arith) in
-    no_child_by_word t s c.args.caller c.args.va x is c.requires.place (rows v) (ap rows c.of_address-v.ensures)
+    no_child_by_word t s c.args.caller c.args.va x is c.requires.place (rows v) (rw c.of_address-v.ensures)
     (packed_sh1 c.given.result)
     (c.given.ensures.word x rows (laid_space t s (g.M.Frames.memory c.args.mem.now) lays c.args.caller x is)
     (found_name t c.args.caller x is)) (λ e. omega arith)
@@ -52,7 +52,7 @@ returns-in-Lent-clause-child g c t x s lays is =
     let rows = full_rows t x in
     let v = c.of_address-v.result in
     let kind : packed_sh1 c.given.result % 4096 ≡ 3 = rw c.in-Lent.is (omega arith) in
-    no_child_by_word t s c.args.caller c.args.va x is c.requires.place (rows v) (ap rows c.of_address-v.ensures)
+    no_child_by_word t s c.args.caller c.args.va x is c.requires.place (rows v) (rw c.of_address-v.ensures)
     (packed_sh1 c.given.result)
     (c.given.ensures.word x rows (laid_space t s (g.M.Frames.memory c.args.mem.now) lays c.args.caller x is)
     (found_name t c.args.caller x is)) (λ e. omega arith)

@@ -9,7 +9,7 @@ tested_apart : (a b : ℕ) (r : Bool) → r ≡ eqb a b → r ≡ false → a �
 tested_apart a b r is off e = both_ways r off (is ∙ eq-eqb a b e)
 
 tested_same : (a b : ℕ) (r : Bool) → r ≡ eqb a b → r ≡ true → a ≡ b
-tested_same a b r is on = eqb-true a b (sym is ∙ on)
+tested_same a b r is on = eqb-true a b (cc)
 
 pub loop-i-init : goal.loop-i-init
 loop-i-init g c = record {
@@ -38,7 +38,7 @@ loop-i-preserved g c = record {
       tested_apart c.parent_of-up.result c.loop-i.at c.eq-in-loop-i.result c.eq-in-loop-i.ensures c.if-eq-2.false in
       climb_on t s c.args.part c.args.top c.loop-i.at c.parent_of-up.result c.loop-i._i k ne
       (c.parent_of-up.ensures.parent t k.x s lays k.x_is) moved;
-  steps = let one = c.parent_of-up.ensures.step in let so = c.loop-i.invariant.steps in omega (arith, one, so);
+  steps = omega arith;
 }
 
 pub never-assert_unchecked-requires : goal.never-assert_unchecked-requires
@@ -54,14 +54,9 @@ never-assert_unchecked-requires g c =
 pub returns-then-eq-clause-chain : goal.returns-then-eq-clause-chain
 returns-then-eq-clause-chain g c t x s lays is =
     let k = c.loop-i.invariant.climb t x s lays is in
-    let long = climb_chain t s c.args.part c.args.top c.loop-i.at c.loop-i._i k in
-    let so = c.loop-i.invariant.steps in
-    omega (arith, long, so)
+    omega (arith, climb_chain t s c.args.part c.args.top c.loop-i.at c.loop-i._i k)
 
 pub returns-then-eq-2-clause-chain : goal.returns-then-eq-2-clause-chain
 returns-then-eq-2-clause-chain g c t x s lays is =
     let k = c.loop-i.invariant.climb t x s lays is in
-    let long = climb_chain t s c.args.part c.args.top c.loop-i.at c.loop-i._i k in
-    let one = c.parent_of-up.ensures.step in
-    let so = c.loop-i.invariant.steps in
-    omega (arith, long, one, so)
+    omega (arith, climb_chain t s c.args.part c.args.top c.loop-i.at c.loop-i._i k)

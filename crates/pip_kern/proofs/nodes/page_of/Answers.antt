@@ -6,4 +6,4 @@ pub returns-in_err-unpack_leaf : goal.returns-in_err-unpack_leaf
 returns-in_err-unpack_leaf c r packed word =
     let l = leaf_of r packed in
     absurd (not_both c.unpack_leaf.result l.0 c.in_err-unpack_leaf.was
-    (c.unpack_leaf.ensures.each l.0 l.1 (l.2 ∙ sym word)))
+    (c.unpack_leaf.ensures.each l.0 l.1 (cc (l.2))))

@@ -9,7 +9,7 @@ word-requires-clause-frame g c = part_frame (g.M.Frames.memory c.args.mem.now) c
 pub new-requires : goal.new-requires
 new-requires g c =
     let m = g.M.Frames.memory c.args.mem.now in
-    subst (λ k. k < 2 ^ 20) (sym c.word.ensures.word) (part_small m _ (parent_stands m c.args.part c.requires))
+    rw c.word.ensures.word (part_small m _ (parent_stands m c.args.part c.requires))
 
 pub returns-clause-parent : goal.returns-clause-parent
 returns-clause-parent g c t x s lays is =
@@ -18,4 +18,4 @@ returns-clause-parent g c t x s lays is =
 pub returns-clause-stands : goal.returns-clause-stands
 returns-clause-stands g c =
     let m = g.M.Frames.memory c.args.mem.now in
-    subst (HasPartition m) (sym (c.new.ensures ∙ c.word.ensures.word)) (parent_stands m c.args.part c.requires)
+    rw (c.new.ensures, c.word.ensures.word) (parent_stands m c.args.part c.requires)

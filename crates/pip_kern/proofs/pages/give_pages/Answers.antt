@@ -17,10 +17,7 @@ loop-page-preserved g c = record {
       c.loop-page-test.true c.page-item.is c.of_address.ensures c.loop-page.invariant.given
       (g.M.Frames.memory c.give_page.new.mem) c.give_page.ensures.given;
   steps =
-      let one = c.give_page.ensures.steps in
-      let same = c.loop-page.invariant.count in
-      let so = c.loop-page.invariant.steps in
-      omega (arith, one, same, so);
+      omega arith;
   chain = next_in (g.M.Frames.memory c.args.mem.now) (g.M.Frames.memory c.loop-page.mem) c.args.caller c.args.born
       c.args.pages.now c.loop-page.page-index c.of_address.result c.page-item.result
       c.loop-page-test.true c.page-item.is c.of_address.ensures c.loop-page.invariant.given _ c.loop-page.steps _
@@ -37,5 +34,5 @@ returns-clause-chain g c t y gs each up k =
     let so = c.loop-page.invariant.chain t y gs each up k in
     let upto = c.loop-page.auto.page-index-end in
     let over = c.loop-page-test.false in
-    let all : c.loop-page.page-index ≡ length c.args.pages.now = omega (arith, upto, over) in
-    subst (λ n. c.loop-page.steps ≤ c.args.steps.now + n * (7 * length (chain t c.args.caller) + 2)) all so
+    let all : c.loop-page.page-index ≡ length c.args.pages.now = omega arith in
+    rw (← all) so

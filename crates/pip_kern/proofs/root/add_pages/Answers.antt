@@ -38,17 +38,15 @@ loop-f-preserved g c =
     let low = c.loop-f.auto.f in
     let test = c.loop-f-test.true in
     let next : c.loop-f.f - c.args.first + 1 ≡ c.loop-f.f + 1 - c.args.first = omega arith in
-    subst (λ k. HoldsRoot c.args.n 1024 (first_user c.args.n) (boot_root c.args.n).tables
-    (pages_from (first_user c.args.n) k) (g.M.Frames.memory c.map.new.mem)) next
-    (mapped c.args.n least most (pages_from (first_user c.args.n) (c.loop-f.f - c.args.first))
+    rw (← next) (mapped c.args.n least most (pages_from (first_user c.args.n) (c.loop-f.f - c.args.first))
     (g.M.Frames.memory c.loop-f.mem) c.loop-f.invariant (1024 + (c.loop-f.f - c.args.first)) c.loop-f.f
-    (frame_at_place c.args.n least most (1024 + (c.loop-f.f - c.args.first)) c.loop-f.f (omega arith) (omega arith)
-    (omega arith))
-    (g.M.Frames.memory c.map.new.mem) c.new-root.result c.new.result _ (pages_from (first_user c.args.n)
-    (c.loop-f.f - c.args.first + 1)) c.new-root.ensures (sym c.new.ensures) c.user_row.ensures
-    (pages_more (first_user c.args.n) (c.loop-f.f - c.args.first) (1024 + (c.loop-f.f - c.args.first)) c.loop-f.f refl
-    (omega arith))
-    c.map.ensures.rows c.map.ensures.others)
+    (frame_at_place c.args.n least most (1024 + (c.loop-f.f - c.args.first)) c.loop-f.f (omega arith)
+    (omega arith) (omega arith)) (g.M.Frames.memory c.map.new.mem) c.new-root.result c.new.result _
+    (pages_from (first_user c.args.n) (c.loop-f.f - c.args.first + 1)) c.new-root.ensures
+    (sym c.new.ensures) c.user_row.ensures
+    (pages_more (first_user c.args.n) (c.loop-f.f - c.args.first)
+    (1024 + (c.loop-f.f - c.args.first)) c.loop-f.f refl (omega arith)) c.map.ensures.rows
+    c.map.ensures.others)
 
 pub map-requires-2-clause-room : goal.map-requires-2-clause-room
 map-requires-2-clause-room g c =

@@ -17,10 +17,9 @@ turned n k m h =
     let index : 1 + k ≡ k + 1 = omega arith in
     let page : 6 + 3 * k + 3 ≡ 6 + 3 * (k + 1) = omega arith in
     let list : tables_begin k 1 6 ++ boot_table (k + 1) (6 + 3 * k) ∷ [] ≡ tables_begin (k + 1) 1 6 =
-    sym (ap (λ j. tables_begin j 1 6) more
-    ∙ (tables_more k 1 6 ∙ ap (λ j. tables_begin k 1 6 ++ boot_table j (6 + 3 * k) ∷ []) index)) in
-    subst (λ ts. HoldsRoot n (k + 1 + 1) (6 + 3 * (k + 1)) ts no_rows m) list (subst (λ g.
-    HoldsRoot n (k + 1 + 1) g (tables_begin k 1 6 ++ boot_table (k + 1) (6 + 3 * k) ∷ []) no_rows m) page h)
+    cc (tables_more k 1 6) in
+    rw (← list) (subst (λ g. HoldsRoot n (k + 1 + 1) g (tables_begin k 1 6 ++ boot_table (k + 1) (6 + 3 * k) ∷ [])
+    no_rows m) page h)
 
 -- the end: the record of all tables
 ended : (n : ℕ) (m : Memory) → HoldsRoot n 1024 (6 + 3 * tables_of_root n + 3) (tables_begin (tables_of_root n) 1 6
@@ -28,8 +27,8 @@ ended : (n : ℕ) (m : Memory) → HoldsRoot n 1024 (6 + 3 * tables_of_root n + 
     → HoldsRoot n 1024 (first_user n) (tables_from (tables_of_root n) 1 6) no_rows m
 ended n m h =
     let page : 6 + 3 * tables_of_root n + 3 ≡ first_user n = omega arith in
-    subst (λ g. HoldsRoot n 1024 g (tables_from (tables_of_root n) 1 6) no_rows m) page
-    (subst (λ ts. HoldsRoot n 1024 (6 + 3 * tables_of_root n + 3) ts no_rows m) (tables_end (tables_of_root n) 1 6) h)
+    rw (← page) (subst (λ ts. HoldsRoot n 1024 (6 + 3 * tables_of_root n + 3) ts no_rows m)
+    (tables_end (tables_of_root n) 1 6) h)
 
 pub install_table-requires-clause-can : goal.install_table-requires-clause-can
 install_table-requires-clause-can g c =
@@ -74,12 +73,11 @@ returns g c =
     let most = (g.met.M.Frames.bounds c.args.mem.now).1 in
     let number = c.requires.number in
     let all : c.loop-k.k ≡ c.args.tables = grind arith in
-    let last : c.loop-k.k ≡ tables_of_root n = all ∙ number in
+    let last : c.loop-k.k ≡ tables_of_root n = cc in
     let slot = subst (λ k. table_pairs (boot_table 0 (6 + 3 * k)) ≡ c.slot_at-2.result) (sym all) c.slot_at-2.ensures in
     let done = installed n (c.loop-k.k + 1) (6 + 3 * c.loop-k.k) (tables_begin c.loop-k.k 1 6)
     (g.M.Frames.memory c.loop-k.mem) c.loop-k.invariant (omega arith) 1023 (omega arith) (omega arith) (omega arith)
     (g.M.Frames.memory c.install_table-2.new.mem) c.new-root.result 1023 c.slot_at-2.result c.new-root.ensures refl slot
     c.install_table-2.ensures.node in
     ended n (g.M.Frames.memory c.install_table-2.new.mem)
-    (subst (λ k. HoldsRoot n 1024 (6 + 3 * k + 3) (tables_begin k 1 6 ++ boot_table 1023 (6 + 3 * k) ∷ []) no_rows
-    (g.M.Frames.memory c.install_table-2.new.mem)) last done)
+    (rw (← last) done)

@@ -5,8 +5,7 @@ use Rattle.pip_model.specs.Layout.{LaysOut}
 use Rattle.pip_kern.proofs.root.boot.Goals as goal
 
 pub boot_zeros-requires : goal.boot_zeros-requires
-boot_zeros-requires g c = c.zero_all.ensures.words ∙ ap (λ n. replicate n (zeros 1024)) (sym c.zero_all.ensures.count)
+boot_zeros-requires g c = cc (c.zero_all.ensures.words, c.zero_all.ensures.count)
 
 pub returns-clause-layout : goal.returns-clause-layout
-returns-clause-layout g c = subst (λ n. LaysOut (boot_tree n) (g.M.Frames.memory c.boot_zeros.new.mem))
-    c.zero_all.ensures.count c.boot_zeros.ensures.layout
+returns-clause-layout g c = rw (← c.zero_all.ensures.count) c.boot_zeros.ensures.layout

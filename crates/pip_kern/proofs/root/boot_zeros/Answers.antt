@@ -8,29 +8,27 @@ use Rattle.pip_kern.proofs.root.boot_zeros.Goals as goal
 
 pub add_tables-requires-clause-number : goal.add_tables-requires-clause-number
 add_tables-requires-clause-number g c =
-    c.root_tables-tables.ensures.number ∙ ap tables_of_root (c.count-n.ensures ∙ sym c.write_root.ensures.count)
+    rw (c.root_tables-tables.ensures.number, c.count-n.ensures, ← c.write_root.ensures.count)
 
 pub add_tables-requires-clause-root : goal.add_tables-requires-clause-root
 add_tables-requires-clause-root g c =
     let bounds = g.met.M.Frames.bounds c.args.mem.now in
     let n = length (g.M.Frames.memory c.args.mem.now) in
     let m = g.M.Frames.memory c.write_root.new.mem in
-    subst (λ k. HoldsRoot k 1 6 [] no_rows m) (sym c.write_root.ensures.count)
-    (start n bounds.0 bounds.1 (g.M.Frames.memory c.args.mem.now) m c.requires c.write_root.ensures.words)
+    rw c.write_root.ensures.count (start n bounds.0 bounds.1 (g.M.Frames.memory c.args.mem.now) m c.requires
+    c.write_root.ensures.words)
 
 pub add_pages-requires-clause-count : goal.add_pages-requires-clause-count
-add_pages-requires-clause-count g c = c.count-n.ensures ∙ sym (c.add_tables.ensures.count ∙ c.write_root.ensures.count)
+add_pages-requires-clause-count g c = cc (c.count-n.ensures, c.write_root.ensures.count, c.add_tables.ensures.count)
 
 pub add_pages-requires-clause-root : goal.add_pages-requires-clause-root
 add_pages-requires-clause-root g c =
     let m = g.M.Frames.memory c.add_tables.new.mem in
-    subst (λ n. HoldsRoot n 1024 (first_user n) (boot_root n).tables no_rows m)
-    (c.write_root.ensures.count ∙ sym c.count-n.ensures) c.add_tables.ensures
+    rw (c.count-n.ensures, ← c.write_root.ensures.count) c.add_tables.ensures
 
 pub returns-clause-layout : goal.returns-clause-layout
 returns-clause-layout g c =
     let bounds = g.met.M.Frames.bounds c.args.mem.now in
     let m = g.M.Frames.memory c.add_pages.new.mem in
     boot_done (length (g.M.Frames.memory c.args.mem.now)) bounds.0 bounds.1 m
-    (subst (λ n. HoldsRoot n 1024 (first_user n) (boot_root n).tables (full_rows (boot_tree n) (boot_root n)) m)
-    c.count-n.ensures c.add_pages.ensures)
+    (rw (← c.count-n.ensures) c.add_pages.ensures)

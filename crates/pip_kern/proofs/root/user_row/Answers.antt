@@ -7,5 +7,4 @@ pub returns : goal.returns
 unfolding bitflags_on_literals
 returns c =
     let all : c.all.result.0 ≡ 7 = c.all.ensures tt in
-    ap (λ k. record { frame = c.new.result; rights = k; user = true; given = 0; from = 0 }) all
-    ∙ ap user_row_of c.new.ensures
+    rw (all, c.new.ensures)

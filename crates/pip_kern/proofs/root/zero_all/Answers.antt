@@ -9,7 +9,7 @@ loop-f-preserved g c =
     let test = c.loop-f-test.true in
     let inside : c.loop-f.f < length (g.M.Frames.memory c.loop-f.mem) = grind arith in
     record {
-      count = c.zero.ensures.count ∙ count;
+      count = cc (c.zero.ensures.count);
       end = end;
       zero = zero_more (g.M.Frames.memory c.loop-f.mem) (g.M.Frames.memory c.zero.new.self) c.loop-f.f c.new.result
           c.new.ensures inside c.zero.ensures.words c.loop-f.invariant.zero;
@@ -21,4 +21,4 @@ returns-clause-words g c =
     let end = c.loop-f.invariant.end in
     let all : c.loop-f.f ≡ length (g.M.Frames.memory c.args.mem.now) = grind arith in
     all_zero m (length (g.M.Frames.memory c.args.mem.now)) c.loop-f.invariant.count
-    (subst (AreZero m) all c.loop-f.invariant.zero)
+    (rw (← all) c.loop-f.invariant.zero)

@@ -1,9 +1,12 @@
-use Rattle.std.proofs.Common.{arith, sym, subst, ap, ◌∙◌, ◌≡◌, ◌≤◌, ◌+◌, ◌∷◌, []}
+use Rattle.std.proofs.Common.{rules, arith, sym, subst, ap, ◌∙◌, ◌≡◌, ◌≤◌, ◌+◌, ◌∷◌, []}
 use Rattle.std.specs.Prelude.{length}
+use Rattle.std.proofs.lemmas.List.{length-map}
 use Rattle.pip_search.specs.Certificates.{IsClosedPart}
-use Rattle.pip_search.specs.Parts.{IsGrowing, portion_of, stop_at, stops}
+use Rattle.pip_search.specs.Parts.{IsGrowing, IsWalked, portion_of, stop_at, stop_of, stops}
+use Rattle.pip_search.specs.Portions.{IsPortionOf}
 use Rattle.pip_search.specs.Systems.{IsKey}
 use Rattle.pip_search.proofs.Parting.{all_closed, first_grows, has_new}
+use Rattle.pip_search.proofs.Portioning.{first_portion, portion_said, walked_first}
 use Rattle.pip_search.proofs.parts.check_part.Goals as goal
 
 pub meet_all-requires-clause-key : goal.meet_all-requires-clause-key
@@ -46,6 +49,16 @@ loop-i-init g c =
           let few : n ≡ 0 = ap length none in
           has_new [] (stops p.keys.items) start 0
           (keys ∙ ap (λ k. stop_at k n ∷ []) (c.in_ok-walk.ensures.stays none) ∙ ap (λ k. stop_at start k ∷ []) few);
+      kept = c.in_ok-part.ensures.kept;
+      low = omega arith;
+      walked = (
+        from,
+        (
+          c.in_ok-walk.ensures.leads c.if-not-branch.false,
+          walked_first m c.args.marks.now (stop_at from n) (portion_of p)
+              (first_portion p (stop_at from n) keys c.in_ok-part.ensures.asked c.in_ok-part.ensures.found),
+        ),
+      );
       few = let one = c.in_ok-part.ensures.count in omega arith;
     }
 
@@ -58,5 +71,37 @@ loop-i-preserved g c =
           c.loop-i.invariant.base c.in_ok-at.ensures.growing;
       within = c.in_ok-at.ensures.within;
       begins = λ none. c.in_ok-at.ensures.keeps c.args.start.now 0 (c.loop-i.invariant.begins none);
+      kept = c.in_ok-at.ensures.kept;
+      low = let more = c.in_ok-at.ensures.least in search (rules, arith);
+      walked = let w = c.loop-i.invariant.walked in (
+        w.0,
+        (
+          w.1.0,
+          subst (λ b. IsWalked (g.S.System.model b) c.args.marks.now (stop_at w.0 (length c.args.way.now))
+              (portion_of c.meet_all.new.part) (c.loop-i.i + 1) c.in_ok-at.at) c.loop-i.invariant.base
+              (c.in_ok-at.ensures.walked (stop_at w.0 (length c.args.way.now))
+              (subst (λ b. IsWalked (g.S.System.model b) c.args.marks.now (stop_at w.0 (length c.args.way.now))
+              (portion_of c.loop-i.part) c.loop-i.i c.loop-i.at) (sym c.loop-i.invariant.base) w.1.1)),
+        ),
+      );
       few = let a = c.in_ok-at.ensures.few in let b = c.loop-i.invariant.few in omega arith;
     }
+
+pub returns-clause-says : goal.returns-clause-says
+returns-clause-says g c = λ p e.
+    let m = g.S.System.model (g.S.System.base c.args.system.now) in
+    let part = c.loop-i.part in
+    let same : part ≡ p = cc in
+    let w = c.loop-i.invariant.walked in
+    let low = c.loop-i.invariant.low in
+    let whole : length part.keys.items ≤ c.loop-i.i = omega (
+      arith,
+      c.loop-i-test.false,
+      c.len.ensures,
+      part.keys.ok.0,
+    ) in
+    let size : length (stops part.keys.items) ≡ length part.keys.items = length-map part.keys.items stop_of in
+    let all : c.loop-i.i ≡ length (stops part.keys.items) = omega (arith, whole, low, size, part.keys.ok.0) in
+    subst (λ q. IsPortionOf m c.args.start.now c.args.way.now c.args.marks.now (portion_of q)) same
+    (portion_said m c.args.start.now c.args.way.now c.args.marks.now w.0 (portion_of part) c.loop-i.i c.loop-i.at w.1.0
+    w.1.1 all)

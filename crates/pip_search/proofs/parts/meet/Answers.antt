@@ -1,17 +1,20 @@
 use Rattle.std.proofs.Common.{rules, arith, refl, ap, sym, subst, ◌∙◌, ◌≡◌, ◌+◌, ◌⊎◌}
 use Rattle.std.specs.Prelude.{Some, slice_get, length}
+use Rattle.std.specs.Str.{bytes_eq}
 use Rattle.std.proofs.lemmas.Option.{slice_get_read}
 use Rattle.pip_search.specs.Certificates.{HasStop, Stop}
 use Rattle.pip_search.specs.Growing.{Told}
 use Rattle.pip_search.specs.Keys.{labels}
-use Rattle.pip_search.specs.Naming.{AreNamed}
+use Rattle.pip_search.specs.Naming.{AreDistinct, AreNamed}
 use Rattle.pip_search.specs.Packing.{unpacked_key}
 use Rattle.pip_search.specs.Parts.{AddsAtMostOne, stop_at, stop_of, stops}
+use Rattle.pip_search.specs.Portions.{asked_with, keys_with}
 use Rattle.pip_search.specs.Systems.{IsKey, LeadsOn}
 use Rattle.pip_search.proofs.Making.{at-same}
 use Rattle.pip_search.proofs.Parting.{grows, key_reached, may_has, old_words}
 use Rattle.pip_search.proofs.Picking.{map_at}
 use Rattle.pip_search.proofs.Places.{get-some}
+use Rattle.pip_search.proofs.Portioning.{has_moved}
 use Rattle.pip_search.proofs.parts.meet.Goals as goal
 
 pub make-requires-clause-key : goal.make-requires-clause-key
@@ -84,3 +87,38 @@ pub returns-clause-keeps : goal.returns-clause-keeps
 returns-clause-keeps g c = λ key n h.
     may_has (stops c.args.part.now.keys.items) (stops c.settle.new.part.keys.items) _ key n
     c.in_ok-settle.ensures.keys h
+
+pub returns-clause-moved : goal.returns-clause-moved
+returns-clause-moved g c = λ x e.
+    let m = g.S.System.model (g.S.System.base c.args.system.now) in
+    let p = c.args.part.now in
+    let q = c.settle.new.part in
+    let xs = p.keys.items in
+    let v = c.index.result.now in
+    let at : slice_get xs c.args.i ≡ Some v = slice_get_read xs (length xs) c.args.i v refl (omega (
+      arith,
+      p.keys.ok.0,
+    )) c.index.ensures in
+    let there = map_at stop_of xs c.args.i v at in
+    let own : stop_of v ≡ x = at-same (stops xs) c.args.i (stop_of v) x there e in
+    let deep : v.depth ≡ x.depth = ap (λ (y : Stop). y.depth) own in
+    let more : v.depth + 1 ≡ c.in-Some.depth = search rules in
+    let next = c.make.new.to.items in
+    let shown = c.make.new.shown.items in
+    let words : unpacked_key c.deref-3.result.now ≡ next = ap unpacked_key c.deref-3.ensures.value
+    ∙ c.in_ok-pack.ensures.words ∙ c.deref-2.ensures.value in
+    let stop : stop_at (unpacked_key c.deref-3.result.now) c.in-Some.depth ≡ stop_at next (x.depth + 1) =
+    ap (λ k. stop_at k c.in-Some.depth) words ∙ ap (λ n. stop_at next n) (sym more ∙ ap (λ n. n + 1) deep) in
+    has_moved m x c.args.choice c.args.own p q next shown c.args.i c.args.choice c.in-Some.depth
+    (subst (λ k. LeadsOn m k c.args.choice next shown) (c.as_slice.ensures.value ∙ sym (c.requires.hand x e))
+    c.in_ok-make.ensures.leads)
+    (subst (λ fs. Told p.found.items fs.items shown c.args.i c.args.choice c.in-Some.depth)
+    (sym c.in_ok-settle.ensures.found)
+    (subst (λ label. Told p.found.items c.tell.new.found.items label c.args.i c.args.choice c.in-Some.depth)
+    c.deref.ensures.value c.in_ok-tell.ensures.told))
+    (subst (λ fs. AreDistinct (labels fs.items)) (sym c.in_ok-settle.ensures.found) c.in_ok-tell.ensures.named.distinct)
+    (c.in_ok-settle.ensures.own ∙ ap (keys_with c.args.own (stops xs)) stop)
+    (c.in_ok-settle.ensures.asks x e
+    ∙ ap (λ k. asked_with c.args.own (bytes_eq x.key k) (stops p.asked.items)
+    (stop_at (unpacked_key c.deref-3.result.now) c.in-Some.depth)) words
+    ∙ ap (asked_with c.args.own (bytes_eq x.key next) (stops p.asked.items)) stop)

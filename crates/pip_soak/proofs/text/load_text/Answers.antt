@@ -1,7 +1,8 @@
 use Rattle.std.proofs.Common.{◌++◌}
 use Rattle.std.specs.Prelude.{codes}
 use Rattle.pip_io.proofs.Taken.{Appends-trans}
-use Rattle.pip_dump.proofs.Pieces.{part_after, part_longer, wrote_err}
+use Rattle.pip_io.proofs.Piecewise.{part_after, part_longer}
+use Rattle.pip_dump.proofs.Pieces.{wrote_err}
 use Rattle.pip_model.specs.Soak.{counted_text}
 use Rattle.pip_soak.specs.LoadText.{kinds_text, replies_text, sums_text}
 use Rattle.pip_soak.proofs.LoadText.{all_of_three, first_of_three, second_of_three}

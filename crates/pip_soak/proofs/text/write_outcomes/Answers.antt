@@ -1,7 +1,8 @@
 use Rattle.std.proofs.Common.{◌++◌, subst}
 use Rattle.std.specs.Prelude.{codes}
 use Rattle.pip_io.specs.Taken.{Wrote}
-use Rattle.pip_dump.proofs.Pieces.{part_longer, wrote_after, wrote_err}
+use Rattle.pip_io.proofs.Piecewise.{part_longer, wrote_of}
+use Rattle.pip_dump.proofs.Pieces.{wrote_err}
 use Rattle.pip_model.specs.Soak.{counted_text}
 use Rattle.pip_soak.proofs.LoadText.{regrouped}
 use Rattle.pip_soak.proofs.text.write_outcomes.Goals as goal
@@ -27,5 +28,5 @@ returns-clause-text g c =
     let idle = counted_text (codes "idle") n.idle in
     subst (Wrote c.write_three-2.result (g.K.Sink.history c.args.sink.now).written
     (g.K.Sink.history c.write_three-2.new.sink).written) (regrouped first switch park idle)
-    (wrote_after _ _ _ first (switch ++ park ++ idle) c.write_three-2.result c.in_ok-write_three.ensures.text
+    (wrote_of _ _ _ first (switch ++ park ++ idle) c.write_three-2.result c.in_ok-write_three.ensures.text
     c.write_three-2.ensures.text)

@@ -6,8 +6,8 @@ use Rattle.pip_space.proofs.control.pending.Goals as goal
 
 pub word-requires-clause-frame : goal.word-requires-clause-frame
 word-requires-clause-frame g c =
-    subst (λ p. p < length (g.M.Frames.memory c.args.mem.now)) (sym c.new.ensures) (part_frame _ 1 c.requires)
+    rw c.new.ensures (part_frame _ 1 c.requires)
 
 pub returns-clause-lines : goal.returns-clause-lines
 returns-clause-lines g c t s laid = pending_told _ t s laid c.word.result
-    (c.word.ensures.word ∙ ap (λ p. word_at (g.M.Frames.memory c.args.mem.now) p 15) c.new.ensures)
+    (rw (c.word.ensures.word, c.new.ensures))

@@ -6,9 +6,8 @@ use Rattle.pip_space.proofs.control.set_pending.Goals as goal
 
 pub set_word-requires-clause-frame : goal.set_word-requires-clause-frame
 set_word-requires-clause-frame g c =
-    subst (λ p. p < length (g.M.Frames.memory c.args.mem.now)) (sym c.new.ensures) (part_frame _ 1 c.requires)
+    rw c.new.ensures (part_frame _ 1 c.requires)
 
 pub returns-clause-tree : goal.returns-clause-tree
 returns-clause-tree g c t js s laid rise value =
-    pending_held _ t s laid js rise c.args.lines _ (c.set_word.ensures.words
-    ∙ ap (λ p. put_word (g.M.Frames.memory c.args.mem.now) p 15 c.args.lines) c.new.ensures) value
+    pending_held _ t s laid js rise c.args.lines _ (rw (c.set_word.ensures.words, c.new.ensures)) value

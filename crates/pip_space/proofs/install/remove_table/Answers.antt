@@ -76,10 +76,4 @@ returns-clause-node g c x rows space name can =
 
 pub returns-clause-steps : goal.returns-clause-steps
 returns-clause-steps g c x cells node name =
-    let tables = (c.read_table_roots-at.ensures.roots x cells node name).tables in
-    let few = c.read_table_roots-at.ensures.few in
-    let roots = c.read_table_roots-at.ensures.steps in
-    let table = c.table.ensures.steps in
-    let slot = c.take_slot-slot.ensures.steps in
-    let list = c.drop_list_page-list.ensures.steps in
-    omega (arith, tables, few, roots, table, slot, list)
+    omega (arith, (c.read_table_roots-at.ensures.roots x cells node name).tables)

@@ -11,5 +11,5 @@ append_page-requires g c =
 pub returns-in-Some-clause-list : goal.returns-in-Some-clause-list
 returns-in-Some-clause-list g c more ts list count pages far =
     page_added _ _ _ c.args.first c.lists.result more ts c.in-Some.page c.args.list c.in-Some.is list
-    (pages ∙ sym c.lists.ensures) far (c.requires.inside c.in-Some.page c.in-Some.is) c.zero.ensures.words
+    (cc (c.lists.ensures)) far (c.requires.inside c.in-Some.page c.in-Some.is) c.zero.ensures.words
     c.append_page.ensures.list

@@ -14,20 +14,22 @@ never-assert_unchecked-requires g c =
 pub slot_at-slot-requires-clause-place : goal.slot_at-slot-requires-clause-place
 slot_at-slot-requires-clause-place g c =
     let r = c.requires in
-    let k = some_same c.find.result c.in-Some.k r.place c.in-Some.is (found_place r.tables r.taken r.place c.args.table
-    c.find.result r.is_place r.frame (c.find.ensures.place r.more r.tables r.is_in r.count)) in
-    let inside = r.is_place.inside in
-    let count = r.count in
-    omega arith
+    omega (
+      arith,
+      some_same c.find.result c.in-Some.k r.place c.in-Some.is
+          (found_place r.tables r.taken r.place c.args.table c.find.result r.is_place r.frame
+          (c.find.ensures.place r.more r.tables r.is_in r.count)),
+    )
 
 pub swap_remove-requires-clause-place : goal.swap_remove-requires-clause-place
 swap_remove-requires-clause-place g c =
     let r = c.requires in
-    let k = some_same c.find.result c.in-Some.k r.place c.in-Some.is (found_place r.tables r.taken r.place c.args.table
-    c.find.result r.is_place r.frame (c.find.ensures.place r.more r.tables r.is_in r.count)) in
-    let inside = r.is_place.inside in
-    let count = r.count in
-    omega arith
+    omega (
+      arith,
+      some_same c.find.result c.in-Some.k r.place c.in-Some.is
+          (found_place r.tables r.taken r.place c.args.table c.find.result r.is_place r.frame
+          (c.find.ensures.place r.more r.tables r.is_in r.count)),
+    )
 
 pub returns-clause-list : goal.returns-clause-list
 returns-clause-list g c more ts b k list count frame place =
@@ -35,16 +37,14 @@ returns-clause-list g c more ts b k list count frame place =
     (found_place ts b k c.args.table c.find.result place frame (c.find.ensures.place more ts list count)) in
     let here = subst (IsPlaceOfTable ts b) (sym same) place in
     let done = slot_taken _ _ c.args.first c.args.m more ts b c.in-Some.k list count here c.swap_remove.ensures.list in
-    (c.slot_at-slot.ensures.slot more ts list count ∙ ap table_pairs here.is_table, done.0, done.1)
+    (rw (c.slot_at-slot.ensures.slot more ts list count, here.is_table), done.0, done.1)
 
 pub returns-clause-steps : goal.returns-clause-steps
 returns-clause-steps g c =
     let r = c.requires in
-    let k = some_same c.find.result c.in-Some.k r.place c.in-Some.is (found_place r.tables r.taken r.place c.args.table
-    c.find.result r.is_place r.frame (c.find.ensures.place r.more r.tables r.is_in r.count)) in
-    let inside = r.is_place.inside in
-    let count = r.count in
-    let find = c.find.ensures.steps in
-    let slot = c.slot_at-slot.ensures.steps in
-    let swap = c.swap_remove.ensures.steps in
-    omega (arith, find, slot, swap)
+    omega (
+      arith,
+      some_same c.find.result c.in-Some.k r.place c.in-Some.is
+          (found_place r.tables r.taken r.place c.args.table c.find.result r.is_place r.frame
+          (c.find.ensures.place r.more r.tables r.is_in r.count)),
+    )

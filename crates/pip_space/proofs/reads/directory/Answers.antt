@@ -6,16 +6,16 @@ use Rattle.pip_space.proofs.reads.directory.Goals as goal
 pub word-requires-clause-frame : goal.word-requires-clause-frame
 word-requires-clause-frame g c =
     let n = c.requires in
-    subst (λ p. p < length (g.M.Frames.memory c.args.mem.now)) n.name (name_inside _ n.node n.cells n.is_in)
+    rw (← n.name) (name_inside _ n.node n.cells n.is_in)
 
 pub new-requires : goal.new-requires
 new-requires g c =
     let n = c.requires in
-    let inside = directory_inside _ n.node n.cells n.is_in c.args.level in
-    let few = n.is_in.small in
-    let word = c.word.ensures.word in
-    let at = read_place _ n.node n.cells n.is_in c.args.part n.name c.args.level c.place.result c.place.ensures in
-    omega arith
+    omega (
+      arith,
+      directory_inside _ n.node n.cells n.is_in c.args.level,
+      read_place _ n.node n.cells n.is_in c.args.part n.name c.args.level c.place.result c.place.ensures,
+    )
 
 pub returns-clause-frame : goal.returns-clause-frame
 returns-clause-frame g c x cells node name =

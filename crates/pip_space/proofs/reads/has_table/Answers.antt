@@ -6,4 +6,4 @@ use Rattle.pip_space.proofs.reads.has_table.Goals as goal
 
 pub returns-clause-table : goal.returns-clause-table
 returns-clause-table g c x cells node name =
-    c.is_some.ensures ∙ (ap is_some (c.table.ensures.page x cells node name) ∙ page_some Mmu x c.args.i)
+    rw (c.is_some.ensures, c.table.ensures.page x cells node name, page_some Mmu x c.args.i)

@@ -7,8 +7,7 @@ use Rattle.pip_space.proofs.reads.is_table_empty.Goals as goal
 pub table_is_empty-requires-clause-table : goal.table_is_empty-requires-clause-table
 table_is_empty-requires-clause-table g c =
     let n = c.requires.tables.held in
-    subst (IsDirectory (g.M.Frames.memory c.args.mem.now))
-    (sym (c.directory-top.ensures.frame n.node n.cells n.is_in n.name)) (is_table _ n.node n.cells n.is_in Mmu)
+    rw (c.directory-top.ensures.frame n.node n.cells n.is_in n.name) (is_table _ n.node n.cells n.is_in Mmu)
 
 pub table_is_empty-requires-clause-has : goal.table_is_empty-requires-clause-has
 table_is_empty-requires-clause-has g c =

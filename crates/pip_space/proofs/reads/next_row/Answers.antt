@@ -7,8 +7,7 @@ use Rattle.pip_space.proofs.reads.next_row.Goals as goal
 pub next_leaf-requires : goal.next_leaf-requires
 next_leaf-requires g c =
     let n = c.requires in
-    subst (IsDirectory (g.M.Frames.memory c.args.mem.now))
-    (sym (c.directory-top.ensures.frame n.node n.cells n.is_in n.name)) (is_table _ n.node n.cells n.is_in Mmu)
+    rw (c.directory-top.ensures.frame n.node n.cells n.is_in n.name) (is_table _ n.node n.cells n.is_in Mmu)
 
 pub returns-in_err-v-clause-row : goal.returns-in_err-v-clause-row
 returns-in_err-v-clause-row g c x rows space name =
@@ -41,29 +40,16 @@ pub returns-in_err-v-clause-steps : goal.returns-in_err-v-clause-steps
 returns-in_err-v-clause-steps g c x rows space name =
     let m = g.M.Frames.memory c.args.mem.now in
     let top = c.directory-top.ensures.frame x _ space.node name in
-    let first = c.directory-top.ensures.step in
-    let leaf = c.in_err-v.ensures.steps in
-    let e = ap (λ t. tables_below m t 1024) top in
-    omega (arith, first, leaf, e)
+    omega (arith, ap (λ t. tables_below m t 1024) top)
 
 pub returns-in-Some-clause-steps : goal.returns-in-Some-clause-steps
 returns-in-Some-clause-steps g c x rows space name =
     let m = g.M.Frames.memory c.args.mem.now in
     let top = c.directory-top.ensures.frame x _ space.node name in
-    let first = c.directory-top.ensures.step in
-    let leaf = c.in_ok-v.ensures.steps in
-    let given = c.level_word-given.ensures.steps in
-    let from = c.level_word-from.ensures.steps in
-    let e = ap (λ t. tables_below m t 1024) top in
-    omega (arith, first, leaf, given, from, e)
+    omega (arith, ap (λ t. tables_below m t 1024) top)
 
 pub returns-in-None-clause-steps : goal.returns-in-None-clause-steps
 returns-in-None-clause-steps g c x rows space name =
     let m = g.M.Frames.memory c.args.mem.now in
     let top = c.directory-top.ensures.frame x _ space.node name in
-    let first = c.directory-top.ensures.step in
-    let leaf = c.in_ok-v.ensures.steps in
-    let given = c.level_word-given.ensures.steps in
-    let from = c.level_word-from.ensures.steps in
-    let e = ap (λ t. tables_below m t 1024) top in
-    omega (arith, first, leaf, given, from, e)
+    omega (arith, ap (λ t. tables_below m t 1024) top)

@@ -7,8 +7,7 @@ use Rattle.pip_space.proofs.reads.next_tables.Goals as goal
 pub next_table-requires-clause-table : goal.next_table-requires-clause-table
 next_table-requires-clause-table g c =
     let n = c.requires.node in
-    subst (IsDirectory (g.M.Frames.memory c.args.mem.now))
-    (sym (c.directory-top.ensures.frame n.node n.cells n.is_in n.name)) (is_table _ n.node n.cells n.is_in Mmu)
+    rw (c.directory-top.ensures.frame n.node n.cells n.is_in n.name) (is_table _ n.node n.cells n.is_in Mmu)
 
 pub returns-clause-next : goal.returns-clause-next
 returns-clause-next g c x cells node name = next_index
@@ -17,4 +16,4 @@ returns-clause-next g c x cells node name = next_index
 
 pub returns-then-table_count-eq0-clause-next : goal.returns-then-table_count-eq0-clause-next
 returns-then-table_count-eq0-clause-next g c x cells node name i low high =
-    none_at_all x.tables (sym (c.if-table_count-eq0.true) ∙ c.table_count.ensures.tables x cells node name) i
+    none_at_all x.tables (cc (c.if-table_count-eq0.true, c.table_count.ensures.tables x cells node name)) i

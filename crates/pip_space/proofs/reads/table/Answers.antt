@@ -8,22 +8,19 @@ use Rattle.pip_space.proofs.reads.table.Goals as goal
 pub dir-requires-clause-table : goal.dir-requires-clause-table
 dir-requires-clause-table g c =
     let n = c.requires.node in
-    subst (IsDirectory (g.M.Frames.memory c.args.mem.now)) (sym (c.directory-top.ensures.frame n.node n.cells n.is_in
-    n.name)) (is_table _ n.node n.cells n.is_in c.args.level)
+    rw (c.directory-top.ensures.frame n.node n.cells n.is_in n.name) (is_table _ n.node n.cells n.is_in c.args.level)
 
 pub returns-in-Empty-clause-page : goal.returns-in-Empty-clause-page
 returns-in-Empty-clause-page g c x cells node name =
     let top = c.directory-top.ensures.frame x cells node name in
     sym (entry_none _ x cells node c.args.level c.args.i c.requires.index
-    (ap (λ f. word_at (g.M.Frames.memory c.args.mem.now) f c.args.i) (sym top)
-    ∙ (sym c.dir.ensures.entry ∙ ap packed_dir c.in-Empty.is)))
+    (rw (← top, ← c.dir.ensures.entry, c.in-Empty.is)))
 
 pub returns-in-Table-clause-page : goal.returns-in-Table-clause-page
 returns-in-Table-clause-page g c x cells node name =
     let top = c.directory-top.ensures.frame x cells node name in
     sym (entry_some _ x cells node c.args.level c.args.i c.in-Table.frame c.requires.index
-    (ap (λ f. word_at (g.M.Frames.memory c.args.mem.now) f c.args.i) (sym top)
-    ∙ (sym c.dir.ensures.entry ∙ ap packed_dir c.in-Table.is)))
+    (rw (← top, ← c.dir.ensures.entry, c.in-Table.is)))
 
 pub returns-in-Table-clause-inside : goal.returns-in-Table-clause-inside
 returns-in-Table-clause-inside g c =

@@ -14,5 +14,4 @@ never-assert_unchecked-requires g c =
 
 pub returns-clause-page : goal.returns-clause-page
 returns-clause-page g c x cells node name =
-    ap (λ v. table_frame_at c.args.level x (v / 1024)) (sym c.number.ensures.same)
-    ∙ (sym (c.table.ensures.page x cells node name) ∙ c.in-Some.is)
+    rw (← c.number.ensures.same, ← c.table.ensures.page x cells node name, c.in-Some.is)

@@ -6,8 +6,7 @@ pub word-requires-clause-frame : goal.word-requires-clause-frame
 word-requires-clause-frame g c = let n = c.requires in part_inside _ n.node n.cells n.is_in c.args.part n.name
 
 pub new-requires : goal.new-requires
-new-requires g c = let n = c.requires in let small = list_small _ n.node n.cells n.is_in c.args.part n.name in
-    let e = c.word.ensures.word in omega arith
+new-requires g c = let n = c.requires in omega (arith, list_small _ n.node n.cells n.is_in c.args.part n.name)
 
 pub word-requires-2-clause-frame : goal.word-requires-2-clause-frame
 word-requires-2-clause-frame g c = let n = c.requires in part_inside _ n.node n.cells n.is_in c.args.part n.name
@@ -29,7 +28,4 @@ returns-clause-inside g c = let n = c.requires in
 pub returns-clause-few : goal.returns-clause-few
 returns-clause-few g c =
     let n = c.requires in
-    let few = few_tables _ n.node n.cells n.is_in in
-    let e = c.word-2.ensures.word in
-    let f = read_tables _ n.node n.cells n.is_in c.args.part n.name in
-    omega arith
+    omega (arith, few_tables _ n.node n.cells n.is_in, read_tables _ n.node n.cells n.is_in c.args.part n.name)

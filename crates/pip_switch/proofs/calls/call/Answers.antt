@@ -1,10 +1,11 @@
 use Rattle.std.proofs.Common.{◌∙◌, refl, sym}
 use Rattle.pip_base.specs.declared.outcome.Status.TheVariants as S
 use Rattle.pip_model.specs.Answers.{five_of, refuse}
-use Rattle.pip_model.specs.declared.call_name.CallName.TheVariants.{Masks, OnMemory, Unknown}
+use Rattle.pip_model.specs.declared.call_name.CallName.TheVariants.{Masks, OnMemory, Unknown, Yields}
 use Rattle.pip_model.specs.Worlds.{with_masked}
 use Rattle.pip_switch.proofs.Replying.{asked-does, came_call, came_yield, done-does}
 use Rattle.pip_switch.proofs.Running.{part_stands}
+use Rattle.pip_switch.proofs.Working.{calls_in}
 use Rattle.pip_switch.proofs.calls.call.Goals as goal
 
 pub answer_on_memory-status-requires-clause-stands : goal.answer_on_memory-status-requires-clause-stands
@@ -43,3 +44,14 @@ returns-in-Unknown-clause-event g c w s k =
     (asked-does (λ t. refuse t S.UnknownCall) c.in-Some.part S.UnknownCall 0 _ (λ t. refl)
     (λ t x at laid found. (refl, refl)))
     c.put_reply-in-Unknown.ensures.set _ _ k refl _ c.put_reply-in-Unknown.ensures.outcome
+
+pub returns-in-OnMemory-clause-work : goal.returns-in-OnMemory-clause-work
+returns-in-OnMemory-clause-work g c =
+    calls_in _ _ c.args.cpu c.in-Some.part (sym c.runner.ensures ∙ c.in-Some.is) _ _ (OnMemory c.in-OnMemory.call)
+    c.args.number (five_of c.args.args.now) (sym c.in-OnMemory.is ∙ c.named.ensures)
+    c.answer_on_memory-status.ensures.work
+
+pub returns-in-Yields-clause-work : goal.returns-in-Yields-clause-work
+returns-in-Yields-clause-work g c =
+    calls_in _ _ c.args.cpu c.in-Some.part (sym c.runner.ensures ∙ c.in-Some.is) _ _ Yields c.args.number
+    (five_of c.args.args.now) (sym c.in-Yields.is ∙ c.named.ensures) (λ t x s laid found. c.yield_to.ensures.steps)

@@ -1,4 +1,4 @@
-use Rattle.std.proofs.Common.{◌≡◌, ◌∙◌, sym}
+use Rattle.std.proofs.Common.{◌≡◌, ◌∙◌, sym, arith}
 use Rattle.std.specs.Prelude.{Err, Ok}
 use Rattle.pip_base.specs.declared.types.Access.TheVariants.{Fetch}
 use Rattle.pip_base.specs.declared.types.Size.TheVariants.{Word}
@@ -9,6 +9,7 @@ use Rattle.pip_switch.proofs.Happening.{came_fetched, fault_fails, fetch_faulted
 use Rattle.pip_switch.proofs.Running.{runner_in}
 use Rattle.pip_switch.proofs.Looked.{at_tree, lent_stands, looked_fetch}
 use Rattle.pip_switch.proofs.Standing.{bare_world}
+use Rattle.pip_switch.proofs.Working.{delivers_in}
 use Rattle.pip_switch.proofs.events.fetch.Goals as goal
 
 pub fetch_through-requires : goal.fetch_through-requires
@@ -47,3 +48,12 @@ returns-in-Err-clause-hit g c hits ok =
     runner_in _ _ c.args.cpu h.world h.stands c.in-Some.part (sym c.runner.ensures ∙ c.in-Some.is) in
     absurd (fault_fails h.world c.args.cpu r c.pc_on-pc.result Fetch (model_fault c.in-Err.fault) c.deliver_fault.result
     (c.deliver_fault.ensures.event h.world r h.stands runs).outcome ok)
+
+pub returns-in-Ok-clause-work : goal.returns-in-Ok-clause-work
+returns-in-Ok-clause-work g c = delivers_in _ _ c.args.cpu c.in-Some.part (sym c.runner.ensures ∙ c.in-Some.is) _ _ 80
+    (λ t x s laid found. let reads = c.fetch_through.ensures.steps in omega (arith, reads))
+
+pub returns-in-Err-clause-work : goal.returns-in-Err-clause-work
+returns-in-Err-clause-work g c = delivers_in _ _ c.args.cpu c.in-Some.part (sym c.runner.ensures ∙ c.in-Some.is) _ _ 80
+    (λ t x s laid found. let reads = c.fetch_through.ensures.steps in
+    let delivers = c.deliver_fault.ensures.chain t x s laid found in omega (arith, reads, delivers))

@@ -1,10 +1,11 @@
-use Rattle.std.proofs.Common.{◌≡◌, ◌∙◌, sym}
+use Rattle.std.proofs.Common.{◌≡◌, ◌∙◌, sym, arith}
 use Rattle.std.specs.Prelude.{Err, Ok}
 use Rattle.pip_base.specs.declared.types.Access.TheVariants.{Load}
 use Rattle.pip_mmu.specs.Answers.{load_answer}
 use Rattle.pip_model.specs.Reach.{reach}
 use Rattle.pip_switch.proofs.Happening.{came_loaded, load_faulted}
 use Rattle.pip_switch.proofs.Looked.{at_tree, lent_stands, looked_load}
+use Rattle.pip_switch.proofs.Working.{delivers_in}
 use Rattle.pip_switch.proofs.events.load.Goals as goal
 
 pub load_through-requires-clause-stands : goal.load_through-requires-clause-stands
@@ -35,3 +36,12 @@ returns-in-Err-clause-event g c w s = (
   looked_load _ _ _ _ c.deref_mut.ensures.value c.args.cpu c.requires.cpu c.in-Some.part
       (sym c.runner.ensures ∙ c.in-Some.is) _ w s c.args.va c.args.size _ c.load_through.ensures.cache,
 )
+
+pub returns-in-Ok-clause-work : goal.returns-in-Ok-clause-work
+returns-in-Ok-clause-work g c = delivers_in _ _ c.args.cpu c.in-Some.part (sym c.runner.ensures ∙ c.in-Some.is) _ _ 80
+    (λ t x s laid found. let reads = c.load_through.ensures.steps in omega (arith, reads))
+
+pub returns-in-Err-clause-work : goal.returns-in-Err-clause-work
+returns-in-Err-clause-work g c = delivers_in _ _ c.args.cpu c.in-Some.part (sym c.runner.ensures ∙ c.in-Some.is) _ _ 80
+    (λ t x s laid found. let reads = c.load_through.ensures.steps in
+    let delivers = c.deliver_fault.ensures.chain t x s laid found in omega (arith, reads, delivers))

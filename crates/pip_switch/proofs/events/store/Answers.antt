@@ -1,8 +1,9 @@
-use Rattle.std.proofs.Common.{◌≡◌, ◌∙◌, sym, subst}
+use Rattle.std.proofs.Common.{◌≡◌, ◌∙◌, sym, subst, arith}
 use Rattle.std.specs.Prelude.{Err, Ok}
 use Rattle.pip_base.specs.declared.types.Access.TheVariants.{Store}
 use Rattle.pip_mmu.specs.Faults.{model_fault}
 use Rattle.pip_mmu.specs.Answers.{store_answer, tree_stored}
+use Rattle.pip_model.specs.Layout.{LaysOut}
 use Rattle.pip_model.specs.Partitions.{IsHeld}
 use Rattle.pip_model.specs.Reach.{reach}
 use Rattle.pip_switch.specs.Standing.{HasWorld, StandsFor}
@@ -10,6 +11,7 @@ use Rattle.pip_switch.proofs.Happening.{came_stored, fault_fails, store_faulted}
 use Rattle.pip_switch.proofs.Running.{runner_in}
 use Rattle.pip_switch.proofs.Looked.{at_tree, lent_stands, looked_store}
 use Rattle.pip_switch.proofs.Standing.{bare_world}
+use Rattle.pip_switch.proofs.Working.{delivers_in}
 use Rattle.pip_switch.proofs.events.store.Goals as goal
 
 pub store_through-requires-clause-stands : goal.store_through-requires-clause-stands
@@ -56,3 +58,13 @@ returns-in-Err-clause-hit g c hits ok =
     absurd (fault_fails h.world c.args.cpu r c.args.va Store (model_fault c.in-Err.fault) c.deliver_fault.result
     (c.deliver_fault.ensures.event h.world r
     (subst (λ m. StandsFor m c.args.cpus.now.items h.world) (sym c.in-Err.ensures.fault) h.stands) runs).outcome ok)
+
+pub returns-in-Ok-clause-work : goal.returns-in-Ok-clause-work
+returns-in-Ok-clause-work g c = delivers_in _ _ c.args.cpu c.in-Some.part (sym c.runner.ensures ∙ c.in-Some.is) _ _ 80
+    (λ t x s laid found. let reads = c.store_through.ensures.steps in omega (arith, reads))
+
+pub returns-in-Err-clause-work : goal.returns-in-Err-clause-work
+returns-in-Err-clause-work g c = delivers_in _ _ c.args.cpu c.in-Some.part (sym c.runner.ensures ∙ c.in-Some.is) _ _ 80
+    (λ t x s laid found. let reads = c.store_through.ensures.steps in
+    let delivers = c.deliver_fault.ensures.chain t x s (subst (LaysOut t) (sym c.in-Err.ensures.fault) laid)
+    found in omega (arith, reads, delivers))

@@ -7,10 +7,12 @@ use Rattle.pip_table.proofs.next.first_leaf.Goals as goal
 pub returns-in-Some-clause-steps : goal.returns-in-Some-clause-steps
 returns-in-Some-clause-steps g c =
     let index : c.max.result / 1024 ≡ c.loop-i.i = omega arith in
-    let used = rw index at c.first_under.ensures.steps in
-    let next = tables_below-next (g.M.Frames.memory c.args.mem.now) c.args.top c.loop-i.i in
-    let most = tables_below-mono (g.M.Frames.memory c.args.mem.now) c.args.top (c.loop-i.i + 1) 1024 (omega arith) in
-    omega arith
+    omega (
+      arith,
+      rw index at c.first_under.ensures.steps,
+      tables_below-next (g.M.Frames.memory c.args.mem.now) c.args.top c.loop-i.i,
+      tables_below-mono (g.M.Frames.memory c.args.mem.now) c.args.top (c.loop-i.i + 1) 1024 (omega arith),
+    )
 
 pub loop-i-preserved : goal.loop-i-preserved
 loop-i-preserved g c =

@@ -3,7 +3,7 @@ use Rattle.std.specs.List.{flat_map}
 use Rattle.std.proofs.lemmas.Result.{MatchResult-from_err}
 use Rattle.pip_io.specs.Taken.{Appends, AppendsPart}
 use Rattle.pip_ways.proofs.LabelLines.{all_taken, found_at, found_line, found_lines, line_here, some_here}
-use Rattle.pip_ways.proofs.Pieces.{cut_here, one_more}
+use Rattle.pip_io.proofs.Piecewise.{cut_here, one_more}
 use Rattle.pip_ways.proofs.lines.write_labels.Goals as goal
 
 pub write_label-requires-clause-some : goal.write_label-requires-clause-some

@@ -2,7 +2,7 @@ use Rattle.std.proofs.Common.{rules, ◌≡◌, arith, length, subst}
 use Rattle.std.proofs.lemmas.Result.{MatchResult-from_err}
 use Rattle.pip_io.specs.Taken.{Wrote}
 use Rattle.pip_ways.specs.Texts.{verdict_line}
-use Rattle.pip_ways.proofs.Pieces.{part_longer, wrote_of}
+use Rattle.pip_io.proofs.Piecewise.{part_longer, wrote_of}
 use Rattle.pip_ways.proofs.lines.write_search.Goals as goal
 
 pub returns : goal.returns

@@ -2,7 +2,7 @@ use Rattle.std.proofs.Common.{rules, subst}
 use Rattle.std.proofs.lemmas.Result.{MatchResult-from_err}
 use Rattle.pip_io.specs.Taken.{Appends, AppendsPart}
 use Rattle.pip_io.proofs.Taken.{Appends-trans}
-use Rattle.pip_ways.proofs.Pieces.{part_after, part_longer, wrote_after}
+use Rattle.pip_io.proofs.Piecewise.{part_after, part_longer, wrote_after}
 use Rattle.pip_ways.proofs.lines.write_shown.Goals as goal
 
 pub returns-in_err-write_number : goal.returns-in_err-write_number

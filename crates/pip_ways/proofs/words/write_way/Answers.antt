@@ -1,7 +1,7 @@
 use Rattle.std.proofs.Common.{rules, ◌∙◌}
 use Rattle.std.proofs.lemmas.Option.{slice_get-get_or}
 use Rattle.std.proofs.lemmas.Result.{MatchResult-from_err}
-use Rattle.pip_ways.proofs.Pieces.{cut_here, one_more}
+use Rattle.pip_io.proofs.Piecewise.{cut_here, one_more}
 use Rattle.pip_ways.specs.Texts.{spaced_run}
 use Rattle.pip_ways.proofs.words.write_way.Goals as goal
 

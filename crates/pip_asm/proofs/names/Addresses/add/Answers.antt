@@ -19,23 +19,25 @@ is_placed : (c : goal.After-self-1)
 is_placed c =
     let n = c.args.self.now in
     let (low, high, free) = c.in-Some.ensures in
-    let items : length c.deref.result.now ≡ length n.slots.items = ap length c.deref.ensures.value in
+    let items : length c.deref.result.now ≡ length n.slots.items = rw c.deref.ensures.value in
     let room = c.home_of-home.ensures.room in
     let home : c.home_of-home.result ≡ home_of n.slots.items (hash_on n.seed c.args.name.now) =
-    c.home_of-home.ensures.home ∙ ap (λ xs. home_of xs c.mixed-hash.result) c.deref.ensures.value
-    ∙ ap (home_of n.slots.items) c.mixed-hash.ensures in
+    rw (c.home_of-home.ensures.home, c.deref.ensures.value, c.mixed-hash.ensures) in
     record {
       kept = c.requires;
-      marked = c.mark_of-mark.ensures ∙ ap mark_of c.mixed-hash.ensures;
+      marked = rw (c.mark_of-mark.ensures, c.mixed-hash.ensures);
       none =
-          sym (table_found n c.args.name.now c.deref.result.now c.deref-2.result.now c.mixed-hash.result
-          c.mark_of-mark.result c.home_of-home.result c.found_in.result c.mixed-hash.ensures c.mark_of-mark.ensures
-          c.deref.ensures.value c.home_of-home.ensures.home c.deref-2.ensures.value c.found_in.ensures)
-          ∙ none_there c.found_in.result (sym c.is_some.ensures ∙ c.if-is_some.false);
-      inside = omega (arith, high, items, room);
-      low = subst (λ k. k ≤ c.in-Some.i) home low;
-      high = subst (λ k. c.in-Some.i < k + 8) home high;
-      free = subst (λ xs. is_free (slice_get xs c.in-Some.i) ≡ true) c.deref-3.ensures.value free;
+          cc (
+            table_found n c.args.name.now c.deref.result.now c.deref-2.result.now c.mixed-hash.result
+                c.mark_of-mark.result c.home_of-home.result c.found_in.result c.mixed-hash.ensures
+                c.mark_of-mark.ensures
+                c.deref.ensures.value c.home_of-home.ensures.home c.deref-2.ensures.value c.found_in.ensures,
+            none_there c.found_in.result (sym c.is_some.ensures ∙ c.if-is_some.false),
+          );
+      inside = omega arith;
+      low = rw (← home) low;
+      high = rw (← home) high;
+      free = rw (← c.deref-3.ensures.value) free;
     }
 
 pub returns-in-Some-clause-kept : goal.returns-in-Some-clause-kept

@@ -25,7 +25,7 @@ returns-in-Ok-None-clause-added c = put-added c.args.self.now c.args.name c.args
 
 pub returns-in-Ok-Some-clause-stopped : goal.returns-in-Ok-Some-clause-stopped
 returns-in-Ok-Some-clause-stopped c = (
-  ap is_some (named-both c.args.self.now c.args.name.now (Some c.in-Ok-Some.field-0-0) c.requires.fresh
+  rw (named-both c.args.self.now c.args.name.now (Some c.in-Ok-Some.field-0-0) c.requires.fresh
       (sym c.in-Ok-Some.ensures.old ∙ c.in-Ok-Some.field-0-is)),
   refl,
 )

@@ -8,8 +8,7 @@ use Rattle.pip_asm.proofs.reading.Passed.end_page.Goals as goal
 pub returns-in-InPage-clause-says : goal.returns-in-InPage-clause-says
 returns-in-InPage-clause-says c =
     on_ok_weaker c.zeros.result
-    (λ a. subst (λ g. SaysMore c.args.self.now.written (words (padding g c.args.self.now.size)) c.zeros.new.self)
-    (sym c.in-InPage.is) a.says)
+    (λ a. rw c.in-InPage.is a.says)
     c.zeros.ensures
 
 pub returns-in_default : goal.returns-in_default

@@ -13,22 +13,21 @@ returns-clause-proper c =
     let q = c.end_page.new.self in
     let proper = c.requires.proper in
     let same : q ≡ record p { written = q.written } = c.end_page.ensures.same in
-    let pages : q.pages.items ≡ p.pages.items = ap (λ x. x.pages.items) same in
-    let items : q.marks.items ≡ p.marks.items = ap (λ x. x.marks.items) same in
+    let pages : q.pages.items ≡ p.pages.items = rw same in
+    let items : q.marks.items ≡ p.marks.items = rw same in
     let pushed : c.push.new.self.items ≡ q.pages.items ++ c.args.page ∷ [] = search rules in
     let before : q.marks.items ≡ c.deref_mut.result.now = search rules in
     let kept : AreMarks q.marks.items q.pages.items =
-    subst (λ x. AreMarks x.marks.items x.pages.items) (sym same) proper.marks in
-    let marks = c.mark.ensures q.pages.items (subst (λ m. AreMarks m q.pages.items) before kept) in
-    let whole : length c.mark.new.marks ≡ q.marks.len = marks.count ∙ sym kept.count ∙ sym q.marks.ok.0 in
+    rw same proper.marks in
+    let marks = c.mark.ensures q.pages.items (rw (← before) kept) in
+    let whole : length c.mark.new.marks ≡ q.marks.len = rw (marks.count, ← kept.count, ← q.marks.ok.0) in
     record {
       size = omega arith;
-      least = subst (λ x. x.least ≤ 16) (sym same) proper.least;
-      plans = subst (λ x. length x.plans.items ≤ x.least) (sym same) proper.plans;
-      frames = subst (λ x. (16 ≤ x.frames) × (x.frames ≤ 4096)) (sym same) proper.frames;
-      marks = subst (λ m. AreMarks m c.push.new.self.items) (sym (with_items_is q.marks c.mark.new.marks whole))
-          (subst (AreMarks c.mark.new.marks) (sym pushed) marks);
-      names = subst (λ x. IsKept x.names) (sym same) proper.names;
+      least = rw same proper.least;
+      plans = rw same proper.plans;
+      frames = rw same proper.frames;
+      marks = rw (with_items_is q.marks c.mark.new.marks whole) (subst (AreMarks c.mark.new.marks) (sym pushed) marks);
+      names = rw same proper.names;
       written = c.in_ok-word.ensures.whole;
       front = c.in_ok-word.ensures.front ∙ c.in_ok-end_page.ensures.front
           ∙ ap (λ x. first_head x.frames x.cpus x.plans.items) (sym same);

@@ -1,6 +1,6 @@
 use Rattle.std.proofs.Common.{sym, subst}
 use Rattle.std.proofs.lemmas.Result.{on_ok_weaker}
-use Rattle.pip_line.specs.Seen.{IsInRange, cell_of, statement_of}
+use Rattle.pip_asm_line.specs.Seen.{IsInRange, cell_of, statement_of}
 use Rattle.pip_asm.specs.Emitted.{SaysMore, StartsWith, first_head, line_words}
 use Rattle.pip_asm.proofs.Keeping.{says_cell, says_nothing}
 use Rattle.pip_asm.proofs.Standing.{stands}
@@ -23,12 +23,11 @@ returns-in-Frames-clause-proper c =
       size = p.size;
       least = p.least;
       plans = p.plans;
-      frames = subst IsInRange c.in-Frames.is c.requires.within;
+      frames = rw c.in-Frames.is at c.requires.within;
       marks = p.marks;
       names = p.names;
       written = p.written;
-      front = subst (λ g. StartsWith g (first_head c.args.self.now.frames c.args.self.now.cpus
-          c.args.self.now.plans.items) c.args.self.now.written) at p.front;
+      front = rw at at p.front;
     }
 
 pub returns-in-Cpus-clause-proper : goal.returns-in-Cpus-clause-proper
@@ -43,34 +42,24 @@ returns-in-Cpus-clause-proper c =
       marks = p.marks;
       names = p.names;
       written = p.written;
-      front = subst (λ g. StartsWith g (first_head c.args.self.now.frames c.args.self.now.cpus
-          c.args.self.now.plans.items) c.args.self.now.written) at p.front;
+      front = rw at at p.front;
     }
 
 pub returns-in-Plans-clause-says : goal.returns-in-Plans-clause-says
 returns-in-Plans-clause-says c =
     on_ok_weaker c.plan.result
-    (λ e. subst (λ s. SaysMore c.args.self.now.written (line_words c.args.number c.args.self.now.stage
-    c.args.self.now.at
-    c.args.self.now.size (statement_of s)) c.plan.new.self.written) (sym c.in-Plans.is)
-    (says_nothing c.args.self.now.written c.plan.new.self.written e))
+    (λ e. rw c.in-Plans.is (says_nothing c.args.self.now.written c.plan.new.self.written e))
     c.plan.ensures.written
 
 pub returns-in-Names-clause-says : goal.returns-in-Names-clause-says
 returns-in-Names-clause-says c =
     on_ok_weaker c.name.result
-    (λ e. subst (λ s. SaysMore c.args.self.now.written (line_words c.args.number c.args.self.now.stage
-    c.args.self.now.at
-    c.args.self.now.size (statement_of s)) c.name.new.self.written) (sym c.in-Names.is)
-    (says_nothing c.args.self.now.written c.name.new.self.written e))
+    (λ e. rw c.in-Names.is (says_nothing c.args.self.now.written c.name.new.self.written e))
     c.name.ensures.written
 
 pub returns-in-Holds-clause-says : goal.returns-in-Holds-clause-says
 returns-in-Holds-clause-says c =
     on_ok_weaker c.hold.result
-    (λ e. subst (λ s. SaysMore c.args.self.now.written (line_words c.args.number c.args.self.now.stage
-    c.args.self.now.at
-    c.args.self.now.size (statement_of s)) c.hold.new.self.written) (sym c.in-Holds.is)
-    (says_cell c.args.self.now.written c.hold.new.self.written c.args.number c.args.self.now.stage
-    c.args.self.now.at c.args.self.now.size (cell_of c.in-Holds.cell) e))
+    (λ e. rw c.in-Holds.is (says_cell c.args.self.now.written c.hold.new.self.written c.args.number
+    c.args.self.now.stage c.args.self.now.at c.args.self.now.size (cell_of c.in-Holds.cell) e))
     c.hold.ensures.says

@@ -14,7 +14,7 @@ returns-in-Err-clause-does g c =
     let a = five_of c.args.pages.now in
     refused-does p (λ t. create_partition t p a) (g.M.Frames.memory c.args.mem.now) c.in-Err.status
     (λ t x s lays found.
-    ap (λ o. answer_unless t o (accept 0 (tree_with_newborn t p a))) (c.in-Err.ensures.tested t x s lays found))
+    rw (c.in-Err.ensures.tested t x s lays found))
 
 pub give_page-requires-clause-can : goal.give_page-requires-clause-can
 give_page-requires-clause-can g c =
@@ -27,7 +27,7 @@ pub give_page-requires-clause-given : goal.give_page-requires-clause-given
 give_page-requires-clause-given g c =
     let r = c.requires in
     let place = c.of_address-born.ensures in (
-      omega (arith, c.fits-pages 0),
+      omega arith,
       first_some r.tree r.sound c.args.caller r.node r.found c.args.pages.now c.in-Ok.base
           (c.in-Ok.ensures.tested r.tree r.node r.sound r.laid r.found)
           (g.M.Frames.memory c.args.mem.now) r.laid c.of_address-born.result place,
@@ -76,10 +76,11 @@ returns-clause-does g c =
 
 pub returns-clause-chain : goal.returns-clause-chain
 returns-clause-chain g c t x s lays found =
-    let tests = c.in-Ok.ensures.steps in
-    let so = created_in t s c.args.caller x found c.args.pages.now c.in-Ok.base
-    (c.in-Ok.ensures.tested t x s lays found)
-    (g.M.Frames.memory c.args.mem.now) lays c.of_address-born.result c.of_address-born.ensures
-    (g.M.Frames.memory c.give_page.new.mem) c.give_page.ensures.given c.as_slice.result.now c.as_slice.ensures _
-    c.give_page.new.steps _ c.give_page.ensures.chain c.give_pages.ensures.chain in
-    omega (arith, tests, so)
+    omega (
+      arith,
+      created_in t s c.args.caller x found c.args.pages.now c.in-Ok.base
+          (c.in-Ok.ensures.tested t x s lays found) (g.M.Frames.memory c.args.mem.now) lays c.of_address-born.result
+          c.of_address-born.ensures (g.M.Frames.memory c.give_page.new.mem) c.give_page.ensures.given
+          c.as_slice.result.now c.as_slice.ensures _ c.give_page.new.steps _ c.give_page.ensures.chain
+          c.give_pages.ensures.chain,
+    )

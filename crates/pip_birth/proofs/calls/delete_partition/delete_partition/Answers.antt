@@ -1,11 +1,12 @@
-use Rattle.std.proofs.lemmas.Nat.{mul-le}
-use Rattle.std.proofs.Common.{sym, ap, subst, arith, length, Some, ◌∙◌, ◌≡◌, ◌≤◌, ◌+◌}
-use Rattle.pip_birth.specs.Ending.{ending_work, most_ending_work}
+use Rattle.std.proofs.Common.{sym, ap, subst, arith, ◌∙◌, ◌≤◌, ◌+◌, ◌*◌}
+use Rattle.pip_birth.specs.Ending.{most_ending_work}
 use Rattle.pip_model.specs.Answers.{accept, answer_unless, child_name, first_met}
 use Rattle.pip_model.specs.DeletePartition.{delete_partition, delete_refusals, tree_without_subtree}
+use Rattle.pip_model.specs.Work.{climbing_work}
 use Rattle.pip_model.proofs.Calls.Delete.{delete-sound}
+use Rattle.pip_birth.proofs.DeletePartition.Tests.{climbs_few}
 use Rattle.pip_kern.proofs.Calls.{accepted-does, refused-does}
-use Rattle.pip_birth.proofs.DeletePartition.Call.{child_ends, child_ends_in, delete-accepted, has_child}
+use Rattle.pip_birth.proofs.DeletePartition.Call.{child_ends, child_ends_in, delete-accepted, deleted_in, has_child}
 use Rattle.pip_birth.proofs.calls.delete_partition.delete_partition.Goals as goal
 
 pub returns-in-Err-clause-does : goal.returns-in-Err-clause-does
@@ -41,18 +42,19 @@ returns-clause-does g c =
     (c.in-Ok.ensures.tested t x s lays found).1)
 
 pub returns-clause-subtree : goal.returns-clause-subtree
-returns-clause-subtree g c t x s lays found k at =
-    let tested = c.in-Ok.ensures.tested t x s lays found in
-    let so = child_ends_in (g.M.Frames.memory c.args.mem.now) c.args.caller c.args.d c.in-Ok.child c.of_address.result
-    c.check_delete.new.steps c.end_child.new.steps c.end_child.ensures.steps c.of_address.ensures t s lays tested.1 in
-    let both : Some c.in-Ok.child ≡ Some k = sym tested.1 ∙ at in
-    let same : c.in-Ok.child ≡ k = cc in
-    let there = subst (λ z. c.end_child.new.steps ≤ c.check_delete.new.steps + ending_work t c.args.caller
-    z) same so.0 in
-    let tests = c.in-Ok.ensures.steps in
-    let few = mul-le (length c.as_slice.result.now) (length (g.M.Frames.memory c.args.mem.now)) 4
-    (length (g.M.Frames.memory c.args.mem.now)) c.as_slice.ensures.fits (omega arith) in
-    omega (arith, there, tests, few)
+returns-clause-subtree g c t x s lays found =
+    let a = c.args in
+    deleted_in (g.M.Frames.memory a.mem.now) a.caller a.d c.in-Ok.child c.of_address.result a.steps.now
+    c.check_delete.new.steps c.end_child.new.steps c.end_child.ensures.steps c.of_address.ensures t s lays
+    (c.in-Ok.ensures.tested t x s lays found).1 a.running.now.items
+    (subst (λ rs. c.check_delete.new.steps ≤ a.steps.now + 6 + climbing_work t rs) c.as_slice.ensures.value
+    (c.in-Ok.ensures.chains t (s, lays)))
+
+pub returns-in-Err-clause-subtree : goal.returns-in-Err-clause-subtree
+returns-in-Err-clause-subtree g c t x s lays found =
+    let tests = subst (λ rs. c.check_delete.new.steps ≤ c.args.steps.now + 6 + climbing_work t rs)
+    c.as_slice.ensures.value (c.in-Err.ensures.chains t (s, lays)) in
+    omega (arith, tests)
 
 pub returns-clause-steps : goal.returns-clause-steps
 returns-clause-steps g c =
@@ -61,9 +63,16 @@ returns-clause-steps g c =
     let so = (child_ends_in (g.M.Frames.memory c.args.mem.now) c.args.caller c.args.d c.in-Ok.child c.of_address.result
     c.check_delete.new.steps c.end_child.new.steps c.end_child.ensures.steps c.of_address.ensures h.tree h.sound h.laid
     tested.1).1 in
-    let tests = c.in-Ok.ensures.steps in
-    let few = mul-le (length c.as_slice.result.now) (length (g.M.Frames.memory c.args.mem.now)) 4
-    (length (g.M.Frames.memory c.args.mem.now)) c.as_slice.ensures.fits (omega arith) in
-    let same = subst (λ n. c.end_child.new.steps ≤ c.check_delete.new.steps + most_ending_work n)
-    (sym h.laid.count) so in
-    omega (arith, same, tests, few)
+    let tests = c.in-Ok.ensures.chains h.tree (h.sound, h.laid) in
+    let few = climbs_few h.tree h.sound c.as_slice.result.now c.as_slice.ensures.fits in
+    let all = subst (λ n. c.end_child.new.steps ≤ c.args.steps.now + 6 + 4 * n + most_ending_work n)
+    (sym h.laid.count) (omega (arith, so, tests, few)) in
+    all
+
+pub returns-in-Err-clause-steps : goal.returns-in-Err-clause-steps
+returns-in-Err-clause-steps g c =
+    let h = c.requires.stands in
+    let tests = c.in-Err.ensures.chains h.tree (h.sound, h.laid) in
+    let few = climbs_few h.tree h.sound c.as_slice.result.now c.as_slice.ensures.fits in
+    let same = h.laid.count in
+    omega (arith, tests, few, same)

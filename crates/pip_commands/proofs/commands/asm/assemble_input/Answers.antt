@@ -1,8 +1,8 @@
 use Rattle.std.proofs.Common.{rules, ◌≡◌, ap, refl}
 use Rattle.pip_commands.proofs.Assembling.{asm_written}
-use Rattle.pip_due.proofs.Endings.{ends_same}
+use Rattle.pip_command_contracts.proofs.Endings.{ends_same}
 use Rattle.pip_commands.proofs.Waiting.{asm_waits}
-use Rattle.pip_due.proofs.Waiting.{waits_after}
+use Rattle.pip_command_contracts.proofs.Waiting.{waits_after}
 use Rattle.pip_commands.proofs.commands.asm.assemble_input.Goals as goal
 
 pub returns-in-Ok-clause-ends : goal.returns-in-Ok-clause-ends

@@ -5,9 +5,9 @@ use Rattle.pip_core_text.specs.CoreRead.{BeginsLines, IsText}
 use Rattle.pip_io.proofs.Taken.{Keeps-refl}
 use Rattle.pip_commands.proofs.Audited.{ends_bad, ends_judged, ends_memory, ends_unread, refused_as}
 use Rattle.pip_commands.proofs.Audited.{text_shape, text_words}
-use Rattle.pip_due.proofs.Endings.{ends_same}
+use Rattle.pip_command_contracts.proofs.Endings.{ends_same}
 use Rattle.pip_commands.proofs.Waiting.{audit_waits}
-use Rattle.pip_due.proofs.Waiting.{waits_after}
+use Rattle.pip_command_contracts.proofs.Waiting.{waits_after}
 use Rattle.pip_commands.proofs.commands.audit.audit_input.Goals as goal
 
 pub judge-requires-clause-shape : goal.judge-requires-clause-shape

@@ -2,7 +2,7 @@ use Rattle.std.proofs.Common.{arith, false, inl, None, Some, Err, ap, subst}
 use Rattle.pip_dis.specs.Dues.{parts_due}
 use Rattle.pip_drive.specs.Ends.{Ends, EndsWith}
 use Rattle.pip_image.specs.Fed.{told}
-use Rattle.pip_due.specs.Streams.{streams}
+use Rattle.pip_command_contracts.specs.Streams.{streams}
 use Rattle.pip_model.specs.Images.{image_parts}
 use Rattle.pip_commands.proofs.Disassembly.{dis_serves, fault_due, has_line, whole_due}
 use Rattle.pip_commands.proofs.Driven.{driven_end, driven_line, driven_write}

@@ -1,9 +1,9 @@
 use Rattle.std.proofs.Common.{ap, refl}
 use Rattle.pip_io.proofs.Taken.{Keeps-refl}
-use Rattle.pip_due.proofs.Endings.{ends_same}
+use Rattle.pip_command_contracts.proofs.Endings.{ends_same}
 use Rattle.pip_commands.proofs.Running.{run_cut, run_faulted, run_lacks, run_shown}
 use Rattle.pip_commands.proofs.Waiting.{run_waits}
-use Rattle.pip_due.proofs.Waiting.{waits_after}
+use Rattle.pip_command_contracts.proofs.Waiting.{waits_after}
 use Rattle.pip_commands.proofs.commands.run.run_plans.Goals as goal
 
 pub returns-in-Err-clause-ends : goal.returns-in-Err-clause-ends

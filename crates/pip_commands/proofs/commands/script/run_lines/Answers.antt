@@ -1,8 +1,8 @@
 use Rattle.std.proofs.Common.{rules, refl, ◌≢◌, Some, ap, sym, subst, ◌∙◌}
-use Rattle.pip_due.specs.EndsBy.{EndsBy}
+use Rattle.pip_command_contracts.specs.EndsBy.{EndsBy}
 use Rattle.pip_commands.specs.Progress.{TurnDoes, status_of}
 use Rattle.pip_commands.specs.Dues.{script_due}
-use Rattle.pip_due.specs.Streams.{Streams}
+use Rattle.pip_command_contracts.specs.Streams.{Streams}
 use Rattle.pip_commands.specs.declared.commands.script.turn.End.TheVariants.{Finished}
 use Rattle.pip_io.specs.Moments.{joined}
 use Rattle.pip_commands.proofs.Waiting.{script_waits}

@@ -11,12 +11,11 @@ returns g c =
     let frames = c.args.self.now.block.frames in (
       (
         refl,
-        λ w.
-            ap (λ k. record { block = block_with_frame c.args.self.now.block k w; alloc = c.args.self.now.alloc }) to,
+        λ w. rw to,
       ),
       record {
         writes_back = tt;
-        words = c.frame_mut.ensures.value ∙ ap (λ k. slice_index_or frames k []) to;
+        words = rw (c.frame_mut.ensures.value, to);
         steps = c.ticks.ensures;
       },
     )

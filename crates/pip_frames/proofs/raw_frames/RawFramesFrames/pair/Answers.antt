@@ -12,13 +12,12 @@ returns g c =
     let frames = c.args.self.now.block.frames in (
       (
         refl,
-        λ w.
-            ap (λ k. record { block = block_with_frame c.args.self.now.block k w; alloc = c.args.self.now.alloc }) to,
+        λ w. rw to,
       ),
       record {
         writes_back = tt;
-        read = c.pair.ensures.values.0 ∙ ap (λ k. slice_index_or frames k []) from;
-        write = c.pair.ensures.values.1 ∙ ap (λ k. slice_index_or frames k []) to;
+        read = rw (c.pair.ensures.values.0, from);
+        write = rw (c.pair.ensures.values.1, to);
         steps = c.ticks.ensures;
       },
     )

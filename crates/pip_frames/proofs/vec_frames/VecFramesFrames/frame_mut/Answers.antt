@@ -11,11 +11,10 @@ unfolding frame_at
 returns g c =
     let to = c.number.ensures.same in
     let items = c.args.self.now.frames.items in (
-      (refl, λ w. same_frames _ _ (ap (λ k. with_item c.args.self.now.frames k w) to)),
+      (refl, λ w. same_frames _ _ (rw to)),
       record {
         writes_back = tt;
-        words = c.index_mut.ensures.value ∙ ap (λ k. slice_index_or items k c.index_mut.result.now) to
-            ∙ sym (any-default items c.args.f [] c.index_mut.result.now c.requires);
+        words = rw (c.index_mut.ensures.value, to, ← any-default items c.args.f [] c.index_mut.result.now c.requires);
         steps = c.ticks.ensures;
       },
     )

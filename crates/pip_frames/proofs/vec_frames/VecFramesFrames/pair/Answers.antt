@@ -12,13 +12,19 @@ returns g c =
     let from = c.number.ensures.same in
     let to = c.number-2.ensures.same in
     let items = c.args.self.now.frames.items in (
-      (refl, λ w. same_frames _ _ (ap (λ k. with_item c.args.self.now.frames k w) to)),
+      (refl, λ w. same_frames _ _ (rw to)),
       record {
         writes_back = tt;
-        read = c.item_pair.ensures.read ∙ ap (λ k. slice_index_or items k c.item_pair.result.0.now) from
-            ∙ sym (any-default items c.args.read [] c.item_pair.result.0.now c.requires.read);
-        write = c.item_pair.ensures.write ∙ ap (λ k. slice_index_or items k c.item_pair.result.1.now) to
-            ∙ sym (any-default items c.args.write [] c.item_pair.result.1.now c.requires.write);
+        read = rw (
+          c.item_pair.ensures.read,
+          from,
+          ← any-default items c.args.read [] c.item_pair.result.0.now c.requires.read,
+        );
+        write = rw (
+          c.item_pair.ensures.write,
+          to,
+          ← any-default items c.args.write [] c.item_pair.result.1.now c.requires.write,
+        );
         steps = c.ticks.ensures;
       },
     )

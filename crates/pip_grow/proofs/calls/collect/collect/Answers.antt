@@ -1,9 +1,11 @@
-use Rattle.std.proofs.Common.{◌∙◌, ◌/◌, ap, refl, sym}
+use Rattle.std.proofs.Common.{◌∙◌, ◌+◌, ◌/◌, ap, arith, refl, sym}
 use Rattle.std.proofs.lemmas.Result.{err_from_is_err_and}
 use Rattle.pip_model.specs.Collect.{collect}
 use Rattle.pip_model.specs.CountToMap.{count_refusals}
+use Rattle.pip_model.proofs.Trees.Depth.{depth, depth_few, few_nodes}
 use Rattle.pip_kern.proofs.Calls.{refusal-never_ok, refused-does}
-use Rattle.pip_grow.proofs.CollectTable.Call.{can_collect, is_first, collect-refused, collect-table_refused}
+use Rattle.pip_grow.proofs.CollectTable.Call.{can_collect, collects_in, few_slots, is_first, collect-refused}
+use Rattle.pip_grow.proofs.CollectTable.Call.{collect-table_refused}
 use Rattle.pip_grow.proofs.CollectTable.Call.{table-never_ok, collect-tree}
 use Rattle.pip_grow.proofs.calls.collect.collect.Goals as goal
 
@@ -74,3 +76,33 @@ returns-clause-does g c =
       refused = λ ne. absurd (ne refl);
       count = c.take_table.ensures.count;
     }
+
+pub returns-clause-chain : goal.returns-clause-chain
+returns-clause-chain g c t x s lays found =
+    let a = c.args in
+    let m = g.M.Frames.memory a.mem.now in
+    let i_is = ap (λ k. k / 1024) (c.number-i.ensures.same ∙ c.of_address.ensures) in
+    let takes = c.take_table.ensures.chain t x s lays found (can_collect t a.caller a.d a.cv s m lays
+    c.in_ok-child.child
+    (c.in_ok-child.ensures.child t x s lays found) (c.number-i.result / 1024) i_is c.in_ok-check_empty.ensures.tested)
+    in
+    let child = c.in_ok-child.ensures.steps in
+    let tests = c.in_ok-check_empty.ensures.steps in
+    let all = collects_in t a.caller a.d a.cv s m lays c.in_ok-child.child
+    (c.in_ok-child.ensures.child t x s lays found) (c.number-i.result / 1024) i_is c.in_ok-check_empty.ensures.tested
+    (a.steps.now + 106) c.take_table.new.steps (omega (arith, takes, child, tests)) in
+    omega (arith, all)
+
+pub returns-clause-steps : goal.returns-clause-steps
+unfolding depth
+returns-clause-steps g c =
+    let a = c.args in
+    let r = c.requires in
+    let so = returns-clause-chain g c r.tree r.node r.sound r.laid r.found in
+    let slots = few_slots r.tree a.caller a.d a.cv r.sound (g.M.Frames.memory a.mem.now) r.laid c.in_ok-child.child
+    (c.in_ok-child.ensures.child r.tree r.node r.sound r.laid r.found) (c.number-i.result / 1024)
+    (ap (λ k. k / 1024) (c.number-i.ensures.same ∙ c.of_address.ensures)) in
+    let short = depth_few r.tree a.caller in
+    let few = few_nodes r.tree r.sound in
+    let count = r.laid.count in
+    omega (arith, so, slots, short, few, count)

@@ -1,6 +1,5 @@
 use Rattle.std.proofs.Common.{◌≡◌, ◌∙◌, length, arith}
 use Rattle.pip_grow.proofs.CollectTable.Writes.{three_first}
-use Rattle.pip_space.proofs.RootWords.{few_tables}
 use Rattle.pip_grow.proofs.calls.collect.remove_pages.Goals as goal
 
 pub returns-clause-pages : goal.returns-clause-pages
@@ -10,8 +9,4 @@ returns-clause-pages g c x rows space name can =
     c.index-tables-1.result c.index-tables-2.result ∙ c.remove_table-tables.ensures.pages x rows space name can
 
 pub returns-clause-steps : goal.returns-clause-steps
-returns-clause-steps g c =
-    let r = c.requires.can in
-    let few = few_tables _ r.node _ r.is_in.node in
-    let so = c.remove_table-tables.ensures.steps r.node _ r.is_in.node r.name in
-    omega (arith, few, so)
+returns-clause-steps g c x rows space name = c.remove_table-tables.ensures.steps x _ space.node name

@@ -9,5 +9,5 @@ pub returns-then-self : goal.returns-then-self
 returns-then-self g c same =
     let s = c.args.self.now in
     let words = (slice_eq-Decides Decides-eqb c.as_slice.result.now c.args.words.now c.eq.result c.eq.ensures).0 same in
-    was_rewound g.F.First.words s.first.block.frames s.frames.block.frames s.words.items c.args.words.now s.still
-    s.first_is s.rewound c.if-self.true (sym c.as_slice.ensures.value ∙ words)
+    was_rewound g.F.First.words s.first.block.frames s.base.block.frames s.frames.block.frames s.words.items
+    c.args.words.now s.still s.first_is s.kept s.rewound c.if-self.true (sym c.as_slice.ensures.value ∙ words)

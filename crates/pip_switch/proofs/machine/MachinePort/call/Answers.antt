@@ -25,3 +25,6 @@ pub returns-clause-event : goal.returns-clause-event
 returns-clause-event g c w s = follows _ _ _ _ _ _ c.call.ensures.count c.call.ensures.each (λ w. E.Call c.args.cpu
     c.args.no (five_of c.args.args.now)) (λ w. c.call.result) (λ w s. (c.ranges.no.fits, c.call.ensures.words)) (λ w s.
     c.call.ensures.event w s.bare s.caches) w (subst (λ v. StandsAs v w) (sym c.self.view_is) s)
+
+pub returns-clause-work : goal.returns-clause-work
+returns-clause-work g c w s = c.call.ensures.work w (subst (λ v. StandsAs v w) (sym c.self.view_is) s).bare

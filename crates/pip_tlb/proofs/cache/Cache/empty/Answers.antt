@@ -6,4 +6,4 @@ pub returns : goal.returns
 returns c =
     let (empty, _, count, hits, misses) = c.loop-g.invariant in
     let end = c.loop-g-test.false in
-    is_emptied c.loop-g.self c.args.self.now count (λ k small. empty k (omega (arith, small, end))) hits misses
+    is_emptied c.loop-g.self c.args.self.now count (λ k small. empty k (omega arith)) hits misses

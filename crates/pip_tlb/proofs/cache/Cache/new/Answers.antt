@@ -8,6 +8,6 @@ invariant_of-result c = (
   search rules,
   search rules,
   search rules,
-  (λ k _. ap (λ ps. slice_index_or ps k None) c.no_entries.ensures ∙ none_at 64 k),
+  (λ k _. rw (c.no_entries.ensures, none_at 64 k)),
   tt,
 )

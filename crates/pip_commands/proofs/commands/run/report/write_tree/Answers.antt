@@ -1,5 +1,5 @@
 use Rattle.std.proofs.lemmas.Result.{MatchResult-from_err}
-use Rattle.pip_children.proofs.Cuts.{part_of_more}
+use Rattle.pip_io.proofs.Piecewise.{part_longer}
 use Rattle.pip_commands.proofs.Reports.{ended_text}
 use Rattle.pip_commands.proofs.commands.run.report.write_tree.Goals as goal
 
@@ -10,4 +10,4 @@ returns-clause-wrote g c =
 pub returns-in_err-tree_text-clause-wrote : goal.returns-in_err-tree_text-clause-wrote
 returns-in_err-tree_text-clause-wrote g c = λ t h.
     MatchResult-from_err c.from_residual.result _ _ c.from_residual.ensures.0 (λ _.
-    part_of_more _ _ _ _ (c.in_err-tree_text.ensures.text t h))
+    part_longer _ _ _ _ (c.in_err-tree_text.ensures.text t h))

@@ -1,5 +1,5 @@
 use Rattle.std.proofs.Common.{None, Some, Err, subst, sym, ap}
-use Rattle.pip_due.specs.Machines.{StandsIfAny}
+use Rattle.pip_command_contracts.specs.Machines.{StandsIfAny}
 use Rattle.pip_commands.proofs.Settled.{did_after, not_read}
 use Rattle.pip_commands.proofs.Turns.{ended_calm, err_same, ends_newline, goes_on}
 use Rattle.pip_commands.proofs.commands.script.turn.run_turn.Goals as goal

@@ -2,7 +2,7 @@ use Rattle.std.proofs.Common.{subst, sym}
 use Rattle.pip_model.specs.Layout.{LaysOut}
 use Rattle.pip_model.specs.Partitions.{HasPartition}
 use Rattle.pip_commands.specs.Shown.{ShowsReport}
-use Rattle.pip_due.specs.Loading.{Begins}
+use Rattle.pip_command_contracts.specs.Loading.{Begins}
 use Rattle.pip_commands.proofs.Reports.{has_root, passed, frames_shows, trace_shows, tree_shows}
 use Rattle.pip_commands.proofs.commands.run.report.Report.give.Goals as goal
 

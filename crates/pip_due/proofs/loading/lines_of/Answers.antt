@@ -1,4 +1,0 @@
-use Rattle.pip_due.proofs.loading.lines_of.Goals as goal
-
-pub new-requires : goal.new-requires
-new-requires g c = c.requires.answer _ c.make.result c.make.ensures

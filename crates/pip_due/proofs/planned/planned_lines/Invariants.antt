@@ -1,9 +1,0 @@
-use Rattle.std.proofs.Common.{◌≡◌, length, take}
-use Rattle.pip_due.specs.Planned.{lines_planned}
-use Rattle.pip_due.proofs.planned.planned_lines.Given as goal
-
-abbrev pub invariant-loop-plan : goal.invariant-loop-plan
-invariant-loop-plan l = record {
-  items : l.lines.items ≡ lines_planned (take l.plan-index l.fn.plans);
-  count : length l.lines.items ≡ l.plan-index;
-}

@@ -1,5 +1,0 @@
-pub mod Entries
-pub mod Sums
-pub mod Merges
-pub mod Seen
-pub mod MergeLaw

@@ -1,0 +1,20 @@
+-- searches: how they end, and where they wait at first
+pub mod SearchEnds
+pub mod Searched
+-- `every` and runs
+pub mod EveryOnce
+pub mod EveryLines
+pub mod RunsChosen
+pub mod InTime
+-- menus
+pub mod MenuLines
+pub mod MenuReads
+pub mod AgainstEnds
+pub mod AgainstOnce
+pub mod Covered
+-- `apart`
+pub mod ApartFound
+pub mod ApartOnce
+pub mod ApartNames
+pub mod ApartHolds
+pub mod SaidLines

@@ -1,0 +1,31 @@
+use Rattle.std.proofs.Common.{rules}
+use Rattle.std.specs.Prelude.{codes}
+use Rattle.std.proofs.lemmas.Result.{MatchResult-from_err}
+use Rattle.pip_io.proofs.Piecewise.{part_after, part_longer, wrote_after, wrote_of}
+use Rattle.pip_search_commands.specs.EveryText.{counts_words}
+use Rattle.pip_search_commands.proofs.commands.against.comes.write_must.Goals as goal
+
+pub returns-in_err-write_all : goal.returns-in_err-write_all
+returns-in_err-write_all g c = record {
+  wrote = MatchResult-from_err c.from_residual.result _ _ c.from_residual.ensures.0 (λ _.
+      part_longer _ _ (codes ": within") _ c.in_err-write_all.ensures.prefix);
+  cause = search rules;
+}
+
+pub returns-in_err-write_counts : goal.returns-in_err-write_counts
+returns-in_err-write_counts g c = record {
+  wrote = MatchResult-from_err c.from_residual-in_err-write_counts.result _ _
+      c.from_residual-in_err-write_counts.ensures.0 (λ _.
+      part_after _ _ _ (codes ": within") _ c.in_ok-write_all.ensures.whole
+      (part_longer _ _ (counts_words c.args.cpus c.args.lines.now 0 c.args.counts.now) _
+      c.in_err-write_counts.ensures.wrote));
+  cause = search rules;
+}
+
+pub returns : goal.returns
+returns g c = record {
+  wrote = wrote_of _ _ _ (codes ": within") _ c.write_all-2.result c.in_ok-write_all.ensures.whole
+      (wrote_after _ _ _ (counts_words c.args.cpus c.args.lines.now 0 c.args.counts.now) (codes "\n")
+      c.write_all-2.result c.in_ok-write_counts.ensures.wrote c.write_all-2.ensures.whole c.write_all-2.ensures.prefix);
+  cause = search rules;
+}

@@ -1,0 +1,11 @@
+use Rattle.pip_search_commands.proofs.commands.every.searching.find_planned.Given as goal
+
+-- keys compare with the words that were noted
+abbrev pub ghosts-find_from-F-First : goal.ghosts-find_from-F-First
+ghosts-find_from-F-First g a = record { words = a.later.block.frames }
+
+abbrev pub ghosts-find_from-L-Ledger : goal.ghosts-find_from-L-Ledger
+ghosts-find_from-L-Ledger g a = record { name = a.blank.name; parts = a.blank.parts }
+
+abbrev pub ghosts-words_from : goal.ghosts-words_from
+ghosts-words_from g a = record { name = a.blank.name; parts = a.blank.parts }

@@ -1,0 +1,13 @@
+pub mod EveryText
+pub mod ApartText
+pub mod MenuText
+pub mod MenuReading
+pub mod SearchDues
+pub mod Searches
+pub mod ApartSearches
+pub mod EveryLaw
+pub mod RunLaw
+pub mod CoverLaw
+pub mod AgainstLaw
+pub mod ApartLaw
+pub mod ApartHolds

@@ -1,4 +1,0 @@
-use Rattle.pip_searches.proofs.commands.apart.apart.Given as goal
-
-abbrev pub ghosts-apart_counted : goal.ghosts-apart_counted
-ghosts-apart_counted g a = record { name = a.blank.name; parts = a.blank.parts }

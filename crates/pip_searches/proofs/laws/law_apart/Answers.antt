@@ -1,6 +1,0 @@
-use Rattle.pip_searches.proofs.ApartNames.{yes_names_all, yes_names_runs}
-use Rattle.pip_searches.proofs.ApartOnce.{apart_says_once}
-use Rattle.pip_searches.proofs.laws.law_apart.Goals as goal
-
-pub returns : goal.returns
-returns c = record { once = apart_says_once; all = yes_names_all; runs = yes_names_runs }

@@ -1,6 +1,0 @@
-use Rattle.pip_searches.proofs.EveryLines.{lines_are_of_runs}
-use Rattle.pip_searches.proofs.EveryOnce.{searches_once}
-use Rattle.pip_searches.proofs.laws.law_every.Goals as goal
-
-pub returns : goal.returns
-returns c = record { once = searches_once; lines = lines_are_of_runs }

@@ -1,4 +1,0 @@
-use Rattle.pip_test_parent.proofs.parent.the_tables_take_a_second_list_page.Given as goal
-
-abbrev pub ghosts-check_edges : goal.ghosts-check_edges
-ghosts-check_edges g a = record { name = a.blank.name; parts = a.blank.parts }

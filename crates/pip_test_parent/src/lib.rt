@@ -1,7 +1,0 @@
-//! Tests of pip_parent: children built on a machine.
-#![tactic(auto)]
-
-#[cfg(test)]
-mod compare;
-#[cfg(test)]
-mod parent;
