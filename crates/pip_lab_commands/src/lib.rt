@@ -8,8 +8,7 @@
 //!   `law_slots_apart` says that two inputs that agree on a child have the same bytes in its slots.
 //! - `every`, `against` and `apart` are those of pip_search_commands.
 //! - `part` and `merge` are those of pip_certificate_commands. `law_certified_runs` joins them to runs: the labels of
-//! parts
-//!   that were merged to a whole are all lines that a run can write.
+//!   parts that were merged to a whole are all lines that a run can write.
 #![tactic(auto)]
 
 mod commands;
