@@ -14,29 +14,15 @@ from __future__ import annotations
 
 import argparse
 import os
-import shutil
-import subprocess
 
 from common import calling
 from common.calling import REPOSITORY, Failed
+from reference import plain
 from . import deletions, timing
 from .count import PROGRAM, Counted
 from .figures import Figures
 
-SOURCES = os.path.join(REPOSITORY, "dev", "bench", "plain", "Cargo.toml")
-BUILT = os.path.join(REPOSITORY, "out", "plain")
 PAGE = os.path.join(REPOSITORY, "docs", "PERFORMANCE.md")
-
-
-def plain_program() -> str:
-    """The plain program, built by cargo."""
-    cargo = shutil.which("cargo")
-    if cargo is None:
-        raise Failed("cargo is needed: it builds the plain program")
-    done = subprocess.run([cargo, "build", "--release", "--quiet", "--manifest-path", SOURCES, "--target-dir", BUILT])
-    if done.returncode:
-        raise Failed("cargo doesn't build the plain program")
-    return os.path.join(BUILT, "release", "pip-plain")
 
 
 def shown(what: str, ours: int, other: int | None) -> str:
@@ -45,7 +31,7 @@ def shown(what: str, ours: int, other: int | None) -> str:
 
 
 def show(given: argparse.Namespace) -> None:
-    path = plain_program() if given.plain else given.beside
+    path = plain.program() if given.plain else given.beside
     program = Counted(given.program)
     if given.growth:
         growth(Figures(program))

@@ -12,8 +12,7 @@ import subprocess
 import tempfile
 from collections.abc import Iterator
 
-from bench.run import plain_program
-from reference import commands, generate
+from reference import commands, generate, plain as others
 from . import certificates
 from .exporting import need_cargo
 from .running import Case, Differs, agree, contents, copied, generated, paths, run, told_path, write
@@ -29,7 +28,7 @@ OF_IMAGES = (["dis"], ["run", "3000", "7"], ["tree", "1500", "1"], ["core", "150
 def plain(program: str) -> None:
     """On the scripts, programs and certificates of examples/, and on some generated cases of each command."""
     need_cargo()
-    path = plain_program()
+    path = others.program()
     agree("the plain program", lambda words: [path, *words], program,
           [*examples(program), *certified(program), *generated(FIRST_SEED, CASES)])
 

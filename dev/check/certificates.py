@@ -15,7 +15,7 @@ from certifier.certify import CHECK_PARTS
 from common import calling
 from common.calling import Failed
 from debugger.building import SEARCHES
-from reference import generate_parts, parts
+from reference import generate_parts, parts, plain
 from common.machine import image as images
 from . import examples
 from .running import Differs, contents, expect, needed, run, same, says
@@ -25,13 +25,13 @@ MOST_CHECKED = 60                # parts with a wrong mark, a wrong way or a wro
 
 
 def certificates(program: str) -> None:
-    """Each NAME.every that closes, part by part; the text of each part of a small one is the reference's."""
+    """Each NAME.every that closes, part by part; the lines of each part of a small one are the plain program's."""
     tried, chance = 0, random.Random(1)
     for name, image, first, told, texts in cut(program):
         states = int(told[-1].split()[1])
         lines = [checked(program, name, first, image + text) for text in texts]
         merged = together(lines)
-        about = parts.about(images.read(image), first, base_of(image, texts[0]))
+        about = lines[0][-1].decode()[len("part "):-len(" 00000000" * 5) - 1]
         expect(f"{name}: the merge", run([calling.lab(program), "merge"], b"".join(merged)), (said(about, told), 0))
         for tried, (what, wrong) in enumerate(wrong_certificates(program, name, first, image, texts, lines), tried + 1):
             answer, status = run([calling.lab(program), "merge"], b"".join(wrong))
@@ -40,7 +40,10 @@ def certificates(program: str) -> None:
         for text in texts:
             has_one_text(chance, program, name, first, image, text)
         if states < 200:
-            by_reference(name, first, image, texts, lines)
+            for text, own in zip(texts, lines):
+                same(f"{name}: the text of a part", parts.written(parts.part_of(text)), text)
+                expect(f"{name}: the lines of a part", plain.told(["part", str(first)], image + text),
+                       (b"".join(own), 0))
     goes_on(program, image)
     if tried < PLANTED:
         raise Differs(f"{tried} wrong certificates were tried, which are less than {PLANTED}")
@@ -99,12 +102,6 @@ def said(about: str, told: Sequence[str]) -> bytes:
     return "".join(f"{line}\n" for line in text).encode()
 
 
-def base_of(image: bytes, text: bytes) -> list[tuple[int, int, int]]:
-    """The words that a part of an image compares with."""
-    machine = images.read(image)
-    return parts.part_of(image + text, len(image), machine.frames, choices_of(machine)).base
-
-
 def checked(program: str, name: str, first: int, data: bytes) -> list[bytes]:
     """The lines of a part."""
     text, status = run([calling.lab(program), "part", str(first)], data)
@@ -116,24 +113,16 @@ def together(lines: Sequence[list[bytes]]) -> list[bytes]:
     return sorted(line for each in lines for line in each)
 
 
-def by_reference(name: str, first: int, image: bytes, texts: Sequence[bytes], lines: Sequence[list[bytes]]) -> None:
-    machine = images.read(image)
-    for text, own in zip(texts, lines):
-        part = parts.part_of(image + text, len(image), machine.frames, choices_of(machine))
-        same(f"{name}: the text of a part", parts.written(part), text)
-        same(f"{name}: the lines of a part", [line.decode().rstrip("\n") for line in own],
-             parts.part(image + text, first))
-
-
 def has_one_text(chance: random.Random, program: str, name: str, first: int, image: bytes, text: bytes) -> None:
     """A part with a mark too many or too few, or with a word of the base that is the booted one, is refused."""
     machine = images.read(image)
-    part = parts.part_of(image + text, len(image), machine.frames, choices_of(machine))
-    frames, places = parts.booted(machine), {place[:2] for place in part.base}
+    part = parts.part_of(text)
+    places = {place[:2] for place in part.base}
     frame, index = chance.choice([(frame, index) for frame in range(machine.frames) for index in range(1024)
                                   if (frame, index) not in places])
-    base = sorted([*part.base, (frame, index, frames[frame][index])])
-    at = 4 + 12 * base.index((frame, index, frames[frame][index]))
+    booted = frame, index, parts.booted_word(machine, frame, index)
+    base = sorted([*part.base, booted])
+    at = 4 + 12 * base.index(booted)
     for wrong, fault in ((part._replace(marks=[*part.marks, 0]), f"marks {len(image) + parts.marks_at(part)}"),
                          (part._replace(marks=part.marks[:-1]), f"marks {len(image) + parts.marks_at(part)}"),
                          (part._replace(base=base), f"base {len(image) + at}")):
@@ -141,16 +130,12 @@ def has_one_text(chance: random.Random, program: str, name: str, first: int, ima
                image + parts.written(wrong)), (f"bad part {fault}\n".encode(), 2))
 
 
-def choices_of(machine: images.Image) -> int:
-    return machine.cpus + len(machine.plans)
-
-
 def wrong_certificates(program: str, name: str, first: int, image: bytes, texts: Sequence[bytes],
                        lines: Sequence[list[bytes]]) -> Iterator[tuple[str, list[bytes]]]:
     """The lines of certificates with one thing wrong, and what that is."""
     chance = random.Random(name)
-    plain = [line.rstrip(b"\n") for line in together(lines)]
-    for what, wrong in generate_parts.wrong_lines(chance, plain, 100):
+    bare = [line.rstrip(b"\n") for line in together(lines)]
+    for what, wrong in generate_parts.wrong_lines(chance, bare, 100):
         yield what, [line + b"\n" for line in wrong]
     for place in range(len(lines)):
         yield "a part is missing", together([*lines[:place], *lines[place + 1:]])
@@ -164,7 +149,7 @@ def wrong_parts(chance: random.Random, image: bytes, texts: Sequence[bytes]) -> 
     machine = images.read(image)
     for _ in range(MOST_CHECKED):
         place, other = chance.randrange(len(texts)), chance.randrange(len(texts))
-        part = parts.part_of(image + texts[place], len(image), machine.frames, choices_of(machine))
+        part = parts.part_of(texts[place])
         j = chance.randrange(len(part.marks))
         what, text = chance.choice([
             ("mark", parts.written(part._replace(marks=[mark ^ (k == j) for k, mark in enumerate(part.marks)]))),

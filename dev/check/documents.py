@@ -13,7 +13,6 @@ from common import calling
 from common.machine import script
 from exporter import crates
 from pages import runnable, site
-from reference import coming
 from .examples import script_gives
 from .running import (REPOSITORY, Differs, commands_of, expect, part, paths, run, text_of, told_path, write,
                       write_program)
@@ -151,8 +150,7 @@ def commands_give(name: str, programs: dict[str, str], by: str) -> None:
         if not text.startswith("$ "):
             raise Differs(f"{name} doesn't begin with a command")
         for command, shown in commands_of(text):
-            due = coming.answers(shown) if by else shown
-            expect(f"{name}, '$ {command}'{by}", run(["sh", "-c", command], cwd=place), (due, 0))
+            expect(f"{name}, '$ {command}'{by}", run(["sh", "-c", command], cwd=place), (shown, 0))
 
 
 def tutorial_blocks(program: str) -> None:

@@ -123,14 +123,15 @@ def cases() -> Iterator[tuple[list[str], bytes]]:
     lines, _ = asmx.processed(os.path.join(REPOSITORY, "examples", "apart", "leaves.asmx"))
     guests, _ = reference.pip(["asm"], asmx.text_of(lines))
     yield ["apart", "40", "400", "1"], guests
-    yield ["part", "3"], with_part(image, 3, parts.Part([(1, 2, 3)], [0], [1, 0]))
-    told, _ = reference.lab(["part"], with_part(image, 0, parts.Part([], [], [])))
+    yield ["part", "3"], with_part(image, parts.Part([(1, 2, 3)], [0], [1, 0]))
+    told, _ = reference.lab(["part"], with_part(image, parts.Part([], [], [])))
     yield ["merge"], b"".join(sorted(told.splitlines(keepends=True)))
 
 
-def with_part(image: bytes, first: int, part: parts.Part) -> bytes:
+def with_part(image: bytes, part: parts.Part) -> bytes:
     """An image, and a part with as many marks as it has choices."""
-    return image + parts.written(parts.fitted(images.read(image), first, part))
+    machine = images.read(image)
+    return image + parts.written(parts.fitted(machine.cpus + len(machine.plans), part))
 
 
 def refused_memory(program: str) -> None:

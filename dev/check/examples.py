@@ -72,19 +72,20 @@ def searches(program: str) -> None:
 
 
 def answers(program: str, kind: str) -> list[str]:
-    """Each file of this kind is what the program says of the image beside it by the words in the first line; by the
-    reference, too, but for `against` and `again`, which take it minutes: these are compared by generated images. Their
-    menu is the source's, or a file that the first line names. Answers the sources."""
+    """Each file of this kind is what the program says of the image beside it by the words in the first line, and what
+    the reference says, or the plain program of a search. The menu of a search is the source's, or a file that the first
+    line names. Answers the sources."""
     names = []
     for path, name, image, menu in searched(program, kind):
         told, text = contents(path).decode().split("\n", 1)
         words, _, file = told.partition(" < ")
         if kind not in ("against", "again"):
-            expect(f"{name}, '{told}' by the reference", reference.told(words.split(), image), (text.encode(), 0))
             menu = b""
         elif file:
             menu = contents(os.path.join(os.path.dirname(path), file))
-        expect(f"{name}, '{told}'", run(calling.called(program, words.split()), image + menu), (text.encode(), 0))
+        due = text.encode(), 0
+        expect(f"{name}, '{told}' by the reference", reference.told(words.split(), image + menu), due)
+        expect(f"{name}, '{told}'", run(calling.called(program, words.split()), image + menu), due)
         names.append(name)
     return names
 

@@ -1,7 +1,4 @@
-"""Judges what `against` says of labels that come: a loop is gone through, and fair choices are drawn against a bound.
-
-Which answer it is, is compared with the reference's; the bound, the way and the loop aren't the program's alone.
-"""
+"""Judges what `against` says of labels that come: a loop is gone through, and fair choices are drawn against a bound."""
 
 from __future__ import annotations
 
@@ -15,24 +12,18 @@ from common.machine.every import AT_FIRST, After, Moment, begun
 LINE = re.compile(r"(comes .*): (?:within (.*)|no((?: [^ :]+(?::d\d+)?(?:x\d+)?)*) :((?: \S+)+))")
 COUNT = re.compile(r"(\d+) of (\w+)")
 RUN = re.compile(r"(\d+|raise\d+|\d+:d\d+)(?:x(\d+))?")
-ANSWER = re.compile(rb"^(comes .*: (?:within|no|unknown))(?: .*)?$", re.M)
 WALKS = 4                                        # how many sequences of fair choices are drawn for a bound
 
 
-def answers(text: bytes) -> bytes:
-    """The text with which answer it is alone, in each line of a label that comes: what the reference says."""
-    return ANSWER.sub(rb"\1", text)
-
-
-def judged(words: list[str], data: bytes, output: bytes) -> bytes:
-    """The output, in which each right line of a label that comes says no more than which answer it is."""
+def wrong(words: list[str], data: bytes, output: bytes) -> list[str]:
+    """The lines of a label that comes which are wrong in the output of these words and this input."""
     if not output.startswith(b"image ") or b"\ncomes " not in output:
-        return output
+        return []
     lines = output.decode("utf-8", "surrogateescape").split("\n")
     image, text = images.parted(data)
     first = int(words[2]) if words[2:] and words[2] != "after" else 0
     judge = Judge(image, first, after_of(words), against.menu_of(text))
-    return "\n".join(map(judge.line, lines)).encode("utf-8", "surrogateescape")
+    return [line for line in lines if not judge.is_right(line)]
 
 
 def after_of(words: list[str]) -> After:
@@ -47,14 +38,13 @@ class Judge:
         self.moments = against.MenuMoments(image, first, begun(image, after), menu.deeds)
         self.names = {self.moments.choice_text(choice): choice for choice in reversed(self.moments.choices)}
 
-    def line(self, line: str) -> str:
+    def is_right(self, line: str) -> bool:
+        """Whether a line is none of these, or a right one."""
         found = LINE.fullmatch(line)
         if not found:
-            return line
+            return True
         label = found[1][len("comes "):]
-        if found[2]:
-            return f"{found[1]}: within" if self.is_bound(label, found[2]) else f"{line}, which is wrong"
-        return f"{found[1]}: no" if self.is_loop(label, found[3], found[4]) else f"{line}, which is wrong"
+        return self.is_bound(label, found[2]) if found[2] else self.is_loop(label, found[3], found[4])
 
     def choices(self, runs: str) -> list[int]:
         """The choices of a way."""
@@ -63,7 +53,7 @@ class Judge:
 
     def shows(self, moment: Moment, choice: int, label: str) -> tuple[Moment, bool]:
         after, shown = self.moments.after(moment, choice)
-        return after, bool(shown) and f"{shown[0]} {shown[1]}" == label
+        return after, shown is not None and f"{shown[0]} {shown[1]}" == label
 
     def is_loop(self, label: str, way: str, loop: str) -> bool:
         """Whether a loop leads back, with each class and without the label."""

@@ -1,4 +1,5 @@
-"""Both programs whole: what they write for the words of their command line and their input, and their status.
+"""Both programs whole, searches and certificates apart, which the plain program answers: what they write for the words
+of their command line and their input, and their status.
 
 Statuses that come from outside (3, 4, 5 and 10) aren't here: reading, writing and memory never fail.
 
@@ -14,12 +15,12 @@ from __future__ import annotations
 import os
 import sys
 from collections.abc import Callable, Iterable, Sequence
-from typing import Any, NamedTuple, Optional
+from typing import Any, Optional
 
 from common.calling import LAB
-from common.machine import against, assembly, every, image, runs, script
+from common.machine import assembly, image, runs, script
 
-from . import apart, audit, native, parts
+from . import audit, native, plain
 from common.machine.model import World
 
 USAGE = b"usage: pip script | run STEPS SEED | asm | dis | tree STEPS SEED | core STEPS SEED | soak COUNT SEED" \
@@ -31,7 +32,7 @@ Ended = tuple[bytes, int, Optional[World]]       # output and status, and the wo
 OnImage = Callable[..., tuple[Iterable[str], Optional[World]]]
 MOST_STEPS, MOST_COUNT = 10000000, 1000000
 STEPS, SEED = (0, MOST_STEPS), (1, script.WORD - 1)        # the limits of these words
-AFTER = "after"                                  # between the words of a search and those of the steps before it
+SEARCHES = tuple(command for command in LAB if command != "slots")
 ON_IMAGES: dict[str, OnImage] = {"run": runs.run, "tree": runs.tree, "core": runs.core}
 
 
@@ -69,40 +70,14 @@ def given_slot(word: str) -> tuple[int, int]:
     return script.number(child.encode()), script.number(turns.encode())
 
 
-class Asked(NamedTuple):
-    """What is searched: how many states, from which turn on, how deep, and after which steps."""
-
-    states: int
-    first: int
-    deepest: int | None
-    after: every.After
-
-
-def search_of(words: Sequence[str]) -> Asked | None:
-    """The search that words ask for, or None where they don't say one."""
-    after: every.After | None = every.AT_FIRST
-    if AFTER in words:
-        place = words.index(AFTER)
-        words, after = words[:place], after_of(words[place + 1:])
-    given = numbers_of(words, *((1, every.MOST_STATES), (0, every.MOST), (1, every.MOST))[:max(len(words), 1)])
-    if given is None or after is None:
-        return None
-    return Asked(given[0], given[1] if len(given) > 1 else 0, given[2] if len(given) > 2 else None, after)
-
-
-def after_of(words: Sequence[str]) -> every.After | None:
-    given = numbers_of(words, STEPS, SEED)
-    return every.After(*given) if given else None
-
-
 def pip(words: Sequence[str], text: bytes) -> tuple[bytes, int]:
     """Output and status of pip."""
     return ended(of_pip, USAGE, words, text)[:2]
 
 
 def lab(words: Sequence[str], text: bytes) -> tuple[bytes, int]:
-    """Output and status of the lab."""
-    return ended(of_lab, LAB_USAGE, words, text)[:2]
+    """Output and status of the lab: of `slots`, and by the plain program of right words of what searches."""
+    return plain.told(words, text) if words and words[0] in SEARCHES else ended(of_lab, LAB_USAGE, words, text)[:2]
 
 
 def told(words: Sequence[str], text: bytes) -> tuple[bytes, int]:
@@ -117,8 +92,6 @@ def ended(answered: Callable[[Sequence[str], bytes], Ended | None], usage: bytes
         return answered(words, text) or (usage, 1, None)
     except image.BadImage as bad:
         return in_lines([f"bad image {bad.kind} {bad.at}"]), 2, None
-    except parts.BadPart as bad:
-        return in_lines([f"bad part {bad.kind} {bad.at}"]), 2, None
     except script.BadLine as bad:
         return in_lines([f"bad line {bad.line} {bad.kind}".rstrip()]), 2, None
     except image.TooFew as few:
@@ -148,16 +121,6 @@ def of_lab(words: Sequence[str], text: bytes) -> Ended | None:
     command, *rest = words or [""]
     if command == "slots" and (slots := slots_of(rest)):
         return on_image(native.slots, text, *slots, children=slots[0])
-    if command == "every" and (asked := search_of(rest)):
-        return in_lines(every.every(image.read(text), *asked)), 0, None
-    if command == "against" and (asked := search_of(rest)):
-        return on_menu(asked, text)
-    if command == "apart" and (given := numbers_of(rest, (1, every.MOST_STATES), STEPS, SEED)):
-        return in_lines(apart.apart(image.read(text), *given)), 0, None
-    if command == "part" and (given := numbers_of(rest or ["0"], (0, every.MOST))):
-        return in_lines(parts.part(text, *given)), 0, None
-    if command == "merge" and not rest:
-        return merge(text)
     return None
 
 
@@ -185,10 +148,6 @@ def dis(data: bytes) -> Ended:
     return in_lines(told), 0, None
 
 
-def merge(text: bytes) -> Ended:
-    return *parts.merged(text), None
-
-
 ON_TEXTS: dict[str, Callable[[bytes], Ended]] = {"script": script.ended, "asm": asm, "dis": dis}
 
 
@@ -196,13 +155,6 @@ def on_image(command: OnImage, data: bytes, *words: Any, children: int = 0) -> E
     """What a command says of an image, which has room for that many children, by these words."""
     told, world = command(image.read(data, native.frames_needed(children) if children else 0), *words)
     return in_lines(told), 0, world
-
-
-def on_menu(asked: Asked, data: bytes) -> Ended:
-    """What `against` says of an image with a menu after it."""
-    machine, text = image.parted(data)
-    states, first, deepest, after = asked
-    return in_lines(against.against(machine, states, first, deepest, against.menu_of(text), after)), 0, None
 
 
 def shown(text: bytes) -> None:

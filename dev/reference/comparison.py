@@ -1,4 +1,5 @@
-"""Runs the built program and the reference over generated cases, and says the first difference.
+"""Runs the built program and the reference over generated cases, and says the first difference. Searches and
+certificates are compared with the plain program.
 
     python3 dev/reference/compare.py script --cases 20000 --seed 1
 
@@ -32,7 +33,9 @@ def difference(path: str, command: str, seed: int) -> Difference | None:
         done = subprocess.run(calling.called(path, words), input=text, stdout=subprocess.PIPE, timeout=SECONDS)
     except subprocess.TimeoutExpired:
         return words, text, expected, (b"nothing in time", -1)
-    got = coming.judged(words, text, done.stdout) if command == "against" else done.stdout, done.returncode
+    got = done.stdout, done.returncode
+    if command == "against" and (wrong := coming.wrong(words, text, done.stdout)):
+        got = "\n".join(["wrong:", *wrong]).encode(), done.returncode
     return None if got == expected else (words, text, expected, got)
 
 

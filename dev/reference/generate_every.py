@@ -96,7 +96,7 @@ def case(seed: int) -> tuple[list[str], bytes]:
 
 # Menus
 
-SHORT = 60                               # labels are looked for among so many states
+SHORT = 60                               # labels are looked for in so many choices
 
 
 def put(rng: random.Random, lines: list[bytes], line: bytes) -> None:
@@ -128,10 +128,20 @@ def labels(rng: random.Random, data: bytes, lines: list[bytes]) -> list[bytes]:
         deeds = against.menu_of(b"\n".join(lines)).deeds
     except (image.BadImage, script.BadLine):
         return []
-    search = every.Search(against.MenuMoments(machine, 0, every.begun(machine, every.AT_FIRST), deeds), SHORT, None)
-    known = [f"{cpu} {text}" for cpu, text in search.found] + ["0 out 0x00000001", "out"]
+    moments = against.MenuMoments(machine, 0, every.begun(machine, every.AT_FIRST), deeds)
+    known = [*(f"{cpu} {text}" for cpu, text in shown(rng, moments)), "0 out 0x00000001", "out"]
     count = rng.choice((1, 1, 2, 3, 5, against.MOST_LABELS, against.MOST_LABELS + 1) if rng.random() < 0.1 else (1, 2))
     return [rng.choice((b"again ", b"comes ")) + rng.choice(known).encode() for _ in range(count)]
+
+
+def shown(rng: random.Random, moments: every.Moments) -> dict[every.Label, None]:
+    """What is shown by choices in a row, of which more are turns."""
+    at, found = moments.start, dict[every.Label, None]()
+    for _ in range(SHORT):
+        choices = moments.choices if rng.random() < 0.3 else range(moments.cpus)
+        at, label = moments.after(at, rng.choice(choices))
+        found.update({label: None} if label else {})
+    return found
 
 
 def menu_case(seed: int) -> tuple[list[str], bytes]:

@@ -88,7 +88,7 @@ def part_case(seed: int) -> tuple[list[str], bytes]:
                 [choice for choice in runs for _ in range(chance.randrange(1, 4))],
                 [int(chance.random() < own) for _ in range(chance.randrange(60))])
     if chance.random() < 0.8:
-        part = parts.fitted(machine, int((words or ["0"])[0]), part)
+        part = parts.fitted(choices, part)
     if chance.random() < 0.3:
         return words, data + wrong_text(chance, machine.frames, choices, part)
     if places and chance.random() < 0.1:
@@ -100,7 +100,7 @@ def booted_word(chance: random.Random, machine: image.Image, part: Part) -> Part
     """A part with a word of its base that is the booted one."""
     at = chance.randrange(len(part.base))
     frame, index, _ = part.base[at]
-    return part._replace(base=[*part.base[:at], (frame, index, parts.booted(machine)[frame][index]),
+    return part._replace(base=[*part.base[:at], (frame, index, parts.booted_word(machine, frame, index)),
                                *part.base[at + 1:]])
 
 

@@ -5,9 +5,9 @@ import copy
 import unittest
 
 from common import forms
-from common.machine import caches, image, runs, script
-from . import apart, commands, generate, generate_apart, sound
-from common.machine.model import ROOT, World, boot_tree, list_pages
+from common.machine import caches, script
+from . import commands, generate, sound
+from common.machine.model import World, boot_tree, list_pages
 
 
 def of_script(text: bytes) -> World:
@@ -46,26 +46,6 @@ class Worlds(unittest.TestCase):
         self.assertTrue(caches.takes_pages(3, 1))
 
 
-class Guests(unittest.TestCase):
-    def test_each_answer_of_apart_comes_with_its_reason(self) -> None:
-        answers = dict.fromkeys(("yes", "leaves", "stopped", "root", "line"), 0)
-        for seed in range(1, 31):
-            (_, count, start), data = generate_apart.case(seed)
-            try:
-                machine = image.read(data)
-            except image.BadImage:
-                continue
-            told = apart.apart(machine, 300, int(count), int(start))
-            reasons = [line.split()[0] for line in told if line.startswith(("leaves ", "root ", "line "))]
-            reasons += [line.split()[-1] for line in told if line.endswith(" stopped")]
-            self.assertEqual(told[-1], "apart no" if reasons else "apart yes")
-            world = runs.steps(machine, int(count), int(start), lambda line: None)
-            self.assertEqual("root" in reasons, ROOT in world.running())
-            for reason in set(reasons or ["yes"]):
-                answers[reason] += 1
-        self.assertTrue(all(answers.values()), answers)
-
-
 class Texts(unittest.TestCase):
     def test_the_limit_of_bytes(self) -> None:
         rest = b"\n" * ((script.MOST - 9) % 121 - 2) + b"#\n" + (b"#" * 120 + b"\n") * ((script.MOST - 9) // 121)
@@ -75,10 +55,8 @@ class Texts(unittest.TestCase):
             self.assertEqual(script.run(text), due)
 
     def test_words_that_are_no_form_and_words_that_are_one(self) -> None:
-        for program, usage, right, wrong in ((commands.pip, commands.USAGE, forms.RIGHT, forms.WRONG),
-                                             (commands.lab, commands.LAB_USAGE, forms.LAB_RIGHT, forms.LAB_WRONG)):
-            for line in ("--help", *wrong):
-                self.assertEqual(program(forms.words(line), b""), (usage, 1), line)
-            for line in right:
-                if not line.startswith("soak"):
-                    self.assertNotEqual(program(forms.words(line), b"PIPIMG1\n")[1], 1, line)
+        for line in ("--help", *forms.WRONG):
+            self.assertEqual(commands.pip(forms.words(line), b""), (commands.USAGE, 1), line)
+        for line in forms.RIGHT:
+            if not line.startswith("soak"):
+                self.assertNotEqual(commands.pip(forms.words(line), b"PIPIMG1\n")[1], 1, line)

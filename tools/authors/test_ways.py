@@ -3,12 +3,13 @@
 from __future__ import annotations
 
 import os
+import random
 import unittest
 
 from common import calling
 from common.calling import Failed
 from common.machine import against, assembly, every as searches, image as images, script
-from reference import commands, generate_every
+from reference import generate_every
 from common.machine.image import Image
 from debugger import searching, sources
 from . import asmx, every, ways
@@ -33,17 +34,17 @@ class Ways(unittest.TestCase):
 
     def test_generated_ways_are_made_again_and_are_scripts(self) -> None:
         for seed in (2, 4, 5, 13, 14, 21, 32):
-            words, data = generate_every.case(seed)
-            asked = commands.search_of(words)
-            assert asked
-            image, after = images.read(data), asked.after
-            moments = searches.Moments(image, asked.first, searches.begun(image, after))
-            search = searches.Search(moments, min(asked.states, 100), asked.deepest)
-            for found in list(search.told())[-4:]:
-                way = ways.read(image, searches.way_text(moments, search.way(found)))
-                cpu, text = found.label
-                self.assertEqual(list(ways.made(image, way, (), after))[-1].lines, [f"{len(way) - 1} {cpu} {text}"])
-                self.is_script(image, way, after)
+            _, data = generate_every.case(seed)
+            image, rng = images.read(data), random.Random(seed)
+            moments = searches.Moments(image, 0, searches.begun(image, searches.AT_FIRST))
+            choices = [rng.choice(moments.choices) for _ in range(rng.randrange(1, 60))]
+            at, label = moments.start, None
+            for choice in choices:
+                at, label = moments.after(at, choice)
+            way = ways.read(image, searches.way_text(moments, choices))
+            due = [f"{len(way) - 1} {label[0]} {label[1]}"] if label else []
+            self.assertEqual(list(ways.made(image, way))[-1].lines, due)
+            self.is_script(image, way)
 
     def is_script(self, image: Image, way: ways.Way, after: searches.After = searches.AT_FIRST) -> None:
         text, answers = ways.script(image, way, (), after)

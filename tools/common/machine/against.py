@@ -1,8 +1,7 @@
-"""What can happen to an image where partitions do anything of a menu, and the text of the command against.
+"""What can happen to an image where partitions do anything of a menu, and the text of a menu.
 
 A partition is hostile where a deed of the menu is its own. Where it runs, its program has no turns: it waits for a
-line, or does one of its deeds. Of a label that the menu names it is asked whether it can come again, or whether it
-comes: of that the text here says no more than which of the answers it is (dev/reference/coming.py judges the rest).
+line, or does one of its deeds.
 """
 
 from __future__ import annotations
@@ -11,7 +10,7 @@ from collections.abc import Callable, Sequence
 from typing import NamedTuple
 
 from . import script
-from .every import AT_FIRST, After, Label, Moment, Moments, Search, begun, label_of, text, way_text
+from .every import Label, Moment, Moments, label_of
 from .image import Image
 from .model import ROOT, Done, Running, World
 from .runs import Turn
@@ -157,102 +156,3 @@ class MenuMoments(Moments):
         told: list[str] = []
         Hostile(world, cpu, 0, told.append, deed).take()
         return self.moment(world, before, min(before.turns + 1, self.first)), label_of(told)
-
-
-# Whether a label can come again
-
-
-def lost(search: Search, usual: int, label: str) -> int | None:
-    """The first visit after which turns and lines never show a label again; None where there is none. It is marked from
-    the visits that show it back to those from which choices lead there.
-    """
-    before: list[list[int]] = [[] for _ in search.visits]
-    marked: set[int] = set()
-    for at, visit in enumerate(search.visits):
-        for choice in range(usual):
-            moment, shown = search.moments.after(visit.moment, choice)
-            before[search.places[moment]].append(at)
-            if shown and f"{shown[0]} {shown[1]}" == label:
-                marked.add(at)
-    ahead = list(marked)
-    while ahead:
-        more = {at for at in before[ahead.pop()] if at not in marked}
-        marked |= more
-        ahead += more
-    return next((at for at in range(len(search.visits)) if at not in marked), None)
-
-
-def again_line(search: Search, usual: int, label: str) -> str:
-    """What is said of a label."""
-    if search.end != "closed":
-        return f"again {label}: unknown"
-    at = lost(search, usual, label)
-    if at is None:
-        return f"again {label}: yes"
-    return " ".join([f"again {label}: no", *way_text(search.moments, search.way_to(at)).split()])
-
-
-# Whether a label comes
-
-Edge = tuple[int, int]                           # a choice, and the visit to which it leads
-
-
-def hidden_edges(search: Search, label: str) -> list[list[Edge]]:
-    """Of each visit the choices, deeds too, that don't show a label."""
-    edges: list[list[Edge]] = []
-    for visit in search.visits:
-        made = [(choice, *search.moments.after(visit.moment, choice)) for choice in search.moments.choices]
-        edges.append([(choice, search.places[moment]) for choice, moment, shown in made
-                      if not (shown and f"{shown[0]} {shown[1]}" == label)])
-    return edges
-
-
-def reached(edges: Sequence[Sequence[int]], start: int, left: set[int]) -> list[int]:
-    """What is left and reached from a visit, each after all that it leads to; none of it is left then."""
-    found, ahead = [], [(start, iter(edges[start]))]
-    left.discard(start)
-    while ahead:
-        at, more = ahead[-1]
-        to = next((to for to in more if to in left), None)
-        if to is None:
-            found.append(at)
-            ahead.pop()
-        else:
-            left.discard(to)
-            ahead.append((to, iter(edges[to])))
-    return found
-
-
-def is_avoided(edges: list[list[Edge]], usual: int) -> bool:
-    """Whether choices lead from a visit to itself, with one of each class among them: a component of the visits has all
-    of them inside."""
-    back: list[list[int]] = [[] for _ in edges]
-    for at, row in enumerate(edges):
-        for _, to in row:
-            back[to].append(at)
-    ahead, left, order = [[to for _, to in row] for row in edges], set(range(len(edges))), []
-    for at in range(len(edges)):
-        if at in left:
-            order += reached(ahead, at, left)
-    left = set(order)
-    for at in reversed(order):
-        if at in left:
-            inside = set(reached(back, at, left))
-            if len({choice for one in inside for choice, to in edges[one] if to in inside and choice < usual}) == usual:
-                return True
-    return False
-
-
-def coming_line(search: Search, usual: int, label: str) -> str:
-    """Which answer it is of a label."""
-    if search.end != "closed":
-        return f"comes {label}: unknown"
-    return f"comes {label}: {'no' if is_avoided(hidden_edges(search, label), usual) else 'within'}"
-
-
-def against(image: Image, states: int, first: int, deepest: int | None, menu: Menu,
-            after: After = AT_FIRST) -> list[str]:
-    moments = MenuMoments(image, first, begun(image, after), menu.deeds)
-    search = Search(moments, states, deepest)
-    return text(image, search) + [again_line(search, moments.usual, label) for label in menu.again] + \
-        [coming_line(search, moments.usual, label) for label in menu.comes]

@@ -1,4 +1,4 @@
-"""What can happen to an image over all interleavings, breadth first, and the text of the command every.
+"""What can happen to an image over all interleavings: its moments, and the choices that lead from one to another.
 
 A choice is the turn of a processor or the raise of a line of the image's plans, which can come once so many turns were
 made. A moment is a world without its caches, and the turns made so far, counted up to that many. A turn that changes
@@ -9,13 +9,13 @@ after some steps of a run.
 from __future__ import annotations
 
 import itertools
-from collections.abc import Iterable, Iterator, Sequence
+from collections.abc import Iterable, Sequence
 from dataclasses import replace
 from typing import NamedTuple
 
 from .image import Image, world as image_world
 from .model import ROOT, Node, Running, Tree, World
-from .runs import Turn, first_line, steps
+from .runs import Turn, steps
 
 MOST_STATES, MOST = 100000000, 10000000          # at most so many states; turns before a line, and choices in a row
 SHAPING = (0, 1, 3, 4, 5, 6)                     # the calls that change more of partitions than whether they are masked
@@ -191,80 +191,7 @@ def label_of(told: list[str]) -> Label | None:
     return int(cpu), text
 
 
-# The search
-
-
-class Visit(NamedTuple):
-    """A moment that was reached: from which visit, by which choice, and how many choices lead to it."""
-
-    moment: Moment
-    parent: int
-    choice: int
-    depth: int
-
-
-class Found(NamedTuple):
-    """A label with the first choice that shows it, which is made in the moment of a visit."""
-
-    label: Label
-    at: int
-    choice: int
-
-
-class Search:
-    """Visits every moment that choices lead to, the nearest first, and keeps what they show."""
-
-    def __init__(self, moments: Moments, states: int, deepest: int | None) -> None:
-        self.moments, self.states, self.deepest = moments, states, deepest
-        self.visits = [Visit(moments.start, 0, 0, 0)]
-        self.places = {moments.start: 0}
-        self.found: dict[Label, Found] = {}
-        self.end, self.depth = self.search()
-
-    def search(self) -> tuple[str, int]:
-        """How it ends, and the depth of that."""
-        at = 0
-        while at < len(self.visits):
-            depth = self.visits[at].depth
-            if depth == self.deepest:
-                return "within", depth
-            if not all(self.goes_on(at, choice) for choice in self.moments.choices):
-                return "stopped", depth
-            at += 1
-        return "closed", self.visits[-1].depth
-
-    def goes_on(self, at: int, choice: int) -> bool:
-        """Makes a choice of a visit. False where it leads to one state more than there may be."""
-        moment, label = self.moments.after(self.visits[at].moment, choice)
-        if moment not in self.places:
-            if len(self.visits) == self.states:
-                return False
-            self.places[moment] = len(self.visits)
-            self.visits.append(Visit(moment, at, choice, self.visits[at].depth + 1))
-        if label and label not in self.found:
-            self.found[label] = Found(label, at, choice)
-        return True
-
-    def way(self, found: Found) -> list[int]:
-        """The choices up to the one that shows a label."""
-        return self.way_to(found.at) + [found.choice]
-
-    def way_to(self, at: int) -> list[int]:
-        """The choices that lead to a visit."""
-        choices: list[int] = []
-        while at:
-            choices.append(self.visits[at].choice)
-            at = self.visits[at].parent
-        return choices[::-1]
-
-    def told(self) -> Iterator[Found]:
-        """The labels of the text: those that no longer way than what was gone through shows."""
-        for found in self.found.values():
-            if self.end == "closed" or self.visits[found.at].depth < self.depth:
-                yield found
-
-
-# The text of the command
+# Ways in words
 
 
 def way_text(moments: Moments, way: list[int]) -> str:
@@ -277,26 +204,6 @@ def grouped(choices: Iterable[str]) -> str:
     return " ".join(name if count == 1 else f"{name}x{count}" for name, count in runs)
 
 
-def last_line(search: Search) -> str:
-    count = len(search.visits)
-    if search.end == "within":
-        return f"states {count} within {search.depth}"
-    return f"states {count} depth {search.depth} {search.end}"
-
-
 def begun(image: Image, after: After) -> World:
     """The world at which a search begins."""
     return steps(image, *after, lambda line: None)
-
-
-def every(image: Image, states: int, first: int, deepest: int | None, after: After = AT_FIRST) -> list[str]:
-    return text(image, Search(Moments(image, first, begun(image, after)), states, deepest))
-
-
-def text(image: Image, search: Search) -> list[str]:
-    """The text of a search of an image's moments."""
-    told = [first_line(image)]
-    for found in search.told():
-        cpu, text = found.label
-        told.append(f"{search.visits[found.at].depth} {cpu} {text}: {way_text(search.moments, search.way(found))}")
-    return told + [last_line(search)]
