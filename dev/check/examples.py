@@ -65,9 +65,9 @@ def programs(program: str) -> None:
 
 
 def searches(program: str) -> None:
-    """Each NAME.every and NAME.apart is what can happen to the program beside it, and NAME.against and NAME.again with
-    children that do anything."""
-    for kind in ("every", "apart", "against", "again"):
+    """Each NAME.every and NAME.apart is what can happen to the program beside it, NAME.against and NAME.again with children
+    that do anything, and NAME.comes says what must come."""
+    for kind in ("every", "apart", "against", "again", "comes"):
         answers(program, kind)
 
 
@@ -79,7 +79,7 @@ def answers(program: str, kind: str) -> list[str]:
     for path, name, image, menu in searched(program, kind):
         told, text = contents(path).decode().split("\n", 1)
         words, _, file = told.partition(" < ")
-        if kind not in ("against", "again"):
+        if kind in ("run", "every", "apart"):
             menu = b""
         elif file:
             menu = contents(os.path.join(os.path.dirname(path), file))
