@@ -65,8 +65,8 @@ def programs(program: str) -> None:
 
 
 def searches(program: str) -> None:
-    """Each NAME.every and NAME.apart is what can happen to the program beside it, NAME.against and NAME.again with children
-    that do anything, and NAME.comes says what must come."""
+    """Each NAME.every and NAME.apart is what can happen to the program beside it, NAME.against and NAME.again with
+    children that do anything, and NAME.comes says what must come."""
     for kind in ("every", "apart", "against", "again", "comes"):
         answers(program, kind)
 

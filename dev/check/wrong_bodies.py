@@ -1,5 +1,5 @@
 """The wrong bodies that are kept apply to the sources, and are as many as CONTRIBUTING.md says; and of those that the
-gate doesn't try ten are tried again, drawn by the commit."""
+gate doesn't try some are tried at each commit, and ten more, drawn by the commit."""
 
 from __future__ import annotations
 
@@ -10,12 +10,14 @@ from collections.abc import Iterable
 
 from common.calling import Failed
 from edits import tried
-from edits.reading import ADMITTED, GATE, TRIED, Edit, NotApplied, all_edits, edited
+from edits.reading import ADMITTED, ALWAYS, GATE, TRIED, Edit, NotApplied, all_edits, edited
 from .running import REPOSITORY, Differs, Skipped, each, needed, part, planted_for, run, text_of
 
 DRAWN, CRATES = 10, 2    # how many are tried, and of how many crates at most
-SECONDS = 300            # after which no further one is begun
-COUNTS = {GATE: r"tries (\d+) edits", TRIED: r"(\d+) others", ADMITTED: r"admits? (\d+) more"}      # in CONTRIBUTING.md
+SECONDS = 900            # after which no further one is begun
+# How CONTRIBUTING.md says how many there are
+COUNTS = {GATE: r"tries (\d+) edits", ALWAYS: r"tries (\d+) more", TRIED: r"(\d+) others",
+          ADMITTED: r"admits? (\d+) more"}
 
 
 def edits(program: str) -> None:
@@ -47,13 +49,14 @@ def troubles(top: str) -> list[str]:
 
 
 def drawn_edits(program: str) -> None:
-    """The prover refuses each edit that is drawn, as it did once."""
+    """The prover refuses each edit that is tried always, and each that is drawn, as it did once."""
     drawing()
     needed("rt")
     commit, status = run([needed("git"), "rev-parse", "HEAD"])
     if status:
         raise Skipped("no commit")
-    chosen = drawn(all_edits(REPOSITORY), commit.decode().strip())
+    known_edits = list(all_edits(REPOSITORY))
+    chosen = [*(edit for edit in known_edits if edit.kind == ALWAYS), *drawn(known_edits, commit.decode().strip())]
     crates = sorted({edit.crate for edit in chosen})
     known, until = tried.chains(REPOSITORY), time.monotonic() + SECONDS
     results = each(lambda crate: refused([edit for edit in chosen if edit.crate == crate], known[crate], until), crates)
@@ -81,7 +84,7 @@ def refused(chosen: list[Edit], chain: list[str], until: float) -> list[tuple[Ed
 
 
 def drawn(edits: Iterable[Edit], commit: str) -> list[Edit]:
-    """Ten edits, none of which the gate tries or a contract admits, of the crates of the first that are drawn."""
+    """Ten edits, none of which each commit tries or a contract admits, of the crates of the first that are drawn."""
     order = sorted((edit for edit in edits if edit.kind == TRIED), key=lambda edit: hashlib.sha256(
         f"{commit} {edit.crate} {edit.name}".encode()).digest())
     crates = list(dict.fromkeys(edit.crate for edit in order))[:CRATES]
@@ -90,7 +93,7 @@ def drawn(edits: Iterable[Edit], commit: str) -> list[Edit]:
 
 def drawing() -> None:
     """What is drawn is another for another commit, and comes to each edit."""
-    kinds = (GATE, TRIED, TRIED, TRIED, TRIED, TRIED, TRIED, ADMITTED)
+    kinds = (GATE, ALWAYS, TRIED, TRIED, TRIED, TRIED, TRIED, TRIED, ADMITTED)
     planted = [Edit(f"pip_{crate}", kind, f"edit_{k}", ()) for crate in "abc" for k, kind in enumerate(kinds)]
     seen = set()
     for commit in range(60):

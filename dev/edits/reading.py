@@ -9,7 +9,8 @@ from collections.abc import Iterator
 from dataclasses import dataclass
 from pathlib import Path
 
-GATE, TRIED, ADMITTED = "must-fail", "tried", "admitted"      # the kinds of edits
+# The kinds of edits: those of the gate, those that the check drawn-edits tries always, now and then, and never
+GATE, ALWAYS, TRIED, ADMITTED = "must-fail", "always", "tried", "admitted"
 KEPT = os.path.join("dev", "edits", "tried")
 BLOCK = re.compile(r"^([^ #\n].*)\n((?:(?: .*)?\n)*)", re.M)
 
@@ -58,12 +59,12 @@ def read_changes(text: str) -> tuple[Change, ...]:
 
 
 def kept_edits(crate: str, text: str) -> Iterator[Edit]:
-    """The edits of a crate's file: a block each, whose title is `NAME`, or `NAME: admitted` where the contracts admit
-    it."""
+    """The edits of a crate's file: a block each, whose title is `NAME`, `NAME: always` where each commit tries it, or
+    `NAME: admitted` where the contracts admit it."""
     for title, lines in BLOCK.findall(text):
         name, _, mark = title.partition(": ")
         body = re.sub("^    ", "", lines, flags=re.M)
-        yield Edit(crate, ADMITTED if mark == ADMITTED else TRIED, name, read_changes(body))
+        yield Edit(crate, mark if mark in (ALWAYS, ADMITTED) else TRIED, name, read_changes(body))
 
 
 def edits_of(top: str, crate: str) -> Iterator[Edit]:

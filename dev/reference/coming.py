@@ -1,4 +1,4 @@
-"""Judges what `against` says of labels that come: a loop is gone through, and fair choices are drawn against a bound."""
+"""Judges what `against` says of labels that come: goes through a loop, and draws fair choices against a bound."""
 
 from __future__ import annotations
 
