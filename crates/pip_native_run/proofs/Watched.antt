@@ -47,12 +47,6 @@ module _ {T X : Type 0} (S : World → Type 0)
       (visited S old new w m r (decision_line t (decision_in w 0 m)) s
       (subst (λ d. Wrote r old new (decision_line t d)) q a))
 
-  -- the processor took its turn
-  pub turned : (r : Result T X) → here ≡ false → MadeOrCut r S old new w (turn w 0 t)
-      → MadeOrCut r S old new w (watch_step w m t)
-  turned r e h = subst (λ b. MadeOrCut r S old new w
-      (cond b (visit_acts 0 m ++ Writes (decision_line t (decision_in w 0 m)) ∷ []) (turn w 0 t))) (sym e ∙ is) h
-
 -- and the monitor then
 module _ (w : World) (m : Children) (here : Bool) (is : here ≡ root_runs w) where
   pub monitor_decided : (n : Children) → here ≡ true → n ≡ monitor_after w 0 m → n ≡ monitor_next w m
@@ -73,10 +67,3 @@ module _ (S : World → Type 0) (m : Children) (t : ℕ) (here : Bool) (is : (w 
           (cond b [] (Makes (visit 0 m) ∷ []) ++ Writes (decision_line t (decision_in w 0 m)) ∷ []))
       go true k = k
       go false k = k
-
-  pub turned_takes : here ≡ false → TakesNoMore S (λ w. turn w 0 t) before after
-      → TakesNoMore S (λ w. watch_step w m t) before after
-  turned_takes e one w h =
-      subst (λ b. after ≤ before + events_work w (events_made
-      (cond b (visit_acts 0 m ++ Writes (decision_line t (decision_in w 0 m)) ∷ []) (turn w 0 t)))) (sym e ∙ is w h)
-      (one w h)
