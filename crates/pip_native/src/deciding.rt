@@ -2,6 +2,7 @@
 ghost use Rattle.std.specs.Prelude.{◌≡◌, ◌≢◌, ◌<◌, ◌↔◌, IsSome, length};
 ghost use Rattle.pip_model.specs.Acts.{after_acts};
 ghost use Rattle.pip_model.specs.Happens.{event};
+ghost use Rattle.pip_model.specs.Port.{TakesNoMore};
 ghost use Rattle.pip_model.specs.Worlds.{World, runs_on};
 ghost use Rattle.pip_native.specs.Monitoring.{RunsChild, HasSwitched, choice, decision_in, monitor_after, visit};
 ghost use Rattle.pip_native.specs.Monitoring.{visit_acts};
@@ -31,6 +32,7 @@ pub fn decide<P: Port, F: Chooser, L: Ledger>(
     ensures monitor { (w : World) → P.stands port.old w → monitor.new ≡ monitor_after w cpu monitor.old }
     ensures acts { (w : World) → P.stands port.old w → P.stands port.new (after_acts w (visit_acts cpu monitor.old)) }
     ensures count { P.count port.new ≡ P.count port.old }
+    ensures work { TakesNoMore (P.stands port.old) (λ w. visit_acts cpu monitor.old) steps.old steps.new }
 {
     let i = monitor.next();
     if i == monitor.count() {

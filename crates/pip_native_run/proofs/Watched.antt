@@ -1,13 +1,15 @@
 -- A step of the monitor: its call, and the line of its decision.
-use Rattle.std.proofs.Common.{◌≡◌, refl, ℕ, ◌==◌, Bool, true, false, cond, List, [], ◌∷◌, ◌++◌, length, sym, ap, ◌∙◌}
+use Rattle.std.proofs.Common.{◌≡◌, refl, ℕ, ◌+◌, ◌≤◌, ◌==◌, Bool, true, false, cond, List, [], ◌∷◌, ◌++◌, length, sym, ap, ◌∙◌}
 use Rattle.std.proofs.Common.{subst, Option, Some, None}
 use Rattle.std.specs.Prelude.{IsSome, Result}
 use Rattle.pip_io.specs.Taken.{Taken, Wrote}
 use Rattle.pip_cpu.specs.Made.{MadeOrCut}
 use Rattle.pip_cpu.proofs.Makings.{after_event, line_alone}
-use Rattle.pip_model.specs.Acts.{Makes, Writes, after_acts}
+use Rattle.pip_model.specs.Acts.{Makes, Writes, after_acts, events_made}
 use Rattle.pip_model.specs.Happens.{event}
+use Rattle.pip_model.specs.Port.{TakesNoMore}
 use Rattle.pip_model.specs.Turn.{turn}
+use Rattle.pip_model.specs.Work.{events_work}
 use Rattle.pip_model.specs.Worlds.{World, runs_on}
 use Rattle.pip_model.specs.declared.processors.Occupant.{Occupant}
 use Rattle.pip_native.specs.Monitoring.{Children, choice, decision_in, monitor_after, visit, visit_acts}
@@ -45,13 +47,23 @@ module _ {T X : Type 0} (S : World → Type 0)
       (visited S old new w m r (decision_line t (decision_in w 0 m)) s
       (subst (λ d. Wrote r old new (decision_line t d)) q a))
 
-  -- the processor took its turn
-  pub turned : (r : Result T X) → here ≡ false → MadeOrCut r S old new w (turn w 0 t)
-      → MadeOrCut r S old new w (watch_step w m t)
-  turned r e h = subst (λ b. MadeOrCut r S old new w
-      (cond b (visit_acts 0 m ++ Writes (decision_line t (decision_in w 0 m)) ∷ []) (turn w 0 t))) (sym e ∙ is) h
-
 -- and the monitor then
 module _ (w : World) (m : Children) (here : Bool) (is : here ≡ root_runs w) where
   pub monitor_decided : (n : Children) → here ≡ true → n ≡ monitor_after w 0 m → n ≡ monitor_next w m
   monitor_decided n e q = q ∙ ap (λ b. cond b (monitor_after w 0 m) m) (sym e ∙ is)
+
+-- in how many steps
+module _ (S : World → Type 0) (m : Children) (t : ℕ) (here : Bool) (is : (w : World) → S w → here ≡ root_runs w)
+    (before after : ℕ) where
+  pub decided_takes : here ≡ true → TakesNoMore S (λ w. visit_acts 0 m) before after
+      → TakesNoMore S (λ w. watch_step w m t) before after
+  decided_takes e one w h =
+      subst (λ b. after ≤ before + events_work w (events_made
+      (cond b (visit_acts 0 m ++ Writes (decision_line t (decision_in w 0 m)) ∷ []) (turn w 0 t)))) (sym e ∙ is w h)
+      (go (choice m == length m.children) (one w h))
+    where
+      go : (b : Bool) → after ≤ before + events_work w (events_made (cond b [] (Makes (visit 0 m) ∷ [])))
+          → after ≤ before + events_work w (events_made
+          (cond b [] (Makes (visit 0 m) ∷ []) ++ Writes (decision_line t (decision_in w 0 m)) ∷ []))
+      go true k = k
+      go false k = k

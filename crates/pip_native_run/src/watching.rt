@@ -2,6 +2,7 @@
 ghost use Rattle.std.specs.Prelude.{◌≡◌, ◌<◌};
 ghost use Rattle.pip_cpu.specs.Made.{Acts};
 ghost use Rattle.pip_io.specs.Causes.{HasCause};
+ghost use Rattle.pip_model.specs.Port.{TakesNoMore};
 ghost use Rattle.pip_model.specs.Worlds.{World};
 ghost use Rattle.pip_native_run.specs.Watching.{monitor_next, root_runs, watch_step};
 
@@ -30,6 +31,7 @@ pub fn watch_once<P: Port, C: Chooser, K: Sink, L: Ledger>(
     ensures monitor { (w : World) → P.stands port.old w → monitor.new ≡ monitor_next w monitor.old }
     ensures cause { HasCause (K.history sink.old).faults (K.history sink.new).faults result }
     ensures count { P.count port.new ≡ P.count port.old }
+    ensures work { TakesNoMore (P.stands port.old) (λ w. watch_step w monitor.old t) steps.old steps.new }
 {
     if here {
         let decision = decide(port, 0, monitor, steps);

@@ -2,7 +2,7 @@
 use Rattle.std.proofs.Common.{◌≡◌, ℕ, zero, suc, ◌+◌, ◌-◌, ◌≤◌, ◌<◌, ◌==◌, ◌||◌, Bool, true, false, cond, List, [], ◌∷◌}
 use Rattle.std.proofs.Common.{◌++◌, length, refl, sym, ap, ◌∙◌, subst, arith, eqb-true, length-append}
 use Rattle.std.specs.List.{list_any}
-use Rattle.pip_model.specs.Tree.{Tree}
+use Rattle.pip_model.specs.Tree.{Tree, lists}
 use Rattle.pip_parent.specs.declared.wants.Want.{Want}
 use Rattle.pip_parent.specs.Wants.{want_at, dir_of, earlier, opens, opened_before, pages_used, place, need}
 use Rattle.pip_parent.specs.Built.{lists_more, pool_table, tables_of}
@@ -31,6 +31,11 @@ opened_opens ws i e = ap (λ b. opened_before ws i + cond b 1 0) e
 pub opened_stays : (ws : List Want) (i : ℕ) → opens ws i ≡ false → opened_before ws (suc i) ≡ opened_before ws i
 opened_stays ws i e = let q : opened_before ws (suc i) ≡ opened_before ws i + 0 =
     ap (λ b. opened_before ws i + cond b 1 0) e in omega (arith, q)
+
+-- how many pages are linked for a table: two and the list pages that it adds, as the wants before it have t tables
+pub stores_are : (ws : List Want) (i t a b : ℕ) → t ≡ opened_before ws i → a ≡ lists (t + 1) → b ≡ lists t
+    → 2 + (a - b) ≡ suc (suc (lists_more (opened_before ws i)))
+stores_are ws i t a b e f g = rw (f, g, e) (omega arith)
 
 pub place_next : (ws : List Want) (i : ℕ) → pages_used ws (suc i) ≡ place ws i + 1
 place_next ws i = omega arith

@@ -14,3 +14,4 @@ pub mod Opening
 pub mod Meeting
 pub mod Deleted
 pub mod Whole
+pub mod Working

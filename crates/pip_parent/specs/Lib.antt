@@ -3,4 +3,5 @@ pub mod Seen
 pub mod Pool
 pub mod Built
 pub mod Stages
+pub mod Events
 pub mod Contract

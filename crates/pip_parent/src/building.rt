@@ -1,9 +1,10 @@
 //! Building a child.
-ghost use Rattle.std.specs.Prelude.{◌≡◌, ◌≤◌, ◌<◌, ◌+◌, false, length, MatchResult, ℕ};
+ghost use Rattle.std.specs.Prelude.{◌≡◌, ◌≤◌, ◌<◌, ◌+◌, [], ◌∷◌, ◌++◌, false, length, MatchResult, ℕ};
 ghost use Rattle.pip_model.specs.Worlds.{World};
 ghost use Rattle.pip_model.specs.declared.processors.Occupant.{Occupant};
 ghost use Rattle.pip_parent.specs.Seen.{CountsTakenWithTable, CountsTaken};
 ghost use Rattle.pip_parent.specs.Contract.{Builds, RefusesToBuild};
+ghost use Rattle.pip_parent.specs.Events.{MakesEvents, build_events, lend_event, table_events};
 ghost use Rattle.pip_parent.specs.Stages.{IsBuilder, Meets, tabled_world, value_of, world_before};
 ghost use Rattle.pip_parent.specs.Wants.{is_bad as bad, need as needed, place as place_in};
 
@@ -20,7 +21,8 @@ use std::sync::ledger::Ledger;
 /// which is lent. It takes `need(wants)` pages. There are at most 4096 wants.
 ///
 /// At each address of the pool, none of which comes twice, the caller has a free page with the rights READ and WRITE.
-/// Otherwise only `Want` and `Short` are promised, and nothing of the child.
+/// Otherwise only `Want` and `Short` are promised, and nothing of the child. Which events are made, and that they take
+/// no more steps than they may, is promised in any case.
 pub fn build<P: Port, L: Ledger>(
     port: &mut P,
     cpu: u32,
@@ -33,6 +35,8 @@ pub fn build<P: Port, L: Ledger>(
     ensures build { MatchResult result (λ b. Builds (P.stands port.old) (P.stands port.new) cpu pool.now wants.now b)
         (λ e. RefusesToBuild (P.stands port.old) (P.stands port.new) cpu pool.now wants.now e) }
     ensures count { P.count port.new ≡ P.count port.old }
+    ensures work { MakesEvents (P.stands port.old) (P.stands port.new)
+        (build_events result cpu pool.now wants.now) steps.old steps.new }
 {
     if let Some(i) = first_bad(wants) {
         return Err(BuildError::Want(i));
@@ -77,6 +81,8 @@ fn meet<P: Port, L: Ledger>(
     ensures met { Meets (P.stands port.old) (P.stands port.new) cpu pool.now wants.now i result }
     ensures taken { CountsTaken taken.new wants.now (i + 1) }
     ensures count { P.count port.new ≡ P.count port.old }
+    ensures work { MakesEvents (P.stands port.old) (P.stands port.new)
+        (table_events cpu pool.now wants.now i ++ lend_event cpu pool.now wants.now i ∷ []) steps.old steps.new }
 {
     let page = open_table(port, cpu, pool, wants, i, taken, steps);
     taken.pages = page + 1;
@@ -114,6 +120,8 @@ fn open_table<P: Port, L: Ledger>(
         P.stands port.new (tabled_world w cpu r pool.now wants.now i 0 (value_of wants.now i)) }
     ensures taken { CountsTakenWithTable taken.new wants.now i }
     ensures count { P.count port.new ≡ P.count port.old }
+    ensures work { MakesEvents (P.stands port.old) (P.stands port.new)
+        (table_events cpu pool.now wants.now i) steps.old steps.new }
 {
     let first = taken.pages;
     if !taken.directories.opens(wants, i) {

@@ -1,14 +1,16 @@
 //! The stores and calls that build a child.
-ghost use Rattle.std.specs.Prelude.{◌≡◌, ◌≤◌, ◌<◌, ◌+◌, length, Some};
+ghost use Rattle.std.specs.Prelude.{◌≡◌, ◌≤◌, ◌<◌, ◌+◌, [], ◌∷◌, length, Some};
 ghost use Rattle.pip_model.specs.AddVAddr.{add_vaddr};
 ghost use Rattle.pip_model.specs.CreatePartition.{create_partition};
 ghost use Rattle.pip_model.specs.DeletePartition.{delete_partition};
+ghost use Rattle.pip_model.specs.Events as E;
 ghost use Rattle.pip_model.specs.Happens.{is_accepted as is_ok};
 ghost use Rattle.pip_model.specs.declared.call_name.MemoryCall.TheVariants.{AddVAddr, CreatePartition, DeletePartition};
 ghost use Rattle.pip_model.specs.declared.call_name.MemoryCall.TheVariants.{Prepare};
 ghost use Rattle.pip_model.specs.Prepare.{prepare};
 ghost use Rattle.pip_model.specs.Worlds.{World, running, runs_on};
 ghost use Rattle.pip_model.specs.declared.processors.Occupant.{Occupant};
+ghost use Rattle.pip_parent.specs.Events.{MakesEvents, create_event, five, link_events};
 ghost use Rattle.pip_parent.specs.Pool.{first_five};
 ghost use Rattle.pip_parent.specs.Stages.{Called, CalledIn, CanLink, is_accepted_reply, link_caches, link_words};
 
@@ -35,6 +37,8 @@ pub fn link<P: Port, L: Ledger>(
           caches = link_caches w.tree w.caches cpu r.name pool.now first stores;
         }) }
     ensures count { P.count port.new ≡ P.count port.old }
+    ensures work { MakesEvents (P.stands port.old) (P.stands port.new)
+        (link_events cpu pool.now first stores) steps.old steps.new }
 {
     for k in 0..stores {
         port.store(cpu, pool[first + k], Size::Word, pool[first + k + 1], steps);
@@ -48,6 +52,8 @@ pub fn create<P: Port, L: Ledger>(port: &mut P, cpu: u32, pool: &[u32], steps: &
     ensures called { Called (P.stands port.old) (P.stands port.new) cpu CreatePartition
         (λ t p. create_partition t p (first_five pool.now)) }
     ensures count { P.count port.new ≡ P.count port.old }
+    ensures work { MakesEvents (P.stands port.old) (P.stands port.new)
+        (create_event cpu pool.now ∷ []) steps.old steps.new }
 {
     port.call(
         cpu,
@@ -69,6 +75,8 @@ pub fn give_table<P: Port, L: Ledger>(
     requires cpu { cpu < P.count port.old }
     ensures called { Called (P.stands port.old) (P.stands port.new) cpu Prepare (λ t p. prepare t p child va first) }
     ensures count { P.count port.new ≡ P.count port.old }
+    ensures work { MakesEvents (P.stands port.old) (P.stands port.new)
+        (E.Call cpu 3 (five child va first 0) ∷ []) steps.old steps.new }
 {
     port.call(cpu, PREPARE, &[child, va, first, 0, 0], steps);
 }
@@ -89,6 +97,8 @@ pub fn lend_page<P: Port, L: Ledger>(
     ensures accepted { (w : World) → P.stands port.old w → (r : Occupant) → runs_on w cpu ≡ Some r →
         result ≡ is_ok (add_vaddr w.tree r.name page child va rights).status }
     ensures count { P.count port.new ≡ P.count port.old }
+    ensures work { MakesEvents (P.stands port.old) (P.stands port.new)
+        (E.Call cpu 5 (five page child va rights) ∷ []) steps.old steps.new }
 {
     is_accepted(port.call(cpu, ADD_VADDR, &[page, child, va, rights, 0], steps))
 }
@@ -99,6 +109,8 @@ pub fn delete<P: Port, L: Ledger>(port: &mut P, cpu: u32, child: u32, steps: &mu
     ensures called { CalledIn (P.stands port.old) (P.stands port.new) cpu DeletePartition
         (λ w p. delete_partition w.tree (running w) p child) }
     ensures count { P.count port.new ≡ P.count port.old }
+    ensures work { MakesEvents (P.stands port.old) (P.stands port.new)
+        (E.Call cpu 1 (five child 0 0 0) ∷ []) steps.old steps.new }
 {
     port.call(cpu, DELETE_PARTITION, &[child, 0, 0, 0, 0], steps);
 }

@@ -13,6 +13,7 @@ pub mod Twins
 pub mod Images
 pub mod Making
 pub mod Progressing
+pub mod Working
 pub mod Texts
 pub mod Machines
 pub mod Limits

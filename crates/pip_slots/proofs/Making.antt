@@ -1,21 +1,21 @@
 -- The acts of a slot's steps, made or cut at a line.
-use Rattle.std.proofs.Common.{◌≡◌, ℕ, Bool, true, false, cond, List, [], ◌∷◌, ◌++◌, sym, ap, ◌∙◌, subst}
+use Rattle.std.proofs.Common.{◌≡◌, ℕ, Bool, false, cond, List, [], ◌∷◌, ◌++◌, sym, ap, ◌∙◌, subst}
 use Rattle.std.proofs.Common.{◌+◌, append_assoc}
 use Rattle.std.specs.Prelude.{Result, Ok, Err}
 use Rattle.pip_base.specs.declared.outcome.Outcome.{Outcome}
 use Rattle.pip_cpu.specs.Made.{Cut, Made, MadeOrCut}
 use Rattle.pip_cpu.proofs.Makings.{after_event, cut_before, line_alone}
 use Rattle.pip_io.specs.Taken.{Appends, Taken, Wrote}
-use Rattle.pip_io.proofs.Taken.{Appends-nil, Appends-trans}
+use Rattle.pip_io.proofs.Taken.{Appends-trans}
 use Rattle.pip_model.proofs.OnLists.Acts.{after-append, text-append}
 use Rattle.pip_model.specs.Acts.{Act, Makes, Writes, after_acts, text_of}
 use Rattle.pip_model.specs.Events.{Event}
 use Rattle.pip_model.specs.Events as E
 use Rattle.pip_model.specs.Happens.{event}
-use Rattle.pip_model.specs.Turn.{call_line, moved_line, outcome_of, turn, world_of}
+use Rattle.pip_model.specs.Turn.{call_line, moved_line, outcome_of, world_of}
 use Rattle.pip_model.specs.Worlds.{World}
 use Rattle.pip_slots.specs.declared.time_slot.TimeSlot.{TimeSlot}
-use Rattle.pip_slots.specs.Slots.{closing, slot_entry, slot_turn, slot_turns, opening, polling, rest_acts}
+use Rattle.pip_slots.specs.Slots.{closing, slot_entry, slot_turns, opening, polling, rest_acts}
 use Rattle.pip_native_run.specs.Watching.{root_runs}
 use Rattle.pip_slots.specs.Slots.{slot_acts}
 

@@ -3,6 +3,7 @@ use Rattle.std.proofs.Common.{◌≡◌, ℕ, suc, ◌+◌, ◌-◌, ◌*◌, �
 use Rattle.std.proofs.Common.{◌∙◌, subst, arith, append_assoc}
 use Rattle.std.proofs.Math.Seq.{drop-length}
 use Rattle.std.proofs.Math.Nat.{mul-le-mul_left}
+use Rattle.std.proofs.Math.Path.{fun_ext}
 use Rattle.pip_cpu.specs.Made.{Cut, Made}
 use Rattle.pip_io.specs.Taken.{Taken}
 use Rattle.pip_io.proofs.Taken.{Appends-nil}
@@ -12,40 +13,6 @@ use Rattle.pip_model.specs.Acts.{Act, after_acts}
 use Rattle.pip_model.specs.Worlds.{World}
 use Rattle.pip_slots.specs.declared.time_slot.TimeSlot.{TimeSlot}
 use Rattle.pip_slots.specs.Slots.{after_slot, next_step, plan_steps, rounds, slot_acts, slot_run, slot_turn, slot_turns}
-
--- ---- the steps within a slot
-
-pub inners_begun : (S : World → Type 0) (old : Taken) (w : World) (n t : ℕ) → S w
-    → Progress S old old w (slot_turns w n t) (λ v. slot_turns v (n - 0) (t + 0))
-inners_begun S old w n t h =
-    let a : n ≡ n - 0 = omega arith in
-    let b : t ≡ t + 0 = omega arith in
-    subst (λ m. Progress S old old w (slot_turns w n t) (λ v. slot_turns v m (t + 0))) a
-    (subst (λ x. Progress S old old w (slot_turns w n t) (λ v. slot_turns v n x)) b
-    (progress_begun S old w (λ v. slot_turns v n t) h (Appends-nil old)))
-
-module _ (old mid new : Taken) (w : World) (all : List Act) (n t k : ℕ) (inside : k < n) (S U : World → Type 0)
-    (p : Progress S old mid w all (λ v. slot_turns v (n - k) (t + k))) where
-  abbrev rest : World → List Act
-  rest v = slot_turns v (n - (k + 1)) (t + k + 1)
-
-  unfolded : Progress S old mid w all (λ v. slot_turn v (t + k) ++ rest (after_acts v (slot_turn v (t + k))))
-  unfolded = let e : n - k ≡ suc (n - (k + 1)) = omega (arith, inside) in
-      subst (λ m. Progress S old mid w all (λ v. slot_turns v m (t + k))) e p
-
-  pub inners_on : ((v : World) → S v → Made U mid new v (slot_turn v (t + k)))
-      → Progress U old new w all (λ v. slot_turns v (n - (k + 1)) (t + (k + 1)))
-  inners_on made =
-      let e : t + k + 1 ≡ t + (k + 1) = omega arith in
-      subst (λ x. Progress U old new w all (λ v. slot_turns v (n - (k + 1)) x)) e
-      (progress_on S U old mid new w all [] (λ v. slot_turn v (t + k)) rest unfolded refl
-      (made unfolded.world unfolded.holds))
-
-  pub inners_cut : ((v : World) → S v → Cut U mid new v (slot_turn v (t + k))) → Cut U old new w all
-  inners_cut cut = progress_cut S U old mid new w all [] (λ v. slot_turn v (t + k)) rest unfolded refl
-      (cut unfolded.world unfolded.holds)
-
--- ---- the slots of a plan
 
 -- slots after slots
 run_append : (w : World) (ss rs : List TimeSlot) (t : ℕ)
@@ -64,29 +31,113 @@ run_append w (s ∷ ss) rs t =
     ∙ ap (λ x. (acts ++ more) ++ slot_run x rs (t + ((s.turns + 2) + plan_steps ss)))
     (sym (after-append w acts more))
 
+-- ---- what is left, and the part of it that is next
+
+-- of any relation to the acts that are left: of progress, and of work
+module _ (R : (World → List Act) → Type 0) where
+  -- the turns within a slot
+  pub inners_first : (n t : ℕ) → R (λ v. slot_turns v n t) → R (λ v. slot_turns v (n - 0) (t + 0))
+  inners_first n t r =
+      let a : n ≡ n - 0 = omega arith in
+      let b : t ≡ t + 0 = omega arith in
+      subst (λ m. R (λ v. slot_turns v m (t + 0))) a (subst (λ x. R (λ v. slot_turns v n x)) b r)
+
+  pub inners_next : (n t k : ℕ) → k < n → R (λ v. slot_turns v (n - k) (t + k))
+      → R (λ v. slot_turn v (t + k) ++ slot_turns (after_acts v (slot_turn v (t + k))) (n - (k + 1)) (t + k + 1))
+  inners_next n t k inside r = let e : n - k ≡ suc (n - (k + 1)) = omega (arith, inside) in
+      subst (λ m. R (λ v. slot_turns v m (t + k))) e r
+
+  pub inners_rest : (n t k : ℕ) → R (λ v. slot_turns v (n - (k + 1)) (t + k + 1))
+      → R (λ v. slot_turns v (n - (k + 1)) (t + (k + 1)))
+  inners_rest n t k r = let e : t + k + 1 ≡ t + (k + 1) = omega arith in
+      subst (λ x. R (λ v. slot_turns v (n - (k + 1)) x)) e r
+
+  -- the slots of a plan
+  pub slots_next : (ss : List TimeSlot) (i t : ℕ) (s : TimeSlot) → drop i ss ≡ s ∷ drop (suc i) ss
+      → R (λ v. slot_run v (drop i ss) t)
+      → R (λ v. slot_acts v s t ++ slot_run (after_acts v (slot_acts v s t)) (drop (suc i) ss) (next_step s t))
+  slots_next ss i t s here r = subst (λ l. R (λ v. slot_run v l t)) here r
+
+  pub slots_rest : (ss : List TimeSlot) (i t : ℕ) (s : TimeSlot) → R (λ v. slot_run v (drop (suc i) ss) (next_step s t))
+      → R (λ v. slot_run v (drop (i + 1) ss) (t + (s.turns + 2)))
+  slots_rest ss i t s r = let e : suc i ≡ i + 1 = omega arith in
+      subst (λ j. R (λ v. slot_run v (drop j ss) (next_step s t))) e r
+
+  -- rounds of them
+  pub rounds_first : (ss : List TimeSlot) (c : ℕ) → R (λ v. slot_run v (rounds ss c) 0)
+      → R (λ v. slot_run v (rounds ss (c - 0)) 0)
+  rounds_first ss c r = let a : c ≡ c - 0 = omega arith in subst (λ m. R (λ v. slot_run v (rounds ss m) 0)) a r
+
+  pub rounds_next : (ss : List TimeSlot) (c j t : ℕ) → j < c → R (λ v. slot_run v (rounds ss (c - j)) t)
+      → R (λ v. slot_run v ss t
+      ++ slot_run (after_acts v (slot_run v ss t)) (rounds ss (c - (j + 1))) (t + plan_steps ss))
+  rounds_next ss c j t inside r =
+      let e : c - j ≡ suc (c - (j + 1)) = omega (arith, inside) in
+      subst R (fun_ext (λ v. run_append v ss (rounds ss (c - (j + 1))) t))
+      (subst (λ m. R (λ v. slot_run v (rounds ss m) t)) e r)
+
+-- ---- how far a plan is
+
+pub inners_begun : (S : World → Type 0) (old : Taken) (w : World) (n t : ℕ) → S w
+    → Progress S old old w (slot_turns w n t) (λ v. slot_turns v (n - 0) (t + 0))
+inners_begun S old w n t h = inners_first (Progress S old old w (slot_turns w n t)) n t
+    (progress_begun S old w (λ v. slot_turns v n t) h (Appends-nil old))
+
 pub slots_begun : (S : World → Type 0) (old : Taken) (w : World) (ss : List TimeSlot) (t : ℕ) → S w
     → Progress S old old w (slot_run w ss t) (λ v. slot_run v (drop 0 ss) t)
 slots_begun S old w ss t h = progress_begun S old w (λ v. slot_run v ss t) h (Appends-nil old)
 
-module _ (old mid new : Taken) (w : World) (all : List Act) (ss : List TimeSlot) (i t : ℕ) (s : TimeSlot)
-    (here : drop i ss ≡ s ∷ drop (suc i) ss) (S U : World → Type 0)
-    (p : Progress S old mid w all (λ v. slot_run v (drop i ss) t)) where
-  abbrev later : World → List Act
-  later v = slot_run v (drop (suc i) ss) (next_step s t)
+pub rounds_begun : (S : World → Type 0) (old : Taken) (w : World) (ss : List TimeSlot) (c : ℕ) → S w
+    → Progress S old old w (slot_run w (rounds ss c) 0) (λ v. slot_run v (rounds ss (c - 0)) 0)
+rounds_begun S old w ss c h = rounds_first (Progress S old old w (slot_run w (rounds ss c) 0)) ss c
+    (progress_begun S old w (λ v. slot_run v (rounds ss c) 0) h (Appends-nil old))
 
-  turned : Progress S old mid w all (λ v. slot_acts v s t ++ later (after_acts v (slot_acts v s t)))
-  turned = subst (λ l. Progress S old mid w all (λ v. slot_run v l t)) here p
+module _ (old mid new : Taken) (w : World) (all : List Act) where
+  -- a part of what is left is made, or cut
+  module _ (S U : World → Type 0) (part rest : World → List Act)
+      (p : Progress S old mid w all (λ v. part v ++ rest (after_acts v (part v)))) where
+    made_on : ((v : World) → S v → Made U mid new v (part v)) → Progress U old new w all rest
+    made_on made = progress_on S U old mid new w all [] part rest p refl (made p.world p.holds)
 
-  pub slots_cut : ((v : World) → S v → Cut U mid new v (slot_acts v s t)) → Cut U old new w all
-  slots_cut cut = progress_cut S U old mid new w all [] (λ v. slot_acts v s t) later turned refl
-      (cut turned.world turned.holds)
+    cut_at : ((v : World) → S v → Cut U mid new v (part v)) → Cut U old new w all
+    cut_at cut = progress_cut S U old mid new w all [] part rest p refl (cut p.world p.holds)
 
-  pub slots_on : ((v : World) → S v → Made U mid new v (slot_acts v s t))
-      → Progress U old new w all (λ v. slot_run v (drop (i + 1) ss) (t + (s.turns + 2)))
-  slots_on made =
-      let next : suc i ≡ i + 1 = omega arith in
-      subst (λ j. Progress U old new w all (λ v. slot_run v (drop j ss) (next_step s t))) next
-      (progress_on S U old mid new w all [] (λ v. slot_acts v s t) later turned refl (made turned.world turned.holds))
+  module _ (n t k : ℕ) (inside : k < n) (S U : World → Type 0)
+      (p : Progress S old mid w all (λ v. slot_turns v (n - k) (t + k))) where
+    pub inners_on : ((v : World) → S v → Made U mid new v (slot_turn v (t + k)))
+        → Progress U old new w all (λ v. slot_turns v (n - (k + 1)) (t + (k + 1)))
+    inners_on made = inners_rest (Progress U old new w all) n t k
+        (made_on S U (λ v. slot_turn v (t + k)) (λ v. slot_turns v (n - (k + 1)) (t + k + 1))
+        (inners_next (Progress S old mid w all) n t k inside p) made)
+
+    pub inners_cut : ((v : World) → S v → Cut U mid new v (slot_turn v (t + k))) → Cut U old new w all
+    inners_cut cut = cut_at S U (λ v. slot_turn v (t + k)) (λ v. slot_turns v (n - (k + 1)) (t + k + 1))
+        (inners_next (Progress S old mid w all) n t k inside p) cut
+
+  module _ (ss : List TimeSlot) (i t : ℕ) (s : TimeSlot) (here : drop i ss ≡ s ∷ drop (suc i) ss)
+      (S U : World → Type 0) (p : Progress S old mid w all (λ v. slot_run v (drop i ss) t)) where
+    pub slots_on : ((v : World) → S v → Made U mid new v (slot_acts v s t))
+        → Progress U old new w all (λ v. slot_run v (drop (i + 1) ss) (t + (s.turns + 2)))
+    slots_on made = slots_rest (Progress U old new w all) ss i t s
+        (made_on S U (λ v. slot_acts v s t) (λ v. slot_run v (drop (suc i) ss) (next_step s t))
+        (slots_next (Progress S old mid w all) ss i t s here p) made)
+
+    pub slots_cut : ((v : World) → S v → Cut U mid new v (slot_acts v s t)) → Cut U old new w all
+    slots_cut cut = cut_at S U (λ v. slot_acts v s t) (λ v. slot_run v (drop (suc i) ss) (next_step s t))
+        (slots_next (Progress S old mid w all) ss i t s here p) cut
+
+  module _ (ss : List TimeSlot) (c j t : ℕ) (inside : j < c) (S U : World → Type 0)
+      (p : Progress S old mid w all (λ v. slot_run v (rounds ss (c - j)) t)) where
+    pub rounds_on : ((v : World) → S v → Made U mid new v (slot_run v ss t)) → (u : ℕ) → u ≡ t + plan_steps ss
+        → Progress U old new w all (λ v. slot_run v (rounds ss (c - (j + 1))) u)
+    rounds_on made u e = subst (λ x. Progress U old new w all (λ v. slot_run v (rounds ss (c - (j + 1))) x)) (sym e)
+        (made_on S U (λ v. slot_run v ss t) (λ v. slot_run v (rounds ss (c - (j + 1))) (t + plan_steps ss))
+        (rounds_next (Progress S old mid w all) ss c j t inside p) made)
+
+    pub rounds_cut : ((v : World) → S v → Cut U mid new v (slot_run v ss t)) → Cut U old new w all
+    rounds_cut cut = cut_at S U (λ v. slot_run v ss t)
+        (λ v. slot_run v (rounds ss (c - (j + 1))) (t + plan_steps ss))
+        (rounds_next (Progress S old mid w all) ss c j t inside p) cut
 
 -- the steps of the slots from one on
 pub steps_left : (ss : List TimeSlot) (i : ℕ) (s : TimeSlot) → drop i ss ≡ s ∷ drop (suc i) ss
@@ -103,43 +154,6 @@ slots_end S old new w all ss i t e p = progress_end S old new w all
 
 pub none_left : (ss : List TimeSlot) (i : ℕ) → i ≡ length ss → plan_steps (drop i ss) ≡ 0
 none_left ss i e = ap plan_steps (ap (λ j. drop j ss) e ∙ drop-length ss)
-
--- ---- rounds of them
-
-pub rounds_begun : (S : World → Type 0) (old : Taken) (w : World) (ss : List TimeSlot) (c : ℕ) → S w
-    → Progress S old old w (slot_run w (rounds ss c) 0) (λ v. slot_run v (rounds ss (c - 0)) 0)
-rounds_begun S old w ss c h =
-    let a : c ≡ c - 0 = omega arith in
-    subst (λ m. Progress S old old w (slot_run w (rounds ss c) 0) (λ v. slot_run v (rounds ss m) 0)) a
-    (progress_begun S old w (λ v. slot_run v (rounds ss c) 0) h (Appends-nil old))
-
-module _ (old mid new : Taken) (w : World) (all : List Act) (ss : List TimeSlot) (c j t : ℕ) (inside : j < c)
-    (S U : World → Type 0) (p : Progress S old mid w all (λ v. slot_run v (rounds ss (c - j)) t)) where
-  abbrev others : World → List Act
-  others v = slot_run v (rounds ss (c - (j + 1))) (t + plan_steps ss)
-
-  split : Progress S old mid w all (λ v. slot_run v ss t ++ others (after_acts v (slot_run v ss t)))
-  split =
-      let e : c - j ≡ suc (c - (j + 1)) = omega (arith, inside) in
-      let q = subst (λ m. Progress S old mid w all (λ v. slot_run v (rounds ss m) t)) e p in
-      record {
-        world = q.world;
-        holds = q.holds;
-        front = q.front;
-        whole = ap (λ l. q.front ++ l) (sym (run_append q.world ss (rounds ss (c - (j + 1))) t)) ∙ q.whole;
-        after = q.after;
-        text = q.text;
-      }
-
-  pub rounds_on : ((v : World) → S v → Made U mid new v (slot_run v ss t)) → (u : ℕ) → u ≡ t + plan_steps ss
-      → Progress U old new w all (λ v. slot_run v (rounds ss (c - (j + 1))) u)
-  rounds_on made u e =
-      subst (λ x. Progress U old new w all (λ v. slot_run v (rounds ss (c - (j + 1))) x)) (sym e)
-      (progress_on S U old mid new w all [] (λ v. slot_run v ss t) others split refl (made split.world split.holds))
-
-  pub rounds_cut : ((v : World) → S v → Cut U mid new v (slot_run v ss t)) → Cut U old new w all
-  rounds_cut cut = progress_cut S U old mid new w all [] (λ v. slot_run v ss t) others split refl
-      (cut split.world split.holds)
 
 -- all rounds are run
 pub rounds_end : (S : World → Type 0) (old new : Taken) (w : World) (all : List Act) (ss : List TimeSlot) (n t : ℕ)

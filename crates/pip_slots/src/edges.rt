@@ -2,6 +2,7 @@
 ghost use Rattle.std.specs.Prelude.{◌≡◌, ◌<◌};
 ghost use Rattle.pip_cpu.specs.Made.{Acts};
 ghost use Rattle.pip_io.specs.Causes.{HasCause};
+ghost use Rattle.pip_model.specs.Port.{TakesNoMore};
 ghost use Rattle.pip_model.specs.Worlds.{World};
 ghost use Rattle.pip_slots.specs.Slots.{closing, slot_turn, opening};
 ghost use Rattle.pip_native_run.specs.Watching.{root_runs};
@@ -26,6 +27,7 @@ pub fn open_slot<P: Port, K: Sink, L: Ledger>(
         (λ w. opening w child t) }
     ensures cause { HasCause (K.history sink.old).faults (K.history sink.new).faults result }
     ensures count { P.count port.new ≡ P.count port.old }
+    ensures work { TakesNoMore (P.stands port.old) (λ w. opening w child t) steps.old steps.new }
 {
     let outcome = port.call(0, YIELD, &[child, SAVED, NOT_SAVED, 0, 0], steps);
     write_call(sink, t, 0, YIELD, outcome)
@@ -45,6 +47,7 @@ pub fn inner_once<P: Port, K: Sink, L: Ledger>(
         (λ w. slot_turn w t) }
     ensures cause { HasCause (K.history sink.old).faults (K.history sink.new).faults result }
     ensures count { P.count port.new ≡ P.count port.old }
+    ensures work { TakesNoMore (P.stands port.old) (λ w. slot_turn w t) steps.old steps.new }
 {
     if here {
         return Ok(());
@@ -69,6 +72,7 @@ pub fn close_slot<P: Port, K: Sink, L: Ledger>(
         (λ w. closing w t) }
     ensures cause { HasCause (K.history sink.old).faults (K.history sink.new).faults result }
     ensures count { P.count port.new ≡ P.count port.old }
+    ensures work { TakesNoMore (P.stands port.old) (λ w. closing w t) steps.old steps.new }
 {
     if here {
         return Ok(());

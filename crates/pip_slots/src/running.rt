@@ -2,6 +2,7 @@
 ghost use Rattle.std.specs.Prelude.{◌≡◌, ◌+◌, ◌*◌, ◌<◌, ◌≤◌, ◌^◌, IfOk, length};
 ghost use Rattle.pip_cpu.specs.Made.{Acts};
 ghost use Rattle.pip_io.specs.Causes.{HasCause};
+ghost use Rattle.pip_model.specs.Port.{TakesNoMore};
 ghost use Rattle.pip_model.specs.Worlds.{World};
 ghost use Rattle.pip_slots.specs.Slots.{plan_steps, rounds, slot_acts, slot_run, slot_turns};
 ghost use Rattle.pip_native_run.specs.Watching.{root_runs};
@@ -30,6 +31,7 @@ pub fn run_rounds<M: Frames, K: Sink, L: Ledger>(
         (λ w. slot_run w (rounds round.now count) 0) }
     ensures cause { HasCause (K.history sink.old).faults (K.history sink.new).faults result }
     ensures count { length machine.new.cpus ≡ length machine.old.cpus }
+    ensures work { TakesNoMore (StandsAs machine.old) (λ w. slot_run w (rounds round.now count) 0) steps.old steps.new }
 {
     let mut t = 0u64;
     for k in 0..count {
@@ -54,6 +56,7 @@ pub fn run_slots<M: Frames, K: Sink, L: Ledger>(
     ensures next { IfOk result (λ t. t ≡ first + plan_steps slots.now) }
     ensures cause { HasCause (K.history sink.old).faults (K.history sink.new).faults result }
     ensures count { length machine.new.cpus ≡ length machine.old.cpus }
+    ensures work { TakesNoMore (StandsAs machine.old) (λ w. slot_run w slots.now first) steps.old steps.new }
 {
     let mut t = first;
     for i in 0..slots.len() {
@@ -78,6 +81,7 @@ fn one_slot<M: Frames, K: Sink, L: Ledger>(
         (λ w. slot_acts w slot t) }
     ensures cause { HasCause (K.history sink.old).faults (K.history sink.new).faults result }
     ensures count { length machine.new.cpus ≡ length machine.old.cpus }
+    ensures work { TakesNoMore (StandsAs machine.old) (λ w. slot_acts w slot t) steps.old steps.new }
 {
     open_slot(machine, slot.child, t, sink, steps)?;
     inner_steps(machine, slot.turns, t + 1, sink, steps)?;
@@ -99,6 +103,7 @@ fn inner_steps<M: Frames, K: Sink, L: Ledger>(
         (λ w. slot_turns w turns t) }
     ensures cause { HasCause (K.history sink.old).faults (K.history sink.new).faults result }
     ensures count { length machine.new.cpus ≡ length machine.old.cpus }
+    ensures work { TakesNoMore (StandsAs machine.old) (λ w. slot_turns w turns t) steps.old steps.new }
 {
     for k in 0..turns {
         let here = root_runs(machine);

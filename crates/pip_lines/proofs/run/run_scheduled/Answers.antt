@@ -1,7 +1,7 @@
 use Rattle.std.proofs.Common.{rules, ap, ◌∙◌}
 use Rattle.std.proofs.lemmas.Result.{MatchResult-from_err}
 use Rattle.pip_lines.proofs.Progress.{begun, run_cut, run_on}
-use Rattle.pip_lines.proofs.Working.{working_begun, working_cut, working_on}
+use Rattle.pip_lines.proofs.Working.{run_begun, step_cut, step_on}
 use Rattle.pip_model.specs.Run.{schedule}
 use Rattle.pip_lines.proofs.run.run_scheduled.Goals as goal
 
@@ -11,7 +11,7 @@ loop-i-init g c = record {
   cpus = c.requires.cpus;
   no_faults = search rules;
   drawn = λ seed at. at;
-  work = λ seed at w h. working_begun _ _ w _ seed _ c.args.count h;
+  work = λ seed at w h. run_begun _ _ w _ seed _ c.args.count h;
   progress = λ seed at w h. begun _ _ w _ seed _ c.args.count h;
 }
 
@@ -26,7 +26,7 @@ pub returns-in_err-turn-clause-work : goal.returns-in_err-turn-clause-work
 returns-in_err-turn-clause-work g c = λ seed at w h.
     let drawn = c.next.ensures.drawn seed c.loop-i.i (c.loop-i.invariant.drawn seed at)
     ∙ ap (λ n. schedule seed n c.loop-i.i) c.loop-i.invariant.cpus in
-    working_cut _ _ w _ _ seed _ c.args.count c.loop-i.i c.next.result c.loop-i-test.true drawn _ _
+    step_cut _ _ w _ _ seed _ c.args.count c.loop-i.i c.next.result c.loop-i-test.true drawn _ _
     (c.loop-i.invariant.work seed at w h) c.raise_due.ensures.acts _ _ c.raise_due.ensures.work
     c.in_err-turn.ensures.work
 
@@ -40,7 +40,7 @@ loop-i-preserved g c = record {
       let drawn = c.next.ensures.drawn seed c.loop-i.i (c.loop-i.invariant.drawn seed at)
       ∙ ap (λ n. schedule seed n c.loop-i.i) c.loop-i.invariant.cpus in
       let k = c.loop-i.invariant.work seed at w h in
-      working_on _ _ w _ _ seed _ c.args.count c.loop-i.i c.next.result c.loop-i-test.true drawn _ _ k
+      step_on _ _ w _ _ seed _ c.args.count c.loop-i.i c.next.result c.loop-i-test.true drawn _ _ k
       c.raise_due.ensures.acts _ _ c.raise_due.ensures.work c.in_ok-turn.ensures.work _
       (λ v s. (c.in_ok-turn.ensures.acts v s).world);
   progress = λ seed at w h.

@@ -1,4 +1,4 @@
-use Rattle.pip_native_run.proofs.Watched.{decided, monitor_decided, root_some}
+use Rattle.pip_native_run.proofs.Watched.{decided, decided_takes, monitor_decided, root_some}
 use Rattle.pip_native_run.proofs.watching.watch_once.Goals as goal
 
 pub decide-decision-requires-clause-runs : goal.decide-decision-requires-clause-runs
@@ -12,3 +12,7 @@ returns-then-here-clause-acts g c = λ w h. decided (g.P.Port.stands c.decide-de
 pub returns-then-here-clause-monitor : goal.returns-then-here-clause-monitor
 returns-then-here-clause-monitor g c = λ w h. monitor_decided w c.args.monitor.now c.args.here (c.requires.here w h)
     c.decide-decision.new.monitor c.if-here.true (c.decide-decision.ensures.monitor w h)
+
+pub returns-then-here-clause-work : goal.returns-then-here-clause-work
+returns-then-here-clause-work g c = decided_takes _ c.args.monitor.now c.args.t c.args.here c.requires.here _ _
+    c.if-here.true c.decide-decision.ensures.work

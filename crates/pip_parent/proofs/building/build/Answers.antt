@@ -3,6 +3,7 @@ use Rattle.pip_parent.specs.Wants.{need, pages_used}
 use Rattle.pip_parent.specs.Built.{lacks_right}
 use Rattle.pip_parent.specs.Stages.{world_before}
 use Rattle.pip_parent.proofs.Whole.{builder, created_world, not_said, said, undone_after, up_to}
+use Rattle.pip_parent.proofs.Working.{met_on, more_events}
 use Rattle.pip_parent.proofs.building.build.Goals as goal
 
 pub loop-i-init : goal.loop-i-init
@@ -15,6 +16,7 @@ loop-i-init g c =
       built = λ w r b a. created_world (g.P.Port.stands c.args.port.now) (g.P.Port.stands c.create.new.port) w
           c.args.cpu r c.args.pool.now c.args.wants.now b room c.create.ensures.called a;
       rights = λ w r b a j l. absurd (let z : ⊥ = omega (arith, l) in z);
+      work = c.create.ensures.work;
       count = c.create.ensures.count;
     }
 
@@ -48,6 +50,7 @@ loop-i-preserved g c =
       rights = λ w r b a j l. up_to (λ j. lacks_right w.tree r.name c.args.pool.now ws j ≡ false) i
           (c.loop-i.invariant.rights w r b a) (said (lacks_right w.tree r.name c.args.pool.now ws i)
           (c.if-not-meet.ensures.met w r b (c.loop-i.invariant.built w r b a)).0) j (omega (arith, l));
+      work = met_on _ _ _ c.args.cpu c.args.pool.now _ _ _ ws i c.loop-i.invariant.work c.meet.ensures.work;
       count = c.meet.ensures.count ∙ c.loop-i.invariant.count;
     }
 
@@ -70,3 +73,14 @@ returns-clause-build g c =
                 (world_before w c.args.cpu r c.args.pool.now c.args.wants.now z)) e (c.loop-i.invariant.built w r b a),
           )),
     )
+
+pub returns-then-not-meet-clause-work : goal.returns-then-not-meet-clause-work
+returns-then-not-meet-clause-work g c = more_events _ _ _ _ _ _ _ _
+    (more_events _ _ _ _ _ _ _ _ c.loop-i.invariant.work c.meet.ensures.work) c.delete.ensures.work
+
+pub returns-clause-work : goal.returns-clause-work
+returns-clause-work g c =
+    let at_end = c.loop-i.auto.i-end in
+    let over = c.loop-i-test.false in
+    let e : length c.args.wants.now ≡ c.loop-i.i = omega (arith, at_end, over) in
+    rw e c.loop-i.invariant.work

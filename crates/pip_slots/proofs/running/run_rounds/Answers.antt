@@ -2,6 +2,7 @@ use Rattle.std.proofs.Common.{◌≡◌, ◌-◌, ◌*◌, ◌+◌, arith, rules
 use Rattle.std.proofs.lemmas.Result.{MatchResult-from_err}
 use Rattle.pip_slots.specs.Slots.{plan_steps}
 use Rattle.pip_slots.proofs.Progressing.{one_round_more, rounds_begun, rounds_cut, rounds_end, rounds_on}
+use Rattle.pip_slots.proofs.Working.{rounds_work, rounds_work_cut, rounds_work_on}
 use Rattle.pip_switch.specs.Standing.{StandsAs}
 use Rattle.pip_slots.proofs.running.run_rounds.Goals as goal
 
@@ -13,6 +14,7 @@ loop-k-init g c = record {
   progress = λ w h. rounds_begun (StandsAs c.args.machine.now) (g.K.Sink.history c.args.sink.now).written w
       c.args.round.now
       c.args.count h;
+  work = λ w h. rounds_work _ _ w c.args.round.now c.args.count h;
 }
 
 pub run_slots-requires-clause-some : goal.run_slots-requires-clause-some
@@ -34,6 +36,10 @@ returns-in_err-t-clause-acts g c = λ w h.
     rounds_cut _ _ _ w _ c.args.round.now c.args.count c.loop-k.k c.loop-k.t c.loop-k-test.true _ _
     (c.loop-k.invariant.progress w h) c.in_err-t.ensures.acts)
 
+pub returns-in_err-t-clause-work : goal.returns-in_err-t-clause-work
+returns-in_err-t-clause-work g c = λ w h. rounds_work_cut _ _ _ w _ _ c.args.round.now c.args.count c.loop-k.k c.loop-k.t
+    c.loop-k-test.true (c.loop-k.invariant.work w h) c.in_err-t.ensures.work
+
 pub loop-k-preserved : goal.loop-k-preserved
 loop-k-preserved g c = record {
   count = search rules;
@@ -46,6 +52,9 @@ loop-k-preserved g c = record {
       omega (arith, t, next, e);
   progress = λ w h. rounds_on _ _ _ w _ c.args.round.now c.args.count c.loop-k.k c.loop-k.t c.loop-k-test.true _ _
       (c.loop-k.invariant.progress w h) c.in_ok-t.ensures.acts _ c.in_ok-t.ensures.next;
+  work = λ w h. rounds_work_on _ _ _ w _ _ c.args.round.now c.args.count c.loop-k.k c.loop-k.t c.loop-k-test.true
+      (c.loop-k.invariant.work w h) c.in_ok-t.ensures.work _ (λ v s. (c.in_ok-t.ensures.acts v s).world) _
+      c.in_ok-t.ensures.next;
 }
 
 pub returns-clause-acts : goal.returns-clause-acts
@@ -53,3 +62,6 @@ returns-clause-acts g c = λ w h.
     let past = c.loop-k-test.false in
     rounds_end _ _ _ w _ c.args.round.now (c.args.count - c.loop-k.k) c.loop-k.t (omega (arith, past))
     (c.loop-k.invariant.progress w h)
+
+pub returns-clause-work : goal.returns-clause-work
+returns-clause-work g c = λ w h. let k = (c.loop-k.invariant.work w h).within in omega (arith, k)

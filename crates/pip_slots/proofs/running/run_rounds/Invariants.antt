@@ -1,5 +1,6 @@
 use Rattle.std.proofs.Common.{◌≡◌, ◌-◌, ◌*◌, length}
 use Rattle.pip_lines.proofs.Progress.{Progress}
+use Rattle.pip_lines.proofs.Working.{Working}
 use Rattle.pip_model.specs.Worlds.{World}
 use Rattle.pip_slots.specs.Slots.{plan_steps, rounds, slot_run}
 use Rattle.pip_switch.specs.Standing.{StandsAs}
@@ -12,5 +13,7 @@ invariant-loop-k g l = record {
   steps : l.t ≡ plan_steps l.round * l.k;
   progress : (w : World) → StandsAs l.fn.machine w
       → Progress (StandsAs l.machine) (g.K.Sink.history l.fn.sink).written (g.K.Sink.history l.sink).written w
+      (slot_run w (rounds l.round l.count) 0) (λ v. slot_run v (rounds l.round (l.count - l.k)) l.t);
+  work : (w : World) → StandsAs l.fn.machine w → Working (StandsAs l.machine) l.fn.steps l.steps w
       (slot_run w (rounds l.round l.count) 0) (λ v. slot_run v (rounds l.round (l.count - l.k)) l.t);
 }

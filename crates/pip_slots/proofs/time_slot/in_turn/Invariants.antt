@@ -1,5 +1,4 @@
-use Rattle.std.proofs.Common.{◌≡◌, ◌+◌, ◌*◌, ◌<◌, length}
-use Rattle.std.specs.List.{AllByRecursion}
+use Rattle.std.proofs.Common.{◌≡◌, length}
 use Rattle.pip_slots.specs.Images.{in_turn}
 use Rattle.pip_slots.proofs.time_slot.in_turn.Given as goal
 
