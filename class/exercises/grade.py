@@ -18,7 +18,7 @@ from . import alone, judging, likeness
 
 SCRIPTS, PROGRAMS = (".pip",), (".s", ".asmx")
 SOLUTION = "the solution of examples/solutions"
-FORMULA = tuple("=+-@\t\r\n\uff1d\uff0b\uff0d\uff20")       # what begins one in a spreadsheet, also as a wide letter
+FORMULA = tuple("=+-@\uff1d\uff0b\uff0d\uff20")         # what begins one in a spreadsheet, also as a wide letter
 
 
 @dataclass(frozen=True)
@@ -99,10 +99,10 @@ def work(given: argparse.Namespace) -> int:
     included = {os.path.realpath(path) for one in judged for path in one.found.files if path != one.path}
     for path, why in others:
         if os.path.realpath(path) not in included:
-            print(f"grade: {path} {why}", file=sys.stderr)
+            print(visible(f"grade: {path} {why}"), file=sys.stderr)
     for one in judged:
         if one.found.why:
-            print(f"grade: {one.path}: {one.found.why}", file=sys.stderr)
+            print(visible(f"grade: {one.path}: {one.found.why}"), file=sys.stderr)
     goals = {name: one.goals for name, one in exercises.items()}
     table = Table(students, {(one.student, one.exercise): one for one in judged}, goals,
                   alike(exercises, judged, given.seeds))
@@ -174,12 +174,13 @@ def lines(table: Table) -> list[str]:
     """The table as text: columns side by side, how many students solved each exercise, and which works are alike."""
     most = sum(table.goals[name] for name in table.columns)
     rows = [["", *table.columns, "goals", "solved"]]
-    rows += [[student, *(table.cell(student, name) for name in table.columns), f"{table.count(student)}/{most}",
-              f"{table.whole(student)}/{len(table.columns)}"] for student in table.students]
+    rows += [[visible(student), *(table.cell(student, name) for name in table.columns),
+              f"{table.count(student)}/{most}", f"{table.whole(student)}/{len(table.columns)}"]
+             for student in table.students]
     rows.append(["solved", *(f"{table.solved(name)}/{len(table.students)}" for name in table.columns), "", ""])
     widths = [max(map(len, column)) for column in zip(*rows)]
     told = ["  ".join([row[0].ljust(widths[0]), *map(str.rjust, row[1:], widths[1:])]).rstrip() for row in rows]
-    return told + [f"{name}: {how}: {', '.join(who)}" for name, how, who in table.alike]
+    return told + [visible(f"{name}: {how}: {', '.join(who)}") for name, how, who in table.alike]
 
 
 def csv_rows(table: Table) -> list[list[object]]:
@@ -196,4 +197,9 @@ def csv_rows(table: Table) -> list[list[object]]:
 
 def as_text(cell: object) -> object:
     """A cell that no spreadsheet takes for a formula."""
-    return "'" + cell if isinstance(cell, str) and cell.startswith(FORMULA) else cell
+    return "'" * cell.startswith(FORMULA) + visible(cell) if isinstance(cell, str) else cell
+
+
+def visible(text: str) -> str:
+    """A text in which what a terminal would obey, and what is no letter, is written out."""
+    return "".join(letter if letter.isprintable() else ascii(letter)[1:-1] for letter in text)

@@ -11,7 +11,7 @@ LEAST_LINES = 16             # a shorter work is like another one only where it 
 LEAST_MOVED = 12             # and is like one with other registers or pages only from here on
 NEAR = 0.92                  # of the lines are in both
 WORD = re.compile(r"[<>]?[A-Za-z_.][A-Za-z0-9_.]*|0x[0-9a-f]+|-?[0-9]+|\S")
-NUMBER = re.compile(r"0x[0-9a-f]{1,16}|[0-9]{1,16}")
+NUMBER = re.compile(r"0x[0-9a-f]{1,13}|[0-9]{1,16}")
 NAME = re.compile(r"[A-Za-z_][A-Za-z0-9_]*")
 REGISTER = re.compile(r"r([0-9]|1[0-5])")
 PAGE = 4096
@@ -48,19 +48,18 @@ def shape(text: Sequence[str]) -> tuple[str, ...]:
     def number(kind: str, value: int) -> str:
         return f"{kind}{known.setdefault((kind, value), len(known))}"
 
-    def moved(words: list[str], place: int) -> str:
-        word, before = words[place], words[:place]
+    def moved(first: str, place: int, word: str) -> str:
         if REGISTER.fullmatch(word):
             return number("r", int(word[1:]))
-        if not word.isdigit():
+        if not NUMBER.fullmatch(word):
             return word
         value = int(word)
-        if before == ["peek"] or before[:1] == ["lih"]:
-            return number(before[0], value)
+        if (first, place) == ("peek", 1) or first == "lih":
+            return number(first, value)
         return word if value < PAGE else f"{number('page', value // PAGE)}+{value % PAGE}"
 
     lines = (line.split(" ") for line in text)
-    return tuple(" ".join(moved(words, place) for place in range(len(words))) for words in lines)
+    return tuple(" ".join(moved(words[0], place, word) for place, word in enumerate(words)) for words in lines)
 
 
 def alike(texts: Mapping[str, Sequence[str]]) -> list[tuple[str, list[str]]]:

@@ -3,7 +3,6 @@
 from __future__ import annotations
 
 import argparse
-import os
 import shutil
 from pathlib import Path
 
@@ -11,9 +10,7 @@ from common import calling
 from exporter.building import Program
 
 HERE = Path(__file__).resolve().parent
-NAME = "pip_judge"
-SHIPPED = HERE / NAME            # where a release has it
-JUDGE = Program(NAME, "the judge", HERE, ("pip_asm", "pip_cpu", "pip_image", "pip_kern", "pip_script", "pip_switch"),
+JUDGE = Program("pip_judge", "the judge", HERE, ("pip_asm", "pip_cpu", "pip_image", "pip_kern", "pip_script", "pip_switch"),
                 ("host",),
                 ", or copy the file that class/judge/make_judge --to FILE writes on a machine like this, and name it "
                 "by the environment's PIP_JUDGE")
@@ -31,4 +28,4 @@ def make(to: Path) -> None:
 
 def program() -> str:
     """The path of the judge."""
-    return os.environ.get("PIP_JUDGE") or (str(SHIPPED) if SHIPPED.exists() else JUDGE.path())
+    return JUDGE.path()

@@ -10,7 +10,7 @@ import tempfile
 import time
 
 from common.blocks import blocks
-from exercises import alone, judging, likeness
+from exercises import alone, grade, judging, likeness
 from judge import building
 from . import cheats
 from .running import (REPOSITORY, Differs, contents, heed_interrupts, says, session, text_of, tool, write,
@@ -81,11 +81,12 @@ def hostile_works() -> None:
         rows = {line.split()[0]: line for line in output.splitlines() if line and not line.startswith("(")}
         # The work of ada is the example itself; that of 'own' includes a file of its own folder and is a good one.
         for student in set(os.listdir(classroom)) - {"ada", "own"}:
-            if not rows[student].rstrip().endswith(tuple(f" 0/{k}" for k in range(3, 9))):
+            if not rows[grade.visible(student)].rstrip().endswith(tuple(f" 0/{k}" for k in range(3, 9))):
                 raise Differs(f"class/grade: a hostile work of {student} is whole: {output}")
         said = messages.splitlines()
         lacks = [path for path, told in due.items() if not any(path in line and told in line for line in said)]
-        if status or lacks or "root:" in output + messages or "helper" in messages or took > 4 * alone.SECONDS:
+        leaks = "\x1b" in output + messages or "root:" in output + messages or "helper" in messages
+        if status or lacks or leaks or took > 4 * alone.SECONDS:
             raise Differs(f"class/grade of hostile works: status {status}, {took:.0f} s, nothing is said of {lacks}: "
                           f"{output}{messages}")
         if " 6/6=" not in rows["own"] or "monitor: the same text: ada, own, the solution" not in output:
@@ -113,6 +114,7 @@ def adapt(classroom: str) -> None:
     for k in range(20):
         write(b"x: .word x*x*x*x*x*x*x*x\n" * 20000, classroom, "slow", f"f{k}.s")
     write(b"boot 4096 4\n" + b"raise 1\n" * 400_000, classroom, "wide", "map.pip")
+    write("boot 64 1\n\u00b2 " + "9" * 5000 + " 1" * 200_000, classroom, "red\x1b[31m\udcff", "map.pip")
 
 
 def stopped() -> None:

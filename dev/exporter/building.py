@@ -42,13 +42,21 @@ class Program:
     def built(self) -> Path:
         return self.folder / self.source.name / "target" / "release" / self.name
 
+    @property
+    def shipped(self) -> Path:
+        """Where a release has the program."""
+        return self.source / self.name
+
     def path(self) -> str:
-        """The path of the program. It is built first where it isn't there, or a source is newer."""
+        """The path of the program, which the environment may name, or a release has. Else it is built first where it
+        isn't there, or a source is newer."""
         if not self.is_new():
             self.build()
-        return str(self.built)
+        return os.environ.get(self.name.upper()) or str(self.shipped if self.shipped.exists() else self.built)
 
     def is_new(self) -> bool:
+        if os.environ.get(self.name.upper()) or self.shipped.exists():
+            return True
         if not self.built.exists():
             return False
         made = self.built.stat().st_mtime

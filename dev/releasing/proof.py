@@ -11,7 +11,6 @@ from .gate import Record
 from .repository import Checkout
 
 SITE = "site"                # a folder
-MARK = "UNPROVED"            # a file by which ./pip and ./lab see that a release is unproved
 TEXTS = blocks("proof.txt", __file__)
 
 

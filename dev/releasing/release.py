@@ -11,6 +11,7 @@ import tempfile
 from pathlib import Path
 
 from common import calling
+from common.blocks import blocks
 from common.calling import Failed
 from exporter import building
 from pages import rendering
@@ -25,6 +26,8 @@ UNPROVED_MARKS = ("out/sources-seen",)
 EXPORT = "rust"
 NO_COMPILER = "no compiler here has the target wasm32: --debian names a folder with one"
 BESIDE = "pip-release"                     # beside the checkout
+PACKAGE = "pip-kernel"                     # since another program of Debian is called pip
+TEXTS = blocks("package.txt", __file__)
 
 
 def main() -> None:
@@ -45,6 +48,8 @@ def main() -> None:
                              "Python; PROOF says so. It is so where one of these isn't here, too. With --gate: without "
                              "the checks of the site")
     module.take_module(parser)
+    parser.add_argument("--deb", action="store_true",
+                        help="make a package for Debian, too: pip-kernel, with the commands pip-kernel and pip-lab")
     calling.started(parser, lambda given: work(given, Checkout(Path(calling.REPOSITORY))))
 
 
@@ -75,7 +80,8 @@ def made(given: argparse.Namespace, found: Checkout, to: Path) -> Path:
     """Makes all in a folder of its own, which takes its place when it is whole. Answers the tarball's path."""
     name = f"pip-{given.version}{'-unproved' if given.unproved else ''}"
     folder, tarball = to / name, to / f"{name}.tar.gz"
-    for path in (folder, tarball):
+    package = to / f"{name.replace('pip-', f'{PACKAGE}_', 1)}.deb"
+    for path in (folder, tarball, package):
         if path.exists():
             raise Failed(f"{path} is there already: a version is made once")
     found.need_clean()
@@ -89,9 +95,13 @@ def made(given: argparse.Namespace, found: Checkout, to: Path) -> Path:
         site = make_site(given, found, top / proof.SITE)
         export(found, top / EXPORT)
         run("the judge", found, "class/judge/make_judge", "--to", str(top / "class" / "judge" / "pip_judge"))
+        run("the tools' processes", found, "tools/debugger/make_processes", "--to", str(top))
         told = proof.text(given.version, record, found, site)
         (top / "PROOF").write_text(told, encoding="utf-8")
         packed(top, Path(place) / tarball.name, found.seconds())
+        if given.deb:
+            for_debian(top, Path(place) / package.name, found.seconds())
+            os.rename(Path(place) / package.name, package)
         os.rename(top, folder)
         os.rename(Path(place) / tarball.name, tarball)
     return tarball
@@ -112,7 +122,7 @@ def copied(found: Checkout, top: Path, is_unproved: bool) -> None:
     for mark in UNPROVED_MARKS if is_unproved else MARKS:
         (top / mark).touch()
     if is_unproved:
-        (top / proof.MARK).write_text("Nothing is proved of the programs of this release: see PROOF.\n")
+        (top / calling.MARK).write_text("Nothing is proved of the programs of this release: see PROOF.\n")
 
 
 def make_site(given: argparse.Namespace, found: Checkout, path: Path) -> Path | None:
@@ -140,13 +150,36 @@ def export(found: Checkout, path: Path) -> None:
 
 
 def run(what: str, found: Checkout, tool: str, *words: str) -> None:
+    say(what)
     building.run(what, [sys.executable, "-B", str(found.place / tool), *words])
+
+
+def say(what: str) -> None:
+    """Says what is being made."""
+    print(f"release: {what}", file=sys.stderr, flush=True)
 
 
 def packed(top: Path, to: Path, seconds: int) -> None:
     """The tarball, of the same bytes each time: all is as old as the commit, and no source newer than the program."""
+    say("the tarball")
     for path in [*top.rglob("*"), top]:
         os.utime(path, (seconds, seconds), follow_symlinks=False)
     building.run("the tarball", ["tar", "--create", "--file", str(to), "--use-compress-program", "gzip --no-name",
                                  "--format", "gnu", "--sort", "name", "--owner", "0", "--group", "0", "--numeric-owner",
                                  "--mode", "u=rwX,go=rX", "--directory", str(top.parent), top.name])
+
+
+def for_debian(top: Path, to: Path, seconds: int) -> None:
+    """A package of a release: all of it is below /usr/lib, and two commands with a page of the manual lead there."""
+    say("the package")
+    place, version = to.parent / "debian", to.stem.partition("_")[2].replace("-", "~")
+    shutil.copytree(top, place / "usr" / "lib" / PACKAGE)
+    for path, text in TEXTS.items():
+        (place / path).parent.mkdir(parents=True, exist_ok=True)
+        (place / path).write_text(text.replace("VERSION", version), encoding="utf-8")
+    (place / "usr" / "bin").mkdir()
+    for command, wrapper in ((PACKAGE, "pip"), ("pip-lab", "lab")):
+        (place / "usr" / "bin" / command).symlink_to(f"../lib/{PACKAGE}/{wrapper}")
+    building.run("the package", ["dpkg-deb", "--root-owner-group", "--build", str(place), str(to)], None,
+                 {"SOURCE_DATE_EPOCH": str(seconds)})
+    shutil.rmtree(place)

@@ -7,6 +7,7 @@ import contextlib
 import io
 import os
 import re
+import shutil
 import subprocess
 import tempfile
 import unittest
@@ -21,6 +22,7 @@ from . import gate, release, repository
 from .repository import Checkout
 
 KIT = "kit-1"
+HAS_DEB = bool(shutil.which("dpkg-deb"))
 FILES = blocks("checkout.txt", __file__)
 GATE = FILES[".ci/run"]
 FILES[".ci/run"] = GATE.format(more="", status=0)
@@ -71,7 +73,7 @@ class Releases(unittest.TestCase):
         """Makes a release, and answers its folder; where `to` is None it goes beside the checkout. Its site is made of
         a module that is there."""
         given = argparse.Namespace(version=version, gate=False, unproved=unproved, no_page=no_page, debian=None,
-                                   module=self.place / "module", to=None if to is None else self.place / to)
+                                   deb=HAS_DEB, module=self.place / "module", to=None if to is None else self.place / to)
         with contextlib.redirect_stdout(io.StringIO()), contextlib.redirect_stderr(io.StringIO()):
             release.work(given, self.found)
         return self.place / (release.BESIDE if to is None else to) / f"pip-{version}{'-unproved' if unproved else ''}"
@@ -94,6 +96,7 @@ class Releases(unittest.TestCase):
         made, beside = self.made(), self.made(to=None)
         self.assertEqual(self.parts(made), {
             *FILES, "site/index.html", "PROOF", "rust/Cargo.toml", "class/judge/pip_judge",
+            "tools/debugger/states/pip_states", "tools/certifier/pip_certifier",
             "crates/pip/out/pip", "crates/pip/out/sources-seen", "crates/pip_lab/out/pip_lab",
             "crates/pip_lab/out/sources-seen"})
         self.assertEqual((made / "crates/pip_lab/out/pip_lab").read_text(), "the lab, built\n")
@@ -104,8 +107,8 @@ class Releases(unittest.TestCase):
                      "- The kit."):
             self.assertIn(part, told)
         self.assertNotIn("has no site", told)
-        one, two = (path.with_name(path.name + ".tar.gz").read_bytes() for path in (made, beside))
-        self.assertEqual(one, two)
+        for name in ("pip-1.2.tar.gz", *["pip-kernel_1.2.deb"] * HAS_DEB):
+            self.assertEqual(*(path.with_name(name).read_bytes() for path in (made, beside)))
 
     def test_without_a_site_proof_says_so(self) -> None:
         self.pass_gate()

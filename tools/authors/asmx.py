@@ -459,7 +459,7 @@ class Text:
     def warnings(self) -> Iterator[Wrong]:
         """What is most likely wrong in handler tables, though it becomes an image."""
         for page in (page for page in self.pages if page.seen == TABLE):
-            blocks = {vector: self.number(word.put(text), True) for vector, (word, text) in sorted(page.entries.items())
+            blocks = {vector: self.number(word.put(text), True) for vector, (word, text) in page.entries.items()
                       if vector < 256}
             for vector, address in blocks.items():
                 if address and (warning := self.warning(vector, address, blocks)):

@@ -15,6 +15,7 @@ from typing import NoReturn, TypeVar
 REPOSITORY = os.path.dirname(os.path.dirname(os.path.dirname(os.path.abspath(__file__))))
 WRAPPER, LAB_WRAPPER = (os.path.join(REPOSITORY, name) for name in ("pip", "lab"))
 PROVED, UNPROVED = "proved", "unproved"      # programs by what ./pip and ./lab call them
+MARK = "UNPROVED"        # a file by which ./pip, ./lab and the tools see that a release is unproved
 LAB = ("slots", "every", "against", "apart", "part", "merge")        # the commands of the lab
 # Where the lab's program is, seen from the folder of pip's: beside it, and at the same place of its own crate.
 BESIDE = {"pip": ("pip_lab", os.path.join(os.pardir, os.pardir, "pip_lab", "out", "pip_lab")),
@@ -96,6 +97,8 @@ def found(program: str, wrapper: str) -> str:
     if program not in (PROVED, UNPROVED):
         return program
     there = built(wrapper)
+    if program not in there and os.path.exists(os.path.join(os.path.dirname(wrapper), MARK)):
+        program = UNPROVED
     if program not in there:
         raise Failed(missing(program, there, wrapper))
     if program == UNPROVED:

@@ -167,7 +167,7 @@ class Adapter:
         schedule = schedule_of(str(given.get("seed", 1)), None if native is None else str(native),
                                None if slots is None else [*map(str, slots)])
         path = os.path.abspath(given["program"])
-        if not building.is_built() and not path.endswith(".pip"):
+        if not building.STATES.is_new() and not path.endswith(".pip"):
             asmx.image_of(self.program, path)                # what is wrong with it is said before cargo builds
         self.debugger = Logging(self.program, States(building.program()), path, schedule)
         self.debugger.logs = {}

@@ -2,10 +2,12 @@
 
 from __future__ import annotations
 
-import os
+import argparse
+import shutil
 from pathlib import Path
 
-from exporter.building import Program
+from common import calling
+from exporter.building import REPOSITORY, Program
 
 STATES = Program("pip_states", "the debugger's process", Path(__file__).resolve().parent / "states",
                  ("pip_cpu", "pip_dump", "pip_image", "pip_kern", "pip_mmu", "pip_native", "pip_script", "pip_switch",
@@ -16,9 +18,17 @@ SEARCHES = Program("pip_certifier", "the searching process", Path(__file__).reso
 
 def program() -> str:
     """The path of the process."""
-    return os.environ.get("PIP_STATES") or STATES.path()
+    return STATES.path()
 
 
-def is_built() -> bool:
-    """Whether the process is there, and no source is newer."""
-    return bool(os.environ.get("PIP_STATES")) or STATES.is_new()
+def main() -> None:
+    parser = argparse.ArgumentParser(description="The processes of debug, every and certify, which cargo builds.")
+    parser.add_argument("--to", type=Path, required=True, metavar="FOLDER",
+                        help="a folder like that of the checkout, in which copies have the places where a release has "
+                             "them")
+    calling.started(parser, lambda given: make(given.to))
+
+
+def make(to: Path) -> None:
+    for one in (STATES, SEARCHES):
+        shutil.copy(one.path(), to / one.shipped.relative_to(REPOSITORY))

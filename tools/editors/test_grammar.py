@@ -86,17 +86,19 @@ class TestOfAsmx(unittest.TestCase):
         scopes = [[(name or "").rsplit(".", 1)[0] for name, _ in tokens(line, OF_ASMX)] for line in
                   (".equ A B+8*4096", "  la r1 A+4   # where", "j next", ".page A at 0xffc00000",
                    ".handler 63 0x400 child r6=0x10", "a: out r1", ".include ../x.s", ".may each ld A",
-                   ".again 0 out 0x00000005", ".never [turn] == 5 and r1 in 1 2", ".always 44:pc < 0x400")]
+                   ".again 0 out 0x00000005", ".never [turn] == 5 and r1 in 1 A", ".always 44:pc <= f13:2")]
         number, name, operator = "constant.numeric", "variable.other.label", "keyword.operator"
         directive, mnemonic = "keyword.control.directive", "support.function.mnemonic"
-        register = "variable.language.register"
+        register, word = "variable.language.register", "keyword.other.word"
         self.assertEqual(scopes, [[directive, name, name, operator, number, operator, number],
                                   [mnemonic, register, name, operator, number, "comment.line.number-sign"],
                                   [mnemonic, name],
-                                  [directive, name, "keyword.other.at", number],
+                                  [directive, name, word, number],
                                   [directive, number, number, name, register, operator, number],
                                   ["entity.name.label", mnemonic, register], [directive, "string.unquoted.path"],
-                                  [directive, "keyword.other.at", name, name], [directive, number, mnemonic, number]])
+                                  [directive, word, name, name], [directive, number, mnemonic, number],
+                                  [directive, operator, name, operator, operator, number, word, register, word, number,
+                                   name], [directive, number, operator, register, operator, name, operator, number]])
 
     def test_what_is_wrong_has_no_colour(self) -> None:
         for line in ("ld r1 r0 4", "li r17 00", ".equ A 0X1"):

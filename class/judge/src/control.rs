@@ -12,14 +12,10 @@ fn moved(event: &Event) -> Option<&Moved> {
     event.moved.as_deref()
 }
 
-/// Whether what an event entered still runs there, at that pc.
+/// Whether what an event entered still runs there.
 fn runs_since(world: &World, number: usize) -> bool {
     let event = &world.events[number];
-    let cpu = event.cpu.unwrap_or(0);
-    let is_sent = |(_, later): (usize, &Event)| later.cpu == Some(cpu) && later.act == Act::SetPc;
-    world.last_moved(cpu) == Some(number)
-        && moved(event).is_some_and(|moved| moved.to.is_some())
-        && !after(world, number).any(is_sent)
+    world.last_moved(event.cpu.unwrap_or(0)) == Some(number) && moved(event).is_some_and(|moved| moved.to.is_some())
 }
 
 fn pc_of(world: &World, event: &Event) -> Option<u32> {

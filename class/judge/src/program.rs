@@ -24,8 +24,9 @@ use rattle_std::marker::Brand;
 const HEAD: usize = 24;
 const PLAN: usize = 12;
 const PAGE: usize = 4100;
-/// Words of an image that are looked at for constants.
+/// Words of an image that are looked at for constants, and steps of its run.
 const MOST_WORDS: usize = 1 << 14;
+const NOTED_STEPS: u32 = 2000;
 
 /// An image, as `asm` writes it.
 #[derive(Clone)]
@@ -53,11 +54,13 @@ pub struct Course {
     pub stalls: Option<u64>,
     /// After this event a register of what runs then gets a word.
     pub edit: Option<(usize, u32, u32)>,
+    /// The words that registers have are noted.
+    pub notes: bool,
 }
 
 impl Course {
     pub fn plain(steps: u32) -> Course {
-        Course { timer: None, steps, hostile: None, stalls: None, edit: None }
+        Course { timer: None, steps, hostile: None, stalls: None, edit: None, notes: false }
     }
 }
 
@@ -96,8 +99,9 @@ impl Image {
     }
 
     /// Numbers that the text has, where it may do something else: its words, the constants of its instructions, the two
-    /// halves that make one, and the neighbours of these.
-    pub fn constants(&self) -> BTreeSet<u32> {
+    /// halves that make one, what registers have in its first steps, and the neighbours of these.
+    pub fn constants(&self) -> Result<BTreeSet<u32>, Refused> {
+        let noted = self.run(Course { notes: true, ..Course::plain(NOTED_STEPS) })?.noted;
         let words: Vec<u32> = self.words().collect();
         let half = |word: u32| word & 0xffff;
         let alone = words.iter().flat_map(|word| {
@@ -110,7 +114,8 @@ impl Image {
             }
             _ => None,
         });
-        alone.chain(whole).flat_map(|number| [number.wrapping_sub(1), number, number.wrapping_add(1)]).collect()
+        let all = alone.chain(whole).chain(noted);
+        Ok(all.flat_map(|number| [number.wrapping_sub(1), number, number.wrapping_add(1)]).collect())
     }
 
     /// The half words that its instructions put into registers.
@@ -143,6 +148,9 @@ impl Image {
             let known = world.events.len();
             _ = turn::<World, _, _, Brand>(&mut world, cpu, u64::from(step), &mut Discard::new(), &mut steps());
             lines.strike(&mut world, known);
+            if course.notes {
+                world.note(cpu);
+            }
             if let Some((event, register, word)) = course.edit
                 && known <= event
                 && event < world.events.len()

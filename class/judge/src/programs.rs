@@ -47,7 +47,7 @@ pub fn sum(v: &Values, image: &Image, secret: u64, verdict: &mut Verdict) -> Res
     }
     let mut holds = [size, true, true, true, true, true];
     let mut random = Random::new(secret);
-    let of_text = image.constants().into_iter().filter(|last| (MOST..=LARGEST).contains(last)).collect();
+    let of_text = image.constants()?.into_iter().filter(|last| (MOST..=LARGEST).contains(last)).collect();
     let others = random.some_of(of_text, CONSTANTS).into_iter().chain(larger(&mut random));
     for last in [100, 0, MOST, LARGEST].into_iter().chain(1..MOST).chain(others) {
         let mut changed = image.clone();
@@ -101,7 +101,7 @@ pub fn child_program(v: &Values, image: &Image, secret: u64, verdict: &mut Verdi
             verdict.story(&[true, false, false, false, false]);
             continue;
         };
-        let is_of_block = follows_block(image, &world, id, at, word, &others(image, word, &mut random))?;
+        let is_of_block = follows_block(image, &world, id, at, word, &others(image, word, &mut random)?)?;
         let trap = world.moves().find(|(k, _, moved)| *k > at && moved.from == Some(id));
         let trap = trap.filter(|(_, event, moved)| {
             moved.to == Some(ROOT) && moved.why == Why::Trap && matches!(event.act, Act::Trap { vector: 64.. })
@@ -125,11 +125,11 @@ fn has_had_handlers(image: &Image, world: &World, id: Id, at: usize) -> Result<b
 }
 
 // The words that are put into the register.
-fn others(image: &Image, word: u32, random: &mut Random) -> Vec<u32> {
+fn others(image: &Image, word: u32, random: &mut Random) -> Result<Vec<u32>, Refused> {
     let edges = [0, 1, word - 1, word + 1, 0xffff, 0x1_0000, u32::MAX >> 1, 1 << 31, u32::MAX];
-    let of_text = random.some_of(image.constants().into_iter().collect(), CONSTANTS);
+    let of_text = random.some_of(image.constants()?.into_iter().collect(), CONSTANTS);
     let drawn = (0..WORDS).map(|_| random.word() >> random.within(0, 31));
-    edges.into_iter().chain(drawn).chain(of_text).collect()
+    Ok(edges.into_iter().chain(drawn).chain(of_text).collect())
 }
 
 // Whether the child shows what a register of a block has by which it began, where that has the word: another word there

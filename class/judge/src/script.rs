@@ -93,10 +93,7 @@ fn make(world: &mut World, line: ScriptLine) {
             let word = world.ctx(cpu).map(|ctx| if reg == 16 { ctx.pc } else { ctx.regs[reg as usize] });
             world.look(Act::Reg { number: reg }, Some(cpu), word.map_or(Outcome::Idle, Outcome::Word));
         }
-        ScriptLine::SetPc { cpu, va } => {
-            world.set_pc(cpu, va);
-            world.look(Act::SetPc, Some(cpu), Outcome::Done);
-        }
+        ScriptLine::SetPc { cpu, va } => world.set_pc(cpu, va),
         ScriptLine::Blank | ScriptLine::Boot { .. } => {}
     }
 }

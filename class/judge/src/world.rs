@@ -3,6 +3,7 @@
 
 use crate::random::Random;
 use alloc::boxed::Box;
+use alloc::collections::BTreeSet;
 use alloc::vec;
 use alloc::vec::Vec;
 use pip_base::{Ctx, Outcome, Size, Status, Steps};
@@ -64,7 +65,6 @@ pub enum Act {
     Poll,
     Peek { at: At, word: Option<u32>, writers: Writers },
     Reg { number: u32 },
-    SetPc,
     Out { word: u32 },
 }
 
@@ -196,6 +196,8 @@ pub struct World {
     pub hostile: Option<Hostile>,
     /// By which a child stays where it is in some of its steps.
     pub stalls: Option<Random>,
+    /// Words that registers had.
+    pub noted: BTreeSet<u32>,
     is_program: bool,
     writers: Vec<Option<Box<[u32; 4096]>>>,
 }
@@ -224,9 +226,15 @@ impl World {
             place: 0,
             hostile: None,
             stalls: None,
+            noted: BTreeSet::new(),
             is_program,
             writers,
         }
+    }
+
+    /// Notes what the registers of a processor have.
+    pub fn note(&mut self, cpu: u32) {
+        self.noted.extend(self.ctx(cpu).into_iter().flat_map(|ctx| ctx.regs));
     }
 
     // Looking
