@@ -17,7 +17,7 @@ import time
 from common import calling
 from . import (authors, beside, certificates, cheats, corners, counters, documents, ended, endings, examples,
                exercises, exporting, gate, grading, guests, house, indexed, links, meanings, pages, playground,
-               playing, public_calls, releasing, shells, sites, sources, tools, versions, wrapper, wrong_bodies)
+               playing, public_calls, releasing, shells, sites, sources, streams, tools, versions, wrapper, wrong_bodies)
 from .running import Check, Differs, Skipped
 
 # A name, and its parts: functions that are given the program's path and raise Differs if something is wrong, or Skipped
@@ -26,6 +26,7 @@ CHECKS: dict[str, Check | tuple[Check, ...]] = {
     "endings": endings.endings,
     "refused-memory": endings.refused_memory,
     "answering": (endings.typed_script, endings.gathered_answers),
+    "streams": (streams.asked_once, streams.ended_once),
     "documents": (documents.blocks_are_told, documents.blocks_that_run, documents.tutorial_blocks, links.links,
                   meanings.same, indexed.index),
     "gate": gate.gate,

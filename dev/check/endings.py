@@ -87,10 +87,10 @@ def gathered_answers(program: str) -> None:
         script = write(b"boot 32 1\n" + b"ld 0 0x400000\n" * LINES, place, "script")
         with open(script, "rb") as source, open(text, "wb") as sink:
             _, status = run([program, "script"], stdin=source, stdout=sink,
-                            env=dict(os.environ, LD_PRELOAD=preloaded("writes", place), COUNT=counted))
+                            env=dict(os.environ, LD_PRELOAD=preloaded("streams", place), COUNT=counted))
         due = b"boot 32 1\n" + b"0x00000000\n" * LINES
         expect(f"a script of {LINES} lines", (contents(text), status), (due, 0))
-        count = int(contents(counted))
+        count = int(contents(counted).split()[2])
         if not 0 < count <= MOST_WRITES:
             raise Differs(f"a script of {LINES} lines: {count} writes, where {MOST_WRITES} are the most")
 
