@@ -33,30 +33,30 @@ working_begun S before w rest h = record { world = w; holds = h; within = omega 
 
 -- a part of what is left is next
 module _ (S : World → Type 0) (before now after : ℕ) (w : World) (all : List Act) (part rest : World → List Act)
-    (k : Working S before now w all (λ v. part v ++ rest (after_acts v (part v)))) (takes : TakesNoMore S part now after)
-  where
-    left : after + events_work (after_acts k.world (part k.world)) (events_made (rest (after_acts k.world (part k.world))))
-        ≤ before + events_work w (events_made all)
-    left =
-        let so = k.within in
-        let both = work_append k.world (part k.world) (rest (after_acts k.world (part k.world))) in
-        let one = takes k.world k.holds in
-        omega (arith, so, both, one)
+    (takes : TakesNoMore S part now after)
+    (k : Working S before now w all (λ v. part v ++ rest (after_acts v (part v)))) where
+  left : after + events_work (after_acts k.world (part k.world))
+      (events_made (rest (after_acts k.world (part k.world)))) ≤ before + events_work w (events_made all)
+  left =
+      let so = k.within in
+      let both = work_append k.world (part k.world) (rest (after_acts k.world (part k.world))) in
+      let one = takes k.world k.holds in
+      omega (arith, so, both, one)
 
-    -- it may be cut
-    pub working_cut : after ≤ before + events_work w (events_made all)
-    unfolding left
-    working_cut = let so = left in omega (arith, so)
+  -- it may be cut
+  pub working_cut : after ≤ before + events_work w (events_made all)
+  unfolding left
+  working_cut = let so = left in omega (arith, so)
 
-    -- or it is made
-    pub working_on : (U : World → Type 0) → ((v : World) → S v → U (after_acts v (part v)))
-        → Working U before after w all rest
-    unfolding left
-    working_on U made = record {
-      world = after_acts k.world (part k.world);
-      holds = made k.world k.holds;
-      within = left;
-    }
+  -- or it is made
+  pub working_on : (U : World → Type 0) → ((v : World) → S v → U (after_acts v (part v)))
+      → Working U before after w all rest
+  unfolding left
+  working_on U made = record {
+    world = after_acts k.world (part k.world);
+    holds = made k.world k.holds;
+    within = left;
+  }
 
 -- no step of a run is made yet
 pub run_begun : (S : World → Type 0) (before : ℕ) (w : World) (ps : List Plan) (seed c count : ℕ) → S w
@@ -79,17 +79,17 @@ module _ (before now : ℕ) (w : World) (all : List Act) (ps : List Plan) (seed 
       one : Working S before now w all (λ v. step v ps cpu t ++ rest (after_acts v (step v ps cpu t)))
       one =
           let e : count - t ≡ suc (count - (t + 1)) = omega (arith, inside) in
-          subst (λ p. Working S before now w all (λ v. step v ps p t ++ rest (after_acts v (step v ps p t)))) (sym drawn)
-          (subst (λ n. Working S before now w all (λ v. steps v ps seed c n t)) e k)
+          subst (λ p. Working S before now w all (λ v. step v ps p t ++ rest (after_acts v (step v ps p t))))
+          (sym drawn) (subst (λ n. Working S before now w all (λ v. steps v ps seed c n t)) e k)
 
       takes : TakesNoMore S (λ v. step v ps cpu t) now after
       takes = both_take S T (λ v. raises ps t) (λ v. turn v cpu t) now between after raised raise turned
 
       pub step_cut : after ≤ before + events_work w (events_made all)
-      step_cut = working_cut S before now after w all (λ v. step v ps cpu t) rest one takes
+      step_cut = working_cut S before now after w all (λ v. step v ps cpu t) rest takes one
 
       pub step_on : (U : World → Type 0) → ((v : World) → T v → U (after_acts v (turn v cpu t)))
           → Working U before after w all (λ v. steps v ps seed c (count - (t + 1)) (t + 1))
-      step_on U made = working_on S before now after w all (λ v. step v ps cpu t) rest one takes U
+      step_on U made = working_on S before now after w all (λ v. step v ps cpu t) rest takes one U
           (λ v h. subst U (sym (after-append v (raises ps t) (turn (after_acts v (raises ps t)) cpu t)))
           (made (after_acts v (raises ps t)) (raised v h)))

@@ -6,10 +6,11 @@ use Rattle.pip_model.specs.Events as E
 use Rattle.pip_model.specs.Events.{Event}
 use Rattle.pip_model.specs.Happens.{after, event}
 use Rattle.pip_model.specs.Port.{Follows, TakesAtMost}
+use Rattle.pip_model.specs.Soak.{five}
 use Rattle.pip_model.specs.Work.{events_work}
 use Rattle.pip_model.specs.Worlds.{World}
 use Rattle.pip_parent.specs.Built.{lists_more}
-use Rattle.pip_parent.specs.Events.{MakesEvents, events_before, five, lend_event, link_events, table_events}
+use Rattle.pip_parent.specs.Events.{MakesEvents, events_before, lend_event, link_events, table_events}
 use Rattle.pip_parent.specs.Pool.{pool_at}
 use Rattle.pip_parent.specs.Wants.{opened_before, opens, pages_used, want_at}
 use Rattle.pip_parent.specs.declared.wants.Want.{Want}
@@ -63,11 +64,11 @@ module _ (S T U : World → Type 0) (cpu : ℕ) (pool : List ℕ) (a b c : ℕ) 
   pub table_given : (ws : List Want) (i first stores : ℕ) → opens ws i ≡ true → first ≡ pages_used ws i
       → stores ≡ suc (suc (lists_more (opened_before ws i)))
       → MakesEvents S T (link_events cpu pool first stores) a b
-      → MakesEvents T U (E.Call cpu 3 (five (pool_at pool 0) (want_at ws i).va (pool_at pool first) 0) ∷ []) b c
+      → MakesEvents T U (E.Call cpu 3 (five (pool_at pool 0) (want_at ws i).va (pool_at pool first) 0 0) ∷ []) b c
       → MakesEvents S U (table_events cpu pool ws i) a c
   table_given ws i first stores o f s linked given =
       let n = suc (suc (lists_more (opened_before ws i))) in
       let all = more_events S T U _ _ a b c (subst (λ k. MakesEvents S T (link_events cpu pool first k) a b) s linked)
       given in
       rw o (subst (λ k. MakesEvents S U (link_events cpu pool k n
-      ++ E.Call cpu 3 (five (pool_at pool 0) (want_at ws i).va (pool_at pool k) 0) ∷ []) a c) f all)
+      ++ E.Call cpu 3 (five (pool_at pool 0) (want_at ws i).va (pool_at pool k) 0 0) ∷ []) a c) f all)

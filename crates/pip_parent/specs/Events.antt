@@ -1,10 +1,10 @@
 -- The events with which a child is built, by what runs on cpu.
 use Rattle.std.specs.Prelude.{ℕ, zero, suc, ◌+◌, ◌≤◌, if◌then◌else◌, List, [], ◌∷◌, ◌++◌, length, Result, Ok, Err}
 use Rattle.pip_base.specs.declared.types.Size.TheVariants.{Word}
-use Rattle.pip_model.specs.Answers.{Five}
 use Rattle.pip_model.specs.Events as E
 use Rattle.pip_model.specs.Events.{Event}
 use Rattle.pip_model.specs.Happens.{after}
+use Rattle.pip_model.specs.Soak.{five}
 use Rattle.pip_model.specs.Work.{events_work}
 use Rattle.pip_model.specs.Worlds.{World}
 use Rattle.pip_parent.specs.Built.{lists_more}
@@ -21,10 +21,6 @@ link_events cpu pool k zero = []
 link_events cpu pool k (suc n) =
     link_events cpu pool k n ++ E.Store cpu (pool_at pool (k + n)) Word (pool_at pool (k + n + 1)) ∷ []
 
--- the words of a call
-abbrev pub five : ℕ → ℕ → ℕ → ℕ → Five
-five a b c d = record { x0 = a; x1 = b; x2 = c; x3 = d; x4 = 0 }
-
 -- the first five pages of the pool become the child
 abbrev pub create_event : ℕ → List ℕ → Event
 create_event cpu pool = E.Call cpu 0 (first_five pool)
@@ -34,13 +30,13 @@ abbrev pub table_events : ℕ → List ℕ → List Want → ℕ → List Event
 table_events cpu pool ws i =
     if opens ws i
     then link_events cpu pool (pages_used ws i) (suc (suc (lists_more (opened_before ws i))))
-    ++ E.Call cpu 3 (five (pool_at pool 0) (want_at ws i).va (pool_at pool (pages_used ws i)) 0) ∷ []
+    ++ E.Call cpu 3 (five (pool_at pool 0) (want_at ws i).va (pool_at pool (pages_used ws i)) 0 0) ∷ []
     else []
 
 -- the page for want i is lent to the child
 abbrev pub lend_event : ℕ → List ℕ → List Want → ℕ → Event
 lend_event cpu pool ws i =
-    E.Call cpu 5 (five (pool_at pool (place ws i)) (pool_at pool 0) (want_at ws i).va (want_at ws i).rights)
+    E.Call cpu 5 (five (pool_at pool (place ws i)) (pool_at pool 0) (want_at ws i).va (want_at ws i).rights 0)
 
 -- the child is made, and the wants before i are tried
 abbrev pub events_before : ℕ → List ℕ → List Want → ℕ → List Event
@@ -50,7 +46,7 @@ events_before cpu pool ws (suc i) =
 
 -- the child goes again
 abbrev pub delete_event : ℕ → List ℕ → Event
-delete_event cpu pool = E.Call cpu 1 (five (pool_at pool 0) 0 0 0)
+delete_event cpu pool = E.Call cpu 1 (five (pool_at pool 0) 0 0 0 0)
 
 -- all of them, by the answer
 abbrev pub build_events : Result Built BuildError → ℕ → List ℕ → List Want → List Event

@@ -8,9 +8,10 @@ ghost use Rattle.pip_model.specs.Happens.{is_accepted as is_ok};
 ghost use Rattle.pip_model.specs.declared.call_name.MemoryCall.TheVariants.{AddVAddr, CreatePartition, DeletePartition};
 ghost use Rattle.pip_model.specs.declared.call_name.MemoryCall.TheVariants.{Prepare};
 ghost use Rattle.pip_model.specs.Prepare.{prepare};
+ghost use Rattle.pip_model.specs.Soak.{five};
 ghost use Rattle.pip_model.specs.Worlds.{World, running, runs_on};
 ghost use Rattle.pip_model.specs.declared.processors.Occupant.{Occupant};
-ghost use Rattle.pip_parent.specs.Events.{MakesEvents, create_event, five, link_events};
+ghost use Rattle.pip_parent.specs.Events.{MakesEvents, create_event, link_events};
 ghost use Rattle.pip_parent.specs.Pool.{first_five};
 ghost use Rattle.pip_parent.specs.Stages.{Called, CalledIn, CanLink, is_accepted_reply, link_caches, link_words};
 
@@ -76,7 +77,7 @@ pub fn give_table<P: Port, L: Ledger>(
     ensures called { Called (P.stands port.old) (P.stands port.new) cpu Prepare (λ t p. prepare t p child va first) }
     ensures count { P.count port.new ≡ P.count port.old }
     ensures work { MakesEvents (P.stands port.old) (P.stands port.new)
-        (E.Call cpu 3 (five child va first 0) ∷ []) steps.old steps.new }
+        (E.Call cpu 3 (five child va first 0 0) ∷ []) steps.old steps.new }
 {
     port.call(cpu, PREPARE, &[child, va, first, 0, 0], steps);
 }
@@ -98,7 +99,7 @@ pub fn lend_page<P: Port, L: Ledger>(
         result ≡ is_ok (add_vaddr w.tree r.name page child va rights).status }
     ensures count { P.count port.new ≡ P.count port.old }
     ensures work { MakesEvents (P.stands port.old) (P.stands port.new)
-        (E.Call cpu 5 (five page child va rights) ∷ []) steps.old steps.new }
+        (E.Call cpu 5 (five page child va rights 0) ∷ []) steps.old steps.new }
 {
     is_accepted(port.call(cpu, ADD_VADDR, &[page, child, va, rights, 0], steps))
 }
@@ -110,7 +111,7 @@ pub fn delete<P: Port, L: Ledger>(port: &mut P, cpu: u32, child: u32, steps: &mu
         (λ w p. delete_partition w.tree (running w) p child) }
     ensures count { P.count port.new ≡ P.count port.old }
     ensures work { MakesEvents (P.stands port.old) (P.stands port.new)
-        (E.Call cpu 1 (five child 0 0 0) ∷ []) steps.old steps.new }
+        (E.Call cpu 1 (five child 0 0 0 0) ∷ []) steps.old steps.new }
 {
     port.call(cpu, DELETE_PARTITION, &[child, 0, 0, 0, 0], steps);
 }

@@ -11,8 +11,8 @@ use Rattle.pip_model.specs.Work.{events_work}
 use Rattle.pip_model.specs.Worlds.{World}
 use Rattle.pip_native_run.specs.Watching.{root_runs}
 use Rattle.pip_slots.specs.declared.time_slot.TimeSlot.{TimeSlot}
-use Rattle.pip_slots.specs.Slots.{closing, next_step, opening, plan_steps, polling, rest_acts, rounds, slot_acts, slot_run}
-use Rattle.pip_slots.specs.Slots.{slot_turn, slot_turns}
+use Rattle.pip_slots.specs.Slots.{closing, next_step, opening, plan_steps, polling, rest_acts, rounds, slot_acts}
+use Rattle.pip_slots.specs.Slots.{slot_run, slot_turn, slot_turns}
 use Rattle.pip_slots.proofs.Progressing.{inners_first, inners_next, inners_rest, rounds_first, rounds_next, slots_next}
 use Rattle.pip_slots.proofs.Progressing.{slots_rest}
 
@@ -25,8 +25,8 @@ pub closed_takes : (S T : World → Type 0) (t : ℕ) (here : Bool) (a b c : ℕ
 closed_takes S T t here a b c is e follows raise poll w h =
     let x = raise w h in
     let y = poll (world_of w (E.Raise 0)) (follows w h).1 in
-    subst (λ r. c ≤ a + events_work w (events_made (cond r [] (Makes (E.Raise 0) ∷ polling (world_of w (E.Raise 0)) t))))
-    (sym e ∙ is w h) (omega (arith, x, y))
+    subst (λ r. c ≤ a + events_work w (events_made
+    (cond r [] (Makes (E.Raise 0) ∷ polling (world_of w (E.Raise 0)) t)))) (sym e ∙ is w h) (omega (arith, x, y))
 
 -- acts of which only the first part was made
 first_takes : (S : World → Type 0) (first more : World → List Act) (a b : ℕ) → TakesNoMore S first a b
@@ -75,27 +75,27 @@ module _ (before now after : ℕ) (w : World) (all : List Act) (S : World → Ty
       (takes : TakesNoMore S (λ v. slot_turn v (t + k)) now after) where
     pub inners_work_cut : after ≤ before + events_work w (events_made all)
     inners_work_cut = working_cut S before now after w all (λ v. slot_turn v (t + k))
-        (λ v. slot_turns v (n - (k + 1)) (t + k + 1)) (inners_next (Working S before now w all) n t k inside p) takes
+        (λ v. slot_turns v (n - (k + 1)) (t + k + 1)) takes (inners_next (Working S before now w all) n t k inside p)
 
     pub inners_work_on : (U : World → Type 0) → ((v : World) → S v → U (after_acts v (slot_turn v (t + k))))
         → Working U before after w all (λ v. slot_turns v (n - (k + 1)) (t + (k + 1)))
     inners_work_on U made = inners_rest (Working U before after w all) n t k
         (working_on S before now after w all (λ v. slot_turn v (t + k)) (λ v. slot_turns v (n - (k + 1)) (t + k + 1))
-        (inners_next (Working S before now w all) n t k inside p) takes U made)
+        takes (inners_next (Working S before now w all) n t k inside p) U made)
 
   module _ (ss : List TimeSlot) (i t : ℕ) (s : TimeSlot) (here : drop i ss ≡ s ∷ drop (suc i) ss)
       (p : Working S before now w all (λ v. slot_run v (drop i ss) t))
       (takes : TakesNoMore S (λ v. slot_acts v s t) now after) where
     pub slots_work_cut : after ≤ before + events_work w (events_made all)
     slots_work_cut = working_cut S before now after w all (λ v. slot_acts v s t)
-        (λ v. slot_run v (drop (suc i) ss) (next_step s t)) (slots_next (Working S before now w all) ss i t s here p)
-        takes
+        (λ v. slot_run v (drop (suc i) ss) (next_step s t)) takes
+        (slots_next (Working S before now w all) ss i t s here p)
 
     pub slots_work_on : (U : World → Type 0) → ((v : World) → S v → U (after_acts v (slot_acts v s t)))
         → Working U before after w all (λ v. slot_run v (drop (i + 1) ss) (t + (s.turns + 2)))
     slots_work_on U made = slots_rest (Working U before after w all) ss i t s
         (working_on S before now after w all (λ v. slot_acts v s t) (λ v. slot_run v (drop (suc i) ss) (next_step s t))
-        (slots_next (Working S before now w all) ss i t s here p) takes U made)
+        takes (slots_next (Working S before now w all) ss i t s here p) U made)
 
   module _ (ss : List TimeSlot) (c j t : ℕ) (inside : j < c)
       (p : Working S before now w all (λ v. slot_run v (rounds ss (c - j)) t))
@@ -103,7 +103,7 @@ module _ (before now after : ℕ) (w : World) (all : List Act) (S : World → Ty
     pub rounds_work_cut : after ≤ before + events_work w (events_made all)
     rounds_work_cut = working_cut S before now after w all (λ v. slot_run v ss t)
         (λ v. slot_run v (rounds ss (c - (j + 1))) (t + plan_steps ss))
-        (rounds_next (Working S before now w all) ss c j t inside p) takes
+        takes (rounds_next (Working S before now w all) ss c j t inside p)
 
     pub rounds_work_on : (U : World → Type 0) → ((v : World) → S v → U (after_acts v (slot_run v ss t))) → (u : ℕ)
         → u ≡ t + plan_steps ss → Working U before after w all (λ v. slot_run v (rounds ss (c - (j + 1))) u)
@@ -111,4 +111,4 @@ module _ (before now after : ℕ) (w : World) (all : List Act) (S : World → Ty
         subst (λ x. Working U before after w all (λ v. slot_run v (rounds ss (c - (j + 1))) x)) (sym e)
         (working_on S before now after w all (λ v. slot_run v ss t)
         (λ v. slot_run v (rounds ss (c - (j + 1))) (t + plan_steps ss))
-        (rounds_next (Working S before now w all) ss c j t inside p) takes U made)
+        takes (rounds_next (Working S before now w all) ss c j t inside p) U made)

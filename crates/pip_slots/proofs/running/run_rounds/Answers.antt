@@ -37,8 +37,8 @@ returns-in_err-t-clause-acts g c = λ w h.
     (c.loop-k.invariant.progress w h) c.in_err-t.ensures.acts)
 
 pub returns-in_err-t-clause-work : goal.returns-in_err-t-clause-work
-returns-in_err-t-clause-work g c = λ w h. rounds_work_cut _ _ _ w _ _ c.args.round.now c.args.count c.loop-k.k c.loop-k.t
-    c.loop-k-test.true (c.loop-k.invariant.work w h) c.in_err-t.ensures.work
+returns-in_err-t-clause-work g c = λ w h. rounds_work_cut _ _ _ w _ _ c.args.round.now c.args.count c.loop-k.k
+    c.loop-k.t c.loop-k-test.true (c.loop-k.invariant.work w h) c.in_err-t.ensures.work
 
 pub loop-k-preserved : goal.loop-k-preserved
 loop-k-preserved g c = record {
