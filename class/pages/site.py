@@ -183,7 +183,7 @@ class Site:
         return Page(self.names[path], path, f"<h1>{html.escape(path)}</h1>{body}")
 
     def listing(self) -> Page:
-        page = Page("examples.html", "Examples", "<h1>Examples</h1>", "Examples")
+        page = Page("examples.html", "All examples", "<h1>All examples</h1>", "All examples")
         for folder in sorted({os.path.dirname(path) for path in self.examples}):
             name = rendering.anchor(folder)
             page.headings.append((2, folder, name))
@@ -228,7 +228,7 @@ class Site:
                     self.wrong.append(f"{page.name}: {link} leads nowhere")
 
     def whole(self, page: Page, chapters: Sequence[Page]) -> str:
-        others = [*chapters, Page("examples.html", "Examples", "", "Examples")]
+        others = [*chapters, Page("examples.html", "All examples", "", "All examples")]
         current = ' aria-current="page"'
         at = next((k for k, chapter in enumerate(chapters) if chapter is page), None)
         around = "" if at is None else (

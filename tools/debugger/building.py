@@ -31,4 +31,6 @@ def main() -> None:
 
 def make(to: Path) -> None:
     for one in (STATES, SEARCHES):
-        shutil.copy(one.path(), to / one.shipped.relative_to(REPOSITORY))
+        target = to / one.shipped.relative_to(REPOSITORY)
+        target.parent.mkdir(parents=True, exist_ok=True)
+        shutil.copy(one.path(), target)
