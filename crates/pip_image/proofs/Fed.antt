@@ -1,11 +1,11 @@
 -- The parts of an image whose bytes are at hand.
-use Rattle.std.specs.Prelude.{◌≡◌, refl, ℕ, suc, ◌+◌, ◌≤◌, List, [], ◌∷◌, ◌++◌, length, Result, Ok, Err}
-use Rattle.std.proofs.Common.{false, ap, sym, subst, ◌∙◌, arith, ◌≢◌}
+use Rattle.std.specs.Prelude.{◌≡◌, refl, ℕ, suc, ◌+◌, ◌≤◌, List, ◌∷◌, ◌++◌, length, Result, Ok, Err}
+use Rattle.std.proofs.Common.{[], false, sym, subst, ◌∙◌, arith, ◌≢◌}
 use Rattle.pip_base.specs.declared.types.Plan.{Plan}
 use Rattle.pip_model.specs.declared.image.ImageError.{ImageError}
 use Rattle.pip_model.specs.declared.image.ImageError.TheVariants as F
 use Rattle.pip_model.specs.Images.{Fields, Page, Part, Head, Line, Holds, PartsRead, fields_of, plan_at, front_page}
-use Rattle.pip_model.specs.Images.{goes_on, image_parts, part_before}
+use Rattle.pip_model.specs.Images.{image_parts, part_before}
 use Rattle.pip_image.specs.Coming.{coming}
 use Rattle.pip_image.specs.Feeding.{IsFaultAt, is_short}
 use Rattle.pip_image.specs.Reading.{no_more_parts, only_fault}
@@ -21,8 +21,7 @@ module _ {A : Type 0} (k : ℕ) (p : List ℕ → Result (A × List ℕ) ImageEr
       → one_part p part next (bytes ++ rest) ≡ part_before (part x) (next x rest)
   part_fed x r few e rest =
       let g = subst (λ s. Goes k (length bytes) rest s (p (bytes ++ rest))) (sym e) (parses bytes rest) in
-      ap (λ s. goes_on s (λ x rest. part_before (part x) (next x rest))) g.0
-      ∙ ap (λ a. part_before (part x) (next x (a ++ rest))) (no_rest k (length bytes) r few g.1)
+      rw (g.0, no_rest k (length bytes) r few g.1)
 
   part_unfed : (e : ImageError) → Err e ≡ p bytes → IsFaultAt (one_part p part next) k bytes e
   part_unfed e h = go e (λ rest. rw (← h) at (parses bytes rest)) (rw (← h) refl)
@@ -71,11 +70,11 @@ module _ (p q : Place) (bytes : List ℕ) where
       → q.seen ≡ p.seen → (rest : List ℕ) → coming p (bytes ++ rest) ≡ part_before (Line x) (coming q rest)
   plan_fed x r few e at frames plans line pages seen rest =
       subst (λ t. t (bytes ++ rest) ≡ part_before (Line x) (coming q rest))
-      (sym (plan_next p q.plans (omega (arith, plans))))
+      (sym (plan_next p q.plans (omega arith)))
       (subst (λ t. one_part (plan_at p.at p.line) Line (λ y. from (p.at + 12) (y.line + 1) q.plans p.frames
       p.seen.items p.pages) (bytes ++ rest) ≡ part_before (Line x) (t rest))
       (sym (coming_from q (p.at + 12) (x.line + 1) q.plans p.frames p.seen.items p.pages at line refl frames
-      (ap (λ s. s.items) seen) pages))
+      (rw seen) pages))
       (part_fed 12 (plan_at p.at p.line) Line (λ y. from (p.at + 12) (y.line + 1) q.plans p.frames p.seen.items
       p.pages) bytes (plan_goes p.at p.line) x r few e rest))
 
@@ -85,31 +84,27 @@ module _ (p q : Place) (bytes : List ℕ) where
       → coming p (bytes ++ rest) ≡ part_before (Holds x) (coming q rest)
   page_fed x r few e none at frames plans pages seen rest =
       subst (λ t. t (bytes ++ rest) ≡ part_before (Holds x) (coming q rest))
-      (sym (page_next p q.pages none (omega (arith, pages))))
-      (subst (λ t. one_part (front_page p.frames p.seen.items p.at) Holds (λ g. from (p.at + 4100) 0 0 p.frames
-      (p.seen.items ++ g.vpage ∷ []) q.pages) (bytes ++ rest) ≡ part_before (Holds x) (t rest))
-      (sym (coming_from q (p.at + 4100) q.line 0 p.frames (p.seen.items ++ x.vpage ∷ []) q.pages at refl
-      (plans ∙ none) frames seen refl))
-      (part_fed 4100 (front_page p.frames p.seen.items p.at) Holds (λ g. from (p.at + 4100) 0 0 p.frames
-      (p.seen.items ++ g.vpage ∷ []) q.pages) bytes (page_goes p.frames p.seen.items p.at) x r few e rest))
+      (sym (page_next p q.pages none (omega arith)))
+      (rw (← coming_from q (p.at + 4100) q.line 0 p.frames (p.seen.items ++ x.vpage ∷ []) q.pages at refl (plans ∙ none)
+      frames seen refl) at (part_fed 4100 (front_page p.frames p.seen.items p.at) Holds (λ g. from (p.at + 4100) 0 0
+      p.frames (p.seen.items ++ g.vpage ∷ []) q.pages) bytes (page_goes p.frames p.seen.items p.at) x r few e rest))
 
 module _ (p : Place) (k : ℕ) (bytes : List ℕ) (e : ImageError) where
   pub plan_unfed : p.plans ≡ suc k → Err e ≡ plan_at p.at p.line bytes → IsFaultAt (coming p) 12 bytes e
-  plan_unfed some h = subst (λ t. IsFaultAt t 12 bytes e) (sym (plan_next p k some))
-      (part_unfed 12 (plan_at p.at p.line) Line
-      (λ y. from (p.at + 12) (y.line + 1) k p.frames p.seen.items p.pages) bytes (plan_goes p.at p.line) e h)
+  plan_unfed some h = rw (plan_next p k some) (part_unfed 12 (plan_at p.at p.line) Line (λ y. from (p.at + 12) (y.line +
+      1) k p.frames p.seen.items p.pages) bytes (plan_goes p.at p.line) e h)
 
   pub page_unfed : p.plans ≡ 0 → p.pages ≡ suc k → Err e ≡ front_page p.frames p.seen.items p.at bytes
       → IsFaultAt (coming p) 4100 bytes e
-  page_unfed none some h = subst (λ t. IsFaultAt t 4100 bytes e) (sym (page_next p k none some))
-      (part_unfed 4100 (front_page p.frames p.seen.items p.at) Holds (λ g. from (p.at + 4100) 0 0 p.frames
-      (p.seen.items ++ g.vpage ∷ []) k) bytes (page_goes p.frames p.seen.items p.at) e h)
+  page_unfed none some h = rw (page_next p k none some) (part_unfed 4100 (front_page p.frames p.seen.items p.at) Holds
+      (λ g. from (p.at + 4100) 0 0 p.frames (p.seen.items ++ g.vpage ∷ []) k) bytes (page_goes p.frames p.seen.items
+      p.at) e h)
 
 -- ---- more after the image
 
 module _ (p : Place) (none : p.plans ≡ 0) (last : p.pages ≡ 0) where
   over : (bytes : List ℕ) → coming p bytes ≡ from p.at 0 0 p.frames p.seen.items 0 bytes
-  over bytes = ap (λ t. t bytes) (coming_from p p.at p.line 0 p.frames p.seen.items 0 refl refl none refl refl last)
+  over bytes = cc (coming_from p p.at p.line 0 p.frames p.seen.items 0 refl refl none refl refl last)
 
   pub long_fed : (bytes : List ℕ) → bytes ≢ [] → IsFaultAt (coming p) 1 bytes (F.Long p.at)
   long_fed [] some = absurd (some refl)

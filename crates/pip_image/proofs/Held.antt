@@ -1,6 +1,6 @@
 -- The words of an image's pages, a page at a time.
-use Rattle.std.proofs.Common.{◌≡◌, refl, ℕ, ◌==◌, ◌||◌, ◌&&◌, nat_le, nat_lt, Bool, true, false, cond, sym, ap, ◌∙◌}
-use Rattle.std.proofs.Common.{subst, arith, eqb-true, Option, Some, None, List, [], ◌∷◌, ◌++◌, slice_index_or}
+use Rattle.std.proofs.Common.{[], ◌≡◌, refl, ℕ, ◌==◌, ◌||◌, ◌&&◌, nat_le, nat_lt, Bool, true, false, cond}
+use Rattle.std.proofs.Common.{arith, eqb-true, Option, Some, None, List, ◌∷◌, ◌++◌, slice_index_or}
 use Rattle.std.specs.Prelude.{is_some, map}
 use Rattle.std.specs.List.{list_any}
 use Rattle.std.proofs.lemmas.Bool.Decides.{nat_tests}
@@ -53,13 +53,13 @@ held_none n v f (p ∷ ps) at e = both (is_frame f (frame_of_root n p.vpage)) (i
 
     other : (b : Bool) (g : ℕ) → g == f ≡ b → frame_of_root n p.vpage ≡ Some g → (p.vpage == v) ≡ false → g == f ≡ false
     other true g t here differs = let same : p.vpage ≡ v =
-        one_page n p.vpage v f (here ∙ ap Some (eqb-true g f t)) at in absurd (grind (arith, nat_tests, differs, same))
+        one_page n p.vpage v f (rw (here, eqb-true g f t)) at in absurd (grind (arith, nat_tests, differs, same))
     other false g t here differs = t
 
     apart : (b : Bool) (o : Option ℕ) → (p.vpage == v) ≡ b → frame_of_root n p.vpage ≡ o → b ≡ false
         → is_frame f o ≡ false
     apart b None t here differs = refl
-    apart b (Some g) t here differs = other (g == f) g refl here (t ∙ differs)
+    apart b (Some g) t here differs = other (g == f) g refl here (cc)
 
 whole_user : (b : Bool) (u : ℕ → ℕ) → is_some (cond b (Some u) None) ≡ true → b ≡ true
 whole_user true u h = refl
@@ -86,7 +86,7 @@ lays_more n ps q f m at can unseen lays =
     (λ g. some (g == f) g _ refl) (λ g i b. words (g == f) (is_user n g) g i refl refl) lays
   where
     user : (g : ℕ) → g ≡ f → is_user n g ≡ true
-    user g e = ap (is_user n) e ∙ whole_user (is_user n f) _ can
+    user g e = rw (e, whole_user (is_user n f) _ can)
 
     mapped : (b : Bool) (u w : ℕ → ℕ) → is_some (cond b (Some u) None) ≡ is_some (cond b (Some w) None)
     mapped true u w = refl
@@ -94,36 +94,28 @@ lays_more n ps q f m at can unseen lays =
 
     some : (b : Bool) (g : ℕ) (u : ℕ → ℕ) → g == f ≡ b
         → is_some ((tree_with n (ps ++ q ∷ [])).words g) ≡ is_some (cond b (Some u) ((tree_with n ps).words g))
-    some true g u e = ap (λ c. is_some (cond c (Some (image_word n (ps ++ q ∷ []) g)) None)) (user g (eqb-true g f e))
+    some true g u e = rw (user g (eqb-true g f e))
     some false g u e = mapped (nat_le (first_user n) g && nat_lt g n) _ _
 
     same_number : (k : ℕ) → (k == k) ≡ true
     same_number k = grind (arith, nat_tests)
 
     is_here : (g : ℕ) → g ≡ f → is_frame g (frame_of_root n q.vpage) ≡ true
-    is_here g e = ap (is_frame g) at ∙ ap (λ k. f == k) e ∙ same_number f
+    is_here g e = rw (at, e, same_number f)
 
     is_there : (g : ℕ) → (g == f) ≡ false → is_frame g (frame_of_root n q.vpage) ≡ false
-    is_there g e = ap (is_frame g) at ∙ grind (arith, nat_tests, e)
+    is_there g e = rw at (grind (arith, nat_tests, e))
 
     alone : (g : ℕ) → is_frame g (frame_of_root n q.vpage) ≡ true → is_held n ps g ≡ false
-    alone g e = let same : f ≡ g = eqb-true f g (sym (ap (is_frame g) at) ∙ e) in
-        subst (λ k. is_held n ps k ≡ false) same (held_none n q.vpage f ps at unseen)
+    alone g e = let same : f ≡ g = eqb-true f g (cc) in
+        rw (← same) (held_none n q.vpage f ps at unseen)
 
     words : (b c : Bool) (g i : ℕ) → g == f ≡ b → is_user n g ≡ c → word_of ((tree_with n (ps ++ q ∷ [])).words g) i
         ≡ word_of (cond b (Some (λ j. slice_index_or q.words j 0)) ((tree_with n ps).words g)) i
     words true c g i e d = let same = eqb-true g f e in
-        ap (λ c. word_of (cond c (Some (image_word n (ps ++ q ∷ []) g)) None) i) (user g same)
-        ∙ held_more n ps q g i (alone g)
-        ∙ ap (λ c. cond c (slice_index_or q.words i 0) (image_word n ps g i)) (is_here g same)
-    words false true g i e d =
-        ap (λ c. word_of (cond c (Some (image_word n (ps ++ q ∷ []) g)) None) i) d
-        ∙ held_more n ps q g i (alone g)
-        ∙ ap (λ c. cond c (slice_index_or q.words i 0) (image_word n ps g i)) (is_there g e)
-        ∙ sym (ap (λ c. word_of (cond c (Some (image_word n ps g)) None) i) d)
-    words false false g i e d =
-        ap (λ c. word_of (cond c (Some (image_word n (ps ++ q ∷ []) g)) None) i) d
-        ∙ sym (ap (λ c. word_of (cond c (Some (image_word n ps g)) None) i) d)
+        rw (user g same, held_more n ps q g i (alone g), is_here g same)
+    words false true g i e d = cc (held_more n ps q g i (alone g), is_there g e)
+    words false false g i e d = cc
 
 -- ---- words of small pages are small
 

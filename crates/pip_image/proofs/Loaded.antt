@@ -1,14 +1,14 @@
 -- Pages that are loaded one after another.
-use Rattle.std.specs.Prelude.{◌≡◌, ℕ, zero, suc, ◌+◌, ◌≤◌, true, false, List, [], ◌∷◌, ◌++◌, drop, length, map, Option}
+use Rattle.std.specs.Prelude.{◌≡◌, ℕ, zero, suc, ◌+◌, ◌≤◌, true, false, List, ◌∷◌, ◌++◌, drop, length, map, Option}
 use Rattle.std.specs.Prelude.{Some, None, Result, Ok, Err, is_some, MatchResult}
 use Rattle.std.specs.Io.KnownBytes.{Consumes}
-use Rattle.std.proofs.Common.{ap, sym, subst, ◌∙◌, refl, append-nil}
+use Rattle.std.proofs.Common.{[], ap, ◌∙◌, refl, append-nil}
 use Rattle.std.proofs.KnownBytes.{Consumes-trans}
 use Rattle.pip_base.specs.declared.types.Plan.{Plan}
 use Rattle.pip_model.specs.declared.image.ImageError.{ImageError}
-use Rattle.pip_model.specs.Boot.{boot_tree, frame_of_root}
+use Rattle.pip_model.specs.Boot.{frame_of_root}
 use Rattle.pip_model.specs.Images.{Image, Page, Line, Holds, PartsRead, goes_on, has_row, image, image_from}
-use Rattle.pip_model.specs.Images.{image_parts, image_or_fault, is_seen, front_page, page_parts, plan_parts}
+use Rattle.pip_model.specs.Images.{image_parts, image_or_fault, is_seen, front_page, page_parts}
 use Rattle.pip_model.specs.Images.{part_before}
 use Rattle.pip_model.specs.Layout.{LaysOut}
 use Rattle.pip_model.specs.Tree.{Tree}
@@ -20,11 +20,11 @@ use Rattle.pip_image.specs.declared.header.Header.{Header}
 use Rattle.pip_image.specs.declared.place.Place.{Place}
 use Rattle.pip_image.proofs.Held.{lays_more, small_held, small_page, still_open}
 use Rattle.pip_image.proofs.RootPages.{frame_open, some_frame}
-use Rattle.pip_image.proofs.Steps.{after_fault, after_parts, takes_then, takes_refused, takes_whole, takes_none}
+use Rattle.pip_image.proofs.Steps.{after_fault, after_parts, takes_then, takes_refused, takes_whole}
 
 map_page : {A : Type 0} (v : Page → A) (ps : List Page) (q : Page) → map v (ps ++ q ∷ []) ≡ map v ps ++ v q ∷ []
 map_page v [] q = refl
-map_page v (p ∷ ps) q = ap (λ l. v p ∷ l) (map_page v ps q)
+map_page v (p ∷ ps) q = rw (map_page v ps q)
 
 pub loads_page : (n : ℕ) (t u v : List ℕ → PartsRead) (a b c : Option (List ℕ)) (seen : List ℕ) (m k : List (List ℕ))
     (q : Page) → 16 ≤ n → n ≤ 4096 → has_row n q.vpage ≡ true → is_seen q.vpage seen ≡ false → AreWords q.words
@@ -36,10 +36,9 @@ loads_page n t u v a b c seen m k q least most row unseen small wrote l x =
     let can = frame_open n q.vpage f.0 least most f.1 in
     record {
       pages = l.pages ++ q ∷ [];
-      took = subst (λ ps. TakesParts t v ps a c) (sym (map_page Holds l.pages q))
-          (takes_then t u v (map Holds l.pages) (Holds q ∷ []) a b c l.took x);
-      vpages = map_page (λ p. p.vpage) l.pages q ∙ ap (λ s. s ++ q.vpage ∷ []) l.vpages;
-      laid = lays_more n l.pages q f.0 k f.1 can (subst (λ s. is_seen q.vpage s ≡ false) (sym l.vpages) unseen)
+      took = rw (map_page Holds l.pages q) (takes_then t u v (map Holds l.pages) (Holds q ∷ []) a b c l.took x);
+      vpages = rw (map_page (λ p. p.vpage) l.pages q, l.vpages);
+      laid = lays_more n l.pages q f.0 k f.1 can (rw l.vpages unseen)
           (wrote (tree_with n l.pages) f.0 f.1 (still_open n l.pages f.0 can) l.laid);
       small = small_page l.pages q l.small small;
     }
@@ -61,8 +60,7 @@ pub loads_refused : (n : ℕ) (t u : List ℕ → PartsRead) (a b c : Option (Li
     → LoadsUpTo n t a c i k m e
 loads_refused n t u a b c seen i j k m e h l r = record {
   pages = l.pages;
-  refused = subst (λ ps. Refuses t ps a c i k e) (append-nil (map Holds l.pages))
-      (takes_refused t u (map Holds l.pages) [] a b c i j k e h l.took r);
+  refused = rw (← append-nil (map Holds l.pages)) (takes_refused t u (map Holds l.pages) [] a b c i j k e h l.took r);
   loaded = record { laid = l.laid; small = small_held n l.pages l.small };
 }
 
@@ -81,13 +79,12 @@ loads_pages n t q a b seen m plans pages l = record {
   pages = l.pages;
   bytes = l.took.bytes;
   read = l.took.taken;
-  is = ap t (sym (append-nil l.took.bytes)) ∙ l.took.is [] ∙ ap (parts_then (map Holds l.pages)) none;
+  is = rw (← append-nil l.took.bytes, l.took.is [], none);
   loaded = record { laid = l.laid; small = small_held n l.pages l.small };
 }
   where
     none : coming q [] ≡ no_more_parts
-    none = ap (λ k. plan_parts q.at q.line k [] (λ at rest. page_parts q.frames q.seen.items at q.pages rest)) plans
-        ∙ ap (λ k. page_parts q.frames q.seen.items q.at k []) pages
+    none = rw (plans, pages)
 
 -- ---- the header and the pages are an image
 
@@ -122,17 +119,16 @@ count_pages n seen at (suc k) bs ps e f = more n seen at k (front_page n seen at
         ≡ None → length ps ≡ suc k
     more n seen at k (Err e) ps next g f = cc
     more n seen at k (Ok x) [] next g f = cc
-    more n seen at k (Ok x) (q ∷ qs) next g f = ap suc (next x.0 x.1 qs (ap (drop 1) g) f)
+    more n seen at k (Ok x) (q ∷ qs) next g f = rw (next x.0 x.1 qs (ap (drop 1) g) f)
 
 pub count_coming : (h : Header) (p : Place) → IsAfter h p → p.plans ≡ 0 → (bs : List ℕ) (ps : List Page)
     → coming p bs ≡ parts_then (map Holds ps) no_more_parts → length ps ≡ h.pages
 count_coming h p b none bs ps is =
     let all_parts : page_parts p.frames p.seen.items p.at p.pages bs ≡ parts_then (map Holds ps) no_more_parts =
-    subst (λ k. plan_parts p.at p.line k bs (λ at rest. page_parts p.frames p.seen.items at p.pages rest)
-    ≡ parts_then (map Holds ps) no_more_parts) none is in
+    rw none at is in
     count_pages p.frames p.seen.items p.at p.pages bs ps
-    (ap (λ t. t.parts) all_parts ∙ after_parts (map Holds ps) no_more_parts ∙ append-nil (map Holds ps))
-    (ap (λ t. t.fault) all_parts ∙ after_fault (map Holds ps) no_more_parts)
+    (rw (all_parts, after_parts (map Holds ps) no_more_parts, append-nil (map Holds ps)))
+    (rw (all_parts, after_fault (map Holds ps) no_more_parts))
     ∙ b.pages
 
 -- what `header` and then `load_pages` took is an image, and its pages are in memory
@@ -148,8 +144,7 @@ pub image_begun : (p : Place) (h : Header) (a b c : Option (List ℕ)) (m : List
     → TakesParts image_parts (coming p) (header_parts h) a b → LoadsPages h.frames (coming p) b c m → Holding a c h m
 image_begun p h a b c m at_pages none x l =
     let all_parts : image_parts (x.bytes ++ l.bytes) ≡ parts_then (header_parts h)
-    (parts_then (map Holds l.pages) no_more_parts) =
-    x.is l.bytes ∙ ap (parts_then (header_parts h)) l.is in
+    (parts_then (map Holds l.pages) no_more_parts) = rw (x.is l.bytes, l.is) in
     record {
       input = x.bytes ++ l.bytes;
       read = Consumes-trans _ _ _ _ _ x.taken l.read;
@@ -163,9 +158,12 @@ image_begun p h a b c m at_pages none x l =
     parts : (parts_then (header_parts h) (parts_then (map Holds l.pages) no_more_parts)).parts
         ≡ header_parts h ++ map Holds
         l.pages
-    parts = after_parts (header_parts h) (parts_then (map Holds l.pages) no_more_parts)
-        ∙ ap (λ ps. header_parts h ++ ps) (after_parts (map Holds l.pages) no_more_parts
-        ∙ append-nil (map Holds l.pages))
+    parts = rw (
+      after_parts (header_parts h) (parts_then (map Holds l.pages) no_more_parts),
+      after_parts (map Holds
+          l.pages) no_more_parts,
+      append-nil (map Holds l.pages),
+    )
 
     fault : (parts_then (header_parts h) (parts_then (map Holds l.pages) no_more_parts)).fault ≡ None
     fault = after_fault (header_parts h) (parts_then (map Holds l.pages) no_more_parts)
@@ -176,4 +174,4 @@ image_begun p h a b c m at_pages none x l =
 pub image_loaded : (p : Place) (h : Header) (a b c : Option (List ℕ)) (m : List (List ℕ)) → IsAfter h p → p.plans ≡ 0
     → TakesParts image_parts (coming p) (header_parts h) a b → LoadsAll h.frames (coming p) b c m → Holding a c h m
 image_loaded p h a b c m at_pages none x l = image_begun p h a b c m at_pages none x
-    (record { pages = l.pages; bytes = l.bytes; read = l.read; is = l.is; loaded = l.loaded })
+    (search)

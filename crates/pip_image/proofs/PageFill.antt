@@ -1,6 +1,6 @@
 -- A page of words, a word at a time.
-use Rattle.std.proofs.Common.{◌≡◌, refl, ℕ, zero, suc, ◌≤◌, [], ◌∷◌, ◌+◌, ◌<◌, ◌==◌, nat_lt, Bool, true, false, cond}
-use Rattle.std.proofs.Common.{sym, ap, ◌∙◌, subst, arith, eqb-true, inl, inr, Some, List, length, slice_index_or}
+use Rattle.std.proofs.Common.{[], ◌≡◌, refl, ℕ, zero, suc, ◌≤◌, ◌∷◌, ◌+◌, ◌<◌, ◌==◌, nat_lt, Bool, true, false, cond}
+use Rattle.std.proofs.Common.{arith, eqb-true, inl, inr, Some, List, length, slice_index_or}
 use Rattle.std.specs.Prelude.{is_some}
 use Rattle.std.proofs.lemmas.Bool.{cases_eq}
 use Rattle.std.proofs.lemmas.Bool.Decides.{nat_tests}
@@ -20,13 +20,13 @@ module _ (t : Tree) (f : ℕ) (ws : List ℕ) (can : is_some (t.words f) ≡ tru
   -- which pages can be read stays
   some_filled : (b : Bool) (g : ℕ) (w : ℕ → ℕ) → g == f ≡ b
       → is_some (cond b (Some w) (t.words g)) ≡ is_some (t.words g)
-  some_filled true g w e = sym (ap (λ h. is_some (t.words h)) (eqb-true g f e) ∙ can)
+  some_filled true g w e = rw (← can, ← eqb-true g f e)
   some_filled false g w e = refl
 
   nothing_filled : (b : Bool) (g j : ℕ) → g == f ≡ b
       → word_of (cond b (Some (λ k. cond (nat_lt k 0) (slice_index_or ws k 0) (word_of (t.words f) k))) (t.words g)) j
       ≡ word_of (t.words g) j
-  nothing_filled true g j e = none j ∙ ap (λ h. word_of (t.words h) j) (sym (eqb-true g f e))
+  nothing_filled true g j e = rw (none j, ← eqb-true g f e)
     where
       none : (j : ℕ) → cond (nat_lt j 0) (slice_index_or ws j 0) (word_of (t.words f) j) ≡ word_of (t.words f) j
       none j = grind (arith, nat_tests)
@@ -40,9 +40,7 @@ module _ (t : Tree) (f : ℕ) (ws : List ℕ) (can : is_some (t.words f) ≡ tru
   one_word : (j i : ℕ) → cond (nat_lt j (i + 1)) (slice_index_or ws j 0) (word_of (t.words f) j)
       ≡ cond (j == i) (slice_index_or ws i 0) (cond (nat_lt j i) (slice_index_or ws j 0) (word_of (t.words f) j))
   one_word j i = elim (cases_eq j i) [
-    | inl e ↦ subst (λ k. cond (nat_lt k (i + 1)) (slice_index_or ws k 0) (word_of (t.words f) k)
-        ≡ cond (k == i) (slice_index_or ws i 0) (cond (nat_lt k i) (slice_index_or ws k 0) (word_of (t.words f) k)))
-        (sym e) (grind (arith, nat_tests))
+    | inl e ↦ rw e (grind (arith, nat_tests))
     | inr n ↦ grind (arith, nat_tests, n)
   ]
 
@@ -97,14 +95,14 @@ module _ (t : Tree) (f : ℕ) (ws : List ℕ) (can : is_some (t.words f) ≡ tru
 pub small_more : (ws : List ℕ) (i : ℕ) → ((j : ℕ) → j < i → IsWord (slice_index_or ws j 0))
     → IsWord (slice_index_or ws i 0) → (j : ℕ) → j < i + 1 → IsWord (slice_index_or ws j 0)
 small_more ws i all this j h = elim (cases_eq j i) [
-  | inl e ↦ subst (λ k. IsWord (slice_index_or ws k 0)) (sym e) this
+  | inl e ↦ rw e this
   | inr n ↦ all j (grind (arith, nat_tests, h, n))
 ]
 
 past : (ws : List ℕ) (j : ℕ) → length ws ≤ j → slice_index_or ws j 0 ≡ 0
 past [] j h = refl
-past (w ∷ ws) zero h = absurd (omega (arith, h))
-past (w ∷ ws) (suc j) h = past ws j (omega (arith, h))
+past (w ∷ ws) zero h = absurd (omega arith)
+past (w ∷ ws) (suc j) h = past ws j (omega arith)
 
 pub small_all : (ws : List ℕ) (i : ℕ) → length ws ≤ i → ((j : ℕ) → j < i → IsWord (slice_index_or ws j 0)) → (j : ℕ)
     → IsWord (slice_index_or ws j 0)
@@ -113,4 +111,4 @@ small_all ws i long all j = go (nat_lt j i) refl
     go : (b : Bool) → nat_lt j i ≡ b → IsWord (slice_index_or ws j 0)
     go true e = all j (grind (arith, nat_tests, e))
     go false e = let h : length ws ≤ j = grind (arith, nat_tests, e, long) in let z = past ws j h in
-        subst IsWord (sym z) (omega arith)
+        rw z (omega arith)

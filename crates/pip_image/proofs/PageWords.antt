@@ -1,9 +1,9 @@
 -- Words that are read in one go.
-use Rattle.std.specs.Prelude.{◌≡◌, refl, ℕ, zero, suc, ◌+◌, ◌*◌, ◌<◌, ◌≤◌, Bool, true, false, cond, nat_lt, List, []}
+use Rattle.std.specs.Prelude.{◌≡◌, refl, ℕ, zero, suc, ◌+◌, ◌*◌, ◌<◌, ◌≤◌, Bool, true, false, cond, nat_lt, List}
 use Rattle.std.specs.Prelude.{◌∷◌, length, take, drop, slice_index, Result, Ok, Err}
 use Rattle.std.proofs.lemmas.Bool.Decides.{nat_tests}
 use Rattle.pip_model.specs.declared.image.ImageError.{ImageError}
-use Rattle.std.proofs.Common.{ap, sym, ◌∙◌, arith, length-drop}
+use Rattle.std.proofs.Common.{[], sym, ◌∙◌, arith, length-drop}
 use Rattle.std.proofs.lemmas.List.{length-take-le, take-append-drop}
 use Rattle.pip_image.proofs.Fronts.{words_front}
 use Rattle.std.proofs.Math.Seq.{drop-drop}
@@ -14,11 +14,15 @@ read_from : (k : ℕ) (src dst : List ℕ) → length dst ≡ k
     → ((i : ℕ) → i < length dst → slice_index dst i ≡ little_number 4 (drop (4 * i) src)) → dst ≡ words_in k src
 unfolding words_in
 read_from zero src [] l h = refl
-read_from zero src (w ∷ dst) l h = absurd (omega (arith, l))
-read_from (suc k) src [] l h = absurd (omega (arith, l))
+read_from zero src (w ∷ dst) l h = absurd (omega arith)
+read_from (suc k) src [] l h = absurd (omega arith)
 read_from (suc k) src (w ∷ dst) l h =
-    let rest = read_from k (drop 4 src) dst (omega (arith, l)) (λ i b. h (suc i) (omega (arith, b))
-    ∙ ap (λ j. little_number 4 (drop j src)) (next i) ∙ ap (little_number 4) (sym (drop-drop (4 * i) 4 src))) in
+    let rest = read_from k (drop 4 src) dst (omega arith) (λ i b. rw (
+      h (suc i) (omega (arith, b)),
+      next i,
+      ←
+          drop-drop (4 * i) 4 src,
+    )) in
     (λ j. h 0 (omega arith) j ∷ rest j)
   where
     next : (i : ℕ) → 4 * suc i ≡ 4 + 4 * i
@@ -32,9 +36,13 @@ pub words_cut : (bs ws : List ℕ) → 4100 ≤ length bs → ws ≡ words_in 10
     → ws ≡ words_in 1024 (drop 4 bs)
 words_cut bs ws h e =
     let l = length-drop 4 bs in
-    let t : length (take 4096 (drop 4 bs)) ≡ 4096 = length-take-le 4096 (drop 4 bs) (omega (arith, l, h)) in
-    e ∙ sym (words_front 1024 (take 4096 (drop 4 bs)) (drop 4096 (drop 4 bs)) (omega (arith, t)))
-    ∙ ap (words_in 1024) (take-append-drop 4096 (drop 4 bs))
+    let t : length (take 4096 (drop 4 bs)) ≡ 4096 = length-take-le 4096 (drop 4 bs) (omega arith) in
+    rw (
+      e,
+      ← words_front 1024 (take 4096 (drop 4 bs)) (drop 4096 (drop 4 bs)) (omega (arith, t)),
+      take-append-drop 4096
+          (drop 4 bs),
+    )
 
 abbrev pub paged : ℕ → List ℕ → List ℕ → Result (Page × List ℕ) ImageError
 paged v ws rest = Ok (record { vpage = v; words = ws }, rest)
@@ -46,7 +54,7 @@ pub page_is : (a b c d : ImageError) (n : ℕ) (s r : Bool) (w v : ℕ) (ws us r
     ≡ cond (nat_lt n 4) (Err a) (cond s (Err b) (cond r (cond (nat_lt n 4100) (Err c) (paged w ws rest)) (Err d)))
 page_is a b c d n s r w v ws us rest h unseen row e f =
     (λ i. paged (e i) (f i) rest) ∙ sym (passed (nat_lt n 4) s r (nat_lt n 4100) _ _ _ _ _
-    (enough n 4 (omega (arith, h))) unseen row (enough n 4100 h))
+    (enough n 4 (omega arith)) unseen row (enough n 4100 h))
   where
     passed : (l s r f : Bool) (a b c d : ImageError) (y : Result (Page × List ℕ) ImageError) → l ≡ false → s ≡ false
         → r ≡ true → f ≡ false → cond l (Err a) (cond s (Err b) (cond r (cond f (Err c) y) (Err d))) ≡ y

@@ -11,7 +11,7 @@ use Rattle.pip_base.specs.declared.types.Plan.{Plan}
 use Rattle.pip_model.specs.declared.image.ImageError.{ImageError}
 use Rattle.pip_model.specs.declared.image.ImageError.TheVariants as F
 use Rattle.pip_model.specs.Images.{◌>>=◌, magic, old_magic, word_of_bytes, words_in, Fields, Page, pass_test}
-use Rattle.pip_model.specs.Images.{front_word, magic_of, frames_at, cpus_at, plans_at, pages_at, fields_of, plan_at}
+use Rattle.pip_model.specs.Images.{front_word, frames_at, cpus_at, plans_at, pages_at, fields_of, plan_at}
 use Rattle.pip_model.specs.Images.{front_page, has_row, is_seen}
 use Rattle.pip_image.specs.Sought.{is_fault}
 use Rattle.pip_image.proofs.Fronts.{drop_less, words_front}
@@ -117,10 +117,9 @@ pub page_goes : (n : ℕ) (seen : List ℕ) (at : ℕ) → Parses 4100 (front_pa
 unfolding front_page
 page_goes n seen at bs rest =
     goes_short 4100 (length bs) (at + length bs) rest (nat_lt (length bs) 4) (nat_lt (length (bs ++ rest)) 4) _ _ _
-    (λ h. let k = less _ 4 h in omega arith) (still 4 bs rest)
+    (λ h. omega (arith, less _ 4 h)) (still 4 bs rest)
     (λ long. let l : 4 ≤ length bs = not_less _ 4 long in
-    subst (λ v. Goes 4100 (length bs) rest (page_of n seen at (word_of_bytes bs) bs) (page_of n seen at v
-    (bs ++ rest))) (sym (word_front bs rest l)) (page_after n seen at (word_of_bytes bs) bs rest l))
+    rw (word_front bs rest l) (page_after n seen at (word_of_bytes bs) bs rest l))
 
 -- where the vpage alone has a fault
 fault_if : {A : Type 0} (short seen row few : Bool) (a b c : ℕ) (r : Result A ImageError) → is_fault r ≡ false
@@ -152,13 +151,13 @@ word_goes at bs rest =
 goes_then : {A B : Type 0} (k j n : ℕ) (rest : List ℕ) (f : A × List ℕ → Result (B × List ℕ) ImageError) (r s :
     Result (A × List ℕ) ImageError) → ((x : A) (a : List ℕ) → Goes j (length a) rest (f (x, a)) (f (x, a ++ rest)))
     → Goes k n rest r s → Goes (k + j) n rest (r >>= f) (s >>= f)
-goes_then k j n rest f (Ok x) s h g = subst (λ s. Goes (k + j) n rest (f x) (s >>= f)) (sym g.0)
-    (goes_more k j n (length x.1) rest (f x) (f (x.0, x.1 ++ rest)) g.1 (h x.0 x.1))
+goes_then k j n rest f (Ok x) s h g = rw g.0 (goes_more k j n (length x.1) rest (f x) (f (x.0, x.1 ++ rest)) g.1 (h x.0
+    x.1))
   where
     goes_more : {B : Type 0} (k j n m : ℕ) (rest : List ℕ) (r s : Result (B × List ℕ) ImageError) → n ≡ k + m
         → Goes j m rest r s → Goes (k + j) n rest r s
-    goes_more k j n m rest (Ok x) s e g = (g.0, omega (arith, e, g.1))
-    goes_more k j n m rest (Err (F.Short at)) s e g = omega (arith, e, g)
+    goes_more k j n m rest (Ok x) s e g = (g.0, omega arith)
+    goes_more k j n m rest (Err (F.Short at)) s e g = omega arith
     goes_more k j n m rest (Err F.Read) s e g = g
     goes_more k j n m rest (Err (F.Magic at)) s e g = g
     goes_more k j n m rest (Err (F.OldVersion at)) s e g = g
@@ -168,16 +167,16 @@ goes_then k j n rest f (Ok x) s h g = subst (λ s. Goes (k + j) n rest (f x) (s 
     goes_more k j n m rest (Err (F.Page at)) s e g = g
     goes_more k j n m rest (Err (F.Twice at)) s e g = g
     goes_more k j n m rest (Err (F.Long at)) s e g = g
-goes_then k j n rest f (Err (F.Short at)) s h g = omega (arith, g)
+goes_then k j n rest f (Err (F.Short at)) s h g = omega arith
 goes_then k j n rest f (Err F.Read) s h g = g
-goes_then k j n rest f (Err (F.Magic at)) s h g = ap (λ s. s >>= f) g
-goes_then k j n rest f (Err (F.OldVersion at)) s h g = ap (λ s. s >>= f) g
-goes_then k j n rest f (Err (F.Frames at)) s h g = ap (λ s. s >>= f) g
-goes_then k j n rest f (Err (F.Cpus at)) s h g = ap (λ s. s >>= f) g
-goes_then k j n rest f (Err (F.Plan at)) s h g = ap (λ s. s >>= f) g
-goes_then k j n rest f (Err (F.Page at)) s h g = ap (λ s. s >>= f) g
-goes_then k j n rest f (Err (F.Twice at)) s h g = ap (λ s. s >>= f) g
-goes_then k j n rest f (Err (F.Long at)) s h g = ap (λ s. s >>= f) g
+goes_then k j n rest f (Err (F.Magic at)) s h g = rw g
+goes_then k j n rest f (Err (F.OldVersion at)) s h g = rw g
+goes_then k j n rest f (Err (F.Frames at)) s h g = rw g
+goes_then k j n rest f (Err (F.Cpus at)) s h g = rw g
+goes_then k j n rest f (Err (F.Plan at)) s h g = rw g
+goes_then k j n rest f (Err (F.Page at)) s h g = rw g
+goes_then k j n rest f (Err (F.Twice at)) s h g = rw g
+goes_then k j n rest f (Err (F.Long at)) s h g = rw g
 
 -- a test after a parser
 tested_goes : (test : ℕ → Bool) (e : ImageError) → ((n : ℕ) (rest : List ℕ) → Goes {A = ℕ} 0 n rest (Err e) (Err e))
@@ -236,13 +235,12 @@ magic_goes bs rest =
     (still 8 bs rest)
     (λ long. let l : 8 ≤ length bs = not_less _ 8 long in
     let l8 = length-drop 8 bs in
-    subst (λ v. Goes 8 (length bs) rest (cond (bytes_eq (take 8 bs) magic) (with_zero (drop 8 bs))
-    (cond (bytes_eq (take 8 bs) old_magic) (Err (F.OldVersion 0)) (Err (F.Magic 0)))) (cond (bytes_eq v magic)
-    (with_zero (drop 8 (bs ++ rest))) (cond (bytes_eq v old_magic) (Err (F.OldVersion 0)) (Err (F.Magic 0)))))
-    (sym (take-append-le 8 bs rest l))
-    (goes_if 8 (length bs) rest (bytes_eq (take 8 bs) magic) _ _ _ _
-    (λ _. (ap with_zero (drop_less 8 bs rest l), omega arith))
-    (λ _. goes_if 8 (length bs) rest (bytes_eq (take 8 bs) old_magic) _ _ _ _ (λ _. refl) (λ _. refl))))
+    rw (take-append-le 8 bs rest l) (goes_if 8 (length bs) rest (bytes_eq (take 8 bs) magic) _ _ _ _ (λ _. (
+      ap with_zero
+          (drop_less 8 bs rest l),
+      omega arith,
+    )) (λ _. goes_if 8 (length bs) rest (bytes_eq (take 8 bs) old_magic) _ _ _ _
+    (λ _. refl) (λ _. refl))))
 
 with_magic : (s b c : Bool) (e f g : ImageError) (r : List ℕ) → (cond s (Err e) (cond b (Ok r) (cond c (Err f) (Err g)))
     >>= fields_after) ≡ (cond s (Err e) (cond b (with_zero r) (cond c (Err f) (Err g))) >>= (λ x. fields_after x.1))
@@ -258,5 +256,5 @@ fields_goes bs rest =
     (F.Short (length a)) (F.OldVersion 0) (F.Magic 0) (drop 8 a) in
     let g = goes_then 8 16 (length bs) rest (λ x. fields_after x.1) (magic_with bs)
     (magic_with (bs ++ rest)) (λ x a. after_goes a rest) (magic_goes bs rest) in
-    subst (λ s. Goes 24 (length bs) rest (magic_of bs >>= fields_after) s) (sym (e (bs ++ rest))) (subst (λ r.
-    Goes 24 (length bs) rest r (magic_with (bs ++ rest) >>= (λ x. fields_after x.1))) (sym (e bs)) g)
+    rw (e (bs ++ rest)) (subst (λ r. Goes 24 (length bs) rest r (magic_with (bs ++ rest) >>= (λ x. fields_after x.1)))
+    (sym (e bs)) g)

@@ -1,7 +1,7 @@
 -- The parts of an image, read from a filled buffer.
-use Rattle.std.specs.Prelude.{◌≡◌, refl, ℕ, suc, ◌+◌, ◌<◌, Bool, true, false, List, [], ◌∷◌, ◌++◌, length, take}
+use Rattle.std.specs.Prelude.{◌≡◌, refl, ℕ, suc, ◌+◌, ◌<◌, Bool, true, false, List, ◌∷◌, ◌++◌, length, take}
 use Rattle.std.specs.Prelude.{Option, Result, Ok, Err}
-use Rattle.std.proofs.Common.{ap, sym, subst, ◌∙◌, arith}
+use Rattle.std.proofs.Common.{[], ap, sym, subst, ◌∙◌, arith}
 use Rattle.std.proofs.lemmas.List.{length-take-le}
 use Rattle.pip_base.specs.declared.types.Plan.{Plan}
 use Rattle.pip_model.specs.declared.image.ImageError.{ImageError}
@@ -34,7 +34,7 @@ part_unfilled : {A : Type 0} (k : ℕ) (filled : Filled) (buf : List ℕ) (left 
 part_unfilled k filled buf left left' before now p part next e parses f size h =
     let l = length-take-le filled.count buf f.count in
     part_refused k p part next e filled.failed (take filled.count buf) left left' before now parses (sym h) f.taken
-    (λ w few right. f.ended w (omega arith) (ap is_fault (sym h) ∙ right)) f.rose (λ w. ap is_fault h ∙ f.right w)
+    (λ w few right. f.ended w (omega arith) (rw (← h, right))) f.rose (λ w. cc (f.right w))
     f.no_faults
 
 -- where a part was taken, the buffer was filled
@@ -44,10 +44,12 @@ pub filled_whole : {A : Type 0} (k : ℕ) (filled : Filled) (buf : List ℕ) (le
     → Ok (x, r) ≡ p (take filled.count buf) → filled.count ≡ length buf
 filled_whole k filled buf left left' before now p x r parses f size e =
     let bytes = take filled.count buf in
-    let g = subst (λ s. Goes k (length bytes) [] s (p (bytes ++ []))) (sym e) (parses bytes []) in
-    let l = length-take-le filled.count buf f.count in
-    let count = f.count in
-    omega (arith, g.1, l, size, count)
+    omega (
+      arith,
+      subst (λ s. Goes k (length bytes) [] s (p (bytes ++ []))) (sym e) (parses bytes []),
+      length-take-le
+          filled.count buf f.count,
+    )
 
 -- and no read failed
 pub filled_calm : {A : Type 0} (k : ℕ) (filled : Filled) (buf : List ℕ) (left left' : Option (List ℕ))
@@ -61,7 +63,7 @@ filled_calm k filled buf left left' before now p x r parses f size e = go filled
     go true w =
         let whole = filled_whole k filled buf left left' before now p x r parses f size e in
         let few = f.few w in
-        absurd (omega (arith, whole, few))
+        absurd (omega arith)
 
 -- ---- what is told from a place on
 
@@ -79,10 +81,8 @@ pub fields_taken : (p : Place) (filled : Filled) (buf : List ℕ) (left left' : 
     → p.at ≡ 24 → p.frames ≡ f.frames → p.plans ≡ f.plans → p.line ≡ 0 → p.pages ≡ f.pages → p.seen.items ≡ []
     → TakesParts image_parts (coming p) (Head f ∷ []) left left'
 fields_taken p filled buf left left' before now f r is size e at frames plans line pages seen =
-    subst (λ t. TakesParts image_parts t (Head f ∷ []) left left')
-    (sym (coming_from p 24 0 f.plans f.frames [] f.pages at line plans frames seen pages))
-    (part_filled 24 filled buf left left' before now fields_of Head (λ f. from 24 0 f.plans f.frames [] f.pages) f r
-    fields_goes is size e)
+    rw (coming_from p 24 0 f.plans f.frames [] f.pages at line plans frames seen pages) (part_filled 24 filled buf left
+    left' before now fields_of Head (λ f. from 24 0 f.plans f.frames [] f.pages) f r fields_goes is size e)
 
 pub fields_refused : (filled : Filled) (buf : List ℕ) (left left' : Option (List ℕ)) (before now : ℕ) (e : ImageError)
     → IsFilled (λ bs. is_fault (fields_of bs)) filled buf left left' before now → length buf ≡ 24
@@ -107,21 +107,19 @@ pub plan_taken : (p q : Place) (filled : Filled) (buf : List ℕ) (left left' : 
     → q.at ≡ p.at + 12 → q.frames ≡ p.frames → q.plans + 1 ≡ p.plans → q.line ≡ x.line + 1 → q.pages ≡ p.pages
     → q.seen ≡ p.seen → TakesParts (coming p) (coming q) (Line x ∷ []) left left'
 plan_taken p q filled buf left left' before now x r is size e at frames plans line pages seen =
-    subst (λ t. TakesParts t (coming q) (Line x ∷ []) left left') (sym (plan_next p q.plans (omega (arith, plans))))
-    (subst (λ t. TakesParts (one_part (plan_at p.at p.line) Line (λ y. from (p.at + 12) (y.line + 1) q.plans p.frames
-    p.seen.items p.pages)) t (Line x ∷ []) left left') (sym (coming_from q (p.at + 12) (x.line + 1) q.plans p.frames
-    p.seen.items p.pages at line refl frames (ap (λ s. s.items) seen) pages))
-    (part_filled 12 filled buf left left' before now (plan_at p.at p.line) Line (λ y.
-    from (p.at + 12) (y.line + 1) q.plans p.frames p.seen.items p.pages) x r (plan_goes p.at p.line) is size e))
+    rw (plan_next p q.plans (omega (arith, plans))) (subst (λ t. TakesParts (one_part (plan_at p.at p.line) Line (λ y.
+    from (p.at + 12) (y.line + 1) q.plans p.frames p.seen.items p.pages)) t (Line x ∷ []) left left') (sym
+    (coming_from q (p.at + 12) (x.line + 1) q.plans p.frames p.seen.items p.pages at line refl frames (ap (λ s.
+    s.items) seen) pages)) (part_filled 12 filled buf left left' before now (plan_at p.at p.line) Line (λ y. from
+    (p.at + 12) (y.line + 1) q.plans p.frames p.seen.items p.pages) x r (plan_goes p.at p.line) is size e))
 
 pub plan_refused : (p : Place) (k : ℕ) (filled : Filled) (buf : List ℕ) (left left' : Option (List ℕ)) (before now : ℕ)
     (e : ImageError) → p.plans ≡ suc k → IsFilled (λ bs. is_fault (plan_at p.at p.line bs)) filled buf left left' before
     now → length buf ≡ 12 → Err e ≡ plan_at p.at p.line (take filled.count buf)
     → Refuses (coming p) [] left left' before now (fault_of e filled.failed)
 plan_refused p k filled buf left left' before now e some is size h =
-    subst (λ t. Refuses t [] left left' before now (fault_of e filled.failed)) (sym (plan_next p k some))
-    (part_unfilled 12 filled buf left left' before now (plan_at p.at p.line) Line
-    (λ y. from (p.at + 12) (y.line + 1) k p.frames p.seen.items p.pages) e (plan_goes p.at p.line) is size h)
+    rw (plan_next p k some) (part_unfilled 12 filled buf left left' before now (plan_at p.at p.line) Line (λ y. from
+    (p.at + 12) (y.line + 1) k p.frames p.seen.items p.pages) e (plan_goes p.at p.line) is size h)
 
 pub plan_open : (p : Place) (k : ℕ) (bytes : List ℕ) → p.plans ≡ suc k → length bytes < 12
     → is_fault (plan_at p.at p.line bytes) ≡ false → IsPartless (coming p) bytes
@@ -142,15 +140,12 @@ pub page_taken : (p q : Place) (filled : Filled) (buf : List ℕ) (left left' : 
     → p.plans ≡ 0 → q.at ≡ p.at + 4100 → q.frames ≡ p.frames → q.plans ≡ p.plans → q.pages + 1 ≡ p.pages
     → q.seen.items ≡ p.seen.items ++ x.vpage ∷ [] → TakesParts (coming p) (coming q) (Holds x ∷ []) left left'
 page_taken p q filled buf left left' before now x r is size e none at frames plans pages seen =
-    subst (λ t. TakesParts t (coming q) (Holds x ∷ []) left left')
-    (sym (page_next p q.pages none (omega (arith, pages))))
-    (subst (λ t. TakesParts (one_part (front_page p.frames p.seen.items p.at) Holds
-    (λ g. from (p.at + 4100) 0 0 p.frames
-    (p.seen.items ++ g.vpage ∷ []) q.pages)) t (Holds x ∷ []) left left') (sym (coming_from q (p.at + 4100) q.line 0
-    p.frames (p.seen.items ++ x.vpage ∷ []) q.pages at refl (plans ∙ none) frames seen refl))
-    (part_filled 4100 filled buf left left' before now (front_page p.frames p.seen.items p.at) Holds
-    (λ g. from (p.at + 4100) 0 0 p.frames (p.seen.items ++ g.vpage ∷ []) q.pages) x r
-    (page_goes p.frames p.seen.items p.at) is size e))
+    rw (page_next p q.pages none (omega (arith, pages))) (subst (λ t. TakesParts (one_part (front_page p.frames
+    p.seen.items p.at) Holds (λ g. from (p.at + 4100) 0 0 p.frames (p.seen.items ++ g.vpage ∷ []) q.pages)) t (Holds
+    x ∷ []) left left') (sym (coming_from q (p.at + 4100) q.line 0 p.frames (p.seen.items ++ x.vpage ∷ []) q.pages
+    at refl (plans ∙ none) frames seen refl)) (part_filled 4100 filled buf left left' before now (front_page
+    p.frames p.seen.items p.at) Holds (λ g. from (p.at + 4100) 0 0 p.frames (p.seen.items ++ g.vpage ∷ []) q.pages)
+    x r (page_goes p.frames p.seen.items p.at) is size e))
 
 pub page_refused : (p : Place) (k : ℕ) (filled : Filled) (buf : List ℕ) (left left' : Option (List ℕ)) (before now : ℕ)
     (e : ImageError) → p.plans ≡ 0 → p.pages ≡ suc k
@@ -158,9 +153,9 @@ pub page_refused : (p : Place) (k : ℕ) (filled : Filled) (buf : List ℕ) (lef
     → length buf ≡ 4100 → Err e ≡ front_page p.frames p.seen.items p.at (take filled.count buf)
     → Refuses (coming p) [] left left' before now (fault_of e filled.failed)
 page_refused p k filled buf left left' before now e none some is size h =
-    subst (λ t. Refuses t [] left left' before now (fault_of e filled.failed)) (sym (page_next p k none some))
-    (part_unfilled 4100 filled buf left left' before now (front_page p.frames p.seen.items p.at) Holds (λ g. from
-    (p.at + 4100) 0 0 p.frames (p.seen.items ++ g.vpage ∷ []) k) e (page_goes p.frames p.seen.items p.at) is size h)
+    rw (page_next p k none some) (part_unfilled 4100 filled buf left left' before now (front_page p.frames p.seen.items
+    p.at) Holds (λ g. from (p.at + 4100) 0 0 p.frames (p.seen.items ++ g.vpage ∷ []) k) e (page_goes p.frames
+    p.seen.items p.at) is size h)
 
 pub page_open : (p : Place) (k : ℕ) (bytes : List ℕ) → p.plans ≡ 0 → p.pages ≡ suc k → length bytes < 4100
     → is_fault (front_page p.frames p.seen.items p.at bytes) ≡ false → IsPartless (coming p) bytes
@@ -177,11 +172,10 @@ end_open p none last = subst (λ t. IsPartless t
 -- and the same, where the pages before it are named otherwise
 pub page_same : (n at : ℕ) (bs s t : List ℕ) (r : Result (Page × List ℕ) ImageError) → s ≡ t → r ≡ front_page n s at bs
     → r ≡ front_page n t at bs
-page_same n at bs s t r e h = subst (λ u. r ≡ front_page n u at bs) e h
+page_same n at bs s t r e h = rw (← e) h
 
 -- a buffer that was filled, too, where the pages before it are named otherwise
 pub page_filled : (n at : ℕ) (filled : Filled) (buf s t : List ℕ) (left left' : Option (List ℕ)) (before now : ℕ)
     → s ≡ t → IsFilled (λ bs. is_fault (front_page n s at bs)) filled buf left left' before now
     → IsFilled (λ bs. is_fault (front_page n t at bs)) filled buf left left' before now
-page_filled n at filled buf s t left left' before now e h =
-    subst (λ u. IsFilled (λ bs. is_fault (front_page n u at bs)) filled buf left left' before now) e h
+page_filled n at filled buf s t left left' before now e h = rw (← e) h

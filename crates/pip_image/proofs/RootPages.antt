@@ -1,7 +1,7 @@
 -- The rows of the root when a machine begins.
 use Rattle.std.specs.Prelude.{◌≡◌, refl, ℕ, zero, suc, ◌+◌, ◌-◌, ◌^◌, ◌≤◌, ◌<◌, ◌==◌, ◌&&◌, ◌⊎◌, nat_le, nat_lt, Bool}
 use Rattle.std.specs.Prelude.{true, false, cond, Option, Some, None, is_some, option_map}
-use Rattle.std.proofs.Common.{ap, sym, ◌∙◌, eqb-true, inl, inr, arith}
+use Rattle.std.proofs.Common.{eqb-true, inl, inr, arith}
 use Rattle.std.proofs.lemmas.Bool.Decides.{nat_tests}
 use Rattle.pip_model.specs.Boot.{tables_of_root, boot_tree, first_user, frame_of_root, rows_from, zero_words}
 use Rattle.pip_model.specs.Tree.{Row, row_at}
@@ -9,8 +9,11 @@ use Rattle.pip_model.specs.Images.{has_row}
 use Rattle.pip_model.proofs.Trees.Boot.{root-frame_none}
 
 pub no_row : (n v : ℕ) → n ≤ 4096 → 2 ^ 20 ≤ v → has_row n v ≡ false
-no_row n v m h = ap is_some
-    (sym (root-frame_none n (tables_of_root n) v refl (λ e. omega (arith, e, h)) (inr (omega (arith, m, h)))))
+no_row n v m h = rw (← root-frame_none n (tables_of_root n) v refl (λ e. omega (arith, e, h)) (inr (omega (
+  arith,
+  m,
+  h,
+))))
 
 -- ---- the frames of the root's pages
 
@@ -23,7 +26,7 @@ row_frame : (k v g u f : ℕ) → option_map (λ r. r.frame) (row_at (rows_from 
 row_frame zero v g u f e = last (found_is (0xfffff == u) (record { at = 0xfffff; frame = g; rights = 7 }) None f e)
   where
     last : (g ≡ f) ⊎ (None ≡ Some f) → (g ≤ f) × (f ≤ g + 0)
-    last (inl h) = (omega (arith, h), omega (arith, h))
+    last (inl h) = (omega arith, omega arith)
     last (inr h) = absurd cc
 row_frame (suc k) v g u f e = more (row_frame k (v + 1) (g + 1) u f)
     (found_is (v == u) (record { at = v; frame = g; rights = 7 }) (row_at (rows_from k (v + 1) (g + 1)) u) f e)
@@ -31,15 +34,14 @@ row_frame (suc k) v g u f e = more (row_frame k (v + 1) (g + 1) u f)
     more : (option_map (λ r. r.frame) (row_at (rows_from k (v + 1) (g + 1)) u) ≡ Some f → (g + 1 ≤ f) × (f ≤ g + 1 + k))
         → (g ≡ f) ⊎ (option_map (λ r. r.frame) (row_at (rows_from k (v + 1) (g + 1)) u) ≡ Some f)
         → (g ≤ f) × (f ≤ g + suc k)
-    more ih (inl h) = (omega (arith, h), omega (arith, h))
-    more ih (inr h) = let r = ih h in (omega (arith, r.0), omega (arith, r.1))
+    more ih (inl h) = (omega arith, omega arith)
+    more ih (inr h) = let r = ih h in (omega arith, omega arith)
 
 users : (n : ℕ) → 16 ≤ n → n ≤ 4096 → first_user n < n
-users n h k = omega (arith, h, k)
+users n h k = omega arith
 
 pub frame_small : (n v f : ℕ) → 16 ≤ n → n ≤ 4096 → frame_of_root n v ≡ Some f → f < n
-frame_small n v f h k e = let r = row_frame (n - first_user n - 1) 1024 (first_user n) v f e in let u = users n h k in
-    let b = r.1 in omega (arith, u, b)
+frame_small n v f h k e = let r = row_frame (n - first_user n - 1) 1024 (first_user n) v f e in omega arith
 
 pub frame_open : (n v f : ℕ) → 16 ≤ n → n ≤ 4096 → frame_of_root n v ≡ Some f → is_some ((boot_tree n).words f) ≡ true
 frame_open n v f h k e =
@@ -67,7 +69,7 @@ one_row zero v g u w f a b = last (found_at (0xfffff == u) (record { at = 0xffff
   where
     last : (((0xfffff == u) ≡ true) × (g ≡ f)) ⊎ (None ≡ Some f) → (((0xfffff == w) ≡ true) × (g ≡ f)) ⊎ (None ≡ Some f)
         → u ≡ w
-    last (inl h) (inl k) = sym (eqb-true 0xfffff u h.0) ∙ eqb-true 0xfffff w k.0
+    last (inl h) (inl k) = cc (eqb-true 0xfffff u h.0, eqb-true 0xfffff w k.0)
     last (inr h) k = absurd cc
     last h (inr k) = absurd cc
 one_row (suc k) v g u w f a b =
@@ -80,9 +82,9 @@ one_row (suc k) v g u w f a b =
         → (frame_at k (v + 1) (g + 1) w ≡ Some f → (g + 1 ≤ f) × (f ≤ g + 1 + k))
         → (((v == u) ≡ true) × (g ≡ f)) ⊎ (frame_at k (v + 1) (g + 1) u ≡ Some f)
         → (((v == w) ≡ true) × (g ≡ f)) ⊎ (frame_at k (v + 1) (g + 1) w ≡ Some f) → u ≡ w
-    more ih ru rw (inl h) (inl k) = sym (eqb-true v u h.0) ∙ eqb-true v w k.0
-    more ih ru rw (inl h) (inr k) = let low = (rw k).0 in absurd (omega (arith, low, h.1))
-    more ih ru rw (inr h) (inl k) = let low = (ru h).0 in absurd (omega (arith, low, k.1))
+    more ih ru rw (inl h) (inl k) = cc (eqb-true v u h.0, eqb-true v w k.0)
+    more ih ru rw (inl h) (inr k) = absurd (omega (arith, (rw k).0, h.1))
+    more ih ru rw (inr h) (inl k) = absurd (omega (arith, (ru h).0, k.1))
     more ih ru rw (inr h) (inr k) = ih h k
 
 pub one_page : (n u v f : ℕ) → frame_of_root n u ≡ Some f → frame_of_root n v ≡ Some f → u ≡ v

@@ -1,17 +1,14 @@
 -- Words that are the same below 1024 are laid out the same.
-use Rattle.std.proofs.Common.{◌≡◌, ℕ, ◌<◌, sym, ap, ◌∙◌, Option, cond, List}
-use Rattle.std.specs.Prelude.{find, is_some}
-use Rattle.pip_model.specs.Layout.{LaysOut, layout, owned_word}
+use Rattle.std.proofs.Common.{◌≡◌, ℕ, ◌<◌, Option, List}
+use Rattle.std.specs.Prelude.{is_some}
+use Rattle.pip_model.specs.Layout.{LaysOut, layout}
 use Rattle.pip_model.specs.FullRows.{from_word, full_rows, given_word}
-use Rattle.pip_model.specs.Lists.{has}
-use Rattle.pip_model.specs.Tree.{Tree, config, nodes, word_of}
+use Rattle.pip_model.specs.Tree.{Tree, word_of}
 
 layout_same : (t : Tree) (words : ℕ → Option (ℕ → ℕ)) (f i : ℕ) → is_some (words f) ≡ is_some (t.words f)
     → word_of (words f) i ≡ word_of (t.words f) i → layout (record t { words = words }) f i ≡ layout t f i
 unfolding layout full_rows given_word from_word
-layout_same t words f i some same =
-    ap (λ b. cond b (word_of (words f) i) (owned_word t f i (find (λ y. has (config y) f) (nodes t)))) some
-    ∙ ap (λ w. cond (is_some (t.words f)) w (owned_word t f i (find (λ y. has (config y) f) (nodes t)))) same
+layout_same t words f i some same = rw (some, same)
 
 pub lays_same : (t : Tree) (words : ℕ → Option (ℕ → ℕ)) (m : List (List ℕ)) → ((g : ℕ)
     → is_some (words g) ≡ is_some (t.words g)) → ((g i : ℕ) → i < 1024 → word_of (words g) i ≡ word_of (t.words g) i)
@@ -19,5 +16,5 @@ pub lays_same : (t : Tree) (words : ℕ → Option (ℕ → ℕ)) (m : List (Lis
 lays_same t words m some same lays = record {
   shape = lays.shape;
   count = lays.count;
-  word = λ f i a b. lays.word f i a b ∙ sym (layout_same t words f i (some f) (same f i b));
+  word = λ f i a b. cc (lays.word f i a b, layout_same t words f i (some f) (same f i b));
 }

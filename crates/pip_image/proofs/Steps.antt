@@ -1,8 +1,8 @@
 -- Parts that are taken or refused, one after another.
-use Rattle.std.specs.Prelude.{◌≡◌, refl, ℕ, ◌+◌, ◌<◌, ◌≤◌, Bool, true, false, List, [], ◌∷◌, ◌++◌, length, Option, Some}
+use Rattle.std.specs.Prelude.{◌≡◌, refl, ℕ, ◌+◌, ◌<◌, ◌≤◌, Bool, true, false, List, ◌∷◌, ◌++◌, length, Option, Some}
 use Rattle.std.specs.Prelude.{None, Result, Ok, Err}
 use Rattle.std.specs.Io.KnownBytes.{Consumes, IsAtEnd}
-use Rattle.std.proofs.Common.{ap, sym, subst, ◌∙◌, arith, append_assoc, inl, inr}
+use Rattle.std.proofs.Common.{[], ap, sym, subst, ◌∙◌, arith, append_assoc, inl, inr}
 use Rattle.std.proofs.KnownBytes.{Consumes-trans}
 use Rattle.std.proofs.lemmas.Bool.{false≢true}
 use Rattle.pip_io.specs.Causes.{RoseByOne}
@@ -24,7 +24,7 @@ one_part p part next bs = goes_on (p bs) (λ x rest. part_before (part x) (next 
 
 pub no_rest : (k n : ℕ) (r : List ℕ) → n ≤ k → n ≡ k + length r → r ≡ []
 no_rest k n [] h e = refl
-no_rest k n (x ∷ r) h e = absurd (omega (arith, h, e))
+no_rest k n (x ∷ r) h e = absurd (omega arith)
 
 pub part_taken : {A : Type 0} (k : ℕ) (p : List ℕ → Result (A × List ℕ) ImageError)
     (part : A → Part) (next : A → List ℕ → PartsRead) (x : A) (r bytes : List ℕ) (left left' : Option (List ℕ))
@@ -34,8 +34,7 @@ part_taken k p part next x r bytes left left' parses few e taken = record {
   bytes = bytes;
   taken = taken;
   is = λ rest. let g = subst (λ s. Goes k (length bytes) rest s (p (bytes ++ rest))) e (parses bytes rest) in
-      ap (λ s. goes_on s (λ x rest. part_before (part x) (next x rest))) g.0
-      ∙ ap (λ a. part_before (part x) (next x (a ++ rest))) (no_rest k (length bytes) r few g.1);
+      rw (g.0, no_rest k (length bytes) r few g.1);
 }
 
 pub part_refused : {A : Type 0} (k : ℕ) (p : List ℕ → Result (A × List ℕ) ImageError)
@@ -50,7 +49,7 @@ part_refused {A} k p part next e failed bytes left left' before now parses h tak
     record {
       bytes = bytes;
       taken = taken;
-      why = why e failed (λ rest. subst (λ s. Goes k (length bytes) rest s (p (bytes ++ rest))) h (parses bytes rest))
+      why = why e failed (λ rest. rw h at (parses bytes rest))
           go over rose right no_faults;
     }
   where
@@ -58,7 +57,7 @@ part_refused {A} k p part next e failed bytes left left' before now parses h tak
         (part : A → Part) (next : A → List ℕ → PartsRead) (bytes : List ℕ) (left' : Option (List ℕ)) (e : ImageError)
         → ((rest : List ℕ) → p (bytes ++ rest) ≡ Err e) → IsFault (one_part p part next) [] bytes left' e
     judged p part next bytes left' e g =
-        inl (λ rest. ap (λ s. goes_on s (λ x rest. part_before (part x) (next x rest))) (g rest))
+        inl (λ rest. rw (g rest))
 
     spared : (failed : Bool) → (failed ≡ true → ◌≡◌ {A = Bool} true false) → (failed ≡ false → now ≡ before)
         → now ≡ before
@@ -72,7 +71,7 @@ part_refused {A} k p part next e failed bytes left left' before now parses h tak
         → by_read (fault_of e failed) (IsCut (one_part p part next) [] bytes before now)
         (IsFault (one_part p part next) [] bytes left' (fault_of e failed) × (now ≡ before))
     why (F.Short at) true g go over rose right no_faults =
-        record { rose = rose refl; whole = ap (λ t. t.parts) go; fault = subst (λ t. EndsAtMost t.fault) (sym go) tt }
+        record { rose = rose refl; whole = rw go; fault = rw go tt }
     why (F.Short at) false g go over rose right no_faults = (inr (go, over refl (g []) refl), no_faults refl)
     why F.Read failed g go over rose right no_faults = absurd (g [])
     why (F.Magic at) failed g go over rose right no_faults =
@@ -113,23 +112,22 @@ part_open {A} k p part next bytes parses few right = go (p bytes) refl
     go : (s : Result (A × List ℕ) ImageError) → p bytes ≡ s → IsPartless (one_part p part next) bytes
     go (Ok x) h =
         let g = subst (λ s. Goes k (length bytes) [] s (p (bytes ++ []))) h (parses bytes []) in
-        absurd (omega (arith, few, g.1))
+        absurd (omega arith)
     go (Err e) h =
-        let part_before : one_part p part next bytes ≡ only_fault e =
-        ap (λ s. goes_on s (λ x rest. part_before (part x) (next x rest))) h in (
-          ap (λ t. t.parts) part_before,
-          subst (λ t. EndsAtMost t.fault) (sym part_before) (at_most e (sym (ap is_fault h) ∙ right)),
+        let part_before : one_part p part next bytes ≡ only_fault e = rw h in (
+          rw part_before,
+          rw part_before (at_most e (sym (ap is_fault h) ∙ right)),
         )
 
 -- ---- one after another
 
 pub after_append : (ps qs : List Part) (t : PartsRead) → parts_then (ps ++ qs) t ≡ parts_then ps (parts_then qs t)
 after_append [] qs t = refl
-after_append (p ∷ ps) qs t = ap (part_before p) (after_append ps qs t)
+after_append (p ∷ ps) qs t = rw (after_append ps qs t)
 
 pub after_parts : (ps : List Part) (t : PartsRead) → (parts_then ps t).parts ≡ ps ++ t.parts
 after_parts [] t = refl
-after_parts (p ∷ ps) t = ap (λ l. p ∷ l) (after_parts ps t)
+after_parts (p ∷ ps) t = rw (after_parts ps t)
 
 pub after_fault : (ps : List Part) (t : PartsRead) → (parts_then ps t).fault ≡ t.fault
 after_fault [] t = refl
@@ -138,16 +136,14 @@ after_fault (p ∷ ps) t = after_fault ps t
 -- after parts that were taken nothing is wrong where nothing is wrong with what comes
 pub faultless_after : (t u : List ℕ → PartsRead) (ps : List Part) (a b : Option (List ℕ)) (x : TakesParts t u ps a b)
     (bytes : List ℕ) → IsFaultless u bytes → IsFaultless t (x.bytes ++ bytes)
-faultless_after t u ps a b x bytes is =
-    subst EndsAtMost (sym (ap (λ t. t.fault) (x.is bytes) ∙ after_fault ps (u bytes))) is
+faultless_after t u ps a b x bytes is = rw (x.is bytes, after_fault ps (u bytes)) is
 
 pub takes_then : (t u v : List ℕ → PartsRead) (ps qs : List Part) (a b c : Option (List ℕ)) → TakesParts t u ps a b
     → TakesParts u v qs b c → TakesParts t v (ps ++ qs) a c
 takes_then t u v ps qs a b c x y = record {
   bytes = x.bytes ++ y.bytes;
   taken = Consumes-trans _ _ _ _ _ x.taken y.taken;
-  is = λ rest. ap t (append_assoc x.bytes y.bytes rest) ∙ x.is (y.bytes ++ rest) ∙ ap (parts_then ps) (y.is rest)
-      ∙ sym (after_append ps qs (v rest));
+  is = λ rest. rw (append_assoc x.bytes y.bytes rest, x.is (y.bytes ++ rest), y.is rest, ← after_append ps qs (v rest));
 }
 
 by_read_map : (e : ImageError) (A B C D : Type 0) → (A → C) → (B → D) → by_read e A B → by_read e C D
@@ -171,31 +167,36 @@ takes_refused t u ps qs a b c m n k e same x y =
       bytes = x.bytes ++ y.bytes;
       taken = Consumes-trans _ _ _ _ _ x.taken y.taken;
       why = by_read_map e _ _ _ _ (λ (z : IsCut u qs y.bytes n k). cut z joined)
-          (λ z. (fault t u ps qs x.bytes y.bytes c e x.is joined z.0, z.1 ∙ same)) y.why;
+          (λ z. (fault t u ps qs x.bytes y.bytes c e x.is joined z.0, cc (z.1))) y.why;
     }
   where
     cut : IsCut u qs y.bytes n k → t (x.bytes ++ y.bytes) ≡ parts_then ps (u y.bytes)
         → IsCut t (ps ++ qs) (x.bytes ++ y.bytes) m k
     cut z joined = record {
-      rose = subst (λ i. RoseByOne i k) same z.rose;
-      whole = ap (λ t. t.parts) joined ∙ after_parts ps (u y.bytes) ∙ ap (λ l. ps ++ l) z.whole;
-      fault = subst EndsAtMost (sym (ap (λ t. t.fault) joined ∙ after_fault ps (u y.bytes))) z.fault;
+      rose = rw (← same) z.rose;
+      whole = rw (joined, after_parts ps (u y.bytes), z.whole);
+      fault = rw (joined, after_fault ps (u y.bytes)) z.fault;
     }
 
     fault : (t u : List ℕ → PartsRead) (ps qs : List Part) (bs cs : List ℕ) (c : Option (List ℕ)) (e : ImageError)
         → ((rest : List ℕ) → t (bs ++ rest) ≡ parts_then ps (u rest)) → t (bs ++ cs) ≡ parts_then ps (u cs)
         → IsFault u qs cs c e → IsFault t (ps ++ qs) (bs ++ cs) c e
-    fault t u ps qs bs cs c e is joined (inl g) = inl (λ rest. ap t (append_assoc bs cs rest) ∙ is (cs ++ rest)
-        ∙ ap (parts_then ps) (g rest) ∙ sym (after_append ps qs (only_fault e)))
+    fault t u ps qs bs cs c e is joined (inl g) = inl (λ rest. rw (
+      append_assoc bs cs rest,
+      is (cs ++ rest),
+      g rest,
+      ←
+          after_append ps qs (only_fault e),
+    ))
     fault t u ps qs bs cs c e is joined (inr g) =
-        inr (joined ∙ ap (parts_then ps) g.0 ∙ sym (after_append ps qs (only_fault e)), g.1)
+        inr (rw (joined, g.0, ← after_append ps qs (only_fault e)), g.1)
 
 -- an image that was taken whole
 pub takes_whole : (t u : List ℕ → PartsRead) (ps : List Part) (a b c : Option (List ℕ)) → TakesParts t u ps a b →
     EndsInput u b c
     → (bytes : List ℕ) × Consumes a c bytes × IsAtEnd c × (t bytes ≡ parts_then ps no_more_parts)
 takes_whole t u ps a b c x y =
-    (x.bytes ++ [], Consumes-trans _ _ _ _ _ x.taken y.taken, y.over, x.is [] ∙ ap (parts_then ps) y.is)
+    (x.bytes ++ [], Consumes-trans _ _ _ _ _ x.taken y.taken, y.over, rw (x.is [], y.is))
 
 pub takes_none : (t : List ℕ → PartsRead) (a : Option (List ℕ)) → TakesParts t t [] a a
 takes_none t None = record { bytes = []; taken = tt; is = λ rest. refl }

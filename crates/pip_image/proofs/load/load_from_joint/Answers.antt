@@ -1,7 +1,4 @@
-use Rattle.std.proofs.Common.{subst, sym}
 use Rattle.pip_image.specs.Coming.{coming}
-use Rattle.pip_io.specs.Pacing.{MayRead}
-use Rattle.pip_io.specs.Moments.{streams}
 use Rattle.pip_io.proofs.Pacing.{paced_after}
 use Rattle.pip_image.specs.Pacing.{IsFaultless, IsPartless}
 use Rattle.pip_image.proofs.Steps.{faultless_after}
@@ -21,6 +18,4 @@ end-requires-clause-paced g c =
     c.in-Ok.ensures.no_faults took.taken
     (λ bytes is. faultless_after (coming c.args.reader.now.place) (coming c.load_pages.new.reader.place) _ _ _ took
     bytes is.1) c.requires.paced in
-    subst (λ s. MayRead g.S.Source.allows (IsPartless (coming c.load_pages.new.reader.place))
-    (streams g.S.Source.history g.K.Sink.history c.load_pages.new.joint.source.now s.now))
-    (sym c.in-Ok.ensures.sink) paced
+    rw c.in-Ok.ensures.sink paced

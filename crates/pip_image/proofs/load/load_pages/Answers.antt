@@ -1,9 +1,6 @@
-use Rattle.std.proofs.Common.{arith, ◌≡◌, ◌∙◌, subst, sym, true}
+use Rattle.std.proofs.Common.{arith, ◌≡◌, ◌∙◌, subst, true}
 use Rattle.pip_model.specs.Images.{has_row}
 use Rattle.pip_image.specs.Coming.{coming}
-use Rattle.pip_image.specs.Loading.{Loads}
-use Rattle.pip_io.specs.Pacing.{MayRead}
-use Rattle.pip_io.specs.Moments.{streams}
 use Rattle.pip_io.proofs.Pacing.{paced_after}
 use Rattle.pip_image.specs.Pacing.{IsFaultless, IsPartless}
 use Rattle.pip_image.proofs.Steps.{faultless_after}
@@ -27,17 +24,14 @@ loop-words-preserved g c =
       no_faults = now.no_faults ∙ was.no_faults;
       count = c.load_page.ensures.count ∙ was.count;
       kept = c.load_page.ensures.count ∙ was.kept;
-      done = subst (λ s. Loads c.args.head.now.frames (coming c.args.reader.now.place) (coming
-          c.next_page.new.self.place)
-          (g.S.Source.history c.args.joint.now.source.now).left
-          (g.S.Source.history c.next_page.new.joint.source.now).left s
-          (g.M.Frames.memory c.load_page.new.mem)) (sym next.seen)
-          (loads_page c.args.head.now.frames (coming c.args.reader.now.place) (coming c.loop-words.reader.place) (coming
-          c.next_page.new.self.place) _ _ _ c.loop-words.reader.place.seen.items (g.M.Frames.memory c.loop-words.mem)
-          (g.M.Frames.memory c.load_page.new.mem) (record { vpage = c.in-Ok.vpage; words = c.next_page.new.words })
-          (omega (arith, frames, least)) (omega (arith, frames, most)) (subst (λ n. has_row n c.in-Ok.vpage
-          ≡ true) was.frames next.row) next.unseen c.load_page.ensures.small c.load_page.ensures.lays was.done
-          now.reads);
+      done = rw (← next.seen) at (loads_page c.args.head.now.frames (coming c.args.reader.now.place) (coming
+          c.loop-words.reader.place) (coming c.next_page.new.self.place) _ _ _ c.loop-words.reader.place.seen.items
+          (g.M.Frames.memory c.loop-words.mem) (g.M.Frames.memory c.load_page.new.mem) (record {
+            vpage = c.in-Ok.vpage;
+            words = c.next_page.new.words;
+          }) (omega (arith, frames, least)) (omega (arith, frames, most)) (subst (λ n.
+          has_row n c.in-Ok.vpage ≡ true) was.frames next.row) next.unseen c.load_page.ensures.small
+          c.load_page.ensures.lays was.done now.reads);
     }
 
 pub returns-in-Err-clause-loaded : goal.returns-in-Err-clause-loaded
@@ -55,5 +49,4 @@ next_page-requires-clause-paced g c =
     was.no_faults took.taken
     (λ bytes is. faultless_after (coming c.args.reader.now.place) (coming c.loop-words.reader.place) _ _ _ took bytes
     is.1) c.requires.paced in
-    subst (λ s. MayRead g.S.Source.allows (IsPartless (coming c.loop-words.reader.place))
-    (streams g.S.Source.history g.K.Sink.history c.loop-words.joint.source.now s.now)) (sym was.sink) paced
+    rw was.sink paced

@@ -1,6 +1,5 @@
-use Rattle.std.proofs.Common.{rules, arith, ◌<◌, length, subst, sym}
+use Rattle.std.proofs.Common.{rules, arith, ◌<◌, length}
 use Rattle.pip_model.specs.Images.{fields_of}
-use Rattle.pip_image.specs.Reading.{Refuses}
 use Rattle.pip_image.proofs.Parsing.{fields_goes}
 use Rattle.pip_image.proofs.ReadParts.{filled_calm, filled_whole, fields_open, fields_taken, fields_refused}
 use Rattle.pip_image.proofs.reader.JointReader.fields.Goals as goal
@@ -23,8 +22,8 @@ returns-in-Ok-clause-is_open g c =
 
 pub returns-in-Err-clause-reads : goal.returns-in-Err-clause-reads
 returns-in-Err-clause-reads g c =
-    subst (Refuses _ _ _ _ _ _) (sym c.fault.ensures.fault) (fields_refused _ _ _ _ _ _ _ c.fill-filled.ensures.filled
-    (search (rules, arith)) c.in-Err.ensures.same)
+    rw c.fault.ensures.fault (fields_refused _ _ _ _ _ _ _ c.fill-filled.ensures.filled (search (rules, arith))
+    c.in-Err.ensures.same)
 
 pub fill-filled-requires-clause-paced : goal.fill-filled-requires-clause-paced
 fill-filled-requires-clause-paced g c = λ bytes left taken is.

@@ -1,6 +1,5 @@
-use Rattle.std.proofs.Common.{rules, arith, ◌≡◌, ◌<◌, ◌-◌, length, subst, sym, false}
-use Rattle.pip_model.specs.Images.{is_seen, front_page}
-use Rattle.pip_image.specs.Reading.{Refuses}
+use Rattle.std.proofs.Common.{rules, arith, ◌≡◌, ◌<◌, ◌-◌, length, subst, false}
+use Rattle.pip_model.specs.Images.{front_page}
 use Rattle.pip_image.specs.Sought.{is_fault}
 use Rattle.pip_image.proofs.Parsing.{page_goes}
 use Rattle.pip_image.proofs.ReadParts.{filled_calm, filled_whole, page_filled, page_open, page_refused}
@@ -34,15 +33,15 @@ returns-in-Ok-clause-is_open g c =
 pub returns-in-Err-clause-reads : goal.returns-in-Err-clause-reads
 returns-in-Err-clause-reads g c =
     let place = c.args.self.now.place in
-    subst (Refuses _ _ _ _ _ _) (sym c.fault.ensures.fault) (page_refused place (place.pages - 1) _ _ _ _ _ _ _
-    c.requires.plans (let h = c.requires.pages in omega (arith, h))
-    (page_filled _ _ _ _ _ _ _ _ _ _ c.deref.ensures.0 c.fill-filled.ensures.filled) (search (rules, arith))
-    (page_same _ _ _ _ _ _ c.deref-2.ensures.0 c.in-Err.ensures.same))
+    rw c.fault.ensures.fault (page_refused place (place.pages - 1) _ _ _ _ _ _ _ c.requires.plans (let h =
+    c.requires.pages in omega (arith, h)) (page_filled _ _ _ _ _ _ _ _ _ _ c.deref.ensures.0
+    c.fill-filled.ensures.filled) (search (rules, arith)) (page_same _ _ _ _ _ _ c.deref-2.ensures.0
+    c.in-Err.ensures.same))
 
 pub returns-in-Ok-clause-next : goal.returns-in-Ok-clause-next
 returns-in-Ok-clause-next g c = record {
   row = c.in-Ok.ensures.row;
-  unseen = subst (λ s. is_seen c.in-Ok.vpage s ≡ false) c.deref-2.ensures.0 c.in-Ok.ensures.unseen;
+  unseen = rw (← c.deref-2.ensures.0) c.in-Ok.ensures.unseen;
   seen = c.pass_page.ensures.seen;
 }
 
@@ -53,4 +52,4 @@ fill-filled-requires-clause-paced g c = λ bytes left taken is.
     let right = subst (λ s. is_fault (front_page c.args.self.now.place.frames s c.args.self.now.place.at bytes)
     ≡ false) c.deref.ensures.0 is.1 in
     c.requires.paced bytes left taken (page_open c.args.self.now.place (c.args.self.now.place.pages - 1) bytes
-    c.requires.plans (let h = c.requires.pages in omega (arith, h)) few right)
+    c.requires.plans (omega arith) few right)

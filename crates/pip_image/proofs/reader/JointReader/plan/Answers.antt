@@ -1,6 +1,5 @@
-use Rattle.std.proofs.Common.{rules, arith, ◌<◌, ◌-◌, length, subst, sym}
+use Rattle.std.proofs.Common.{rules, arith, ◌<◌, ◌-◌, length}
 use Rattle.pip_model.specs.Images.{plan_at}
-use Rattle.pip_image.specs.Reading.{Refuses}
 use Rattle.pip_image.proofs.Parsing.{plan_goes}
 use Rattle.pip_image.proofs.ReadParts.{filled_calm, filled_whole, plan_open, plan_taken, plan_refused}
 use Rattle.pip_image.proofs.reader.JointReader.plan.Goals as goal
@@ -26,13 +25,12 @@ returns-in-Ok-clause-is_open g c =
 pub returns-in-Err-clause-reads : goal.returns-in-Err-clause-reads
 returns-in-Err-clause-reads g c =
     let place = c.args.self.now.place in
-    subst (Refuses _ _ _ _ _ _) (sym c.fault.ensures.fault) (plan_refused place (place.plans - 1) _ _ _ _ _ _ _
-    (let h = c.requires.plans in omega (arith, h)) c.fill-filled.ensures.filled (search (rules, arith))
-    c.in-Err.ensures.same)
+    rw c.fault.ensures.fault (plan_refused place (place.plans - 1) _ _ _ _ _ _ _ (let h = c.requires.plans in omega
+    (arith, h)) c.fill-filled.ensures.filled (search (rules, arith)) c.in-Err.ensures.same)
 
 pub fill-filled-requires-clause-paced : goal.fill-filled-requires-clause-paced
 fill-filled-requires-clause-paced g c = λ bytes left taken is.
     let count = is.0 in
     let few : length bytes < 12 = search (rules, arith) in
     c.requires.paced bytes left taken (plan_open c.args.self.now.place (c.args.self.now.place.plans - 1) bytes
-    (let h = c.requires.plans in omega (arith, h)) few is.1)
+    (omega arith) few is.1)
