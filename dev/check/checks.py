@@ -17,7 +17,8 @@ import time
 from common import calling
 from . import (authors, beside, certificates, cheats, corners, counters, documents, ended, endings, examples,
                exercises, exporting, gate, grading, guests, house, indexed, links, meanings, pages, playground,
-               playing, public_calls, releasing, shells, sites, sources, streams, tools, versions, wrapper, wrong_bodies)
+               playing, public_calls, releasing, shells, sites, sources, streams, tools, versions, wrapper,
+               wrong_bodies)
 from .running import Check, Differs, Skipped
 
 # A name, and its parts: functions that are given the program's path and raise Differs if something is wrong, or Skipped

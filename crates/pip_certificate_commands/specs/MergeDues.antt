@@ -82,7 +82,7 @@ merged_front g = about_line g.parts.about ++ flat_map label_line g.labels
 abbrev pub merged_text : Merging → List ℕ
 merged_text g = merged_front g ++ verdict_line g.keys.states (Closed g.keys.deepest)
 
--- what names of what there isn't as much as the parts say
+-- what is missing or too much: keys, those that parts ask, or labels
 abbrev pub uneven_text : Uneven → List ℕ
 uneven_text U.Keys = codes "apart keys"
 uneven_text U.Asks = codes "apart asks"

@@ -119,10 +119,12 @@ pub linked_at : (hashes chains heads : List ℕ) (h c : ℕ) {hs cs hd : List �
 linked_at hashes chains heads h c is_hashes is_chains is_heads is_length count l =
     rw (is_hashes, is_chains, is_heads, is_length) (linked_more hashes chains heads h c count l)
 
-pub none_filed : (x : Index) (n : ℕ) → 0 < n → x.hashes.items ≡ [] → x.chains.items ≡ []
+pub none_filed : (x : Index) (n : ℕ) → 0 < n → n ≤ 16 → x.hashes.items ≡ [] → x.chains.items ≡ []
     → x.heads.items ≡ replicate n 0 → length x.heads.items ≡ n → IsFiled x
-none_filed x n some no_hash no_chain zeros count = record {
+none_filed x n some few no_hash no_chain zeros count = record {
   some = omega arith;
+  load = omega (arith, ap length no_hash);
+  spare = omega arith;
   count = ap length no_chain ∙ sym (ap length no_hash);
   linked = subst (λ k. AreLinked x.hashes.items x.chains.items x.heads.items k) (sym (ap length no_hash))
       (none_linked x.hashes.items x.chains.items x.heads.items n zeros count);

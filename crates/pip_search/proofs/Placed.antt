@@ -123,9 +123,11 @@ all_full cells from late early = used_full cells (λ c low. elim (cases_lt c fro
 ])
 
 pub filled_by : (x : HashTable) (hashes cells : List ℕ) → x.hashes.items ≡ hashes → x.cells.items ≡ cells
-    → IsSized cells → length hashes < length cells → HaveCells hashes cells (length hashes) → HasHashes x
-filled_by x hashes cells is_hashes is_cells sized room have = record {
+    → IsSized cells → 4 * length hashes ≤ 3 * length cells → length cells ≤ 3 * length hashes + 16
+    → HaveCells hashes cells (length hashes) → HasHashes x
+filled_by x hashes cells is_hashes is_cells sized load spare have = record {
   sized = subst IsSized (sym is_cells) sized;
-  room = let a = ap length is_hashes in let b = ap length is_cells in omega arith;
+  load = rw (is_hashes, is_cells) load;
+  spare = rw (is_hashes, is_cells) spare;
   have = rw (is_hashes, is_cells) have;
 }

@@ -39,8 +39,9 @@ pub record HaveCells (hashes cells : List ℕ) (k : ℕ) : Type 0 where
   pub placed : (j : ℕ) → j < k → IsPlaced cells (length cells) (slice_index hashes j) j
   pub few : cells_used cells ≤ k
 
--- all hashes are in cells, and some cell is empty
+-- all hashes are in cells: at most three in four cells are used, and there are at most three cells a hash, and 16 more
 pub record HasHashes (x : HashTable) : Type 0 where
   pub sized : IsSized x.cells.items
-  pub room : length x.hashes.items < length x.cells.items
+  pub load : 4 * length x.hashes.items ≤ 3 * length x.cells.items
+  pub spare : length x.cells.items ≤ 3 * length x.hashes.items + 16
   pub have : HaveCells x.hashes.items x.cells.items (length x.hashes.items)

@@ -1,5 +1,6 @@
 -- Hashes that are on chains, by the rests that they leave.
-use Rattle.std.specs.Prelude.{◌≡◌, ℕ, zero, suc, ◌<◌, ◌%◌, ◌==◌, if◌then◌else◌, List, length, slice_index}
+use Rattle.std.specs.Prelude.{◌≡◌, ℕ, zero, suc, ◌+◌, ◌*◌, ◌<◌, ◌≤◌, ◌%◌, ◌==◌, if◌then◌else◌, List, length}
+use Rattle.std.specs.Prelude.{slice_index}
 use Rattle.pip_search.specs.declared.index.Index.{Index}
 
 -- one more than the last number below k whose hash leaves the rest r on division by n, and 0 where there is none
@@ -13,8 +14,10 @@ pub record AreLinked (hashes chains heads : List ℕ) (k : ℕ) : Type 0 where
   pub chains_are : (j : ℕ) → j < k → slice_index chains j ≡ last_below hashes (length heads)
       (slice_index hashes j % length heads) j
 
--- all hashes are on their chains
+-- all hashes are on their chains: at most two hashes a chain, and at most one chain a hash, and 16 more
 pub record IsFiled (x : Index) : Type 0 where
   pub some : 0 < length x.heads.items
+  pub load : length x.hashes.items ≤ 2 * length x.heads.items
+  pub spare : length x.heads.items ≤ length x.hashes.items + 16
   pub count : length x.chains.items ≡ length x.hashes.items
   pub linked : AreLinked x.hashes.items x.chains.items x.heads.items (length x.hashes.items)

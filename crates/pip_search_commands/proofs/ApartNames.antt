@@ -38,14 +38,14 @@ use Rattle.pip_search_commands.proofs.EveryLines.{lines_are_of_runs}
 
 -- ---- whole lines
 
-both_whole : (xs ys : List ℕ) → AreWholeLines xs → AreWholeLines ys → AreWholeLines (xs ++ ys)
+pub both_whole : (xs ys : List ℕ) → AreWholeLines xs → AreWholeLines ys → AreWholeLines (xs ++ ys)
 both_whole xs ys h (inr (front, is)) = inr (
   xs ++ front,
   ap (λ v. xs ++ v) is ∙ sym (append_assoc xs front (10 ∷ [])),
 )
 both_whole xs ys h (inl none) = subst AreWholeLines (sym (ap (λ v. xs ++ v) none ∙ append-nil xs)) h
 
-all_whole : {A : Type 0} (f : A → List ℕ) → ((x : A) → AreWholeLines (f x)) → (xs : List A)
+pub all_whole : {A : Type 0} (f : A → List ℕ) → ((x : A) → AreWholeLines (f x)) → (xs : List A)
     → AreWholeLines (flat_map f xs)
 all_whole f h [] = inl refl
 all_whole f h (x ∷ xs) = both_whole (f x) (flat_map f xs) (h x) (all_whole f h xs)
@@ -75,7 +75,7 @@ guest_whole g =
     (both_whole (guest_line g.top g.cpus) (flat_map (turn_line g.cpus) g.lines) (head_whole g.top g.cpus)
     (all_whole (turn_line g.cpus) (turn_whole g.cpus) g.lines)) (verdict_whole g.count g.end)
 
-image_whole : (n c p k : ℕ) → AreWholeLines (trace_image_line n c p k)
+pub image_whole : (n c p k : ℕ) → AreWholeLines (trace_image_line n c p k)
 image_whole n c p k = inr (
   codes "image " ++ decimal n ++ codes " " ++ decimal c ++ codes " " ++ decimal p ++ codes " "
       ++ decimal k,
@@ -229,7 +229,7 @@ module _ (text : List ℕ) (gs : List GuestAlone) (plans : List Plan)
 
 -- ---- the laws
 
-same_answer : (text other : List ℕ) → plainly 0 text None ≡ plainly 0 other None → text ≡ other
+pub same_answer : (text other : List ℕ) → plainly 0 text None ≡ plainly 0 other None → text ≡ other
 same_answer text other e = ap (λ v. or_nothing v.last) e
 
 -- the answer is known of the image, and its guests hold in company

@@ -17,4 +17,6 @@ pub mod ApartFound
 pub mod ApartOnce
 pub mod ApartNames
 pub mod ApartHolds
+-- the last lines of texts
+pub mod TextNames
 pub mod SaidLines

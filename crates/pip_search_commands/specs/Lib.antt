@@ -11,3 +11,4 @@ pub mod CoverLaw
 pub mod AgainstLaw
 pub mod ApartLaw
 pub mod ApartHolds
+pub mod TextLaw

@@ -2,6 +2,7 @@ use Rattle.pip_search_commands.proofs.AgainstOnce.{closed_names_menus, inputs_sa
 use Rattle.pip_search_commands.proofs.AgainstOnce.{yes_comes, yes_comes_again}
 use Rattle.pip_search_commands.proofs.Covered.{matched_runs_are_named}
 use Rattle.pip_search_commands.proofs.EveryOnce.{told_every}
+use Rattle.pip_search_commands.proofs.TextNames.{closed_texts_name_menus, yes_texts_come_again}
 use Rattle.pip_search_commands.proofs.laws.law_against.Goals as goal
 
 pub returns : goal.returns
@@ -14,4 +15,6 @@ returns c = record {
   no = no_is_lost;
   comes = yes_comes;
   avoided = no_is_avoided;
+  text = closed_texts_name_menus;
+  said = yes_texts_come_again;
 }

@@ -12,7 +12,7 @@ overflow_cast-result c =
     let h = c.requires.named in
     let low = get-below (blocks_of c.args.self.now) c.in-Some.place c.args.block.now c.in-Some.ensures in
     let few = tag_low t.cells.items 0 h.filled.sized in
-    omega (arith, low, few, h.count, h.filled.room)
+    omega (arith, low, few, h.count, h.filled.load)
 
 pub returns-clause-named : goal.returns-clause-named
 returns-clause-named c =

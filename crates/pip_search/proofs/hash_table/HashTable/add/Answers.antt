@@ -3,6 +3,7 @@ use Rattle.std.proofs.Common.{length, length-append, replicate, sym}
 use Rattle.std.proofs.Math.Nat.{pow-suc}
 use Rattle.std.proofs.lemmas.Bool.{cases_lt}
 use Rattle.std.proofs.lemmas.List.{length-replicate, with_items_is}
+use Rattle.std.proofs.lemmas.Nat.{pow_pos}
 use Rattle.pip_search.specs.Cells.{IsSized}
 use Rattle.pip_search.proofs.Placed.{filled_by, sized_by}
 use Rattle.pip_search.proofs.hash_table.HashTable.add.Goals as goal
@@ -50,8 +51,13 @@ returns-in_ok-self-clause-filled c =
     let sized = sized_then x.cells.items c.deref_mut.result.now c.len-count.result c.len-at.result
     c.requires.filled.sized counted zeros (omega (arith, c.if-at-ge2147483648.false))
     (omega (arith, c.if-at-count.true)) in
-    let room = c.requires.filled.room in
+    let full = c.if-at-count.true in
+    let load = c.requires.filled.load in
+    let power = pow_pos c.requires.filled.sized.power in
+    let at : c.len-at.result ≡ length x.hashes.items = omega (arith, x.hashes.ok.0, c.len-at.ensures) in
+    let some : 0 < length x.cells.items = omega (arith, power, c.requires.filled.sized.count) in
     filled_by _ hashes cells (sym c.deref.ensures.value)
     (with_items_is c.in_ok-self.field-0 cells (long ∙ c.deref_mut.ensures.len))
     (sized_by cells sized.power sized.few (long ∙ sized.count))
-    (omega (arith, long, one, twice, room)) c.place_all.ensures.have
+    (omega (arith, long, one, twice, some, load)) (omega (arith, long, one, twice, counted, full, at))
+    c.place_all.ensures.have

@@ -12,6 +12,7 @@ returns-clause-filled c =
     let none = ap length c.new.ensures.items in
     record {
       sized = sized_by cells 4 (omega arith) count;
-      room = omega (arith, none, count);
+      load = omega (arith, none, count);
+      spare = omega (arith, none, count);
       have = subst (HaveCells c.new.result.items cells) (sym none) (none_placed c.new.result.items cells 16 zeros);
     }

@@ -1,0 +1,355 @@
+-- What the last line of a text says: how the search ended, or what was said of the last label.
+use Rattle.std.proofs.Common.{◌≡◌, ℕ, zero, suc, ◌+◌, ◌-◌, ◌%◌, ◌/◌, ◌<◌, ◌≤◌, ◌==◌, inr, nat_lt, if◌then◌else◌}
+use Rattle.std.proofs.Common.{Bool, true, false, List, [], ◌∷◌, ◌++◌, length, take, Option, None, Some, refl, sym, ap}
+use Rattle.std.proofs.Common.{◌∙◌, subst, arith, append_assoc, append-nil, decimal, slice_get}
+use Rattle.std.specs.Fmt.{digit_glyph, digits, digits_onto}
+use Rattle.std.specs.Prelude.{codes, drop, flat_map, reverse, slice_index}
+use Rattle.std.proofs.lemmas.Bool.Decides.{nat_tests}
+use Rattle.std.proofs.lemmas.List.{append_cancel_right, reverse-append}
+use Rattle.pip_command_contracts.specs.EndsBy.{plainly}
+use Rattle.pip_command_contracts.specs.Planned.{lines_planned}
+use Rattle.pip_core_text.specs.CoreRead.{AreWholeLines}
+use Rattle.pip_every.specs.declared.again.Again.{Again}
+use Rattle.pip_every.specs.declared.again.Again.TheVariants.{Can, Lost, Unknown}
+use Rattle.pip_every.specs.declared.comes.Comes.{Comes}
+use Rattle.pip_io.proofs.Piecewise.{flat_split}
+use Rattle.pip_model.specs.Acts.{text_of}
+use Rattle.pip_model.specs.Images.{Image}
+use Rattle.pip_model.specs.Run.{trace_image_line}
+use Rattle.pip_search.specs.Summary.{Witness}
+use Rattle.pip_search.specs.declared.searching.Extent.{Extent}
+use Rattle.pip_search.specs.declared.searching.Extent.TheVariants.{Closed, Stopped, Within}
+use Rattle.pip_search.specs.declared.ways.Run.{Run}
+use Rattle.pip_search_commands.specs.ApartLaw.{HasLineOf}
+use Rattle.pip_search_commands.specs.EveryText.{again_text, against_text, comes_text, every_text, said_line}
+use Rattle.pip_search_commands.specs.EveryText.{said_words}
+use Rattle.pip_search_commands.specs.MenuText.{MenuSaid, no_menu}
+use Rattle.pip_search_commands.specs.RunLaw.{IsNamedBy, steps_from}
+use Rattle.pip_search_commands.specs.SearchDues.{IsSearchedAgainst}
+use Rattle.pip_search_commands.specs.declared.start.Start.{Start}
+use Rattle.pip_search_commands.specs.TextLaw.{ClosedTextsNameMenus, ClosedTextsNameRuns, EndsSo, YesTextsComeAgain}
+use Rattle.pip_search_commands.specs.TextLaw.{comes_again_line}
+use Rattle.pip_ways.specs.Texts.{choice_text, deed_text, inner, spaced_run, times_text, verdict_line, way_text}
+use Rattle.pip_ways.specs.Texts.{witness_line}
+use Rattle.pip_search_commands.proofs.AgainstOnce.{closed_names_menus, yes_comes_again}
+use Rattle.pip_search_commands.proofs.ApartNames.{all_whole, both_whole, image_whole, same_answer}
+use Rattle.pip_search_commands.proofs.RunsChosen.{closed_names_runs, lines_known}
+
+-- ---- last bytes
+
+-- a byte counted from the end of a text is one of its end
+from_end : (k : ℕ) (front end : List ℕ)
+    → slice_get (reverse (front ++ end)) k ≡ slice_get (reverse end ++ reverse front) k
+from_end k front end = ap (λ v. slice_get v k) (reverse-append front end)
+
+-- a text ends with this byte
+abbrev EndsWith : ℕ → List ℕ → Type 0
+EndsWith b text = (front : List ℕ) × (text ≡ front ++ b ∷ [])
+
+-- with another text before it
+ends_after : (b : ℕ) (front text : List ℕ) → EndsWith b text → EndsWith b (front ++ text)
+ends_after b front text (x, e) = (front ++ x, ap (λ t. front ++ t) e ∙ sym (append_assoc front x (b ∷ [])))
+
+-- one byte alone ends a text, before its newline
+same_end : (a b : ℕ) (xs ys : List ℕ) → xs ++ (a ∷ 10 ∷ []) ≡ ys ++ (b ∷ 10 ∷ []) → a ≡ b
+same_end a b xs ys e =
+    let same : Some a ≡ Some b = sym (from_end 1 xs (a ∷ 10 ∷ [])) ∙ ap (λ v. slice_get (reverse v) 1) e
+    ∙ from_end 1 ys (b ∷ 10 ∷ []) in
+    cc
+
+-- ---- the last digit of a number
+
+onto_end : (k n b : ℕ) (acc : List ℕ) → EndsWith b (digits_onto k 10 false n (acc ++ b ∷ []))
+onto_end zero n b acc = (acc, refl)
+onto_end (suc k) n b acc = by_test (n / 10 == 0) (onto_end k (n / 10) b (digit_glyph false (n % 10) ∷ acc))
+  where
+    by_test : (t : Bool) → EndsWith b (digits_onto k 10 false (n / 10) (digit_glyph false (n % 10) ∷ (acc ++ b ∷ [])))
+        → EndsWith b (if t then digit_glyph false (n % 10) ∷ (acc ++ b ∷ [])
+        else digits_onto k 10 false (n / 10) (digit_glyph false (n % 10) ∷ (acc ++ b ∷ [])))
+    by_test true more = (digit_glyph false (n % 10) ∷ acc, refl)
+    by_test false more = more
+
+-- its digit
+abbrev last_digit : ℕ → ℕ
+last_digit n = digit_glyph false (n % 10)
+
+decimal_end : (n : ℕ) → EndsWith (last_digit n) (decimal n)
+unfolding digits
+decimal_end n = by_test (n / 10 == 0)
+  where
+    by_test : (t : Bool) → EndsWith (last_digit n) (if t then last_digit n ∷ []
+        else digits_onto 63 10 false (n / 10) (last_digit n ∷ []))
+    by_test true = ([], refl)
+    by_test false = onto_end 63 (n / 10) (last_digit n) []
+
+digit_low : (n : ℕ) → last_digit n < 58
+digit_low n = grind (arith, nat_tests)
+
+-- ---- how the search ended
+
+number_grouped : (a b c n end : List ℕ) → a ++ (b ++ ((c ++ n) ++ end)) ≡ (a ++ (b ++ c)) ++ (n ++ end)
+number_grouped a b c n end = simp append_assoc
+
+end_grouped : (a b c end : List ℕ) → a ++ (b ++ (c ++ end)) ≡ (a ++ (b ++ c)) ++ end
+end_grouped a b c end = simp append_assoc
+
+byte_grouped : (a x : List ℕ) (b : ℕ) → a ++ ((x ++ b ∷ []) ++ 10 ∷ []) ≡ (a ++ x) ++ (b ∷ 10 ∷ [])
+byte_grouped a x b = ap (λ t. a ++ t) (append_assoc x (b ∷ []) (10 ∷ [])) ∙ sym (append_assoc a x (b ∷ 10 ∷ []))
+
+says_closed : (i : Image) (ws : List Witness) (count : ℕ) (e : Extent)
+    → EndsSo (every_text i ws count e) (codes " closed") → (depth : ℕ) × (e ≡ Closed depth)
+says_closed i ws count (Closed depth) h = (depth, refl)
+says_closed i ws count (Within depth) (front, is) =
+    let (digits, end) = decimal_end depth in
+    let image = trace_image_line i.frames i.cpus (length i.plans) (length i.pages) in
+    let lines = flat_map (witness_line i.cpus (lines_planned i.plans)) ws in
+    let before = image ++ (lines ++ (codes "states " ++ decimal count ++ codes " within ")) in
+    let whole : every_text i ws count (Within depth) ≡ before ++ (decimal depth ++ 10 ∷ []) =
+    number_grouped image lines (codes "states " ++ decimal count ++ codes " within ") (decimal depth) (10 ∷ []) in
+    let last : before ++ (decimal depth ++ 10 ∷ []) ≡ (before ++ digits) ++ (last_digit depth ∷ 10 ∷ []) =
+    ap (λ d. before ++ (d ++ 10 ∷ [])) end ∙ byte_grouped before digits (last_digit depth) in
+    let own = sym (append_assoc front (codes " close") (100 ∷ 10 ∷ [])) in
+    let same = same_end (last_digit depth) 100 (before ++ digits) (front ++ codes " close")
+    (sym last ∙ (sym whole ∙ (is ∙ own))) in
+    absurd (omega (arith, same, digit_low depth))
+says_closed i ws count (Stopped depth) (front, is) =
+    let p : ℕ = 112 in
+    let s : ℕ = 115 in
+    let before = trace_image_line i.frames i.cpus (length i.plans) (length i.pages)
+    ++ (flat_map (witness_line i.cpus (lines_planned i.plans)) ws
+    ++ (codes "states " ++ decimal count ++ codes " depth " ++ decimal depth)) in
+    let whole : every_text i ws count (Stopped depth) ≡ before ++ codes " stopped\n" =
+    end_grouped (trace_image_line i.frames i.cpus (length i.plans) (length i.pages))
+    (flat_map (witness_line i.cpus (lines_planned i.plans)) ws)
+    (codes "states " ++ decimal count ++ codes " depth " ++ decimal depth) (codes " stopped\n") in
+    let same : Some p ≡ Some s = sym (from_end 3 before (codes " stopped\n"))
+    ∙ ap (λ v. slice_get (reverse v) 3) (sym whole ∙ is) ∙ from_end 3 front (codes " closed\n") in
+    let z : p ≡ s = cc in absurd (omega (arith, z))
+
+-- ---- a line for each label
+
+witness_whole : (cpus : ℕ) (lines : List ℕ) (w : Witness) → AreWholeLines (witness_line cpus lines w)
+witness_whole cpus lines w = inr (
+  decimal (length w.way - 1) ++ inner w.label ++ codes ":" ++ way_text cpus lines w.way,
+  refl,
+)
+
+has_line : (i : Image) (ws : List Witness) (count : ℕ) (e : Extent) (label : List ℕ) → IsNamedBy ws label
+    → HasLineOf (every_text i ws count e) label
+has_line i ws count e label n =
+    let lines = lines_planned i.plans in
+    let image = trace_image_line i.frames i.cpus (length i.plans) (length i.pages) in
+    let (more, split) = flat_split (witness_line i.cpus lines) ws n.place n.witness n.at in
+    let front = flat_map (witness_line i.cpus lines) (take n.place ws) in
+    let step = length n.witness.way - 1 in
+    let way = way_text i.cpus lines n.witness.way in
+    let line = decimal step ++ inner label ++ codes ":" ++ way ++ codes "\n" in
+    let own : witness_line i.cpus lines n.witness ≡ line =
+    ap (λ l. decimal step ++ inner l ++ codes ":" ++ way ++ codes "\n") n.same in
+    record {
+      before = image ++ front;
+      step = step;
+      way = way;
+      after = more ++ verdict_line count e;
+      begins = both_whole image front (image_whole i.frames i.cpus (length i.plans) (length i.pages))
+          (all_whole (witness_line i.cpus lines) (witness_whole i.cpus lines) (take n.place ws));
+      whole = ap (λ l. image ++ (l ++ verdict_line count e)) (split ∙ ap (λ l. front ++ (l ++ more)) own)
+          ∙ regrouped image front line more (verdict_line count e);
+    }
+  where
+    regrouped : (a b line c d : List ℕ) → a ++ ((b ++ (line ++ c)) ++ d) ≡ (a ++ b) ++ (line ++ (c ++ d))
+    regrouped a b line c d = simp append_assoc
+
+-- a menu that asks of no label adds no line
+asks_none : (i : Image) (ws : List Witness) (count : ℕ) (e : Extent) (menu : MenuSaid) (again : List Again)
+    (comes : List Comes) → menu.again ≡ [] → menu.comes ≡ []
+    → against_text i ws count e menu again comes ≡ every_text i ws count e
+asks_none i ws count e menu again comes none nor =
+    let front = every_text i ws count e in
+    ap (λ l. (front ++ again_text i.cpus (lines_planned i.plans) l again) ++ comes_text i.cpus (lines_planned i.plans)
+    menu.comes comes) none
+    ∙ (ap (λ l. (front ++ []) ++ comes_text i.cpus (lines_planned i.plans) l comes) nor
+    ∙ (append-nil (front ++ []) ∙ append-nil front))
+
+module _ (menu : MenuSaid) (states from : ℕ) (most : Option ℕ) (start : Start) (i : Image) (text : List ℕ)
+    (s : IsSearchedAgainst menu states from most start i (plainly 0 text None)) (none : menu.again ≡ [])
+    (nor : menu.comes ≡ []) where
+  text_is : text ≡ every_text i s.found s.count s.verdict
+  text_is = same_answer text (against_text i s.found s.count s.verdict menu s.again s.comes) s.text
+      ∙ asks_none i s.found s.count s.verdict menu s.again s.comes none nor
+
+  closes : EndsSo text (codes " closed") → (depth : ℕ) × (s.verdict ≡ Closed depth)
+  closes h = says_closed i s.found s.count s.verdict (subst (λ t. EndsSo t (codes " closed")) text_is h)
+
+  named : (label : List ℕ) → IsNamedBy s.found label → HasLineOf text label
+  named label n = subst (λ t. HasLineOf t label) (sym text_is) (has_line i s.found s.count s.verdict label n)
+
+pub closed_texts_name_runs : ClosedTextsNameRuns
+closed_texts_name_runs states from most start i text s ends plans seed n are =
+    let (depth, closed) = closes no_menu states from most start i text s refl refl ends in
+    lines_known (IsNamedBy s.found) (HasLineOf text) n start.count (text_of (steps_from i start plans seed n))
+    (λ label some. named no_menu states from most start i text s refl refl label)
+    (closed_names_runs states from depth most start i (plainly 0 text None) s closed plans seed n are)
+
+pub closed_texts_name_menus : ClosedTextsNameMenus
+closed_texts_name_menus menu states from most start i text s none nor ends label choices some shown =
+    let (depth, closed) = closes menu states from most start i text s none nor ends in
+    named menu states from most start i text s none nor label
+    (closed_names_menus menu states from depth most start i (plainly 0 text None) s closed label choices some shown)
+
+-- ---- what was said of the last label
+
+times_end : (b : ℕ) (n : ℕ) (text : List ℕ) → EndsWith b text → (b < 58)
+    → (c : ℕ) × ((c < 58) × EndsWith c (text ++ times_text n))
+times_end b n text h low = by_test (n == 1)
+  where
+    by_test : (t : Bool) → (c : ℕ) × ((c < 58) × EndsWith c (text ++ (if t then [] else codes "x" ++ decimal n)))
+    by_test true = (b, (low, subst (EndsWith b) (sym (append-nil text)) h))
+    by_test false = (
+      last_digit n,
+      (
+        digit_low n,
+        ends_after (last_digit n) text (codes "x" ++ decimal n)
+            (ends_after (last_digit n) (codes "x") (decimal n) (decimal_end n)),
+      ),
+    )
+
+choice_end : (cpus : ℕ) (lines : List ℕ) (k : ℕ) → (b : ℕ) × ((b < 58) × EndsWith b (choice_text cpus lines k))
+choice_end cpus lines k = by_tests (nat_lt k cpus) (nat_lt (k - cpus) (length lines))
+  where
+    by_tests : (own line : Bool) → (b : ℕ) × ((b < 58) × EndsWith b (if own then decimal k
+        else if line then codes "raise" ++ decimal (slice_index lines (k - cpus))
+        else deed_text cpus (k - cpus - length lines)))
+    by_tests true line = (last_digit k, (digit_low k, decimal_end k))
+    by_tests false true =
+        let j = slice_index lines (k - cpus) in
+        (last_digit j, (digit_low j, ends_after (last_digit j) (codes "raise") (decimal j) (decimal_end j)))
+    by_tests false false =
+        let d = k - cpus - length lines in
+        let n = d / cpus + 1 in (
+          last_digit n,
+          (
+            digit_low n,
+            ends_after (last_digit n) (decimal (d % cpus) ++ codes ":d") (decimal n)
+                (decimal_end n),
+          ),
+        )
+
+run_end : (cpus : ℕ) (lines : List ℕ) (r : Run) → (b : ℕ) × ((b < 58) × EndsWith b (spaced_run cpus lines r))
+run_end cpus lines r =
+    let (b, (low, end)) = choice_end cpus lines r.choice in
+    times_end b r.count (codes " " ++ choice_text cpus lines r.choice)
+    (ends_after b (codes " ") (choice_text cpus lines r.choice) end) low
+
+-- `no`, and perhaps runs after it, end with another byte than `yes`
+no_end : (cpus : ℕ) (lines : List ℕ) (front : List ℕ) (rs : List Run)
+    → (b : ℕ) × ((b < 112) × EndsWith b ((front ++ codes ": no") ++ flat_map (spaced_run cpus lines) rs))
+no_end cpus lines front rs = go rs (front ++ codes ": no") 111 (omega arith)
+    (front ++ codes ": n", sym (append_assoc front (codes ": n") (111 ∷ [])))
+  where
+    go : (rs : List Run) (text : List ℕ) (b : ℕ) → b < 112 → EndsWith b text
+        → (c : ℕ) × ((c < 112) × EndsWith c (text ++ flat_map (spaced_run cpus lines) rs))
+    go [] text b low h = (b, (low, subst (EndsWith b) (sym (append-nil text)) h))
+    go (r ∷ rs) text b low h =
+        let (c, (less, end)) = run_end cpus lines r in
+        let (d, (few, all)) = go rs (text ++ spaced_run cpus lines r) c (omega (arith, less))
+        (ends_after c text (spaced_run cpus lines r) end) in (
+          d,
+          (
+            few,
+            subst (EndsWith d) (append_assoc text (spaced_run cpus lines r)
+                (flat_map (spaced_run cpus lines) rs)) all,
+          ),
+        )
+
+sides : (a b c d : List ℕ) → a ++ ((b ++ c) ++ d) ≡ ((a ++ b) ++ c) ++ d
+sides a b c d = simp append_assoc
+
+says_yes : (cpus : ℕ) (lines front : List ℕ) (r : Again)
+    → EndsSo (front ++ said_words cpus lines r) (codes ": yes") → r ≡ Can
+says_yes cpus lines front Can h = refl
+says_yes cpus lines front Unknown (x, e) =
+    let n : ℕ = 110 in
+    let s : ℕ = 115 in
+    let same : Some n ≡ Some s = sym (from_end 1 front (codes ": unknown\n"))
+    ∙ ap (λ v. slice_get (reverse v) 1) e ∙ from_end 1 x (codes ": yes\n") in
+    let z : n ≡ s = cc in absurd (omega (arith, z))
+says_yes cpus lines front (Lost way) (x, e) =
+    let (b, (low, (y, end))) = no_end cpus lines front way.items in
+    let runs = flat_map (spaced_run cpus lines) way.items in
+    let whole : front ++ said_words cpus lines (Lost way) ≡ ((front ++ codes ": no") ++ runs) ++ 10 ∷ [] =
+    sides front (codes ": no") runs (10 ∷ []) in
+    let last : ((front ++ codes ": no") ++ runs) ++ 10 ∷ [] ≡ y ++ (b ∷ 10 ∷ []) =
+    ap (λ t. t ++ 10 ∷ []) end ∙ append_assoc y (b ∷ []) (10 ∷ []) in
+    let own = sym (append_assoc x (codes ": ye") (115 ∷ 10 ∷ [])) in
+    let same = same_end b 115 y (x ++ codes ": ye") (sym last ∙ (sym whole ∙ (e ∙ own))) in
+    absurd (omega (arith, same, low))
+
+-- lines that say `yes` of all labels are those of answers that do
+all_yes : (cpus : ℕ) (lines : List ℕ) (labels : List (List ℕ)) (said : List Again) → length said ≡ length labels
+    → ((k : ℕ) (label : List ℕ) → slice_get labels k ≡ Some label → slice_get said k ≡ Some Can)
+    → again_text cpus lines labels said ≡ flat_map comes_again_line labels
+all_yes cpus lines [] said count each = refl
+all_yes cpus lines (l ∷ ls) [] count each = cc
+all_yes cpus lines (l ∷ ls) (r ∷ rs) count each =
+    let yes : Some r ≡ Some Can = each 0 l refl in
+    let can : r ≡ Can = cc in
+    ap (λ a. said_line cpus lines l a ++ again_text cpus lines ls rs) can
+    ∙ ap (λ t. comes_again_line l ++ t) (all_yes cpus lines ls rs (omega arith) (λ k label at. each (suc k) label at))
+
+moved_on : (x a b y c d : List ℕ) → x ++ (a ++ b) ≡ y ++ (c ++ d) → (x ++ a) ++ b ≡ (y ++ c) ++ d
+moved_on x a b y c d e = append_assoc x a b ∙ e ∙ sym (append_assoc y c d)
+
+-- where all answers after it say `yes`, so does an answer before such lines
+first_yes : (cpus : ℕ) (lines : List ℕ) (label : List ℕ) (labels : List (List ℕ)) (r : Again) (said : List Again)
+    (x y : List ℕ) → length said ≡ length labels
+    → (x ++ said_line cpus lines label r) ++ again_text cpus lines labels said
+    ≡ (y ++ comes_again_line label) ++ flat_map comes_again_line labels
+    → ((k : ℕ) (other : List ℕ) → slice_get labels k ≡ Some other → slice_get said k ≡ Some Can) → r ≡ Can
+first_yes cpus lines label labels r said x y count whole rest =
+    let own = x ++ said_line cpus lines label r in
+    let due = y ++ comes_again_line label in
+    let same = all_yes cpus lines labels said count rest in
+    let cut : own ≡ due = append_cancel_right own due (flat_map comes_again_line labels)
+    (ap (λ t. own ++ t) (sym same) ∙ whole) in
+    let front = codes "again " ++ label in
+    says_yes cpus lines (x ++ front) r (
+      y ++ front,
+      append_assoc x front (said_words cpus lines r) ∙ cut
+          ∙ sym (append_assoc y front (codes ": yes\n")),
+    )
+
+-- a text that ends with such lines has these answers
+each_yes : (cpus : ℕ) (lines : List ℕ) (labels : List (List ℕ)) (said : List Again) (x y : List ℕ) (j : ℕ)
+    → length said ≡ length labels
+    → x ++ again_text cpus lines labels said ≡ y ++ flat_map comes_again_line (drop j labels)
+    → (k : ℕ) (label : List ℕ) → j ≤ k → slice_get labels k ≡ Some label → slice_get said k ≡ Some Can
+each_yes cpus lines [] said x y j count e k label late at = cc
+each_yes cpus lines (l ∷ ls) [] x y j count e k label late at = cc
+each_yes cpus lines (l ∷ ls) (r ∷ rs) x y (suc j) count e zero label late at = absurd (omega arith)
+each_yes cpus lines (l ∷ ls) (r ∷ rs) x y (suc j) count e (suc k) label late at =
+    each_yes cpus lines ls rs (x ++ said_line cpus lines l r) y j (omega arith)
+    (append_assoc x (said_line cpus lines l r) (again_text cpus lines ls rs) ∙ e) k label (omega arith) at
+each_yes cpus lines (l ∷ ls) (r ∷ rs) x y zero count e zero label late at =
+    let whole = moved_on x (said_line cpus lines l r) (again_text cpus lines ls rs) y (comes_again_line l)
+    (flat_map comes_again_line ls) e in
+    ap Some (first_yes cpus lines l ls r rs x y (omega arith) whole (λ k other here.
+    each_yes cpus lines ls rs (x ++ said_line cpus lines l r) (y ++ comes_again_line l) 0 (omega arith) whole k other
+    (omega arith) here))
+each_yes cpus lines (l ∷ ls) (r ∷ rs) x y zero count e (suc k) label late at =
+    each_yes cpus lines ls rs (x ++ said_line cpus lines l r) (y ++ comes_again_line l) 0 (omega arith)
+    (moved_on x (said_line cpus lines l r) (again_text cpus lines ls rs) y (comes_again_line l)
+    (flat_map comes_again_line ls) e)
+    k label (omega arith) at
+
+pub yes_texts_come_again : YesTextsComeAgain
+yes_texts_come_again menu states from most start i text front s j k label none whole late at =
+    let cpus = i.cpus in
+    let lines = lines_planned i.plans in
+    let every = every_text i s.found s.count s.verdict in
+    let own : text ≡ every ++ again_text cpus lines menu.again s.again =
+    same_answer text (against_text i s.found s.count s.verdict menu s.again s.comes) s.text
+    ∙ (ap (λ l. (every ++ again_text cpus lines menu.again s.again) ++ comes_text cpus lines l s.comes) none
+    ∙ append-nil (every ++ again_text cpus lines menu.again s.again)) in
+    yes_comes_again menu states from most start i (plainly 0 text None) s k label at
+    (each_yes cpus lines menu.again s.again every front j s.said.count (sym own ∙ whole) k label late at)
