@@ -1,13 +1,12 @@
 //! The check of a part that was read.
-ghost use Rattle.std.specs.Prelude.{◌≡◌, ◌+◌, ◌∷◌, ◌<◌, ◌≤◌, ◌-◌, ◌^◌, ℕ, All, IfOk, IfSome, IsTrue, Some, false};
-ghost use Rattle.std.specs.Prelude.{length, map, slice_get};
+ghost use Rattle.std.specs.Prelude.{◌≡◌, ◌+◌, ◌∷◌, ◌<◌, ◌≤◌, ◌-◌, ◌^◌, All, IfOk, IfSome, IsTrue, Some, false};
+ghost use Rattle.std.specs.Prelude.{length, map};
 ghost use Rattle.pip_base.specs.Memory.{IsMemory, put_word};
 ghost use Rattle.pip_image.specs.Coming.{IsHeader};
 ghost use Rattle.pip_model.specs.Booted.{HasBooted};
 ghost use Rattle.pip_certificate_parts.specs.Sums.{labels_sum};
 ghost use Rattle.pip_search.specs.Keys.{labels};
 ghost use Rattle.pip_ways.specs.Texts.{inner};
-ghost use Rattle.pip_search.specs.declared.stops.Reached.{Reached};
 ghost use Rattle.pip_certificate_commands.specs.PartAbout.{words_with};
 ghost use Rattle.pip_certificate_commands.specs.BaseWords.{AreBaseWords};
 ghost use Rattle.pip_certificate_commands.specs.PartExact.{booted_from, runs_in};
@@ -24,7 +23,7 @@ use pip_every::part;
 use pip_frames::{Frames, RawFrames};
 use pip_image::Header;
 use pip_journal::copied;
-use pip_search::{Found, Part, Reached};
+use pip_search::{Found, Part};
 use pip_ways::inner;
 use std::alloc::{AllocError, Global};
 use std::sync::ledger::Ledger;
@@ -82,17 +81,6 @@ fn put_one(mem: &mut RawFrames, word: &BaseWord)
         ≡ length (⟦<RawFrames as Frames>⟧.memory mem.old) }
 {
     mem.set_word(Frame::new(word.frame), word.index, word.word);
-}
-
-// The greatest depth of keys.
-fn deepest(keys: &[Reached]) -> u32
-    ensures { (j : ℕ) (x : Reached) → slice_get keys.now j ≡ Some x → x.depth ≤ result }
-{
-    let mut depth = 0;
-    for key in keys {
-        depth = key.depth.max(depth);
-    }
-    depth
 }
 
 /// The place of the first word of a base with which the frames have booted, if there is one.
@@ -215,8 +203,6 @@ fn counted(part: Part, about: ArrayString<MAX_ABOUT>, way: u32) -> Result<Checke
     requires { way < 2 ^ 32 }
     ensures { IfOk result (IsNumbered part about.bytes way) }
 {
-    deepest(part.keys.as_slice());
-    deepest(part.asked.as_slice());
     let keys = count_of(part.keys.len())?;
     let asked = count_of(part.asked.len())?;
     let labels = count_of(part.found.len())?;

@@ -25,7 +25,6 @@ pub mod Parting
 pub mod Portioning
 pub mod Following
 pub mod Answered
-pub mod Rising
 pub mod Spreading
 pub mod Looking
 pub mod Lost

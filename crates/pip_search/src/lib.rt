@@ -18,8 +18,7 @@
 //! A search that is too large for one process is a certificate of parts (specs/Certificates). [`check_part`] checks a
 //! part by itself: it begins where a way leads, makes every choice at every key of the part, and a mark for each choice
 //! says whether the next key is the part's own; any other key it asks of the other parts. So it reads no keys, only a
-//! way and marks. [`merged`] finds all that is asked among the keys of all parts, [`are_rising`] says that none comes
-//! twice, and [`law_certificates`] says what follows.
+//! way and marks. [`law_certificates`] says what follows where all that is asked is among the keys of all parts.
 #![tactic(auto)]
 
 mod again;
@@ -33,7 +32,6 @@ mod hashes;
 mod index;
 mod key_store;
 mod laws;
-mod merging;
 mod names;
 mod packing;
 mod parts;
@@ -48,7 +46,6 @@ pub use again::come_again;
 pub use coming::{Coming, must_come};
 pub use found::Found;
 pub use laws::{law_certificates, law_comes, law_once};
-pub use merging::{are_rising, merged};
 pub use parts::{Part, check_part, law_portions, reached};
 pub use searching::{Extent, Search, explore};
 pub use stops::Reached;

@@ -2,8 +2,8 @@ ghost use Rattle.std.specs.Prelude.{◌<◌, ◌≤◌, length};
 
 use crate::Counters;
 use pip_search::{
-    Coming, Extent, Part, Reached, Run, Search, are_rising, check_part, come_again, explore,
-    merged, must_come, reached, runs, runs_to,
+    Coming, Extent, Part, Reached, Run, Search, check_part, come_again, explore, must_come,
+    reached, runs, runs_to,
 };
 use std::alloc::{AllocError, Global};
 use std::test::Fail;
@@ -104,7 +104,7 @@ fn key_of(alloc: Global, first: u32, second: u32, depth: u32) -> Result<Reached,
 }
 
 #[test]
-fn parts_of_two_counters_are_merged(rt: HostRuntime) -> Result<(), Fail> {
+fn parts_of_two_counters_are_checked(rt: HostRuntime) -> Result<(), Fail> {
     let row = check_counters(rt.alloc(), &[], &[1, 0, 1, 0, 0, 0])?.expect(&rt, "a part");
     assert_eq!(rt;
         (row.keys.len(), row.asked.len(), row.found.len()),
@@ -122,19 +122,6 @@ fn parts_of_two_counters_are_merged(rt: HostRuntime) -> Result<(), Fail> {
     assert_eq!(rt; far.keys[0].key.as_slice(), end.key.as_slice());
     assert_eq!(rt; far.keys[0].depth, end.depth);
     assert!(rt; check_counters(rt.alloc(), &[0, 2], &[])?.is_none());
-    let mut keys = Vec::new(rt.alloc());
-    keys.push(key_of(rt.alloc(), 0, 1, 1)?)?;
-    keys.push(key_of(rt.alloc(), 0, 2, 2)?)?;
-    keys.push(key_of(rt.alloc(), 1, 0, 1)?)?;
-    let mut asked = Vec::new(rt.alloc());
-    asked.push(key_of(rt.alloc(), 0, 1, 4)?)?;
-    asked.push(key_of(rt.alloc(), 1, 0, 1)?)?;
-    assert_eq!(rt; merged(keys.as_slice(), asked.as_slice()), None);
-    asked.push(key_of(rt.alloc(), 1, 1, 2)?)?;
-    assert_eq!(rt; merged(keys.as_slice(), asked.as_slice()), Some(2usize));
-    assert!(rt; are_rising(rt.alloc(), keys.as_slice())?);
-    keys.push(key_of(rt.alloc(), 1, 0, 3)?)?;
-    assert!(rt; !are_rising(rt.alloc(), keys.as_slice())?);
     Ok(())
 }
 

@@ -1,11 +1,10 @@
-use Rattle.std.proofs.Common.{rules, arith, ◌≡◌, ◌<◌, ◌≤◌, ◌^◌, ◌∙◌, ℕ, Some, slice_get, length, refl, subst, sym, ap}
+use Rattle.std.proofs.Common.{rules, arith, ◌≡◌, ◌<◌, ◌^◌, ◌∙◌, length, refl, sym, ap}
 use Rattle.std.specs.Prelude.{map}
 use Rattle.std.proofs.lemmas.List.{length-map}
 use Rattle.pip_certificate_parts.specs.Sums.{labels_sum}
 use Rattle.pip_search.specs.Keys.{labels as label_list}
 use Rattle.pip_search.specs.Parts.{stop_of}
 use Rattle.pip_search.specs.declared.found.Found.{Found}
-use Rattle.pip_search.specs.declared.stops.Reached.{Reached}
 use Rattle.pip_ways.specs.Texts.{inner}
 use Rattle.pip_certificate_commands.proofs.SmallStops.{same_numbers, small_stops}
 use Rattle.pip_certificate_commands.proofs.checking.counted.Goals as goal
@@ -28,14 +27,10 @@ returns c =
       way = refl;
       counts = same_numbers c.args.way c.in_ok-keys.keys c.in_ok-asked.asked c.in_ok-labels.labels
           c.found_sum-sum.result (keys ∙ sym one) (asked ∙ sym two) (labels ∙ sym three)
-          (c.found_sum-sum.ensures ∙ ap (λ fs. labels_sum (map inner (label_list fs))) c.as_slice-3.ensures.value);
+          (c.found_sum-sum.ensures ∙ ap (λ fs. labels_sum (map inner (label_list fs))) c.as_slice.ensures.value);
       small = record {
-        keys = small_stops p.keys.items c.deepest.result (search (rules, arith))
-            (subst (λ v. (j : ℕ) (x : Reached) → slice_get v j ≡ Some x → x.depth ≤ c.deepest.result)
-            c.as_slice.ensures.value c.deepest.ensures);
-        asked = small_stops p.asked.items c.deepest-2.result (search (rules, arith))
-            (subst (λ v. (j : ℕ) (x : Reached) → slice_get v j ≡ Some x → x.depth ≤ c.deepest-2.result)
-            c.as_slice-2.ensures.value c.deepest-2.ensures);
+        keys = small_stops p.keys.items;
+        asked = small_stops p.asked.items;
         way = c.requires;
         count = omega (arith, keys, few, one);
         asks = omega (arith, asked, less, two);
