@@ -21,7 +21,7 @@ PROGRAM, WORDS = HANDLERS - PAGE, HANDLERS - 2 * PAGE    # where a guest has its
 GIVEN = 0xFFC00000                       # where it has further pages, of which a worker is made
 BEGIN, AGAIN, SERVED = 64, 66, (0, 6, 14, 17, 70)        # vectors by which a top begins, once more, and serves a worker
 LONGEST = 6000                           # steps in which all guests begin, if they do
-STATES = (1, 40, 400, 400, 400, 1000)
+STATES = (1, 40, 400, 400, 400, 1000, 100000)
 
 
 def block(number: int) -> int:
