@@ -18,17 +18,11 @@ loop-k-init g c = record {
 }
 
 pub run_slots-requires-clause-some : goal.run_slots-requires-clause-some
-run_slots-requires-clause-some g c =
-    let count = c.loop-k.invariant.count in
-    let some = c.requires.some in
-    omega (arith, count, some)
+run_slots-requires-clause-some g c = omega arith
 
 pub run_slots-requires-clause-few : goal.run_slots-requires-clause-few
 run_slots-requires-clause-few g c =
-    let t = c.loop-k.invariant.steps in
-    let few = c.requires.few in
-    let more = one_round_more (plan_steps c.args.round.now) c.loop-k.k c.args.count c.loop-k-test.true in
-    omega (arith, t, few, more)
+    omega (arith, one_round_more (plan_steps c.args.round.now) c.loop-k.k c.args.count c.loop-k-test.true)
 
 pub returns-in_err-t-clause-acts : goal.returns-in_err-t-clause-acts
 returns-in_err-t-clause-acts g c = λ w h.
