@@ -43,7 +43,7 @@ loop-k-preserved g c = record {
       let next = c.in_ok-t.ensures.next in
       let P = plan_steps c.args.round.now in
       let e : P * (c.loop-k.k + 1) ≡ P * c.loop-k.k + P = omega arith in
-      omega (arith, t, next, e);
+      omega arith;
   progress = λ w h. rounds_on _ _ _ w _ c.args.round.now c.args.count c.loop-k.k c.loop-k.t c.loop-k-test.true _ _
       (c.loop-k.invariant.progress w h) c.in_ok-t.ensures.acts _ c.in_ok-t.ensures.next;
   work = λ w h. rounds_work_on _ _ _ w _ _ c.args.round.now c.args.count c.loop-k.k c.loop-k.t c.loop-k-test.true
@@ -54,8 +54,8 @@ loop-k-preserved g c = record {
 pub returns-clause-acts : goal.returns-clause-acts
 returns-clause-acts g c = λ w h.
     let past = c.loop-k-test.false in
-    rounds_end _ _ _ w _ c.args.round.now (c.args.count - c.loop-k.k) c.loop-k.t (omega (arith, past))
+    rounds_end _ _ _ w _ c.args.round.now (c.args.count - c.loop-k.k) c.loop-k.t (omega arith)
     (c.loop-k.invariant.progress w h)
 
 pub returns-clause-work : goal.returns-clause-work
-returns-clause-work g c = λ w h. let k = (c.loop-k.invariant.work w h).within in omega (arith, k)
+returns-clause-work g c = λ w h. let k = (c.loop-k.invariant.work w h).within in omega arith
