@@ -156,19 +156,12 @@ module _ (F : ℕ) where
   stage_words n i m w ws cs h s m' table = record {
     sound = s;
     size = h.size;
-    room = record {
-      runner = h.room.runner;
-      runs = h.room.runs;
-      root = h.room.root;
-      frames = h.room.frames;
-      top = h.room.top;
-      left = h.room.left;
-    };
+    room = search;
     alone = h.alone;
     quiet = h.quiet;
     table = table;
     children = λ j l. let c = h.children j l in
-        record { node = c.node; there = c.there; up = c.up; born = c.born; pages = c.pages };
+        search;
   }
 
   -- the root's row at an open page

@@ -39,7 +39,6 @@ loop-k-preserved g c = record {
   count = search rules;
   no_faults = search rules;
   steps =
-      let t = c.loop-k.invariant.steps in
       let next = c.in_ok-t.ensures.next in
       let P = plan_steps c.args.round.now in
       let e : P * (c.loop-k.k + 1) ≡ P * c.loop-k.k + P = omega arith in
@@ -53,9 +52,8 @@ loop-k-preserved g c = record {
 
 pub returns-clause-acts : goal.returns-clause-acts
 returns-clause-acts g c = λ w h.
-    let past = c.loop-k-test.false in
     rounds_end _ _ _ w _ c.args.round.now (c.args.count - c.loop-k.k) c.loop-k.t (omega arith)
     (c.loop-k.invariant.progress w h)
 
 pub returns-clause-work : goal.returns-clause-work
-returns-clause-work g c = λ w h. let k = (c.loop-k.invariant.work w h).within in omega arith
+returns-clause-work g c = λ w h. omega (arith, (c.loop-k.invariant.work w h).within)

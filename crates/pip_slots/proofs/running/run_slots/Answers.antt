@@ -71,18 +71,10 @@ loop-i-preserved g c = record {
 
 pub returns-clause-acts : goal.returns-clause-acts
 returns-clause-acts g c = λ w h.
-    let at_end = c.loop-i.auto.i-end in
-    let over = c.loop-i-test.false in
-    slots_end _ _ _ w _ c.args.slots.now c.loop-i.i c.loop-i.t (omega arith)
-    (c.loop-i.invariant.progress w h)
+    slots_end _ _ _ w _ c.args.slots.now c.loop-i.i c.loop-i.t (omega arith) (c.loop-i.invariant.progress w h)
 
 pub returns-clause-work : goal.returns-clause-work
-returns-clause-work g c = λ w h. let k = (c.loop-i.invariant.work w h).within in omega arith
+returns-clause-work g c = λ w h. omega (arith, (c.loop-i.invariant.work w h).within)
 
 pub returns-clause-next : goal.returns-clause-next
-returns-clause-next g c =
-    let at_end = c.loop-i.auto.i-end in
-    let over = c.loop-i-test.false in
-    let e = none_left c.args.slots.now c.loop-i.i (omega arith) in
-    let t = c.loop-i.invariant.left in
-    omega arith
+returns-clause-next g c = omega (arith, none_left c.args.slots.now c.loop-i.i (omega arith))
