@@ -103,7 +103,7 @@ module _ (old mid new : Taken) (w : World) (all : List Act) (ps : List Plan)
       → Progress S old mid w all (λ v. step v ps (schedule seed c t) t
       ++ steps (after_acts v (step v ps (schedule seed c t) t)) ps seed c (count - (t + 1)) (t + 1))
   unfold_one S k =
-      let e : count - t ≡ suc (count - (t + 1)) = omega (arith, inside) in
+      let e : count - t ≡ suc (count - (t + 1)) = omega arith in
       subst (λ n. Progress S old mid w all (λ v. steps v ps seed c n t)) e k
 
   pub run_on : (S T U : World → Type 0)

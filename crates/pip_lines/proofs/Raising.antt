@@ -40,7 +40,7 @@ pub raised_within : (w : World) (ps : List Plan) (p : Plan) (i t : ℕ) → i < 
 raised_within w ps p i t inside at before between after so one =
     let same = ap (λ k. events_work w (events_made k)) (raises-take ps p i t inside at) in
     let both = work_append w (raises (take i ps) t) (raises (p ∷ []) t) in
-    omega (arith, so, one, same, both)
+    omega arith
 
 -- a machine that stands for the world after i raises comes after one more for that after i + 1
 pub raised_one : (S T : World → Type 0) (w : World) (ps : List Plan) (p : Plan) (i t : ℕ) → i < length ps

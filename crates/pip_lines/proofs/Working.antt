@@ -38,15 +38,14 @@ module _ (S : World → Type 0) (before now after : ℕ) (w : World) (all : List
   left : after + events_work (after_acts k.world (part k.world))
       (events_made (rest (after_acts k.world (part k.world)))) ≤ before + events_work w (events_made all)
   left =
-      let so = k.within in
       let both = work_append k.world (part k.world) (rest (after_acts k.world (part k.world))) in
       let one = takes k.world k.holds in
-      omega (arith, so, both, one)
+      omega arith
 
   -- it may be cut
   pub working_cut : after ≤ before + events_work w (events_made all)
   unfolding left
-  working_cut = let so = left in omega (arith, so)
+  working_cut = let so = left in omega arith
 
   -- or it is made
   pub working_on : (U : World → Type 0) → ((v : World) → S v → U (after_acts v (part v)))
@@ -78,7 +77,7 @@ module _ (before now : ℕ) (w : World) (all : List Act) (ps : List Plan) (seed 
 
       one : Working S before now w all (λ v. step v ps cpu t ++ rest (after_acts v (step v ps cpu t)))
       one =
-          let e : count - t ≡ suc (count - (t + 1)) = omega (arith, inside) in
+          let e : count - t ≡ suc (count - (t + 1)) = omega arith in
           subst (λ p. Working S before now w all (λ v. step v ps p t ++ rest (after_acts v (step v ps p t))))
           (sym drawn) (subst (λ n. Working S before now w all (λ v. steps v ps seed c n t)) e k)
 

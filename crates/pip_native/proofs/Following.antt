@@ -11,7 +11,7 @@ first_small n alive last zero pos = omega arith
 first_small n alive last (suc k) pos =
     let below : (last + (n - k)) % n < n = mod_below (last + (n - k)) n pos in
     elim (is_alive alive ((last + (n - k)) % n)) as (λ y. (if y then (last + (n - k)) % n
-    else first_alive n alive last k) ≤ n) [ true ↦ omega (arith, below) | false ↦ first_small n alive last k pos ]
+    else first_alive n alive last k) ≤ n) [ true ↦ omega arith | false ↦ first_small n alive last k pos ]
 
 pub next_small : (n alive last : ℕ) → last < n → next_of n alive last ≤ n
 next_small n alive last lt = first_small n alive last n (omega arith)
@@ -21,8 +21,8 @@ pub first_later : (n alive last before : ℕ) → before < n → is_alive alive 
     → first_alive n alive last (n - before) ≡ first_alive n alive last (n - (before + 1))
 first_later n alive last before lt dead =
     let k = n - (before + 1) in
-    let left : n - before ≡ suc k = omega (arith, lt) in
-    let place : last + (n - k) ≡ last + before + 1 = omega (arith, lt) in
+    let left : n - before ≡ suc k = omega arith in
+    let place : last + (n - k) ≡ last + before + 1 = omega arith in
     let not_here : is_alive alive ((last + (n - k)) % n) ≡ false =
     subst (λ z. is_alive alive (z % n) ≡ false) (sym place) dead in
     ap (first_alive n alive last) left

@@ -14,7 +14,7 @@ free_first words f v r e = ap (is_free_row (boot_tree_with words f) 1) e
 
 pub room_first : (m f c : ℕ) (words : ℕ → ℕ → ℕ) → IsSoundWorld (boot_world_with words f c) → m ≤ 8
     → pages_taken m + 13 ≤ f → HasRoomForChildren m 0 (boot_world_with words f c)
-room_first m f zero words s most d = let l = s.at_least_one in absurd (let z : ⊥ = omega (arith, l) in z)
+room_first m f zero words s most d = let l = s.at_least_one in absurd (let z : ⊥ = omega arith in z)
 room_first m f (suc c) words s most d = record {
   runner = record { name = 1; ctx = first_ctx };
   runs = refl;

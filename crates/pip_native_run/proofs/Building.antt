@@ -40,7 +40,7 @@ module _ (n i : ℕ) (most : n ≤ 8) (low : i < n) (w : World) (s : IsSoundWorl
   left_open : (k : ℕ) → IsLeftPage n i k → IsOpen t (vpage (page_address k))
   left_open k l =
       let e = page_at k in
-      subst (IsOpen t) (sym e) (open_page t s.tree n k most h.frames (left_taken n i k (omega (arith, low)) l)
+      subst (IsOpen t) (sym e) (open_page t s.tree n k most h.frames (left_taken n i k (omega arith) l)
       (subst (λ v. free t root v ≡ true) e (h.left k l)))
 
   pool_open : (k : ℕ) → k < 13 → IsOpen t (vpage (pool_at pool k))
@@ -72,7 +72,7 @@ module _ (n i : ℕ) (most : n ≤ 8) (low : i < n) (w : World) (s : IsSoundWorl
       ∙ ap (λ x. not (bit_and 7 x == 7)) (rights_there (vpage (pool_at pool 8)) (pool_open 8 (omega arith)))
   lacks_none r is (suc zero) l = ap (λ p. lacks_right t p pool child_wants 1) is
       ∙ ap (λ x. not (bit_and 3 x == 3)) (rights_there (vpage (pool_at pool 12)) (pool_open 12 (omega arith)))
-  lacks_none r is (suc (suc j)) l = absurd (let z : ⊥ = omega (arith, l) in z)
+  lacks_none r is (suc (suc j)) l = absurd (let z : ⊥ = omega arith in z)
 
   room : need child_wants ≤ length pool
   room = omega arith
@@ -93,8 +93,8 @@ module _ (n i : ℕ) (most : n ≤ 8) (low : i < n) (w : World) (s : IsSoundWorl
       go true e =
           let (k, l, q) = holds_used t root pool child_wants 2 (page_of t root a)
           (has_in (page_of t root a) (held_pages child) e) in
-          absurd (ne k (omega (arith, l)) (usable_same t root s.tree (inl refl) a (pool_at pool k) u
-          (usable_at t root pool child_wants s.tree (inl refl) has_pool room k (omega (arith, l))) q))
+          absurd (ne k (omega arith) (usable_same t root s.tree (inl refl) a (pool_at pool k) u
+          (usable_at t root pool child_wants s.tree (inl refl) has_pool room k (omega arith)) q))
 
   free_again : (a : ℕ) → is_place a ≡ true → is_mapped t root (vpage a) ≡ true → free t root (vpage a) ≡ true → ((k : ℕ)
       → k < 13 → a ≡ pool_at pool k → ⊥) → free (built_before t root pool child_wants 2) root (vpage a) ≡ true
@@ -110,8 +110,8 @@ module _ (n i : ℕ) (most : n ≤ 8) (low : i < n) (w : World) (s : IsSoundWorl
       root = refl;
       frames = h.frames;
       top = free_again 0xfffff000 refl (mapped_top) h.top (λ k l e. let (m, f, p) = pool_page n i k l in
-          let q = left_taken n i m (omega (arith, low)) (place_left n i k m low l p) in
-          let z : ⊥ = omega (arith, e, f, q, most) in z);
+          let q = left_taken n i m (omega arith) (place_left n i k m low l p) in
+          let z : ⊥ = omega arith in z);
       left = λ k l. free_again (page_address k) (page_place k) (ap is_some (left_open k (left_before n i k l)).found)
           (h.left k (left_before n i k l))
           (λ j a e. let (m, f, p) = pool_page n i j a in left_apart n i j k m low a p l (same_page k m (e ∙ f)));
@@ -144,9 +144,9 @@ module _ (n i : ℕ) (most : n ≤ 8) (low : i < n) (w : World) (s : IsSoundWorl
     where
       no_true : false ≡ true → ⊥
       no_true e = cc
-  never (R.Want (suc (suc j))) x = let l = x.0.0 in let z : ⊥ = omega (arith, l) in z
-  never (R.Short have needs) x = let e = x.1 in let f = x.2 in let l = x.3 in let r = room n i most low before s h in
-      let z : ⊥ = omega (arith, e, f, l, r) in z
+  never (R.Want (suc (suc j))) x = let z : ⊥ = omega arith in z
+  never (R.Short have needs) x = let e = x.1 in let f = x.2 in let r = room n i most low before s h in
+      let z : ⊥ = omega arith in z
   never (R.NoRight j) x =
       let e = (x.3 before h.runner its_builder a).0 in
       let f = lacks_none n i most low before s h h.runner h.root j x.2 in

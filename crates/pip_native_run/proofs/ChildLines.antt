@@ -16,16 +16,16 @@ built-append i (x ∷ xs) ys =
 
 take_length : (xs : List ℕ) (i : ℕ) → i < length xs → length (take i xs) ≡ i
 take_length xs zero l = refl
-take_length [] (suc i) l = absurd (let z : ⊥ = omega (arith, l) in z)
-take_length (x ∷ xs) (suc i) l = ap suc (take_length xs i (omega (arith, l)))
+take_length [] (suc i) l = absurd (let z : ⊥ = omega arith in z)
+take_length (x ∷ xs) (suc i) l = ap suc (take_length xs i (omega arith))
 
 from_zero : (xs : List ℕ) (i : ℕ) → i < length xs → 0 + length (take i xs) ≡ i
-from_zero xs i l = let e = take_length xs i l in omega (arith, e)
+from_zero xs i l = let e = take_length xs i l in omega arith
 
 take_next : (xs : List ℕ) (i : ℕ) → i < length xs → take (suc i) xs ≡ take i xs ++ slice_index_or xs i 0 ∷ []
-take_next [] i l = absurd (let z : ⊥ = omega (arith, l) in z)
+take_next [] i l = absurd (let z : ⊥ = omega arith in z)
 take_next (x ∷ xs) zero l = refl
-take_next (x ∷ xs) (suc i) l = ap (λ k. x ∷ k) (take_next xs i (omega (arith, l)))
+take_next (x ∷ xs) (suc i) l = ap (λ k. x ∷ k) (take_next xs i (omega arith))
 
 -- one more line
 pub built-next : (xs : List ℕ) (i : ℕ) → i < length xs
@@ -40,9 +40,9 @@ built-next xs i l =
 
 -- the lines before line i, line i, the rest
 split_at : (xs : List ℕ) (i : ℕ) → i < length xs → (rest : List ℕ) × (xs ≡ take i xs ++ slice_index_or xs i 0 ∷ rest)
-split_at [] i l = absurd (let z : ⊥ = omega (arith, l) in z)
+split_at [] i l = absurd (let z : ⊥ = omega arith in z)
 split_at (x ∷ xs) zero l = (xs, refl)
-split_at (x ∷ xs) (suc i) l = let (rest, e) = split_at xs i (omega (arith, l)) in (rest, ap (λ k. x ∷ k) e)
+split_at (x ∷ xs) (suc i) l = let (rest, e) = split_at xs i (omega arith) in (rest, ap (λ k. x ∷ k) e)
 
 pub built-split : (xs : List ℕ) (i : ℕ) → i < length xs
     → (more : List ℕ) × (built_from 0 xs ≡ built_from 0 (take i xs) ++ (built_line i (slice_index_or xs i 0) ++ more))

@@ -57,12 +57,12 @@ module _ (n i : ℕ) (w : World) (s : IsSoundWorld w) (h : HasRoomForChildren n 
   pub handlers_as : (k : ℕ) → k ≤ 256 → AsWords w (with_handlers w k)
   handlers_as zero l = as_itself w
   handlers_as (suc k) l = store_at 0xfffff (open_top w.tree s.tree h.top) (0xfffff000 + 4 * k) 0xfffff400
-      (omega (arith, l)) (omega arith) (with_handlers w k) (handlers_as k (omega (arith, l)))
+      (omega arith) (omega arith) (with_handlers w k) (handlers_as k (omega arith))
 
   pub entry_as : n ≤ 8 → i < n → AsWords w (with_entry w n i)
   entry_as most low =
       let k = n + 12 * i + 11 in
-      let inside : k < pages_taken n = omega (arith, low) in
+      let inside : k < pages_taken n = omega arith in
       let at : vpage (page_address k) ≡ 1024 + k = omega arith in
       let o = open_page w.tree s.tree n k most h.frames inside
       (subst (λ v. free w.tree w.tree.root.name v ≡ true) at (h.left k (inr (omega arith, inside)))) in

@@ -25,8 +25,8 @@ pub record IsOpen (t : Tree) (v : ℕ) : Type 0 where
 few_tables : (n m : ℕ) → 16 ≤ n → n ≤ 4096 → m ≤ 8 → pages_taken m + 13 ≤ n → (k : ℕ) → k < pages_taken m
     → k < n - 1 - (9 + 3 * tables_of_root n)
 few_tables n m a b c d k l = elim (cases_lt n 1038) [
-  | inl e ↦ let t = root_tables-least n 1 (omega arith) (omega (arith, e)) in omega (arith, t, d, l)
-  | inr e ↦ let t = root_tables-least n 4 (omega arith) (omega (arith, b)) in omega (arith, t, e, c, l)
+  | inl e ↦ let t = root_tables-least n 1 (omega arith) (omega arith) in omega arith
+  | inr e ↦ let t = root_tables-least n 4 (omega arith) (omega arith) in omega arith
 ]
 
 module _ (t : Tree) (s : IsSound t) where
@@ -57,7 +57,7 @@ module _ (t : Tree) (s : IsSound t) where
       let e : 1024 + k - 1024 ≡ k = omega arith in
       row_of_frame (1024 + k) (9 + 3 * tables_of_root t.frames + (1024 + k - 1024)) (root-frame_between t.frames
       (tables_of_root t.frames) (1024 + k) (9 + 3 * tables_of_root t.frames + (1024 + k - 1024)) refl (omega arith)
-      (omega (arith, small, e)) refl)
+      (omega arith) refl)
 
   pub open_top : free t t.root.name 0xfffff ≡ true → IsOpen t 0xfffff
   open_top f = let (r, q, k) = row_top in record { row = r; found = q; rights = k; free = f }

@@ -28,41 +28,41 @@ pool_page n i (suc (suc (suc (suc (suc (suc (suc (suc (suc (suc (suc zero)))))))
 pool_page n i (suc (suc (suc (suc (suc (suc (suc (suc (suc (suc (suc (suc zero)))))))))))) l =
     (n + 12 * i + 11, refl, inr (inr (omega arith, omega arith)))
 pool_page n i (suc (suc (suc (suc (suc (suc (suc (suc (suc (suc (suc (suc (suc k))))))))))))) l =
-    absurd (let z : ⊥ = omega (arith, l) in z)
+    absurd (let z : ⊥ = omega arith in z)
 
 -- each page of the pool is left before child i
 pub place_left : (n i k m : ℕ) → i < n → k < 13 → IsPlace n i k m → IsLeftPage n i m
-place_left n i k m low l (inl (a, e)) = inr (omega (arith, a, e), omega (arith, a, e, low))
-place_left n i k m low l (inr (inl (a, e))) = inl (omega (arith, e), omega (arith, e, low))
-place_left n i k m low l (inr (inr (a, e))) = inr (omega (arith, a, e), omega (arith, a, e, l, low))
+place_left n i k m low l (inl (a, e)) = inr (omega arith, omega arith)
+place_left n i k m low l (inr (inl (a, e))) = inl (omega arith, omega arith)
+place_left n i k m low l (inr (inr (a, e))) = inr (omega arith, omega arith)
 
 -- different places have different pages
 pub one_place : (n i j k m : ℕ) → i < n → IsPlace n i j m → IsPlace n i k m → j ≡ k
-one_place n i j k m low (inl (a, e)) (inl (b, f)) = omega (arith, e, f)
-one_place n i j k m low (inl (a, e)) (inr (inl (b, f))) = omega (arith, e, f, low)
-one_place n i j k m low (inl (a, e)) (inr (inr (b, f))) = omega (arith, a, b, e, f)
-one_place n i j k m low (inr (inl (a, e))) (inl (b, f)) = omega (arith, e, f, low)
-one_place n i j k m low (inr (inl (a, e))) (inr (inl (b, f))) = omega (arith, a, b)
-one_place n i j k m low (inr (inl (a, e))) (inr (inr (b, f))) = omega (arith, b, e, f, low)
-one_place n i j k m low (inr (inr (a, e))) (inl (b, f)) = omega (arith, a, b, e, f)
-one_place n i j k m low (inr (inr (a, e))) (inr (inl (b, f))) = omega (arith, a, e, f, low)
-one_place n i j k m low (inr (inr (a, e))) (inr (inr (b, f))) = omega (arith, e, f)
+one_place n i j k m low (inl (a, e)) (inl (b, f)) = omega arith
+one_place n i j k m low (inl (a, e)) (inr (inl (b, f))) = omega arith
+one_place n i j k m low (inl (a, e)) (inr (inr (b, f))) = omega arith
+one_place n i j k m low (inr (inl (a, e))) (inl (b, f)) = omega arith
+one_place n i j k m low (inr (inl (a, e))) (inr (inl (b, f))) = omega arith
+one_place n i j k m low (inr (inl (a, e))) (inr (inr (b, f))) = omega arith
+one_place n i j k m low (inr (inr (a, e))) (inl (b, f)) = omega arith
+one_place n i j k m low (inr (inr (a, e))) (inr (inl (b, f))) = omega arith
+one_place n i j k m low (inr (inr (a, e))) (inr (inr (b, f))) = omega arith
 
 -- a page that is left after child i is none of its pool, and is left before it
 pub left_apart : (n i k j m : ℕ) → i < n → k < 13 → IsPlace n i k m → IsLeftPage n (i + 1) j → j ≡ m → ⊥
-left_apart n i k j m low l (inl (a, e)) (inl (b, c)) q = let z : ⊥ = omega (arith, a, e, b, c, q) in z
-left_apart n i k j m low l (inl (a, e)) (inr (b, c)) q = let z : ⊥ = omega (arith, a, e, b, c, q) in z
-left_apart n i k j m low l (inr (inl (a, e))) (inl (b, c)) q = let z : ⊥ = omega (arith, e, b, c, q) in z
-left_apart n i k j m low l (inr (inl (a, e))) (inr (b, c)) q = let z : ⊥ = omega (arith, e, b, c, q, low) in z
-left_apart n i k j m low l (inr (inr (a, e))) (inl (b, c)) q = let z : ⊥ = omega (arith, a, e, b, c, q) in z
-left_apart n i k j m low l (inr (inr (a, e))) (inr (b, c)) q = let z : ⊥ = omega (arith, a, l, e, b, c, q) in z
+left_apart n i k j m low l (inl (a, e)) (inl (b, c)) q = let z : ⊥ = omega arith in z
+left_apart n i k j m low l (inl (a, e)) (inr (b, c)) q = let z : ⊥ = omega arith in z
+left_apart n i k j m low l (inr (inl (a, e))) (inl (b, c)) q = let z : ⊥ = omega arith in z
+left_apart n i k j m low l (inr (inl (a, e))) (inr (b, c)) q = let z : ⊥ = omega arith in z
+left_apart n i k j m low l (inr (inr (a, e))) (inl (b, c)) q = let z : ⊥ = omega arith in z
+left_apart n i k j m low l (inr (inr (a, e))) (inr (b, c)) q = let z : ⊥ = omega arith in z
 
 pub left_before : (n i k : ℕ) → IsLeftPage n (i + 1) k → IsLeftPage n i k
-left_before n i k (inl (a, b)) = inl (omega (arith, a), b)
-left_before n i k (inr (a, b)) = inr (omega (arith, a), b)
+left_before n i k (inl (a, b)) = inl (omega arith, b)
+left_before n i k (inr (a, b)) = inr (omega arith, b)
 
 pub left_taken : (n i k : ℕ) → i ≤ n → IsLeftPage n i k → k < pages_taken n
-left_taken n i k l (inl (a, b)) = omega (arith, b)
+left_taken n i k l (inl (a, b)) = omega arith
 left_taken n i k l (inr (a, b)) = b
 
 pub page_place : (m : ℕ) → is_place (page_address m) ≡ true
@@ -72,4 +72,4 @@ pub page_at : (m : ℕ) → vpage (page_address m) ≡ 1024 + m
 page_at m = omega arith
 
 pub same_page : (j m : ℕ) → page_address j ≡ page_address m → j ≡ m
-same_page j m e = omega (arith, e)
+same_page j m e = omega arith

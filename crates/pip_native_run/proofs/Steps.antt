@@ -23,7 +23,7 @@ module _ (old mid new : Taken) (w : World) (all : List Act) (ps : List Plan)
   unfolded : Progress S old mid w all (λ v. (raises ps t ++ watch_step (after_acts v (raises ps t)) m t)
       ++ rest (after_acts v (raises ps t ++ watch_step (after_acts v (raises ps t)) m t)))
   unfolded =
-      let e : count - t ≡ suc (count - (t + 1)) = omega (arith, inside) in
+      let e : count - t ≡ suc (count - (t + 1)) = omega arith in
       let one = subst (λ n. Progress S old mid w all (λ v. watched_steps v ps m n t)) e k in
       record {
         world = one.world;

@@ -14,16 +14,16 @@ last-most f ws (suc n) = go (f (want_at ws n)) (last-most f ws n)
   where
     go : (b : Bool) → last f ws n ≤ n → cond b (suc n) (last f ws n) ≤ suc n
     go true h = omega arith
-    go false h = omega (arith, h)
+    go false h = omega arith
 
 -- the last such want is such
 last-holds : (f : Want → Bool) (ws : List Want) (n j : ℕ) → last f ws n ≡ j + 1 → f (want_at ws j) ≡ true
-last-holds f ws zero j e = absurd (let z : ⊥ = omega (arith, e) in z)
+last-holds f ws zero j e = absurd (let z : ⊥ = omega arith in z)
 last-holds f ws (suc n) j e = go (f (want_at ws n)) refl (λ q. last-holds f ws n j q) e
   where
     go : (b : Bool) → f (want_at ws n) ≡ b → (last f ws n ≡ j + 1 → f (want_at ws j) ≡ true)
         → cond b (suc n) (last f ws n) ≡ j + 1 → f (want_at ws j) ≡ true
-    go true h ih e = subst (λ k. f (want_at ws k) ≡ true) (let q : n ≡ j = omega (arith, e) in q) h
+    go true h ih e = subst (λ k. f (want_at ws k) ≡ true) (let q : n ≡ j = omega arith in q) h
     go false h ih e = ih e
 
 -- where g holds of no want but one such, no want after the last such one has it
@@ -62,7 +62,7 @@ module _ (ws : List Want) (i : ℕ) where
   left_of c n at e l s q =
       let m = last-most (λ w. chain_of_want w == c) ws n in
       record {
-        low = omega (arith, q, m, l);
+        low = omega arith;
         same = ap (earlier same_address ws) q
             ∙ earlier-last (λ w. chain_of_want w == c) same_address (in_chain c e) ws n ∙ s;
         ours = λ j k.
@@ -76,8 +76,7 @@ module _ (ws : List Want) (i : ℕ) where
   pub next_left : (at j next : ℕ) → IsLeft at → at ≡ j + 1 → same_address (want_at ws j) ≡ false
       → next ≡ last (λ w. chain_of_want w == chain_of_want (want_at ws j)) ws j → IsLeft next
   next_left at j next left e other q =
-      left_of (chain_of_want (want_at ws j)) j next (left.ours j e) (let l = left.low in
-      omega (arith, l, e)) (after ∙ left.same) q
+      left_of (chain_of_want (want_at ws j)) j next (left.ours j e) (omega arith) (after ∙ left.same) q
     where
       or_false : (b : Bool) → b ≡ (b || false)
       or_false true = refl
@@ -85,12 +84,12 @@ module _ (ws : List Want) (i : ℕ) where
 
       after : earlier same_address ws j ≡ earlier same_address ws at
       after = or_false (earlier same_address ws j) ∙ ap (λ b. earlier same_address ws j || b) (sym other)
-          ∙ ap (earlier same_address ws) (let k : suc j ≡ at = omega (arith, e) in k)
+          ∙ ap (earlier same_address ws) (let k : suc j ≡ at = omega arith in k)
 
   pub next_smaller : (at j next : ℕ) → at ≡ j + 1
       → next ≡ last (λ w. chain_of_want w == chain_of_want (want_at ws j)) ws j → next < at
   next_smaller at j next e q = let m = last-most (λ w. chain_of_want w == chain_of_want (want_at ws j)) ws j in
-      omega (arith, e, q, m)
+      omega arith
 
 -- want i comes to the head of its chain c
 module _ (latest before : List ℕ) (ws : List Want) (i c : ℕ) (e : c ≡ chain_of_want (want_at ws i)) where
@@ -126,4 +125,4 @@ module _ (latest before : List ℕ) (ws : List Want) (i c : ℕ) (e : c ≡ chai
           let q = eqb-true j i k in
           get_or-set_at before i j head 0 q low ∙ h ∙ ap (λ n. last (λ w. chain_of_want w == n) ws i) e
           ∙ ap (λ m. last (λ w. chain_of_want w == chain_of_want (want_at ws m)) ws m) (sym q)
-      go false k = let q = eqb-false j i k in get_or-set_other before i j head 0 q ∙ known j (omega (arith, q, l))
+      go false k = let q = eqb-false j i k in get_or-set_other before i j head 0 q ∙ known j (omega arith)

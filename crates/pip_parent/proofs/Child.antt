@@ -26,7 +26,7 @@ module _ (t : Tree) (p : ℕ) (pool : List ℕ) where
   IsPage bound g = (k : ℕ) × (k < bound) × (g ≡ page_of t p (pool_at pool k))
 
   more_pair : (a b : ℕ) (g : Pair) → a ≤ b → IsPair a g → IsPair b g
-  more_pair a b g h (k, l, e) = (k, omega (arith, h, l), e)
+  more_pair a b g h (k, l, e) = (k, omega arith, e)
 
   pairs_in : (k n : ℕ) (g : Pair) → In g (pairs_from t p pool k n) → IsPair (k + n) g
   pairs_in k zero g i = absurd i
@@ -58,14 +58,14 @@ module _ (t : Tree) (p : ℕ) (pool : List ℕ) where
             (b ∷ [])) (subst (In g) (flat_append table_pairs (tables_of t p pool ws i) (b ∷ [])) h)) [
               | inl j ↦ more_pair (pages_used ws i) (place ws i) g (used_before ws i) (ih j)
               | inr j ↦ more_pair (pages_used ws i + 3) (place ws i) g
-                  (omega (arith, e)) (table_in (pages_used ws i) (dir_of (want_at ws i)) g j)
+                  (omega arith) (table_in (pages_used ws i) (dir_of (want_at ws i)) g j)
             ]
 
     tables_step : (i : ℕ) (g : Pair) → In g (flat_map table_pairs (tables_of t p pool ws i))
         → IsPair (pages_used ws i) g
     tables_step zero g i = absurd i
     tables_step (suc n) g i = let q = place_next ws n in
-        more_pair (place ws n) (pages_used ws (suc n)) g (omega (arith, q)) (tables_next n g (tables_step n g) i)
+        more_pair (place ws n) (pages_used ws (suc n)) g (omega arith) (tables_next n g (tables_step n g) i)
 
     more_next : (i : ℕ) (g : Pair) → (In g (more_of t p pool ws i) → IsPair (pages_used ws i) g)
         → In g (more_of t p pool ws (suc i)) → IsPair (place ws i) g
@@ -81,32 +81,32 @@ module _ (t : Tree) (p : ℕ) (pool : List ℕ) where
             (pairs_from t p pool (suc (suc (suc (pages_used ws i)))) (lists_more (opened_before ws i))) h) [
               | inl j ↦ more_pair (pages_used ws i) (place ws i) g (used_before ws i) (ih j)
               | inr j ↦ more_pair (suc (suc (suc (pages_used ws i))) + lists_more (opened_before ws i)) (place ws i) g
-                  (omega (arith, e)) (pairs_in (suc (suc (suc (pages_used ws i)))) (lists_more (opened_before ws i)) g
+                  (omega arith) (pairs_in (suc (suc (suc (pages_used ws i)))) (lists_more (opened_before ws i)) g
                   j)
             ]
 
     more_step : (i : ℕ) (g : Pair) → In g (more_of t p pool ws i) → IsPair (pages_used ws i) g
     more_step zero g i = absurd i
     more_step (suc n) g i = let q = place_next ws n in
-        more_pair (place ws n) (pages_used ws (suc n)) g (omega (arith, q)) (more_next n g (more_step n g) i)
+        more_pair (place ws n) (pages_used ws (suc n)) g (omega arith) (more_next n g (more_step n g) i)
 
     -- a row is that of a want
     pub rows_in : (j : ℕ) (r : Row) → In r (want_rows t p pool ws j) → (m : ℕ) × (m < j) × (r ≡ want_row t p pool ws m)
     rows_in zero r i = absurd i
     rows_in (suc j) r i = elim (insert-in (want_row t p pool ws j) r (want_rows t p pool ws j) i) [
-      | inl k ↦ let (m, l, e) = rows_in j r k in (m, omega (arith, l), e)
+      | inl k ↦ let (m, l, e) = rows_in j r k in (m, omega arith, e)
       | inr e ↦ (j, omega arith, e)
     ]
 
     -- no row is at an address that no earlier want has
     earlier_not : (f : Want → Bool) (j m : ℕ) → earlier f ws j ≡ false → m < j → f (want_at ws m) ≡ false
-    earlier_not f zero m e l = absurd (let z : ⊥ = omega (arith, l) in z)
+    earlier_not f zero m e l = absurd (let z : ⊥ = omega arith in z)
     earlier_not f (suc j) m e l = go (m == j) refl (λ k. earlier_not f j m (grind (arith, e)) k)
       where
         go : (b : Bool) → (m == j) ≡ b → (m < j → f (want_at ws m) ≡ false) → f (want_at ws m) ≡ false
         go true q ih = let h : m ≡ j = eqb-true m j q in
             subst (λ z. f (want_at ws z) ≡ false) (sym h) (grind (arith, e))
-        go false q ih = let h : m ≢ j = eqb-false m j q in ih (omega (arith, h, l))
+        go false q ih = let h : m ≢ j = eqb-false m j q in ih (omega arith)
 
     pub no_row : (v j : ℕ) → earlier (λ w. vpage w.va == v) ws j ≡ false → row_at (want_rows t p pool ws j) v ≡ None
     no_row v j e = go (row_at (want_rows t p pool ws j) v) refl
@@ -125,11 +125,11 @@ module _ (t : Tree) (p : ℕ) (pool : List ℕ) where
         → In q (flat_map table_pairs (tables_of t p pool ws i)) → IsPair bound q)
         (of_more : (q : Pair) → In q (more_of t p pool ws i) → IsPair bound q) (of_rows : pages_used ws j ≤ bound) where
       of_base : (q : Pair) → In q (base_pairs (child_with t p pool ws i j).base) → IsPair bound q
-      of_base q (inl e) = (0, omega (arith, least), e)
-      of_base q (inr (inl e)) = (1, omega (arith, least), e)
-      of_base q (inr (inr (inl e))) = (2, omega (arith, least), e)
-      of_base q (inr (inr (inr (inl e)))) = (3, omega (arith, least), e)
-      of_base q (inr (inr (inr (inr (inl e))))) = (4, omega (arith, least), e)
+      of_base q (inl e) = (0, omega arith, e)
+      of_base q (inr (inl e)) = (1, omega arith, e)
+      of_base q (inr (inr (inl e))) = (2, omega arith, e)
+      of_base q (inr (inr (inr (inl e)))) = (3, omega arith, e)
+      of_base q (inr (inr (inr (inr (inl e))))) = (4, omega arith, e)
       of_base q (inr (inr (inr (inr (inr k))))) = absurd k
 
       of_pair : (q : Pair) → In q (pairs (child_with t p pool ws i j)) → IsPair bound q
@@ -150,9 +150,9 @@ module _ (t : Tree) (p : ℕ) (pool : List ℕ) where
                 let (m, l, f) = of_pair q k in (m, l, e ∙ ap (λ q. q.frame) f)
             | inr c ↦ let (r, k, e) = In-map_from (λ r. r.frame) g (want_rows t p pool ws j) c in
                 let (m, l, f) = rows_in j r k in
-                let a = used_within ws (suc m) j (omega (arith, l)) in
+                let a = used_within ws (suc m) j (omega arith) in
                 let b = place_next ws m in
-                (place ws m, omega (arith, a, b, of_rows), e ∙ ap (λ r. r.frame) f)
+                (place ws m, omega arith, e ∙ ap (λ r. r.frame) f)
           ]
 
     -- before the page for want i is lent: below its place
@@ -160,7 +160,7 @@ module _ (t : Tree) (p : ℕ) (pool : List ℕ) where
     holds_below i g h =
         let a = used_least ws i in
         let b = used_before ws i in
-        held_in (suc i) i (place ws i) (omega (arith, a, b)) (λ q k. tables_next i q (tables_step i q) k)
+        held_in (suc i) i (place ws i) (omega arith) (λ q k. tables_next i q (tables_step i q) k)
         (λ q k. more_next i q (more_step i q) k) b g h
 
     -- before want i has its table: below what is used

@@ -10,27 +10,27 @@ use Rattle.pip_parent.specs.Built.{lists_more, pool_table, tables_of}
 pub used_opens : (ws : List Want) (i : ℕ) → opens ws i ≡ true
     → pages_used ws (suc i) ≡ pages_used ws i + 4 + lists_more (opened_before ws i)
 used_opens ws i e = let q : opened_before ws (suc i) ≡ opened_before ws i + 1 =
-    ap (λ b. opened_before ws i + cond b 1 0) e in omega (arith, q)
+    ap (λ b. opened_before ws i + cond b 1 0) e in omega arith
 
 pub used_stays : (ws : List Want) (i : ℕ) → opens ws i ≡ false → pages_used ws (suc i) ≡ pages_used ws i + 1
 used_stays ws i e = let q : opened_before ws (suc i) ≡ opened_before ws i + 0 =
-    ap (λ b. opened_before ws i + cond b 1 0) e in omega (arith, q)
+    ap (λ b. opened_before ws i + cond b 1 0) e in omega arith
 
 pub place_opens : (ws : List Want) (i : ℕ) → opens ws i ≡ true
     → place ws i ≡ pages_used ws i + 3 + lists_more (opened_before ws i)
 place_opens ws i e = let q : opened_before ws (suc i) ≡ opened_before ws i + 1 =
-    ap (λ b. opened_before ws i + cond b 1 0) e in omega (arith, q)
+    ap (λ b. opened_before ws i + cond b 1 0) e in omega arith
 
 pub place_stays : (ws : List Want) (i : ℕ) → opens ws i ≡ false → place ws i ≡ pages_used ws i
 place_stays ws i e = let q : opened_before ws (suc i) ≡ opened_before ws i + 0 =
-    ap (λ b. opened_before ws i + cond b 1 0) e in omega (arith, q)
+    ap (λ b. opened_before ws i + cond b 1 0) e in omega arith
 
 pub opened_opens : (ws : List Want) (i : ℕ) → opens ws i ≡ true → opened_before ws (suc i) ≡ opened_before ws i + 1
 opened_opens ws i e = ap (λ b. opened_before ws i + cond b 1 0) e
 
 pub opened_stays : (ws : List Want) (i : ℕ) → opens ws i ≡ false → opened_before ws (suc i) ≡ opened_before ws i
 opened_stays ws i e = let q : opened_before ws (suc i) ≡ opened_before ws i + 0 =
-    ap (λ b. opened_before ws i + cond b 1 0) e in omega (arith, q)
+    ap (λ b. opened_before ws i + cond b 1 0) e in omega arith
 
 -- how many pages are linked for a table: two and the list pages that it adds, as the wants before it have t tables
 pub stores_are : (ws : List Want) (i t a b : ℕ) → t ≡ opened_before ws i → a ≡ lists (t + 1) → b ≡ lists t
@@ -47,8 +47,8 @@ pub used_before : (ws : List Want) (i : ℕ) → pages_used ws i ≤ place ws i
 used_before ws i = go (opens ws i) refl
   where
     go : (b : Bool) → opens ws i ≡ b → pages_used ws i ≤ place ws i
-    go true e = let q = place_opens ws i e in omega (arith, q)
-    go false e = let q = place_stays ws i e in omega (arith, q)
+    go true e = let q = place_opens ws i e in omega arith
+    go false e = let q = place_stays ws i e in omega arith
 
 pub used_rises : (ws : List Want) (i k : ℕ) → pages_used ws i ≤ pages_used ws (i + k)
 used_rises ws i zero = let e : pages_used ws (i + 0) ≡ pages_used ws i = ap (pages_used ws) (omega arith) in omega
@@ -58,16 +58,16 @@ used_rises ws i (suc k) =
     let r = used_before ws (i + k) in
     let s = place_next ws (i + k) in
     let e : pages_used ws (i + suc k) ≡ pages_used ws (suc (i + k)) = ap (pages_used ws) (omega arith) in
-    omega (arith, q, r, s, e)
+    omega arith
 
 pub used_within : (ws : List Want) (i j : ℕ) → i ≤ j → pages_used ws i ≤ pages_used ws j
 used_within ws i j h = let q = used_rises ws i (j - i) in
-    let e : pages_used ws (i + (j - i)) ≡ pages_used ws j = ap (pages_used ws) (omega arith) in omega (arith, q, e)
+    let e : pages_used ws (i + (j - i)) ≡ pages_used ws j = ap (pages_used ws) (omega arith) in omega arith
 
 -- a want's page is within what is needed
 pub place_within : (ws : List Want) (i : ℕ) → i < length ws → place ws i < need ws
 place_within ws i h = let q = used_within ws (suc i) (length ws) (omega arith) in let r = place_next ws i in
-    omega (arith, q, r)
+    omega arith
 
 any_last : {A : Type 0} (f : A → Bool) (xs : List A) (y : A) → list_any f (xs ++ y ∷ []) ≡ (list_any f xs || f y)
 any_last f [] y = bool (f y)
@@ -134,5 +134,5 @@ opened_most ws zero = omega arith
 opened_most ws (suc i) = go (opens ws i) (opened_most ws i)
   where
     go : (b : Bool) → opened_before ws i ≤ i → opened_before ws i + cond b 1 0 ≤ suc i
-    go true h = omega (arith, h)
-    go false h = omega (arith, h)
+    go true h = omega arith
+    go false h = omega arith

@@ -52,7 +52,7 @@ seven (suc (suc (suc (suc zero)))) l = refl
 seven (suc (suc (suc (suc (suc zero))))) l = refl
 seven (suc (suc (suc (suc (suc (suc zero)))))) l = refl
 seven (suc (suc (suc (suc (suc (suc (suc zero))))))) l = refl
-seven (suc (suc (suc (suc (suc (suc (suc (suc r)))))))) l = absurd (let z : ⊥ = omega (arith, l) in z)
+seven (suc (suc (suc (suc (suc (suc (suc (suc r)))))))) l = absurd (let z : ⊥ = omega arith in z)
 
 -- the conditions of addVAddr: one alone may be met
 lend_met : (a b c d e f g h l : Bool) → a ≡ false → b ≡ false → c ≡ false → d ≡ false → e ≡ false → f ≡ l → g ≡ false
@@ -104,8 +104,8 @@ apart_pages ws a l (suc j) h e =
     let b = eqb-false (want_at ws j).va a q.1 in
     let c = eqb-true ((want_at ws j).va % 4096) 0 (h j (omega arith)) in
     let d = eqb-true (a % 4096) 0 l in
-    let f : vpage (want_at ws j).va ≢ vpage a = omega (arith, b, c, d) in
-    ap₂ (λ x y. x || y) (apart_pages ws a l j (λ m k. h m (omega (arith, k))) q.0)
+    let f : vpage (want_at ws j).va ≢ vpage a = omega arith in
+    ap₂ (λ x y. x || y) (apart_pages ws a l j (λ m k. h m (omega arith)) q.0)
     (ne_eqb (vpage (want_at ws j).va) (vpage a) f)
 
 module _ (t : Tree) (p : ℕ) (pool : List ℕ) (ws : List Want) (s : IsSound t) (n : IsName t p) (h : HasPool t p pool)
@@ -125,10 +125,10 @@ module _ (t : Tree) (p : ℕ) (pool : List ℕ) (ws : List Want) (s : IsSound t)
       (s.tables (node t p) (node_found t p n).0).first r i (at ∙ ap vpage z)
 
   pub has_five : 5 ≤ length pool
-  has_five = let q = used_least ws (length ws) in omega (arith, q, room)
+  has_five = let q = used_least ws (length ws) in omega arith
 
   pub new_name : (i j : ℕ) (y : Node) → In y (nodes t) → y.name ≢ (child_with t p pool ws i j).name
-  new_name i j y k = let f = has_five in no_name t p (pool_at pool 0) s n (usable_at 0 (omega (arith, f))) y k
+  new_name i j y k = let f = has_five in no_name t p (pool_at pool 0) s n (usable_at 0 (omega arith)) y k
 
   pub new_other : (i j : ℕ) → (child_with t p pool ws i j).name ≢ p
   new_other i j e = let f = node_found t p n in new_name i j (node t p) f.0 (f.1 ∙ sym e)
@@ -145,10 +145,10 @@ module _ (t : Tree) (p : ℕ) (pool : List ℕ) (ws : List Want) (s : IsSound t)
     want = want_at ws i
 
     there : place ws i < length pool
-    there = let q = place_within ws i low in omega (arith, q, room)
+    there = let q = place_within ws i low in omega arith
 
     first : 0 < length pool
-    first = let f = has_five in omega (arith, f)
+    first = let f = has_five in omega arith
 
     not_held : holds (child_with t p pool ws (suc i) i) (page_of t p page) ≡ false
     not_held = go (holds (child_with t p pool ws (suc i) i) (page_of t p page)) refl
@@ -158,8 +158,8 @@ module _ (t : Tree) (p : ℕ) (pool : List ℕ) (ws : List Want) (s : IsSound t)
         go true e =
             let (k, l, q) = holds_below t p pool ws i (page_of t p page)
             (has_in (page_of t p page) (held_pages (child_with t p pool ws (suc i) i)) e) in
-            let same = page_apart (place ws i) k there (omega (arith, l, there)) q in
-            absurd (let z : ⊥ = omega (arith, l, same) in z)
+            let same = page_apart (place ws i) k there (omega (arith, there)) q in
+            absurd (let z : ⊥ = omega arith in z)
 
     is_child : child_at with_it p (pool_at pool 0) ≡ Some (child_with t p pool ws (suc i) i)
     is_child = the_child t p (child_with t p pool ws (suc i) i) words (new_other (suc i) i) refl
@@ -173,7 +173,7 @@ module _ (t : Tree) (p : ℕ) (pool : List ℕ) (ws : List Want) (s : IsSound t)
 
     untaken : row_at (want_rows t p pool ws i) (vpage want.va) ≡ None
     untaken = no_row t p pool ws (vpage want.va) i
-        (apart_pages ws want.va f_i.aligned i (λ m l. (fit ws m (fits m (omega (arith, l, low)))).aligned) f_i.fresh)
+        (apart_pages ws want.va f_i.aligned i (λ m l. (fit ws m (fits m (omega arith))).aligned) f_i.fresh)
 
     exceeding : exceeds want.rights (rights_at with_it p (vpage page)) ≡ lacks_right t p pool ws i
     exceeding =

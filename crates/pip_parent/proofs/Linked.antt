@@ -26,11 +26,11 @@ use Rattle.pip_parent.proofs.Tabled.{a_table, no_table, prepares}
 
 pairs_have : (t : Tree) (p : ℕ) (pool : List ℕ) (k c m : ℕ) → m < c
     → In (page_of t p (pool_at pool (k + m))) (pair_frames (pairs_from t p pool k c))
-pairs_have t p pool k zero m l = absurd (let z : ⊥ = omega (arith, l) in z)
+pairs_have t p pool k zero m l = absurd (let z : ⊥ = omega arith in z)
 pairs_have t p pool k (suc c) zero l = inl (ap (λ z. page_of t p (pool_at pool z)) (omega arith))
 pairs_have t p pool k (suc c) (suc m) l =
     inr (subst (λ z. In (page_of t p (pool_at pool z)) (pair_frames (pairs_from t p pool (suc k) c)))
-    (let e : suc k + m ≡ k + suc m = omega arith in e) (pairs_have t p pool (suc k) c m (omega (arith, l))))
+    (let e : suc k + m ≡ k + suc m = omega arith in e) (pairs_have t p pool (suc k) c m (omega arith)))
 
 module _ (t : Tree) (p : ℕ) (pool : List ℕ) (ws : List Want) (s : IsSound t) (n : IsName t p) (h : HasPool t p pool)
     (room : need ws ≤ length pool) (i : ℕ) (low : i < length ws)
@@ -68,7 +68,7 @@ module _ (t : Tree) (p : ℕ) (pool : List ℕ) (ws : List Want) (s : IsSound t)
     page_same a = same_page t p before now.words (new_other t p pool ws s n h room i i) refl a
 
     inside : pages_used ws i + count_of ≤ length pool
-    inside = let q = place_within ws i low in let r = place_opens ws i o in omega (arith, q, r, room)
+    inside = let q = place_within ws i low in let r = place_opens ws i o in omega arith
 
     -- other pages keep their words
     links_other : (c g : ℕ) → c < count_of → has (pair_frames taken) g ≡ false → links c g ≡ now.words g
@@ -78,11 +78,11 @@ module _ (t : Tree) (p : ℕ) (pool : List ℕ) (ws : List Want) (s : IsSound t)
         let d : g ≢ a = λ q. let f : has (pair_frames taken) g ≡ true =
         subst (λ z. has (pair_frames taken) z ≡ true) (sym (q ∙ page_same (pool_at pool (pages_used ws i + c))))
         (in_has _
-        (pair_frames taken) (pairs_have t p pool (pages_used ws i) count_of c (omega (arith, l)))) in
+        (pair_frames taken) (pairs_have t p pool (pages_used ws i) count_of c (omega arith))) in
         absurd (grind (arith, e, f)) in
         ap (λ b. cond b (Some (λ j. cond (j == 0) (pool_at pool (suc (pages_used ws i + c))) (word_of (links c a) j)))
         (links c g)) (ne_eqb g a d)
-        ∙ links_other c g (omega (arith, l)) e
+        ∙ links_other c g (omega arith) e
 
     abbrev a : ℕ → ℕ
     a z = page_of now p (pool_at pool (pages_used ws i + z))
@@ -91,8 +91,8 @@ module _ (t : Tree) (p : ℕ) (pool : List ℕ) (ws : List Want) (s : IsSound t)
     links_on : (c m : ℕ) → c < count_of → m < c
         → word_of (links c (page_of now p (pool_at pool (pages_used ws i + m)))) 0
         ≡ pool_at pool (suc (pages_used ws i + m))
-    links_on zero m l k = absurd (let z : ⊥ = omega (arith, k) in z)
-    links_on (suc c) m l k = go (m == c) refl (λ d. links_on c m (omega (arith, l)) d)
+    links_on zero m l k = absurd (let z : ⊥ = omega arith in z)
+    links_on (suc c) m l k = go (m == c) refl (λ d. links_on c m (omega arith) d)
       where
         go : (b : Bool) → (m == c) ≡ b → (m < c → word_of (links c (a m)) 0 ≡ pool_at pool (suc (pages_used ws i + m)))
             → word_of (cond (a m == a c) (Some (λ j. cond (j == 0) (pool_at pool
@@ -105,12 +105,12 @@ module _ (t : Tree) (p : ℕ) (pool : List ℕ) (ws : List Want) (s : IsSound t)
             ∙ ap (λ z. pool_at pool (suc (pages_used ws i + z))) (sym e)
         go false q ih =
             let d : m ≢ c = eqb-false m c q in
-            let low : m < c = omega (arith, d, k) in
+            let low : m < c = omega arith in
             let apart : a m ≢ a c = λ e. let r = inside in
             let same = page_apart t p pool ws s n h room (pages_used ws i + m) (pages_used ws i
-            + c) (omega (arith, r, l, k)) (omega (arith, r, l)) (sym (page_same (pool_at pool (pages_used ws i + m)))
+            + c) (omega arith) (omega arith) (sym (page_same (pool_at pool (pages_used ws i + m)))
             ∙ e
-            ∙ page_same (pool_at pool (pages_used ws i + c))) in let z : ⊥ = omega (arith, same, d) in z in
+            ∙ page_same (pool_at pool (pages_used ws i + c))) in let z : ⊥ = omega arith in z in
             ap (λ b. word_of (cond b (Some (λ j. cond (j == 0) (pool_at pool
             (suc (pages_used ws i + c))) (word_of (links c (a c)) j))) (links c (a m))) 0) (ne_eqb (a m) (a c) apart)
             ∙ ih low
@@ -140,14 +140,14 @@ module _ (t : Tree) (p : ℕ) (pool : List ℕ) (ws : List Want) (s : IsSound t)
             let z = no_count g (pair_frames taken) (λ j. let f = in_has g (pair_frames taken) j in
             absurd (grind (arith, q, f))) in
             let y = key in
-            in_has g (config before) (in-count g (config before) (omega (arith, k, z, y)))
+            in_has g (config before) (in-count g (config before) (omega arith))
 
         back : (b : Bool) → has (pair_frames taken) g ≡ b → (b || has (config before) g) ≡ true
             → 1 ≤ count g (config (child_with t p pool ws (suc i) i))
         back true q e = let z = count-in g (pair_frames taken) (has_in g (pair_frames taken) q) in let y = key in
-            omega (arith, z, y)
+            omega arith
         back false q e = let z = count-in g (config before) (has_in g (config before) e) in let y = key in
-            omega (arith, z, y)
+            omega arith
 
     words_next : words_without (pair_frames taken) (links stores)
         ≡ words_without (config (child_with t p pool ws (suc i) i)) t.words
@@ -167,8 +167,8 @@ module _ (t : Tree) (p : ℕ) (pool : List ℕ) (ws : List Want) (s : IsSound t)
     prepares_now =
         prepares t p pool ws s n h room (links stores) i low fits o
         (λ m a b. subst (λ z. word_of (links stores (page_of now p (pool_at pool z))) 0 ≡ pool_at pool (suc z))
-        (let e : pages_used ws i + (m - pages_used ws i) ≡ m = omega (arith, a) in
-        e) (links_on stores (m - pages_used ws i) (omega arith) (omega (arith, a, b))))
+        (let e : pages_used ws i + (m - pages_used ws i) ≡ m = omega arith in
+        e) (links_on stores (m - pages_used ws i) (omega arith) (omega arith)))
         ∙ ap (λ ws'. accept count_of (with_child t (child_with t p pool ws (suc i) i) ws')) words_next
 
     -- and then addVAddr

@@ -37,7 +37,7 @@ or_none a b e g = ap₂ (λ x y. x || y) e g
 module _ (t : Tree) (p : ℕ) (pool : List ℕ) (ws : List Want) (s : IsSound t) (n : IsName t p) (h : HasPool t p pool)
     (room : need ws ≤ length pool) where
   below : (k : ℕ) → k < 5 → k < length pool
-  below k l = let f = has_five t p pool ws s n h room in omega (arith, f, l)
+  below k l = let f = has_five t p pool ws s n h room in omega arith
 
   each : (f : ℕ → Bool) → ((k : ℕ) → k < length pool → f (pool_at pool k) ≡ false)
       → list_any f (list_of (first_five pool)) ≡ false
@@ -54,7 +54,7 @@ module _ (t : Tree) (p : ℕ) (pool : List ℕ) (ws : List Want) (s : IsSound t)
   differ : repeats (list_of (first_five pool)) ≡ false
   differ =
       let d : (j k : ℕ) → k < j → j < 5 → (pool_at pool j == pool_at pool k) ≡ false =
-      λ j k l m. unlike j k m (omega (arith, l, m)) (omega (arith, l)) in
+      λ j k l m. unlike j k m (omega arith) (omega arith) in
       or_none _ _ (or_none _ _ (d 1 0 (omega arith) (omega arith)) (or_none _ _ (d 2 0 (omega arith) (omega arith))
       (or_none _ _ (d 3 0 (omega arith) (omega arith)) (or_none _ false (d 4 0 (omega arith) (omega arith)) refl))))
       (or_none _ _ (or_none _ _ (d 2 1 (omega arith) (omega arith))

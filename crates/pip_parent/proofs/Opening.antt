@@ -66,7 +66,7 @@ module _ (w : World) (cpu : ℕ) (r : Occupant) (pool : List ℕ) (ws : List Wan
       (prepares_now w.tree r.name pool ws s n b.pool room i low fits o)
       ∙ ap (λ b. world_at w cpu r (built_with_table w.tree r.name pool ws i) (cond (not b) (all_emptied caches) caches)
       0
-      (suc count)) (ne_eqb (suc count) 0 (λ e. let z : ⊥ = omega (arith, e) in z))
+      (suc count)) (ne_eqb (suc count) 0 (λ e. let z : ⊥ = omega arith in z))
       ∙ ap (λ c. world_at w cpu r (built_with_table w.tree r.name pool ws i) (cond c (all_emptied caches) before) 0
       (cond c (suc count) 0)) (sym o)) two
 

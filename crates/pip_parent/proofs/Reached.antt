@@ -33,7 +33,7 @@ write_right (suc (suc (suc (suc zero)))) l e = cc
 write_right (suc (suc (suc (suc (suc zero))))) l e = cc
 write_right (suc (suc (suc (suc (suc (suc zero)))))) l e = cc
 write_right (suc (suc (suc (suc (suc (suc (suc zero))))))) l e = refl
-write_right (suc (suc (suc (suc (suc (suc (suc (suc r)))))))) l e = absurd (let z : ⊥ = omega (arith, l) in z)
+write_right (suc (suc (suc (suc (suc (suc (suc (suc r)))))))) l e = absurd (let z : ⊥ = omega arith in z)
 
 module _ (t : Tree) (p : ℕ) (pool : List ℕ) (ws : List Want) (s : IsSound t) (n : IsName t p) (h : HasPool t p pool)
     (room : need ws ≤ length pool) (i : ℕ) (low : i < length ws)
@@ -78,7 +78,7 @@ module _ (t : Tree) (p : ℕ) (pool : List ℕ) (ws : List Want) (s : IsSound t)
       → reach now p (pool_at pool k) Store Word ≡ Place (page_of now p (pool_at pool k)) 0
   reached k a b =
       let al = eqb-true (pool_at pool k % 4096) 0 (h.places k b) in
-      let four : pool_at pool k % 4 ≡ 0 = omega (arith, al) in
+      let four : pool_at pool k % 4 ≡ 0 = omega arith in
       ap (λ c. cond (not c) (Faulted Alignment) (reach_by_row now (pool_at pool k) Store
       (row_at (node now p).rows (vpage (pool_at pool k))))) (eq-eqb (pool_at pool k % 4) 0 four)
       ∙ ap (λ x. reach_by_row now (pool_at pool k) Store (row_at x.rows (vpage (pool_at pool k)))) here
@@ -101,11 +101,11 @@ module _ (t : Tree) (p : ℕ) (pool : List ℕ) (ws : List Want) (s : IsSound t)
           (find_in (λ r. r.at == vpage (pool_at pool k)) q (node t p).rows e).0).1 in
           let w2 = write_right q.rights ri wr in
           let al = eqb-true (pool_at pool k % 4096) 0 (h.places k b) in
-          let index : pool_at pool k % 4096 / 4 ≡ 0 = omega (arith, al) in
+          let index : pool_at pool k % 4096 / 4 ≡ 0 = omega arith in
           ap₂ (λ x y.
           cond x (Faulted Hidden) (cond (not y) (Faulted Right) (Place q.frame (pool_at pool k % 4096 / 4)))) f w2
           ∙ ap₂ (λ x y. Place x y) (sym g) index
 
   pub can_link : opens ws i ≡ true → CanLink now p pool (pages_used ws i) (suc (suc (lists_more (opened_before ws i))))
   can_link o m l = let q = place_within ws i low in let r = place_opens ws i o in
-      reached (pages_used ws i + m) (omega arith) (omega (arith, q, r, room, l))
+      reached (pages_used ws i + m) (omega arith) (omega arith)

@@ -72,8 +72,8 @@ module _ (t : Tree) (p : ℕ) (pool : List ℕ) (ws : List Want) (s : IsSound t)
       go true e =
           let (m, l, q) = holds_used t p pool ws i (page_of t p (pool_at pool k))
           (has_in (page_of t p (pool_at pool k)) (held_pages before) e) in
-          let same = page_apart t p pool ws s n h room k m b (omega (arith, l, a, b)) q in
-          absurd (let z : ⊥ = omega (arith, l, same, a) in z)
+          let same = page_apart t p pool ws s n h room k m b (omega arith) q in
+          absurd (let z : ⊥ = omega arith in z)
 
   unseen : (k : ℕ) (seen : List ℕ) → k < length pool → ((z : ℕ) → In z seen → (m : ℕ) × (m < k) × (z ≡ pool_at pool m))
       → has seen (pool_at pool k) ≡ false
@@ -83,8 +83,8 @@ module _ (t : Tree) (p : ℕ) (pool : List ℕ) (ws : List Want) (s : IsSound t)
       go false e = refl
       go true e =
           let (m, l, q) = f (pool_at pool k) (has_in (pool_at pool k) seen e) in
-          let same = h.differ k m b (omega (arith, l, b)) q in
-          absurd (let z : ⊥ = omega (arith, l, same) in z)
+          let same = h.differ k m b (omega arith) q in
+          absurd (let z : ⊥ = omega arith in z)
 
   page_fits : (k : ℕ) (seen : List ℕ) → pages_used ws i ≤ k → k < length pool → ((z : ℕ) → In z seen
       → (m : ℕ) × (m < k) × (z ≡ pool_at pool m)) → first_met (page_refusals with_it p seen (pool_at pool k)) ≡ None
@@ -104,7 +104,7 @@ module _ (t : Tree) (p : ℕ) (pool : List ℕ) (ws : List Want) (s : IsSound t)
   more_seen : (k : ℕ) (seen : List ℕ) → ((z : ℕ) → In z seen → (m : ℕ) × (m < k) × (z ≡ pool_at pool m)) → (z : ℕ)
       → In z (pool_at pool k ∷ seen) → (m : ℕ) × (m < suc k) × (z ≡ pool_at pool m)
   more_seen k seen f z (inl e) = (k, omega arith, e)
-  more_seen k seen f z (inr j) = let (m, l, q) = f z j in (m, omega (arith, l), q)
+  more_seen k seen f z (inr j) = let (m, l, q) = f z j in (m, omega arith, q)
 
   chain_runs : (c k : ℕ) (seen : List ℕ) → k + c ≤ length pool → pages_used ws i ≤ k
       → ((z : ℕ) → In z seen → (m : ℕ) × (m < k) × (z ≡ pool_at pool m))
@@ -112,14 +112,14 @@ module _ (t : Tree) (p : ℕ) (pool : List ℕ) (ws : List Want) (s : IsSound t)
       → page_chain with_it p c seen (pool_at pool k) ≡ Pages (pairs_from t p pool k c)
   chain_runs zero k seen r a f links = refl
   chain_runs (suc zero) k seen r a f links =
-      ap₂ (λ o g. go_on o g (Pages [])) (page_fits k seen a (omega (arith, r)) f)
+      ap₂ (λ o g. go_on o g (Pages [])) (page_fits k seen a (omega arith) f)
       (same_pair t p before words (new_other t p pool ws s n h room i i) refl (pool_at pool k))
   chain_runs (suc (suc c)) k seen r a f links =
-      let ih = chain_runs (suc c) (suc k) (pool_at pool k ∷ seen) (omega (arith, r)) (omega (arith, a)) (more_seen k
-      seen f) (λ m l g. links m (omega (arith, l)) (omega (arith, g))) in
+      let ih = chain_runs (suc c) (suc k) (pool_at pool k ∷ seen) (omega arith) (omega arith) (more_seen k
+      seen f) (λ m l g. links m (omega arith) (omega arith)) in
       let next = links k (omega arith) (omega arith) in
       ap₂ (λ o g. go_on o g (page_chain with_it p (suc c)
-      (pool_at pool k ∷ seen) (next_in_chain with_it p (pool_at pool k)))) (page_fits k seen a (omega (arith, r)) f)
+      (pool_at pool k ∷ seen) (next_in_chain with_it p (pool_at pool k)))) (page_fits k seen a (omega arith) f)
       (same_pair t p before words (new_other t p pool ws s n h room i i) refl (pool_at pool k))
       ∙ ap (λ z. go_on None (pair_at t p (pool_at pool k)) (page_chain with_it p (suc c) (pool_at pool k ∷ seen) z))
       next
@@ -172,13 +172,13 @@ module _ (t : Tree) (p : ℕ) (pool : List ℕ) (ws : List Want) (s : IsSound t)
     is_child = the_child t p before words (new_other t p pool ws s n h room i i) refl
 
     first : 0 < length pool
-    first = let f = has_five t p pool ws s n h room in omega (arith, f)
+    first = let f = has_five t p pool ws s n h room in omega arith
 
     enough : pages_used ws i + count ≤ length pool
     enough =
         let q = place_within ws i low in
         let r = place_opens ws i o in
-        omega (arith, q, r, room)
+        omega arith
 
     no_refusal : first_met (count_refusals with_it p (pool_at pool 0) va) ≡ None
     no_refusal = let f = fit ws i (fits i low) in count_met _ _ _

@@ -32,7 +32,7 @@ use Rattle.pip_parent.proofs.Opening.{its_name}
 use Rattle.pip_parent.proofs.Steps.{again, runs_at}
 
 pub used_most : (ws : List Want) (i : ℕ) → i ≤ 4096 → pages_used ws i ≤ 100000
-used_most ws i l = let m = opened_most ws i in omega (arith, l, m)
+used_most ws i l = let m = opened_most ws i in omega arith
 
 pub not_said : (b : Bool) → false ≡ not b → b ≡ true
 not_said true e = refl
@@ -52,7 +52,7 @@ up_to P i f p j l = go (j == i) refl
   where
     go : (b : Bool) → (j == i) ≡ b → P j
     go true e = subst P (sym (eqb-true j i e)) p
-    go false e = let d = eqb-false j i e in f j (omega (arith, d, l))
+    go false e = let d = eqb-false j i e in f j (omega arith)
 
 -- pages that were taken away and are cleared are those that are cleared at once
 cleared : (gs : List ℕ) (words : ℕ → Option (ℕ → ℕ))
@@ -79,7 +79,7 @@ module _ (A B : World → Type 0) (w : World) (cpu : ℕ) (r : Occupant) (pool :
       let caches = caches_before w cpu r.name pool ws (suc i) in
       let s = b.world.tree in
       let n = its_name w cpu r pool b in
-      let first : 0 < length pool = let f = has_five w.tree r.name pool ws s n b.pool room in omega (arith, f) in
+      let first : 0 < length pool = let f = has_five w.tree r.name pool ws s n b.pool room in omega arith in
       subst B (again DeletePartition w cpu r (built_with_table w.tree r.name pool ws i) caches (status_number S.NoRight)
       0
       (delete_partition (built_with_table w.tree r.name pool ws i) (running here) r.name (pool_at pool 0))

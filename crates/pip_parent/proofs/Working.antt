@@ -30,7 +30,7 @@ pub one_event : (S T : World → Type 0) (e : Event) (o : Outcome) (a b : ℕ) �
     → MakesEvents S T (e ∷ []) a b
 one_event S T e o a b follows one = record {
   happen = λ w h. (follows w h).1;
-  most = λ w h. let so = one w h in omega (arith, so);
+  most = λ w h. let so = one w h in omega arith;
 }
 
 pub more_events : (S T U : World → Type 0) (es fs : List Event) (a b c : ℕ) → MakesEvents S T es a b

@@ -63,7 +63,7 @@ kid_on f names ups borns d p t k =
     }
 
 kid_save : (d p : ℕ) (t : Tree) (n k : ℕ) (c : Ctx) → Kid d p t → Kid d p (save t n k c)
-kid_save d p t n k c h = record { name = h.name; up = h.up; born = h.born; low = h.low }
+kid_save d p t n k c h = assumption
 
 lt_pos : (n : ℕ) → 1 ≤ n → nat_lt 0 n ≡ true
 lt_pos n h = grind (arith, nat_tests, h)

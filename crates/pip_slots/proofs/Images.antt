@@ -51,8 +51,8 @@ first_stage a n r = record {
   room = room_first n a.frames a.cpus (image_word a.frames a.pages) (begins_soundly a n r) r.most r.room;
   alone = alone_first a.cpus;
   quiet = refl;
-  table = λ b k e l. absurd (let z : ⊥ = omega (arith, l) in z);
-  children = λ j l. absurd (let z : ⊥ = omega (arith, l) in z);
+  table = λ b k e l. absurd (let z : ⊥ = omega arith in z);
+  children = λ j l. absurd (let z : ⊥ = omega arith in z);
 }
 
 pub ready_stage : (a : Image) (n : ℕ) → HasRooms n a → Stage a.frames n n 256 (ready_world (image_world a) n)
@@ -179,8 +179,8 @@ one_more (x ∷ xs) d h k = (h.0, one_more xs d h.1 k)
 
 addresses_words : (n i : ℕ) → n ≤ 8 → i ≤ n → AllByRecursion IsWord (addresses n i)
 addresses_words n zero most l = tt
-addresses_words n (suc i) most l = one_more (addresses n i) (fresh n i 0) (addresses_words n i most (omega (arith, l)))
-    (omega (arith, most, l))
+addresses_words n (suc i) most l = one_more (addresses n i) (fresh n i 0) (addresses_words n i most (omega arith))
+    (omega arith)
 
 -- the addresses of a round's slots are words
 index_word : (ds : List ℕ) (i : ℕ) → AllByRecursion IsWord ds → IsWord (slice_index ds i)

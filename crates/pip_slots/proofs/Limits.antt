@@ -122,4 +122,4 @@ native_is_not_separate law =
     law beside_a_loop beside_a_fault 2 1 26 10 3 (found 0x400000) (found 0x400004) (omega arith) loop_rooms fault_rooms
     agree refl child loop_found fault_found in
     let words : ◌≡◌ {A = ℕ} 0x400000 0x400004 = ap word_in same in
-    omega (arith, words)
+    omega arith

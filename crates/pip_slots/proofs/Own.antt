@@ -105,7 +105,7 @@ duty_kept d p w e r s kid ev o c k h = λ z kz. go z kz (event_goes w e r s o k'
               inr ((l.lines z.name p there nz).0 (subst (λ a. In p (ancestry w.tree a)) q below))
           | inr (inr q) ↦
               let pos = name_positive u.tree s'.tree 0 (subst (IsName u.tree) q nz) in
-              absurd (omega (arith, pos))
+              absurd (omega arith)
         ]
 
 -- above a partition of the subtree, and not in it, is the root alone

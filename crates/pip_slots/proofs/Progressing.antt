@@ -44,7 +44,7 @@ module _ (R : (World → List Act) → Type 0) where
 
   pub inners_next : (n t k : ℕ) → k < n → R (λ v. slot_turns v (n - k) (t + k))
       → R (λ v. slot_turn v (t + k) ++ slot_turns (after_acts v (slot_turn v (t + k))) (n - (k + 1)) (t + k + 1))
-  inners_next n t k inside r = let e : n - k ≡ suc (n - (k + 1)) = omega (arith, inside) in
+  inners_next n t k inside r = let e : n - k ≡ suc (n - (k + 1)) = omega arith in
       subst (λ m. R (λ v. slot_turns v m (t + k))) e r
 
   pub inners_rest : (n t k : ℕ) → R (λ v. slot_turns v (n - (k + 1)) (t + k + 1))
@@ -72,7 +72,7 @@ module _ (R : (World → List Act) → Type 0) where
       → R (λ v. slot_run v ss t
       ++ slot_run (after_acts v (slot_run v ss t)) (rounds ss (c - (j + 1))) (t + plan_steps ss))
   rounds_next ss c j t inside r =
-      let e : c - j ≡ suc (c - (j + 1)) = omega (arith, inside) in
+      let e : c - j ≡ suc (c - (j + 1)) = omega arith in
       subst R (fun_ext (λ v. run_append v ss (rounds ss (c - (j + 1))) t))
       (subst (λ m. R (λ v. slot_run v (rounds ss m) t)) e r)
 
@@ -166,4 +166,4 @@ pub one_round_more : (p k c : ℕ) → k < c → p * k + p ≤ p * c
 one_round_more p k c low =
     let e : p * suc k ≡ p * k + p = omega arith in
     let h : p * suc k ≤ p * c = mul-le-mul_left p low in
-    omega (arith, e, h)
+    omega arith

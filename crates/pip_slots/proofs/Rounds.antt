@@ -6,7 +6,7 @@ use Rattle.pip_slots.specs.declared.time_slot.RoundSlot.{RoundSlot}
 
 one_more : (xs : List RoundSlot) (x : RoundSlot) → round_steps (xs ++ x ∷ []) ≡ round_steps xs + (x.turns + 2)
 one_more [] x = omega arith
-one_more (y ∷ xs) x = let h = one_more xs x in omega (arith, h)
+one_more (y ∷ xs) x = let h = one_more xs x in omega arith
 
 pub turn_steps : (n turns : ℕ) → round_steps (in_turn n turns) ≡ n * (turns + 2)
 turn_steps zero turns = omega arith
@@ -14,7 +14,7 @@ turn_steps (suc n) turns =
     let h = one_more (in_turn n turns) (record { child = n; turns = turns }) in
     let k = turn_steps n turns in
     let m : suc n * (turns + 2) ≡ n * (turns + 2) + (turns + 2) = omega arith in
-    omega (arith, h, k, m)
+    omega arith
 
 below_more : (m : ℕ) (xs : List RoundSlot) (x : RoundSlot) → AllByRecursion (λ y. y.child < m) xs → x.child < m
     → AllByRecursion (λ y. y.child < m) (xs ++ x ∷ [])
@@ -24,7 +24,7 @@ below_more m (y ∷ xs) x h k = (h.0, below_more m xs x h.1 k)
 below : (n turns m : ℕ) → n ≤ m → AllByRecursion (λ y. y.child < m) (in_turn n turns)
 below zero turns m l = tt
 below (suc n) turns m l = below_more m (in_turn n turns) (record { child = n; turns = turns })
-    (below n turns m (omega (arith, l))) (omega (arith, l))
+    (below n turns m (omega arith)) (omega arith)
 
 pub turn_children : (n turns : ℕ) → AllByRecursion (λ y. y.child < n) (in_turn n turns)
 turn_children n turns = below n turns n (omega arith)

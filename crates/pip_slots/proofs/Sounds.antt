@@ -51,14 +51,14 @@ module _ (w : World) (r : Occupant) (pool : List ℕ) (ws : List Want) (b : IsBu
       (sound_call CreatePartition 0 (first_five pool) refl (
         omega arith,
         (
-          words 0 (omega (arith, some)),
+          words 0 (omega arith),
           (
-            words 1 (omega (arith, some)),
+            words 1 (omega arith),
             (
-              words 2 (omega (arith, some)),
+              words 2 (omega arith),
               (
-                words 3 (omega (arith, some)),
-                (words 4 (omega (arith, some)), tt),
+                words 3 (omega arith),
+                (words 4 (omega arith), tt),
               ),
             ),
           ),
@@ -72,12 +72,12 @@ module _ (w : World) (r : Occupant) (pool : List ℕ) (ws : List Want) (b : IsBu
       (link_caches v.tree v.caches 0 q.name pool first n))
   linked first stores within v s q k zero l can = s
   linked first stores within v s q k (suc n) l can =
-      subst IsSoundWorld (link_next v q 0 pool first n k (can n (omega (arith, l))))
+      subst IsSoundWorld (link_next v q 0 pool first n k (can n (omega arith)))
       (event-sound (with_words v (link_words v.tree q.name pool first n)
       (link_caches v.tree v.caches 0 q.name pool first n))
       (E.Store 0 (pool_at pool (first + n)) Word (pool_at pool (suc (first + n))))
-      (linked first stores within v s q k n (omega (arith, l)) can)
-      (words (first + n) (omega (arith, l, within)), words (suc (first + n)) (omega (arith, l, within))))
+      (linked first stores within v s q k n (omega arith) can)
+      (words (first + n) (omega arith), words (suc (first + n)) (omega arith)))
 
   -- a want is met
   module _ (i : ℕ) (low : i < length ws) (fits : (j : ℕ) → j < length ws → is_bad ws j ≡ false)
@@ -90,11 +90,11 @@ module _ (w : World) (r : Occupant) (pool : List ℕ) (ws : List Want) (b : IsBu
     table_sound =
         let p = place_opens ws i o in
         let q = place_within ws i low in
-        let z : 0 < length pool = omega (arith, some) in
+        let z : 0 < length pool = omega arith in
         opened_world w 0 r pool ws i b room low fits IsSoundWorld IsSoundWorld IsSoundWorld (pages_used ws i)
         (suc (suc (lists_more (opened_before ws i)))) refl refl o
         (λ v s x k can. linked (pages_used ws i) (suc (suc (lists_more (opened_before ws i))))
-        (omega (arith, p, q, room)) v s x k (suc (suc (lists_more (opened_before ws i)))) (omega arith) can)
+        (omega arith) v s x k (suc (suc (lists_more (opened_before ws i)))) (omega arith) can)
         (sound_call Prepare 3
         (record { x0 = pool_at pool 0; x1 = (want_at ws i).va; x2 = pool_at pool (pages_used ws i); x3 = 0; x4 = 0 })
         refl (
@@ -104,7 +104,7 @@ module _ (w : World) (r : Occupant) (pool : List ℕ) (ws : List Want) (b : IsBu
             (
               va,
               (
-                words (pages_used ws i) (omega (arith, p, q, room)),
+                words (pages_used ws i) (omega arith),
                 (omega arith, (omega arith, tt)),
               ),
             ),
@@ -118,7 +118,7 @@ module _ (w : World) (r : Occupant) (pool : List ℕ) (ws : List Want) (b : IsBu
     next_sound : IsSoundWorld (world_before w 0 r pool ws (suc i))
     next_sound =
         let q = place_within ws i low in
-        let z : 0 < length pool = omega (arith, some) in
+        let z : 0 < length pool = omega arith in
         let a = is_accepted (add_vaddr table.tree r.name (pool_at pool (place ws i)) (pool_at pool 0)
         (want_at ws i).va (want_at ws i).rights).status in
         let there : runs_on table 0 ≡ Some (replying r 0 (value_of ws i)) =
@@ -133,7 +133,7 @@ module _ (w : World) (r : Occupant) (pool : List ℕ) (ws : List Want) (b : IsBu
         }) refl (
           omega arith,
           (
-            words (place ws i) (omega (arith, q, room)),
+            words (place ws i) (omega arith),
             (
               words 0 z,
               (
@@ -158,17 +158,17 @@ pool_word : (n i k : ℕ) → n ≤ 8 → i < n → k < 13 → IsWord (pool_at (
 pool_word n i k most low l =
     let (m, e, p) = pool_page n i k l in
     let b = below m p in
-    subst IsWord (sym e) (omega (arith, b))
+    subst IsWord (sym e) (omega arith)
   where
     below : (m : ℕ) → IsPlace n i k m → m < 200
-    below m (inl (a, f)) = omega (arith, a, f, most, low)
-    below m (inr (inl (a, f))) = omega (arith, f, most, low)
-    below m (inr (inr (a, f))) = omega (arith, f, l, most, low)
+    below m (inl (a, f)) = omega arith
+    below m (inr (inl (a, f))) = omega arith
+    below m (inr (inr (a, f))) = omega arith
 
 wants_fit : (j : ℕ) → j < 2 → is_bad child_wants j ≡ false
 wants_fit zero l = refl
 wants_fit (suc zero) l = refl
-wants_fit (suc (suc j)) l = absurd (let z : ⊥ = omega (arith, l) in z)
+wants_fit (suc (suc j)) l = absurd (let z : ⊥ = omega arith in z)
 
 pub built_sound : (n i : ℕ) → n ≤ 8 → i < n → (w : World) → IsSoundWorld w → HasRoomForChildren n i w → (r : Occupant)
     → runs_on w 0 ≡ Some r → r.name ≡ w.tree.root.name

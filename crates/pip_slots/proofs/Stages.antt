@@ -156,19 +156,12 @@ module _ (F : ℕ) where
   stage_words n i m w ws cs h s m' table = record {
     sound = s;
     size = h.size;
-    room = record {
-      runner = h.room.runner;
-      runs = h.room.runs;
-      root = h.room.root;
-      frames = h.room.frames;
-      top = h.room.top;
-      left = h.room.left;
-    };
+    room = search;
     alone = h.alone;
     quiet = h.quiet;
     table = table;
     children = λ j l. let c = h.children j l in
-        record { node = c.node; there = c.there; up = c.up; born = c.born; pages = c.pages };
+        search;
   }
 
   -- the root's row at an open page
@@ -205,20 +198,20 @@ module _ (F : ℕ) where
 
   next_word : (n m : ℕ) (w : World) → m < 256 → Stage n 0 m w
       → Stage n 0 (suc m) (after_store w (0xfffff000 + 4 * m) 0xfffff400)
-  next_word n m w l h = stage_stored n 0 m w h 0xfffff o va 0xfffff400 at (omega arith) (omega (arith, l)) (omega arith)
+  next_word n m w l h = stage_stored n 0 m w h 0xfffff o va 0xfffff400 at (omega arith) (omega arith) (omega arith)
       (suc m) table
     where
       va : ℕ
       va = 0xfffff000 + 4 * m
 
       at : vpage va ≡ 0xfffff
-      at = omega (arith, l)
+      at = omega arith
 
       o : IsOpen w.tree 0xfffff
       o = open_top w.tree h.sound.tree h.room.top
 
       place : va % 4096 / 4 ≡ m
-      place = omega (arith, l)
+      place = omega arith
 
       table : HasTable (suc m) (with_words w (with_word w.tree o.row.frame (va % 4096 / 4) 0xfffff400).words
           (places_after_access w.tree w.caches 0 h.room.runner.name va Store Word))
@@ -232,13 +225,13 @@ module _ (F : ℕ) where
             | inl q ↦ ap (λ c. cond c 0xfffff400 (word_of (w.tree.words o.row.frame) k)) (eq-eqb k m q)
             | inr q ↦
                 ap (λ c. cond c 0xfffff400 (word_of (w.tree.words o.row.frame) k)) (ne_eqb k m q)
-                ∙ ap (λ y. word_of (w.tree.words y.frame) k) (sym row) ∙ h.table b k e (omega (arith, q, less))
+                ∙ ap (λ y. word_of (w.tree.words y.frame) k) (sym row) ∙ h.table b k e (omega arith)
           ]
 
   pub stage_handlers : (n m : ℕ) (w : World) → m ≤ 256 → Stage n 0 0 w → Stage n 0 m (with_handlers w m)
   stage_handlers n zero w l h = h
   stage_handlers n (suc m) w l h =
-      next_word n m (with_handlers w m) (omega (arith, l)) (stage_handlers n m w (omega (arith, l)) h)
+      next_word n m (with_handlers w m) (omega arith) (stage_handlers n m w (omega arith) h)
 
   -- ---- a child's entry
 
@@ -247,7 +240,7 @@ module _ (F : ℕ) where
       → IsOpen w.tree (1024 + (n + 12 * i + j))
   fresh_open n i m j w most low twelve h =
       let k = n + 12 * i + j in
-      let inside : k < pages_taken n = omega (arith, low, twelve) in
+      let inside : k < pages_taken n = omega arith in
       let at : vpage (page_address k) ≡ 1024 + k = omega arith in
       open_page w.tree h.sound.tree n k most h.room.frames inside
       (subst (λ v. free w.tree w.tree.root.name v ≡ true) at (h.room.left k (inr (omega arith, inside))))
@@ -255,7 +248,7 @@ module _ (F : ℕ) where
   -- and that of its program
   pub program_open : (n i m : ℕ) (w : World) → n ≤ 8 → i < n → Stage n i m w → IsOpen w.tree (1024 + i)
   program_open n i m w most low h =
-      let inside : i < pages_taken n = omega (arith, low) in
+      let inside : i < pages_taken n = omega arith in
       let at : vpage (page_address i) ≡ 1024 + i = omega arith in
       open_page w.tree h.sound.tree n i most h.room.frames inside
       (subst (λ v. free w.tree w.tree.root.name v ≡ true) at (h.room.left i (inl (omega arith, low))))
@@ -264,16 +257,16 @@ module _ (F : ℕ) where
       → Stage n i 256 (after_store w (fresh n i 11 + 0xfc) 0xfffff400)
   first_stored n i w most low h =
       stage_off n i 256 w h (1024 + (n + 12 * i + 11)) (fresh_open n i 256 11 w most low (omega arith) h)
-      (fresh n i 11 + 0xfc) 0xfffff400 (omega arith) (omega arith) (omega (arith, most, low)) (omega arith)
-      (λ e. let z : ⊥ = omega (arith, e, most, low) in z)
+      (fresh n i 11 + 0xfc) 0xfffff400 (omega arith) (omega arith) (omega arith) (omega arith)
+      (λ e. let z : ⊥ = omega arith in z)
 
   pub stage_entry : (n i : ℕ) (w : World) → n ≤ 8 → i < n → Stage n i 256 w → Stage n i 256 (with_entry w n i)
   stage_entry n i w most low h =
       let u = after_store w (fresh n i 11 + 0xfc) 0xfffff400 in
       let hu = first_stored n i w most low h in
       stage_off n i 256 u hu (1024 + (n + 12 * i + 11)) (fresh_open n i 256 11 u most low (omega arith) hu)
-      (fresh n i 11 + 0x400) 0x400000 (omega arith) (omega arith) (omega (arith, most, low)) (omega arith)
-      (λ e. let z : ⊥ = omega (arith, e, most, low) in z)
+      (fresh n i 11 + 0x400) 0x400000 (omega arith) (omega arith) (omega arith) (omega arith)
+      (λ e. let z : ⊥ = omega arith in z)
 
   -- ---- a child
 
@@ -329,7 +322,7 @@ module _ (F : ℕ) where
         pages = made_pages;
       })
       | inr e ↦
-          let c = h.children j (omega (arith, e, l)) in
+          let c = h.children j (omega arith) in
           record { node = c.node; there = inr c.there; up = c.up; born = c.born; pages = c.pages }
     ]
 
@@ -356,8 +349,8 @@ module _ (F : ℕ) where
   stage_children n (suc i) w most l h =
       let e : i + 1 ≡ suc i = omega arith in
       subst (λ j. Stage n j 256 (with_children w n (suc i))) e
-      (stage_child n i (with_children w n i) most (omega (arith, l))
-      (stage_children n i w most (omega (arith, l)) h))
+      (stage_child n i (with_children w n i) most (omega arith)
+      (stage_children n i w most (omega arith) h))
 
   -- ---- the root takes all vectors
 
@@ -369,8 +362,8 @@ module _ (F : ℕ) where
       let row = row_there t s 0xfffff o in
       let u = unheld_unlent t s o.row.frame (free_unheld t s 0xfffff o.row row h.room.top) in
       let va = 0xfffff000 + 4 * k in
-      let table = loads_at t s 0xfffff o.row row o.rights u va (omega (arith, l)) (omega arith) in
-      let place : va % 4096 / 4 ≡ k = omega (arith, l) in
+      let table = loads_at t s 0xfffff o.row row o.rights u va (omega arith) (omega arith) in
+      let place : va % 4096 / 4 ≡ k = omega arith in
       let word = ap (λ j. word_of (t.words o.row.frame) j) place ∙ h.table o.row k row l in
       let block_there = loads_at t s 0xfffff o.row row o.rights u 0xfffff400 refl refl in
       record {

@@ -89,12 +89,12 @@ module _ (G : ℕ → Type 0) where
     twin_handlers zero w v l h t = t
     twin_handlers (suc m) w v l h t =
         let u = with_handlers w m in
-        let hu = stage_handlers F n m w (omega (arith, l)) h in
+        let hu = stage_handlers F n m w (omega arith) h in
         let o = open_top u.tree hu.sound.tree hu.room.top in
         let va = 0xfffff000 + 4 * m in
         twin_store u (with_handlers v m) hu.room.runner va 0xfffff400 o.row.frame (va % 4096 / 4) hu.room.runs
-        (reaches F n 0 m u hu 0xfffff o va 0xfffff400 (omega (arith, l)) (omega arith) (omega (arith, l)) (omega arith))
-        (twin_handlers m w v (omega (arith, l)) h t)
+        (reaches F n 0 m u hu 0xfffff o va 0xfffff400 (omega arith) (omega arith) (omega arith) (omega arith))
+        (twin_handlers m w v (omega arith) h t)
 
     twin_entry : (i : ℕ) (w v : World) → i < n → Stage F n i 256 w → Twin G w v
         → Twin G (with_entry w n i) (with_entry v n i)
@@ -103,7 +103,7 @@ module _ (G : ℕ → Type 0) where
         let o = fresh_open F n i 256 11 w most low (omega arith) h in
         let a = fresh n i 11 + 0xfc in
         let one = twin_store w v h.room.runner a 0xfffff400 o.row.frame (a % 4096 / 4) h.room.runs
-        (reaches F n i 256 w h page o a 0xfffff400 (omega arith) (omega arith) (omega (arith, most, low)) (omega
+        (reaches F n i 256 w h page o a 0xfffff400 (omega arith) (omega arith) (omega arith) (omega
         arith)) t
         in
         let w1 = after_store w a 0xfffff400 in
@@ -111,7 +111,7 @@ module _ (G : ℕ → Type 0) where
         let o1 = fresh_open F n i 256 11 w1 most low (omega arith) h1 in
         let b = fresh n i 11 + 0x400 in
         twin_store w1 (after_store v a 0xfffff400) h1.room.runner b 0x400000 o1.row.frame (b % 4096 / 4) h1.room.runs
-        (reaches F n i 256 w1 h1 page o1 b 0x400000 (omega arith) (omega arith) (omega (arith, most, low)) (omega
+        (reaches F n i 256 w1 h1 page o1 b 0x400000 (omega arith) (omega arith) (omega arith) (omega
         arith))
         one
 
@@ -119,10 +119,10 @@ module _ (G : ℕ → Type 0) where
         → Twin G (with_children w n i) (with_children v n i)
     twin_children zero w v l h t = t
     twin_children (suc i) w v l h t =
-        let low : i < n = omega (arith, l) in
+        let low : i < n = omega arith in
         let w1 = with_children w n i in
-        let h1 = stage_children F n i w most (omega (arith, l)) h in
-        let one = twin_children i w v (omega (arith, l)) h t in
+        let h1 = stage_children F n i w most (omega arith) h in
+        let one = twin_children i w v (omega arith) h t in
         let e = stage_entry F n i w1 most low h1 in
         twin_built n i (with_entry w1 n i) (with_entry (with_children v n i) n i) e.room.runner e.room.runs
         (twin_entry i w1 (with_children v n i) low h1 one)

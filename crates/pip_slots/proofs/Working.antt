@@ -26,7 +26,7 @@ closed_takes S T t here a b c is e follows raise poll w h =
     let x = raise w h in
     let y = poll (world_of w (E.Raise 0)) (follows w h).1 in
     subst (λ r. c ≤ a + events_work w (events_made
-    (cond r [] (Makes (E.Raise 0) ∷ polling (world_of w (E.Raise 0)) t)))) (sym e ∙ is w h) (omega (arith, x, y))
+    (cond r [] (Makes (E.Raise 0) ∷ polling (world_of w (E.Raise 0)) t)))) (sym e ∙ is w h) (omega arith)
 
 -- acts of which only the first part was made
 first_takes : (S : World → Type 0) (first more : World → List Act) (a b : ℕ) → TakesNoMore S first a b

@@ -4,8 +4,7 @@ use Rattle.pip_native_run.specs.Watching.{addresses, with_children}
 use Rattle.pip_native_run.proofs.children.build_children.Goals as goal
 
 pub build_child-requires-clause-some : goal.build_child-requires-clause-some
-build_child-requires-clause-some g c = let e = c.loop-i.invariant.count in let l = c.requires.some in
-    omega (arith, e, l)
+build_child-requires-clause-some g c = omega arith
 
 pub build_child-requires-clause-room : goal.build_child-requires-clause-room
 build_child-requires-clause-room g c = let (w, h, r) = c.requires.room in let k = c.loop-i.invariant.world w h r in
@@ -22,7 +21,7 @@ loop-i-preserved g c =
           subst (λ j. g.P.Port.stands c.build_child.new.port (with_children w n j)
           × HasRoomForChildren n (i + 1) (with_children w n j)) e
           (c.build_child.ensures.world (with_children w n i) k.0 k.1);
-      len = let a = c.push.ensures.len in let b = c.loop-i.invariant.len in omega (arith, a, b);
+      len = let a = c.push.ensures.len in omega arith;
       items = c.push.ensures.items ∙ ap₂ (λ xs a. xs ++ a ∷ []) c.loop-i.invariant.items c.build_child.ensures.address
           ∙ ap (addresses n) e;
       count = c.build_child.ensures.count ∙ c.loop-i.invariant.count;

@@ -3,7 +3,7 @@ use Rattle.pip_native_run.specs.Watching.{with_handlers}
 use Rattle.pip_native_run.proofs.children.set_handlers.Goals as goal
 
 pub store-requires-clause-cpu : goal.store-requires-clause-cpu
-store-requires-clause-cpu g c = let e = c.loop-k.invariant.count in let l = c.requires in omega (arith, e, l)
+store-requires-clause-cpu g c = omega arith
 
 pub loop-k-preserved : goal.loop-k-preserved
 loop-k-preserved g c = let e : suc c.loop-k.k ≡ c.loop-k.k + 1 = omega arith in record {

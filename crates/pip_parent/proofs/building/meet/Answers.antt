@@ -6,10 +6,8 @@ use Rattle.pip_parent.proofs.building.meet.Goals as goal
 
 pub bounds-pool-page : goal.bounds-pool-page
 bounds-pool-page g c =
-    let e = c.open_table-page.ensures.place in
     let w = place_within c.args.wants.now c.args.i c.requires.low in
-    let room = c.requires.room in
-    omega (arith, e, w, room)
+    omega arith
 
 pub returns-clause-met : goal.returns-clause-met
 returns-clause-met g c w r b a = met (g.P.Port.stands c.open_table-page.new.port) (g.P.Port.stands c.lend_page.new.port)

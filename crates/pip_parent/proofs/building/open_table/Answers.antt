@@ -6,36 +6,26 @@ use Rattle.pip_parent.proofs.building.open_table.Goals as goal
 
 pub overflow_add-taken : goal.overflow_add-taken
 overflow_add-taken g c =
-    let t = c.requires.taken.tables in
     let m = opened_most c.args.wants.now c.args.i in
-    let low = c.requires.low in
-    let few = c.requires.few in
-    omega (arith, t, m, low, few)
+    omega arith
 
 pub overflow_add-taken-2 : goal.overflow_add-taken-2
 overflow_add-taken-2 g c =
-    let t = c.requires.taken.tables in
     let m = opened_most c.args.wants.now c.args.i in
-    let low = c.requires.low in
-    let few = c.requires.few in
-    omega (arith, t, m, low, few)
+    omega arith
 
 pub link-requires-clause-within : goal.link-requires-clause-within
 link-requires-clause-within g c =
-    let u = c.requires.taken.pages in
     let s = stores_are c.args.wants.now c.args.i _ _ _ c.requires.taken.tables c.lists.ensures c.lists-2.ensures in
     let w = place_within c.args.wants.now c.args.i c.requires.low in
     let p = place_opens c.args.wants.now c.args.i (sym c.opens.ensures.opens ∙ c.if-not-opens.false) in
-    let room = c.requires.room in
-    omega (arith, u, s, w, p, room)
+    omega arith
 
 pub bounds-pool-first : goal.bounds-pool-first
 bounds-pool-first g c =
-    let u = c.requires.taken.pages in
     let w = place_within c.args.wants.now c.args.i c.requires.low in
     let p = place_opens c.args.wants.now c.args.i (sym c.opens.ensures.opens ∙ c.if-not-opens.false) in
-    let room = c.requires.room in
-    omega (arith, u, w, p, room)
+    omega arith
 
 pub returns-clause-tabled : goal.returns-clause-tabled
 returns-clause-tabled g c w r b a =

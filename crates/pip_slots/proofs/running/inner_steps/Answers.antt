@@ -39,12 +39,11 @@ loop-k-preserved g c = record {
 
 pub returns-clause-acts : goal.returns-clause-acts
 returns-clause-acts g c = λ w h.
-    let past = c.loop-k-test.false in
-    let e : c.args.turns - c.loop-k.k ≡ 0 = omega (arith, past) in
+    let e : c.args.turns - c.loop-k.k ≡ 0 = omega arith in
     progress_end _ _ _ w _ (subst (λ n. Progress (StandsAs c.loop-k.machine) (g.K.Sink.history c.args.sink.now).written
     (g.K.Sink.history c.loop-k.sink).written w (slot_turns w c.args.turns c.args.t) (λ v. slot_turns v n (c.args.t +
     c.loop-k.k))) e
     (c.loop-k.invariant.progress w h))
 
 pub returns-clause-work : goal.returns-clause-work
-returns-clause-work g c = λ w h. let k = (c.loop-k.invariant.work w h).within in omega (arith, k)
+returns-clause-work g c = λ w h. omega (arith, (c.loop-k.invariant.work w h).within)

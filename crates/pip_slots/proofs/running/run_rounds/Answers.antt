@@ -18,17 +18,11 @@ loop-k-init g c = record {
 }
 
 pub run_slots-requires-clause-some : goal.run_slots-requires-clause-some
-run_slots-requires-clause-some g c =
-    let count = c.loop-k.invariant.count in
-    let some = c.requires.some in
-    omega (arith, count, some)
+run_slots-requires-clause-some g c = omega arith
 
 pub run_slots-requires-clause-few : goal.run_slots-requires-clause-few
 run_slots-requires-clause-few g c =
-    let t = c.loop-k.invariant.steps in
-    let few = c.requires.few in
-    let more = one_round_more (plan_steps c.args.round.now) c.loop-k.k c.args.count c.loop-k-test.true in
-    omega (arith, t, few, more)
+    omega (arith, one_round_more (plan_steps c.args.round.now) c.loop-k.k c.args.count c.loop-k-test.true)
 
 pub returns-in_err-t-clause-acts : goal.returns-in_err-t-clause-acts
 returns-in_err-t-clause-acts g c = λ w h.
@@ -45,11 +39,10 @@ loop-k-preserved g c = record {
   count = search rules;
   no_faults = search rules;
   steps =
-      let t = c.loop-k.invariant.steps in
       let next = c.in_ok-t.ensures.next in
       let P = plan_steps c.args.round.now in
       let e : P * (c.loop-k.k + 1) ≡ P * c.loop-k.k + P = omega arith in
-      omega (arith, t, next, e);
+      omega arith;
   progress = λ w h. rounds_on _ _ _ w _ c.args.round.now c.args.count c.loop-k.k c.loop-k.t c.loop-k-test.true _ _
       (c.loop-k.invariant.progress w h) c.in_ok-t.ensures.acts _ c.in_ok-t.ensures.next;
   work = λ w h. rounds_work_on _ _ _ w _ _ c.args.round.now c.args.count c.loop-k.k c.loop-k.t c.loop-k-test.true
@@ -59,9 +52,8 @@ loop-k-preserved g c = record {
 
 pub returns-clause-acts : goal.returns-clause-acts
 returns-clause-acts g c = λ w h.
-    let past = c.loop-k-test.false in
-    rounds_end _ _ _ w _ c.args.round.now (c.args.count - c.loop-k.k) c.loop-k.t (omega (arith, past))
+    rounds_end _ _ _ w _ c.args.round.now (c.args.count - c.loop-k.k) c.loop-k.t (omega arith)
     (c.loop-k.invariant.progress w h)
 
 pub returns-clause-work : goal.returns-clause-work
-returns-clause-work g c = λ w h. let k = (c.loop-k.invariant.work w h).within in omega (arith, k)
+returns-clause-work g c = λ w h. omega (arith, (c.loop-k.invariant.work w h).within)

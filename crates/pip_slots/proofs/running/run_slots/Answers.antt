@@ -27,21 +27,15 @@ returns-in_err-one_slot-clause-work g c = λ w h.
 
 pub overflow_add-t : goal.overflow_add-t
 overflow_add-t g c =
-    let t = c.loop-i.invariant.left in
     let ss = c.args.slots.now in
     let i = c.loop-i.i in
-    let e = steps_left ss i (get_or ss i none) (drop-cons ss i none c.loop-i-test.true) in
-    let few = c.requires.few in
-    omega (arith, t, e, few)
+    omega (arith, steps_left ss i (get_or ss i none) (drop-cons ss i none c.loop-i-test.true))
 
 pub one_slot-requires-clause-small : goal.one_slot-requires-clause-small
 one_slot-requires-clause-small g c =
-    let t = c.loop-i.invariant.left in
     let ss = c.args.slots.now in
     let i = c.loop-i.i in
-    let e = steps_left ss i (get_or ss i none) (drop-cons ss i none c.loop-i-test.true) in
-    let few = c.requires.few in
-    omega (arith, t, e, few)
+    omega (arith, steps_left ss i (get_or ss i none) (drop-cons ss i none c.loop-i-test.true))
 
 pub loop-i-init : goal.loop-i-init
 loop-i-init g c = record {
@@ -59,11 +53,9 @@ loop-i-preserved g c = record {
   count = search rules;
   no_faults = search rules;
   left =
-      let t = c.loop-i.invariant.left in
       let ss = c.args.slots.now in
       let i = c.loop-i.i in
-      let e = steps_left ss i (get_or ss i none) (drop-cons ss i none c.loop-i-test.true) in
-      omega (arith, t, e);
+      omega (arith, steps_left ss i (get_or ss i none) (drop-cons ss i none c.loop-i-test.true));
   progress = λ w h.
       let ss = c.args.slots.now in
       let i = c.loop-i.i in
@@ -79,18 +71,10 @@ loop-i-preserved g c = record {
 
 pub returns-clause-acts : goal.returns-clause-acts
 returns-clause-acts g c = λ w h.
-    let at_end = c.loop-i.auto.i-end in
-    let over = c.loop-i-test.false in
-    slots_end _ _ _ w _ c.args.slots.now c.loop-i.i c.loop-i.t (omega (arith, at_end, over))
-    (c.loop-i.invariant.progress w h)
+    slots_end _ _ _ w _ c.args.slots.now c.loop-i.i c.loop-i.t (omega arith) (c.loop-i.invariant.progress w h)
 
 pub returns-clause-work : goal.returns-clause-work
-returns-clause-work g c = λ w h. let k = (c.loop-i.invariant.work w h).within in omega (arith, k)
+returns-clause-work g c = λ w h. omega (arith, (c.loop-i.invariant.work w h).within)
 
 pub returns-clause-next : goal.returns-clause-next
-returns-clause-next g c =
-    let at_end = c.loop-i.auto.i-end in
-    let over = c.loop-i-test.false in
-    let e = none_left c.args.slots.now c.loop-i.i (omega (arith, at_end, over)) in
-    let t = c.loop-i.invariant.left in
-    omega (arith, t, e)
+returns-clause-next g c = omega (arith, none_left c.args.slots.now c.loop-i.i (omega arith))

@@ -11,16 +11,13 @@ loop-at-init c =
 
 pub loop-at-smaller : goal.loop-at-smaller
 loop-at-smaller c =
-    let t = c.loop-at-test.true in
-    let l = c.loop-at.invariant.low in
     next_smaller c.args.wants.now c.args.i c.loop-at.at (c.loop-at.at - 1) _
-    (omega (arith, t)) (c.requires.known.before (c.loop-at.at - 1) (omega (arith, t, l)))
+    (omega arith) (c.requires.known.before (c.loop-at.at - 1) (omega arith))
 
 pub loop-at-preserved : goal.loop-at-preserved
 loop-at-preserved c =
     let t = c.loop-at-test.true in
-    let l = c.loop-at.invariant.low in
     next_left c.args.wants.now c.args.i c.loop-at.at (c.loop-at.at - 1) _ c.loop-at.invariant (omega (
       arith,
       t,
-    )) (ne_eqb _ _ c.if-wants-at.false) (c.requires.known.before (c.loop-at.at - 1) (omega (arith, t, l)))
+    )) (ne_eqb _ _ c.if-wants-at.false) (c.requires.known.before (c.loop-at.at - 1) (omega arith))
