@@ -10,8 +10,8 @@ from common import calling
 from exporter.building import Program
 
 HERE = Path(__file__).resolve().parent
-JUDGE = Program("pip_judge", "the judge", HERE, ("pip_asm", "pip_cpu", "pip_image", "pip_kern", "pip_script", "pip_switch"),
-                ("host",),
+JUDGE = Program("pip_judge", "the judge", HERE,
+                ("pip_asm", "pip_cpu", "pip_image", "pip_kern", "pip_script", "pip_switch"), ("host",),
                 ", or copy the file that class/judge/make_judge --to FILE writes on a machine like this, and name it "
                 "by the environment's PIP_JUDGE")
 

@@ -73,7 +73,8 @@ class Releases(unittest.TestCase):
         """Makes a release, and answers its folder; where `to` is None it goes beside the checkout. Its site is made of
         a module that is there."""
         given = argparse.Namespace(version=version, gate=False, unproved=unproved, no_page=no_page, debian=None,
-                                   deb=HAS_DEB, module=self.place / "module", to=None if to is None else self.place / to)
+                                   module=self.place / "module", deb=HAS_DEB,
+                                   to=None if to is None else self.place / to)
         with contextlib.redirect_stdout(io.StringIO()), contextlib.redirect_stderr(io.StringIO()):
             release.work(given, self.found)
         return self.place / (release.BESIDE if to is None else to) / f"pip-{version}{'-unproved' if unproved else ''}"
