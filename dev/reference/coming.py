@@ -63,7 +63,7 @@ class Judge:
 
     def shows(self, moment: Moment, choice: int, label: str) -> tuple[Moment, bool]:
         after, shown = self.moments.after(moment, choice)
-        return after, bool(shown) and f"{shown[0]} {shown[1]}" == label
+        return after, shown is not None and f"{shown[0]} {shown[1]}" == label
 
     def is_loop(self, label: str, way: str, loop: str) -> bool:
         """Whether a loop leads back, with each class and without the label."""
