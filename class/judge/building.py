@@ -3,7 +3,6 @@
 from __future__ import annotations
 
 import argparse
-import shutil
 from pathlib import Path
 
 from common import calling
@@ -19,13 +18,4 @@ JUDGE = Program("pip_judge", "the judge", HERE,
 def main() -> None:
     parser = argparse.ArgumentParser(description="The judge of the exercises as a program, which cargo builds.")
     parser.add_argument("--to", type=Path, required=True, metavar="FILE", help="a copy of it")
-    calling.started(parser, lambda given: make(given.to))
-
-
-def make(to: Path) -> None:
-    shutil.copy(program(), to)
-
-
-def program() -> str:
-    """The path of the judge."""
-    return JUDGE.path()
+    calling.started(parser, lambda given: JUDGE.copy(given.to))
