@@ -91,7 +91,7 @@ def main() -> None:
 
 
 def work(given: argparse.Namespace) -> int:
-    os.environ["PIP_JUDGE"] = os.path.abspath(building.program())       # it may be built, once
+    os.environ["PIP_JUDGE"] = os.path.abspath(building.JUDGE.path())       # it may be built, once
     exercises = judging.exercises()
     given.secret = given.again or judging.drawn()
     students, handed_in, others = found(given.folder, exercises)

@@ -25,7 +25,7 @@ def ask(act: str, name: str = "", seed: str | None = None, secret: str = "", tex
     if any("\n" in word for word in (name, seed, secret)):
         raise Failed("a name and a seed have one line")
     head = "\n".join((act, name, seed, secret, ""))
-    program = building.program()
+    program = building.JUDGE.path()
     with calling.running(program):
         done = subprocess.run([program], input=head.encode() + text, stdout=subprocess.PIPE)
     if done.returncode:

@@ -3,15 +3,14 @@
 from __future__ import annotations
 
 import argparse
-import shutil
 from pathlib import Path
 
 from common import calling
 from exporter.building import Program
 
 HERE = Path(__file__).resolve().parent
-JUDGE = Program("pip_judge", "the judge", HERE, ("pip_asm", "pip_cpu", "pip_image", "pip_kern", "pip_script", "pip_switch"),
-                ("host",),
+JUDGE = Program("pip_judge", "the judge", HERE,
+                ("pip_asm", "pip_cpu", "pip_image", "pip_kern", "pip_script", "pip_switch"), ("host",),
                 ", or copy the file that class/judge/make_judge --to FILE writes on a machine like this, and name it "
                 "by the environment's PIP_JUDGE")
 
@@ -19,13 +18,4 @@ JUDGE = Program("pip_judge", "the judge", HERE, ("pip_asm", "pip_cpu", "pip_imag
 def main() -> None:
     parser = argparse.ArgumentParser(description="The judge of the exercises as a program, which cargo builds.")
     parser.add_argument("--to", type=Path, required=True, metavar="FILE", help="a copy of it")
-    calling.started(parser, lambda given: make(given.to))
-
-
-def make(to: Path) -> None:
-    shutil.copy(program(), to)
-
-
-def program() -> str:
-    """The path of the judge."""
-    return JUDGE.path()
+    calling.started(parser, lambda given: JUDGE.copy(given.to))

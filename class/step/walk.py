@@ -9,7 +9,6 @@ PAGE = 4096
 WORDS = 1024
 SLOTS = 170
 USES = ("free", "desc", "conf", "lent")          # of a page, by the low bits of its word in the first shadow table
-LEVELS = ("page table", "first shadow table", "second shadow table")
 
 Words = dict[int, dict[int, int]]    # of each frame, those that aren't 0, by index
 

@@ -50,7 +50,7 @@ def need_judge() -> None:
     """Builds the judge, or skips a check where it can't be built."""
     if not os.environ.get("PIP_JUDGE"):
         need_cargo()
-    building.program()
+    building.JUDGE.path()
 
 
 def edited(cheat: Cheat) -> tuple[str, str]:

@@ -121,7 +121,7 @@ def stopped() -> None:
     """Ctrl-C ends the grader and all that it began, at once."""
     with tempfile.TemporaryDirectory() as place:
         waits = write_program("#!/bin/sh\nread act\n"
-                              f"if [ $act = list ]; then echo list | {building.program()}; exit; fi\n"
+                              f"if [ $act = list ]; then echo list | {building.JUDGE.path()}; exit; fi\n"
                               f"echo $$ >> {place}/begun\nexec sleep 60\n", place, "judge")
         for student in ("ada", "bob"):
             write(CLASS["map"], place, "class", student, "map.pip")

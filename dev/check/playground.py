@@ -253,7 +253,7 @@ def judge(program: str) -> None:
     lines = "".join(json.dumps(one) + "\n" for one in all_asked)
     found = list(map(json.loads, lines_of(asked("judge", made()), lines.encode())))
     same("the requests that the module's judge answers", len(found), len(all_asked))
-    path = building.program()
+    path = building.JUDGE.path()
     each(lambda pair: same(f"what the module's judge says of the request {pair[0][:1000]!r}", pair[1],
                            run([path], pair[0].encode())[0].decode()), zip(all_asked, found))
 

@@ -68,9 +68,11 @@ def used(program: str, place: str, tools: str) -> None:
     told, _ = run(["sh", "-c", "./pip --version"], stderr=subprocess.DEVNULL, **settings)
     if not re.search(rb"^commit [0-9a-f]{40}\n", told, re.M) or not told.endswith(b"\nproved\n"):
         raise Differs(f"./pip --version of a release says {told!r}")
-    told, status = run(["sh", "-c", "class/exercise store examples/solutions/store.pip"], **settings)
-    if status:
-        raise Differs(f"class/exercise of a release ends with {status}: {told!r}")
+    for words in ("class/exercise store examples/solutions/store.pip", "tools/debug examples/monitor.s --list 5",
+                  "tools/every examples/two_guests.s 2000 --until 'reply 14'"):
+        told, status = run(["sh", "-c", words], **settings)
+        if status:
+            raise Differs(f"{words} of a release ends with {status}: {told!r}")
     expect("the checksums of a release",
            run(["sh", "-c", "grep -E '^[0-9a-f]{64}  ' PROOF | sha256sum --check --quiet"], **settings), (b"", 0))
     for name in ("site/index.html", "site/TUTORIAL.html", "site/engine.js", "rust/Cargo.toml",

@@ -54,6 +54,10 @@ class Program:
             self.build()
         return os.environ.get(self.name.upper()) or str(self.shipped if self.shipped.exists() else self.built)
 
+    def copy(self, to: Path) -> None:
+        to.parent.mkdir(parents=True, exist_ok=True)
+        shutil.copy(self.path(), to)
+
     def is_new(self) -> bool:
         if os.environ.get(self.name.upper()) or self.shipped.exists():
             return True

@@ -13,7 +13,9 @@ from pathlib import Path
 from common import calling
 from common.blocks import blocks
 from common.calling import Failed
+from debugger.building import SEARCHES, STATES
 from exporter import building
+from judge.building import JUDGE
 from pages import rendering
 from playground import module
 from . import gate, proof, repository
@@ -94,8 +96,9 @@ def made(given: argparse.Namespace, found: Checkout, to: Path) -> Path:
         copied(found, top, given.unproved)
         site = make_site(given, found, top / proof.SITE)
         export(found, top / EXPORT)
-        run("the judge", found, "class/judge/make_judge", "--to", str(top / "class" / "judge" / "pip_judge"))
-        run("the tools' processes", found, "tools/debugger/make_processes", "--to", str(top))
+        for one in (JUDGE, STATES, SEARCHES):
+            say(one.what)
+            one.copy(top / one.shipped.relative_to(building.REPOSITORY))
         told = proof.text(given.version, record, found, site)
         (top / "PROOF").write_text(told, encoding="utf-8")
         packed(top, Path(place) / tarball.name, found.seconds())

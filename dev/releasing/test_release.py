@@ -14,6 +14,7 @@ import unittest
 from collections.abc import Callable
 from pathlib import Path
 from typing import Any
+from unittest import mock
 
 from common.blocks import blocks
 from common.calling import Failed
@@ -35,7 +36,10 @@ class Releases(unittest.TestCase):
         self.addCleanup(setattr, repository, "kit", repository.kit)
         self.use_kit(KIT)
         self.addCleanup(setattr, rendering, "missing", rendering.missing)
-        rendering.missing = lambda: ""              # the site is made by a stand-in
+        rendering.missing = lambda: ""              # the site is made by a stand-in, and of these a file is taken
+        named = mock.patch.dict(os.environ, dict.fromkeys(("PIP_JUDGE", "PIP_STATES", "PIP_CERTIFIER"), __file__))
+        self.addCleanup(named.stop)
+        named.start()
         self.place = Path(place.name)
         self.found = Checkout(self.place / "here")
         for path, text in FILES.items():
@@ -73,7 +77,8 @@ class Releases(unittest.TestCase):
         """Makes a release, and answers its folder; where `to` is None it goes beside the checkout. Its site is made of
         a module that is there."""
         given = argparse.Namespace(version=version, gate=False, unproved=unproved, no_page=no_page, debian=None,
-                                   deb=HAS_DEB, module=self.place / "module", to=None if to is None else self.place / to)
+                                   module=self.place / "module", deb=HAS_DEB,
+                                   to=None if to is None else self.place / to)
         with contextlib.redirect_stdout(io.StringIO()), contextlib.redirect_stderr(io.StringIO()):
             release.work(given, self.found)
         return self.place / (release.BESIDE if to is None else to) / f"pip-{version}{'-unproved' if unproved else ''}"

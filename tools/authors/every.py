@@ -251,7 +251,7 @@ def after_of(words: list[str] | None, data: bytes, source: str | None) -> After:
         raise Failed("--after has STEPS SEED, or NAME and a seed")
     if not asmx.NAME.fullmatch(words[0]):
         return After(calling.number(words[0], 0, MOST, "STEPS"), seed)
-    steps = client.first_turn_at(building.program(), data, sources.read(data, source).named(words[0]).word, seed)
+    steps = client.first_turn_at(building.STATES.path(), data, sources.read(data, source).named(words[0]).word, seed)
     print(f"every: {words[0]} runs first after {steps} steps by the seed {seed}", file=sys.stderr)
     return After(steps, seed)
 

@@ -22,7 +22,6 @@ COMMANDS = {
     "language_server": "debugger.language",
     "make_judge": "judge.building",
     "make_module": "playground.module",
-    "make_processes": "debugger.building",
     "make_vsix": "editors.vsix",
     "program.py": "reference.commands",
     "release": "releasing.release",

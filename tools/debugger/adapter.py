@@ -169,7 +169,7 @@ class Adapter:
         path = os.path.abspath(given["program"])
         if not building.STATES.is_new() and not path.endswith(".pip"):
             asmx.image_of(self.program, path)                # what is wrong with it is said before cargo builds
-        self.debugger = Logging(self.program, States(building.program()), path, schedule)
+        self.debugger = Logging(self.program, States(building.STATES.path()), path, schedule)
         self.debugger.logs = {}
         self.debugger.say = lambda text: self.event("output", category="console", output=text)
         self.debugger.checks = bool(given.get("check", self.debugger.checks))

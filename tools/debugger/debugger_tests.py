@@ -67,7 +67,7 @@ def stops_of(*lines: str) -> Stops:
 
 class WithStates(unittest.TestCase):
     def setUp(self) -> None:
-        self.states = States(building.program())
+        self.states = States(building.STATES.path())
         self.addCleanup(self.states.end)
 
     def has_registers_of(self, world: World, *told: object) -> None:
@@ -209,7 +209,7 @@ class Walks(unittest.TestCase):
 
     def test_random_walks(self) -> None:
         drawn = random.Random(7)
-        walker, straight = States(building.program()), States(building.program())
+        walker, straight = States(building.STATES.path()), States(building.STATES.path())
         self.addCleanup(walker.end)
         self.addCleanup(straight.end)
         for path in (MONITOR, RETRY, RACE):

@@ -441,7 +441,7 @@ def schedule_of(seed: str, native: str | None, slots: list[str] | None) -> str:
 def work(given: argparse.Namespace) -> int:
     schedule = schedule_of(given.seed, given.native, given.slots)
     calling.direct(given.program)
-    process = States(building.program())
+    process = States(building.STATES.path())
     try:
         debugger = Debugger(given.program, process, given.file, schedule, given.every)
         if given.source:
