@@ -1,10 +1,10 @@
 -- The way up from a partition, by which a vector is delivered.
 use Rattle.std.proofs.Common.{◌≡◌, ◌≢◌, ℕ, ◌+◌, ◌&&◌, ◌||◌, inl, inr, Bool, true, false, List, [], ◌∷◌, refl, sym, ap}
-use Rattle.std.proofs.Common.{◌∙◌, subst, arith, Option, Some}
+use Rattle.std.proofs.Common.{◌∙◌, arith, Option, Some}
 use Rattle.pip_model.specs.Lists.{has}
 use Rattle.pip_model.specs.Sound.{IsSound}
 use Rattle.pip_model.specs.Tree.{Node, Tree, chain, find_node}
-use Rattle.pip_model.specs.Worlds.{World, running}
+use Rattle.pip_model.specs.Worlds.{running}
 use Rattle.pip_model.specs.declared.processors.Occupant.{Occupant}
 use Rattle.pip_model.proofs.Trees.Ancestors.{chain-node}
 use Rattle.pip_model.proofs.Trees.Depth.{depth, depth_few, depth_some, depth_up, few_nodes, own_parent}
@@ -17,8 +17,11 @@ use Rattle.pip_switch.specs.Plain.{plain_world}
 chain_first : (t : Tree) → IsSound t → (a : ℕ) (x : Node) → find_node t a ≡ Some x
     → (qs : List Node) × (chain t a ≡ x ∷ qs)
 chain_first t s a x found = elim (root_or_other t a x found) [
-  | inl e ↦ ([], ap (chain t) (sym (found_name t a x found) ∙ ap (λ z. z.name) e) ∙ root_line t s
-      ∙ ap (λ z. z ∷ []) (sym e))
+  | inl e ↦ (
+    [],
+    ap (chain t) (sym (found_name t a x found) ∙ ap (λ z. z.name) e) ∙ root_line t s
+        ∙ ap (λ z. z ∷ []) (sym e),
+  )
   | inr o ↦ (chain t x.up, ap (chain t) (sym (other_name t a x o)) ∙ chain-node t s x (other_in t a x o))
 ]
 

@@ -1,6 +1,7 @@
 -- Calls: the chain of prepare, and the target of a yield.
-use Rattle.std.proofs.Common.{◌≡◌, ◌≢◌, ℕ, zero, suc, ◌+◌, ◌<◌, ◌≤◌, ◌%◌, ◌==◌, ◌&&◌, ◌||◌, not, cond, inl, inr, Bool, true}
-use Rattle.std.proofs.Common.{false, refl, sym, ap, ◌∙◌, subst, arith, ne_eqb, eq-eqb, Option, Some, None, length, List}
+use Rattle.std.proofs.Common.{◌≡◌, ◌≢◌, ℕ, zero, suc, ◌+◌, ◌<◌, ◌≤◌, ◌%◌, ◌==◌, ◌&&◌, ◌||◌, not, Bool}
+use Rattle.std.proofs.Common.{true}
+use Rattle.std.proofs.Common.{false, refl, sym, ap, ◌∙◌, subst, arith, Option, Some, None, List}
 use Rattle.std.specs.Prelude.{◌-◌, IfSome, is_some, nat_lt, option_map, unwrap_or}
 use Rattle.std.proofs.lemmas.Bool.{lt-ltb, le-ltb}
 use Rattle.pip_base.specs.Memory.{Memory, word_at}
@@ -13,7 +14,8 @@ use Rattle.pip_model.specs.Partitions.{HasPartition}
 use Rattle.pip_model.specs.Prepare.{next_in_chain}
 use Rattle.pip_model.specs.Sound.{IsSound}
 use Rattle.pip_model.specs.Switching.{target_node}
-use Rattle.pip_model.specs.Tree.{Node, Row, Tree, child_at, config, find_node, hidden, node, page_at, row_at, row_pages, vpage}
+use Rattle.pip_model.specs.Tree.{Node, Row, Tree, child_at, config, find_node, hidden, page_at, row_at}
+use Rattle.pip_model.specs.Tree.{row_pages, vpage}
 use Rattle.pip_model.specs.Tree.{word_of}
 use Rattle.pip_model.proofs.Frames.Laid.{born_place, full_back, laid_words, no_words_zero, open_words}
 use Rattle.pip_model.proofs.Frames.ReadBack.{full-at}
@@ -23,7 +25,7 @@ use Rattle.pip_model.specs.Lists.{In, has}
 use Rattle.pip_model.proofs.Trees.Children.{child_back}
 use Rattle.pip_model.proofs.Trees.Lookup.{found_in, node_is}
 use Rattle.pip_outside.specs.Tests as T
-use Rattle.pip_switch.proofs.Targets.{child_target, no_parent, parent_target, self_target, some_parent, target_stands}
+use Rattle.pip_switch.proofs.Targets.{child_target, target_stands}
 
 -- ---- chains
 
@@ -85,7 +87,8 @@ module _ (t : Tree) (s : IsSound t) (p va : ℕ) (x : Node) (found : find_node t
         let (q, at, frame, user) = row_here in
         let hid : hidden t f.frame ≡ true = ap (hidden t) frame ∙ on (hidden t q.frame) (sym user ∙ off) in
         let none : is_some (t.words f.frame) ≡ false =
-        s.words f.frame ∙ ap (λ b. has (row_pages t.root) f.frame && not b) hid ∙ and_off (has (row_pages t.root) f.frame)
+        s.words f.frame ∙ ap (λ b. has (row_pages t.root) f.frame && not b) hid ∙ and_off (has (row_pages t.root)
+        f.frame)
         in
         sym (ap (λ g. word_of (t.words g) 0) (sym mapped_page) ∙ no_word (t.words f.frame) none)
       where

@@ -1,5 +1,6 @@
 -- What a machine says of the partition that runs on a processor.
-use Rattle.std.proofs.Common.{◌≡◌, ℕ, Bool, true, false, refl, sym, ap, ◌∙◌, ◌≢◌, ◌==◌, ◌&&◌, eq-eqb, ne_eqb, ◌||◌, length, not, subst, List, [], ◌∷◌, Option, Some, None}
+use Rattle.std.proofs.Common.{◌≡◌, ℕ, Bool, true, false, refl, sym, ap, ◌∙◌, ◌≢◌, ◌==◌, ◌&&◌, eq-eqb, ne_eqb, ◌||◌}
+use Rattle.std.proofs.Common.{length, not, subst, List, [], ◌∷◌, Option, Some, None}
 use Rattle.std.specs.Prelude.{Err, Ok, nat_lt, option_map}
 use Rattle.pip_base.specs.Memory.{Memory}
 use Rattle.pip_base.specs.declared.types.Ctx.{Ctx}
@@ -13,7 +14,6 @@ use Rattle.pip_mmu.specs.Answers.{place_answer}
 use Rattle.pip_mmu.specs.declared.faults.AccessFault.{AccessFault}
 use Rattle.pip_base.specs.declared.types.Access.TheVariants.{Fetch}
 use Rattle.pip_base.specs.declared.types.Size.TheVariants.{Word}
-use Rattle.pip_model.specs.Sound.{IsSound}
 use Rattle.pip_model.specs.Tree.{Node, Tree, chain, children, find_node}
 use Rattle.pip_model.specs.Worlds.{IsSoundWorld, World, running, runs_on}
 use Rattle.pip_model.specs.declared.processors.Occupant.{Occupant}

@@ -1,7 +1,8 @@
 -- Accesses, entries of handler tables and blocks, as the code reads them.
-use Rattle.std.proofs.Common.{◌≡◌, ◌≢◌, ℕ, suc, ◌+◌, ◌*◌, ◌/◌, ◌%◌, ◌<◌, ◌≤◌, ◌==◌, ◌&&◌, ◌||◌, not, cond, Bool, true}
-use Rattle.std.proofs.Common.{false, refl, sym, ap, ◌∙◌, subst, arith, ne_eqb, eq-eqb, eqb-true, Option, Some, None, length, List}
-use Rattle.std.specs.Prelude.{◌-◌, Ok, Err, Result, nat_le}
+use Rattle.std.proofs.Common.{◌≡◌, ℕ, suc, ◌+◌, ◌*◌, ◌%◌, ◌<◌, ◌≤◌, ◌==◌, ◌&&◌, ◌||◌, not, cond, Bool, true}
+use Rattle.std.proofs.Common.{false, refl, sym, ap, ◌∙◌, arith, eqb-true, Option, Some, None}
+use Rattle.std.proofs.Common.{List}
+use Rattle.std.specs.Prelude.{◌-◌, Ok, Err, Result}
 use Rattle.pip_base.specs.Memory.{Memory, word_at}
 use Rattle.pip_base.specs.declared.types.Access.{Access}
 use Rattle.pip_base.specs.declared.types.Access.TheVariants.{Load, Store}
@@ -16,7 +17,8 @@ use Rattle.pip_mmu.specs.declared.faults.MmuFault.TheVariants as M
 use Rattle.pip_model.specs.Handlers.{block_at, is_reached, store_at}
 use Rattle.pip_model.specs.Layout.{LaysOut}
 use Rattle.pip_model.specs.Lists.{has}
-use Rattle.pip_model.specs.Reach.{Alignment, Fault, Faulted, Hidden, Place, Right, Reached, Unmapped, is_misaligned, reach, reach_by_row}
+use Rattle.pip_model.specs.Reach.{Alignment, Fault, Faulted, Hidden, Place, Right, Reached, Unmapped, is_misaligned}
+use Rattle.pip_model.specs.Reach.{reach, reach_by_row}
 use Rattle.pip_model.specs.Reach.{word_reached}
 use Rattle.pip_model.specs.Sound.{IsSound}
 use Rattle.pip_model.specs.Tree.{Node, Row, Tree, find_node, node, row_at, vpage, word_of}
@@ -234,7 +236,8 @@ module _ (own : List ℕ) (blind : ℕ → ℕ → Bool) (t : Tree) (p k : ℕ) 
 
 pub faulted_there : (q : Reached) (f : AccessFault) → Err f ≡ place_answer q → q ≡ Faulted (model_fault f)
 faulted_there (Place g i) f e = cc
-faulted_there (Faulted h) f e = let same : f ≡ access_fault h = cc in sym (ap (λ z. Faulted (model_fault z)) same ∙ back h)
+faulted_there (Faulted h) f e = let same : f ≡ access_fault h = cc in sym (ap (λ z. Faulted (model_fault z)) same ∙
+    back h)
   where
     back : (h : Fault) → Faulted (model_fault (access_fault h)) ≡ Faulted h
     back Alignment = refl

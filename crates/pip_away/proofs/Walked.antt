@@ -1,8 +1,9 @@
 -- A walk over the rows of a partition that has lent none, and counts those that it may read and write.
-use Rattle.std.proofs.Common.{◌≡◌, ◌≢◌, ℕ, suc, ◌+◌, ◌<◌, ◌^◌, ◌≤◌, ◌==◌, ◌&&◌, inl, inr, cond, Bool, true, false, List, []}
+use Rattle.std.proofs.Common.{◌≡◌, ℕ, suc, ◌+◌, ◌<◌, ◌^◌, ◌≤◌, ◌==◌, ◌&&◌, inl, inr, cond, Bool, true, false}
+use Rattle.std.proofs.Common.{List, []}
 use Rattle.std.proofs.Common.{◌∷◌, ◌++◌, map, length, refl, sym, ap, ◌∙◌, subst, arith, eq-eqb, eqb-true, Option, Some}
 use Rattle.std.proofs.Common.{None}
-use Rattle.std.specs.Prelude.{bit_and, filter, find, is_none, nat_lt}
+use Rattle.std.specs.Prelude.{bit_and, filter, is_none, nat_lt}
 use Rattle.std.proofs.lemmas.Bool.{lt-ltb, le-ltb}
 use Rattle.std.proofs.lemmas.Nat.{and_comm}
 use Rattle.std.proofs.Common.{append_assoc, length-append}
@@ -12,14 +13,16 @@ use Rattle.pip_kern.proofs.Tested.{free-row}
 use Rattle.pip_model.specs.FullRows.{FullRow, full_row, full_rows}
 use Rattle.pip_model.specs.Lists.{In, Rising}
 use Rattle.pip_model.specs.Sound.{IsSound}
-use Rattle.pip_model.specs.Tree.{Node, Row, Tree, children, config, find_node, held_pages, holder, is_free_row, node, row_at}
+use Rattle.pip_model.specs.Tree.{Node, Row, Tree, children, config, find_node, held_pages, holder, is_free_row, node}
+use Rattle.pip_model.specs.Tree.{row_at}
 use Rattle.pip_model.specs.Tree.{row_pages}
 use Rattle.pip_model.proofs.Frames.Laid.{full_back}
 use Rattle.pip_model.proofs.Frames.ReadBack.{full-at}
-use Rattle.pip_model.proofs.OnLists.Members.{In-append_cases, In-append_left, In-append_right, In-filter_from, In-map_from, find_in}
+use Rattle.pip_model.proofs.OnLists.Members.{In-append_cases, In-append_left, In-append_right, In-filter_from}
+use Rattle.pip_model.proofs.OnLists.Members.{In-map_from, find_in}
 use Rattle.pip_model.proofs.OnLists.Members.{find_none}
 use Rattle.pip_model.proofs.Trees.Children.{holder_back, holder_none, in_children}
-use Rattle.pip_model.proofs.Trees.Lookup.{found_in, found_name, in_other, node_is, other_in}
+use Rattle.pip_model.proofs.Trees.Lookup.{found_in, found_name, in_other, node_is}
 use Rattle.pip_model.proofs.Trees.Numbers.{at_small}
 use Rattle.pip_outside.specs.Exits.{writable_rows}
 use Rattle.pip_space.specs.Rows.{IsNextRow}

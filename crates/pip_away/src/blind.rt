@@ -1,6 +1,5 @@
 //! The words that are left out.
 ghost use Rattle.std.specs.Prelude.{◌≡◌, ◌+◌, ◌≤◌, ◌==◌, ◌&&◌, not};
-ghost use Rattle.std.specs.List.{list_any};
 ghost use Rattle.pip_outside.specs.Tests.{all_from};
 ghost use Rattle.pip_model.specs.Lists.{has};
 ghost use Rattle.pip_away.specs.Blind as defined;
@@ -47,7 +46,9 @@ impl Blind {
         ensures { result ≡ defined.is_seen_word self.now.seen.items page index }
     {
         let number = page.number();
-        self.seen.iter().any(|seen| seen.page == number && seen.index == index)
+        self.seen
+            .iter()
+            .any(|seen| seen.page == number && seen.index == index)
     }
 
     /// Whether a word is left out.

@@ -97,8 +97,7 @@ pub(crate) fn delivery_misses<M: Frames, L: Ledger>(
     ensures { InEach (M.memory mem.now) part (λ t x. result ≡ tests.delivery_misses blind.now.own.items
         (blind_of blind.now) (plain_world t cpus.now) part vector) }
 {
-    above_miss(mem, cpus, blind, part, vector, steps)
-        && save_misses(mem, blind, part, SAVED, steps)
+    above_miss(mem, cpus, blind, part, vector, steps) && save_misses(mem, blind, part, SAVED, steps)
 }
 
 // The vector of a fault.

@@ -1,5 +1,5 @@
 //! Handlers, and where contexts are saved.
-ghost use Rattle.std.specs.Prelude.{◌≡◌, ◌<◌, ◌&&◌, ◌||◌, not, Some, IfSome};
+ghost use Rattle.std.specs.Prelude.{◌≡◌, ◌<◌, ◌&&◌, ◌||◌, Some};
 ghost use Rattle.pip_outside.specs.Tests as tests;
 ghost use Rattle.pip_model.specs.Handlers.{block_at, store_at};
 ghost use Rattle.pip_model.specs.Partitions.{HasPartition, InEach};
@@ -14,10 +14,10 @@ use pip_frames::Frames;
 use std::sync::ledger::Ledger;
 
 /// The address of the handler table.
-const TABLE: u32 = 0xfffff000;
+const HANDLER_TABLE: u32 = 0xfffff000;
 
 /// The last offset in a page, in bytes, at which a block of 17 words can begin.
-const LAST: u32 = 4028;
+const LAST_BLOCK: u32 = 4028;
 
 // A word of a handler table: its page, its index there, and what it holds.
 #[derive(Clone, Copy)]
@@ -41,7 +41,7 @@ fn table_word<M: Frames, L: Ledger>(
     match locate(
         mem,
         part,
-        TABLE + 4 * vector,
+        HANDLER_TABLE + 4 * vector,
         Size::Word,
         Access::Load,
         steps,
@@ -59,7 +59,7 @@ fn table_word<M: Frames, L: Ledger>(
 fn can_begin(address: u32) -> bool
     ensures { result ≡ defined.can_begin address }
 {
-    address % 4 == 0 && address % 4096 <= LAST
+    address % 4 == 0 && address % 4096 <= LAST_BLOCK
 }
 
 // Whether no word of a partition's block at an address is left out.

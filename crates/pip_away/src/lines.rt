@@ -43,11 +43,7 @@ fn line_misses<M: Frames, L: Ledger>(
 }
 
 /// Whether no handler of the root for a line that is pending is left out.
-pub(crate) fn lines_miss<M: Frames, L: Ledger>(
-    mem: &M,
-    blind: &Blind,
-    steps: &mut Steps<L>,
-) -> bool
+pub(crate) fn lines_miss<M: Frames, L: Ledger>(mem: &M, blind: &Blind, steps: &mut Steps<L>) -> bool
     requires { HasPartition (M.memory mem.now) 1 }
     ensures { (t : Tree) → IsSound t → LaysOut t (M.memory mem.now) →
         result ≡ tests.lines_miss blind.now.own.items (blind_of blind.now) t t.root.pending }

@@ -7,12 +7,16 @@ use Rattle.pip_base.specs.declared.outcome.Outcome.TheVariants as O
 use Rattle.pip_every.specs.Menus as menus
 use Rattle.pip_every.specs.Menus.{deed_event, is_its, name_on}
 use Rattle.pip_every.specs.declared.menus.Deed.{Deed}
+use Rattle.pip_every.specs.declared.menus.Deed.TheVariants as D
 use Rattle.pip_every.specs.declared.menus.May.{May}
-use Rattle.pip_model.specs.Worlds.{World}
+use Rattle.pip_base.specs.declared.types.Size.{Size}
+use Rattle.pip_model.specs.Events as E
+use Rattle.pip_model.specs.Happens.{event}
+use Rattle.pip_model.specs.Worlds.{World, runs_on}
 use Rattle.pip_model.proofs.Trees.Ancestry.{root_is_one}
-use Rattle.pip_outside.specs.Tests.{reads_outside}
+use Rattle.pip_outside.specs.Tests.{if_one_runs, is_confined, reads_outside}
 use Rattle.pip_switch.specs.Standing.{StandsAs, State}
-use Rattle.pip_hostile.specs.Tests.{deed_answers, deeds_read_outside, is_vain}
+use Rattle.pip_hostile.specs.Tests.{deed_answers, deeds_read_outside, hostile_looks_away, is_vain}
 
 module _ (p : State) (w : World) (s : StandsAs p w) (cpu : ℕ) where
   -- a line of a menu is of what runs there
@@ -30,6 +34,16 @@ module _ (p : State) (w : World) (s : StandsAs p w) (cpu : ℕ) where
 abbrev pub deed_is : List ℕ → (ℕ → ℕ → Bool) → World → ℕ → Deed → Bool
 deed_is own blind w cpu d = deed_answers w cpu d || reads_outside own blind w (deed_event cpu d)
 
+module _ (own : List ℕ) (blind : ℕ → ℕ → Bool) (w : World) (cpu : ℕ) (d : Deed) (va : ℕ) (z : Size)
+    (is : d ≡ D.Load va z) (b : Bool) (e : b ≡ deed_answers w cpu (D.Load va z)) where
+  pub load_answered : b ≡ true → b ≡ deed_is own blind w cpu d
+  load_answered on = on ∙ sym (ap (deed_is own blind w cpu) is
+      ∙ ap (λ x. x || reads_outside own blind w (E.Load cpu va z)) (sym e ∙ on))
+
+  pub load_faults : b ≡ false → reads_outside own blind w (E.Load cpu va z) ≡ deed_is own blind w cpu d
+  load_faults off = sym (ap (deed_is own blind w cpu) is
+      ∙ ap (λ x. x || reads_outside own blind w (E.Load cpu va z)) (sym e ∙ off))
+
 -- the rest of a list from an element on
 drop_at : {A : Type 0} (xs : List A) (k : ℕ) (x : A) → slice_get xs k ≡ Some x → drop k xs ≡ x ∷ drop (k + 1) xs
 drop_at [] k x e = cc
@@ -40,7 +54,7 @@ drop_at (y ∷ ys) (suc k) x e = let n : suc k + 1 ≡ suc (k + 1) = omega arith
 module _ (own : List ℕ) (blind : ℕ → ℕ → Bool) (w : World) (cpu : ℕ) (ds : List May) (k : ℕ) (d : May)
     (at : slice_get ds k ≡ Some d) (b : Bool)
     (is : b ≡ (not (is_its w.tree.root.name (name_on w cpu) d)
-        || (deed_answers w cpu d.deed || reads_outside own blind w (deed_event cpu d.deed))))
+    || (deed_answers w cpu d.deed || reads_outside own blind w (deed_event cpu d.deed))))
     (before : deeds_read_outside own blind w cpu ds ≡ deeds_read_outside own blind w cpu (drop k ds)) where
   next : deeds_read_outside own blind w cpu ds ≡ (b && deeds_read_outside own blind w cpu (drop (k + 1) ds))
   next = before ∙ ap (deeds_read_outside own blind w cpu) (drop_at ds k d at)
@@ -63,31 +77,47 @@ drop_all (x ∷ xs) (suc k) l = drop_all xs k (omega (arith, l))
 
 -- ---- the parts of a test
 
-pub first_off : (a b c : Bool) → a ≡ false → false ≡ (a && (b && c))
-first_off a b c e = sym (ap (λ z. z && (b && c)) e)
+and_off : (b : Bool) → (b && false) ≡ false
+and_off true = refl
+and_off false = refl
 
-pub last_off : (a b c : Bool) → a ≡ true → c ≡ false → false ≡ (a && (b && c))
-last_off a b c e f = sym (ap (λ z. z && (b && c)) e ∙ ap (λ z. b && z) f ∙ go b)
-  where
-    go : (b : Bool) → (b && false) ≡ false
-    go true = refl
-    go false = refl
+or_on : (v : Bool) → ((not v || true) && true) ≡ true
+or_on true = refl
+or_on false = refl
 
-pub middle : (a v d c : Bool) → a ≡ true → c ≡ true → d ≡ true → true ≡ (a && ((not v || d) && c))
-middle a v d c e f h = sym (ap (λ z. z && ((not v || d) && c)) e ∙ ap (λ z. (not v || d) && z) f
-    ∙ ap (λ z. (not v || z) && true) h ∙ go v)
-  where
-    go : (v : Bool) → ((not v || true) && true) ≡ true
-    go true = refl
-    go false = refl
+or_off : (v : Bool) → ((not v || false) && true) ≡ not v
+or_off true = refl
+or_off false = refl
 
-pub by_poll : (a v d c : Bool) → a ≡ true → c ≡ true → d ≡ false → not v ≡ (a && ((not v || d) && c))
-by_poll a v d c e f h = sym (ap (λ z. z && ((not v || d) && c)) e ∙ ap (λ z. (not v || d) && z) f
-    ∙ ap (λ z. (not v || z) && true) h ∙ go v)
-  where
-    go : (v : Bool) → ((not v || false) && true) ≡ not v
-    go true = refl
-    go false = refl
+module _ (own : List ℕ) (blind : ℕ → ℕ → Bool) (ds : List May) (w : World) (cpu : ℕ) where
+  abbrev polls : Bool
+  polls = reads_outside own blind w (E.Poll cpu)
+
+  abbrev vain : Bool
+  vain = is_vain (event w (E.Poll cpu)).outcome
+
+  abbrev deeds : Bool
+  deeds = deeds_read_outside own blind w cpu ds
+
+  abbrev small : Bool
+  small = if_one_runs (runs_on w cpu) (is_confined own w.tree)
+
+  pub poll_off : polls ≡ false → false ≡ hostile_looks_away own blind ds w cpu
+  poll_off e = sym (ap (λ z. z && ((not vain || deeds) && small)) e)
+
+  module _ (e : polls ≡ true) where
+    pub large : small ≡ false → false ≡ hostile_looks_away own blind ds w cpu
+    large f = sym (ap (λ z. z && ((not vain || deeds) && small)) e ∙ ap (λ z. (not vain || deeds) && z) f
+        ∙ and_off (not vain || deeds))
+
+    module _ (f : small ≡ true) where
+      pub by_deeds : deeds ≡ true → true ≡ hostile_looks_away own blind ds w cpu
+      by_deeds h = sym (ap (λ z. z && ((not vain || deeds) && small)) e ∙ ap (λ z. (not vain || deeds) && z) f
+          ∙ ap (λ z. (not vain || z) && true) h ∙ or_on vain)
+
+      pub by_poll : deeds ≡ false → not vain ≡ hostile_looks_away own blind ds w cpu
+      by_poll h = sym (ap (λ z. z && ((not vain || deeds) && small)) e ∙ ap (λ z. (not vain || deeds) && z) f
+          ∙ ap (λ z. (not vain || z) && true) h ∙ or_off vain)
 
 pub not_done : (o : Outcome) → (o ≡ O.Done → ⊥) → is_vain o ≡ false
 not_done O.Done n = absurd (n refl)

@@ -59,7 +59,7 @@ module _ (own : List ℕ) (blind : ℕ → ℕ → Bool) where
           | inr y ↦ elim (one _ _ y) [
             | inl z ↦ absurd (n (subst (λ m. DeedAnswers w cpu m.deed) q (answers x.deed z r k)))
             | inr z ↦ subst (λ m. ReadsOutside own blind w (deed_event cpu m.deed)) q
-                (reads w (deed_event cpu x.deed) z)
+                (reads own blind w (deed_event cpu x.deed) z)
           ]
         ]
     deeds (x ∷ ds) e r k (suc place) d at its n = let h = both _ _ e in deeds ds h.1 r k place d at its n

@@ -1,7 +1,8 @@
 //! The test of a state, on a machine that stands there.
-ghost use Rattle.std.specs.Prelude.{◌≡◌, ◌<◌, ◌&&◌, ◌||◌, not, length};
+ghost use Rattle.std.specs.Prelude.{◌≡◌, ◌<◌, ◌||◌, ℕ, not, length};
 ghost use Rattle.pip_every.specs.Menus as menus;
 ghost use Rattle.pip_every.specs.Menus.{Menu, deed_event, is_its, name_on};
+ghost use Rattle.pip_model.specs.Events as E;
 ghost use Rattle.pip_model.specs.Worlds.{World};
 ghost use Rattle.pip_outside.specs.Tests.{reads_outside};
 ghost use Rattle.pip_switch.specs.Standing.{StandsAs};
@@ -40,6 +41,22 @@ fn is_hostile(runs: Option<Frame>, menu: &[May]) -> bool
     menu.iter().any(|may| is_its(runs, may))
 }
 
+// Whether a trap of what runs on a processor reads no word that is left out.
+fn vector_looks_away<M: Frames, L: Ledger>(
+    machine: &Machine<M>,
+    blind: &Blind,
+    cpu: u32,
+    vector: u8,
+    steps: &mut Steps<L>,
+) -> bool
+    requires cpu { cpu < length machine.now.cpus }
+    requires stands { (w : World) × StandsAs machine.now w }
+    ensures { (w : World) (a b : ℕ) → StandsAs machine.now w → result
+        ≡ reads_outside blind.now.own.items (blind_of blind.now) w (E.Trap cpu vector a b) }
+{
+    trap_looks_away(machine, blind, cpu, u32::from(vector), steps)
+}
+
 // Whether a deed of what runs on a processor reads no word that is left out, or is a load that is answered.
 fn deed_looks_away<M: Frames, L: Ledger>(
     machine: &Machine<M>,
@@ -64,9 +81,7 @@ fn deed_looks_away<M: Frames, L: Ledger>(
         Deed::StoreByte { va, .. } => {
             store_looks_away(machine, blind, cpu, *va, Size::Byte, steps)
         }
-        Deed::Trap { vector, .. } => {
-            trap_looks_away(machine, blind, cpu, u32::from(*vector), steps)
-        }
+        Deed::Trap { vector, .. } => { vector_looks_away(machine, blind, cpu, *vector, steps) }
         Deed::Call { number, args } => {
             call_looks_away(machine, blind, cpu, *number, args, steps)
         }
@@ -103,8 +118,8 @@ fn deeds_look_away<M: Frames, L: Ledger>(
     ensures { (w : World) → StandsAs machine.now w →
         result ≡ deeds_read_outside blind.now.own.items (blind_of blind.now) w cpu menu.now }
 {
-    for may in menu {
-        if !may_looks_away(machine, blind, cpu, may, steps) {
+    for k in 0..menu.len() {
+        if !may_looks_away(machine, blind, cpu, &menu[k], steps) {
             return false;
         }
     }

@@ -207,14 +207,16 @@ module _ (own : List ℕ) (blind : ℕ → ℕ → Bool) where
   reads w (E.Trap cpu k a b) e = by_runner (runs_on w cpu) _ (λ r. T.delivery_misses own blind w r.name k)
       (λ r. delivery_misses w r.name k) e
   reads w (E.Call cpu number a) e = by_runner (runs_on w cpu) _
-      (λ r. T.call_misses own blind w.tree r.name a (call_named number)) (λ r. call_misses w r.name a (call_named number)) e
+      (λ r. T.call_misses own blind w.tree r.name a (call_named number)) (λ r. call_misses w r.name a (call_named
+      number)) e
   reads w (E.Raise j) e = tt
   reads w (E.Poll cpu) e =
       let h = both _ _ e in
       record { lines = lines_miss w.tree w.tree.root.pending h.0; save = runner_saved w.tree (runs_on w cpu) h.1 }
   reads w (E.SetContext cpu c) e = tt
 
-  pub all_read : (es : List Event) (w : World) → T.all_read_outside own blind w es ≡ true → AllReadOutside own blind w es
+  pub all_read : (es : List Event) (w : World) → T.all_read_outside own blind w es ≡ true → AllReadOutside own blind
+      w es
   all_read [] w e = tt
   all_read (x ∷ es) w e = let h = both _ _ e in (reads w x h.0, all_read es (event w x).world h.1)
 

@@ -1,7 +1,5 @@
-use Rattle.std.proofs.Common.{◌∙◌, Some, None, ap, arith, sym, subst}
+use Rattle.std.proofs.Common.{◌∙◌, ap, arith, sym}
 use Rattle.std.specs.Prelude.{option_map}
-use Rattle.pip_model.specs.FullRows.{full_rows}
-use Rattle.pip_model.specs.Tree.{vpage}
 use Rattle.pip_space.specs.Rows.{full_of}
 use Rattle.pip_away.proofs.Calling.{hidden_next, mapped_page, open_next, row_inside, unmapped_next, unmapped_page}
 use Rattle.pip_away.proofs.calls.link_at.Goals as goal

@@ -1,4 +1,4 @@
-use Rattle.std.proofs.Common.{◌∙◌, ◌+◌, arith, cond, subst, sym, true}
+use Rattle.std.proofs.Common.{◌∙◌, ◌+◌, arith, subst, sym, true}
 use Rattle.pip_kern.proofs.Climb.{part_node}
 use Rattle.pip_kern.specs.Tested.{is_writable}
 use Rattle.pip_model.specs.FullRows.{full_rows}
@@ -6,7 +6,8 @@ use Rattle.pip_model.proofs.Frames.Laid.{laid_space}
 use Rattle.pip_model.proofs.Trees.Lookup.{found_name}
 use Rattle.pip_space.specs.Rows.{full_of}
 use Rattle.pip_table.specs.NextLeaf.{start_above}
-use Rattle.pip_away.proofs.Walked.{Walked, counted_five, none_left, row_low, walked_all, walked_five, walked_given, walked_none, walked_on}
+use Rattle.pip_away.proofs.Walked.{Walked, counted_five, none_left, row_low, walked_all, walked_five, walked_given}
+use Rattle.pip_away.proofs.Walked.{walked_none, walked_on}
 use Rattle.pip_away.proofs.confined.is_childless.Goals as goal
 
 pub loop-next-init : goal.loop-next-init
@@ -17,14 +18,16 @@ next_row-requires g c = part_node (g.M.Frames.memory c.args.mem.now) c.args.part
 
 pub returns-then-not-is_free : goal.returns-then-not-is_free
 returns-then-not-is_free g c t x s laid found =
-    let n = c.in-Some.ensures.row x (full_rows t x) (laid_space t s (g.M.Frames.memory c.args.mem.now) laid c.args.part x
+    let n = c.in-Some.ensures.row x (full_rows t x) (laid_space t s (g.M.Frames.memory c.args.mem.now) laid
+    c.args.part x
     found) (found_name t c.args.part x found) in
     walked_given t s c.args.part x found c.in-Some.next.0 (full_of c.in-Some.next.1) n.1
     (sym c.if-not-is_free.true ∙ c.is_free.ensures)
 
 pub returns-then-writable-ge-CHILD_PAGES : goal.returns-then-writable-ge-CHILD_PAGES
 returns-then-writable-ge-CHILD_PAGES g c t x s laid found =
-    let n = c.in-Some.ensures.row x (full_rows t x) (laid_space t s (g.M.Frames.memory c.args.mem.now) laid c.args.part x
+    let n = c.in-Some.ensures.row x (full_rows t x) (laid_space t s (g.M.Frames.memory c.args.mem.now) laid
+    c.args.part x
     found) (found_name t c.args.part x found) in
     let on = walked_on t s c.args.part x found (start_above c.loop-next.after) c.loop-next.writable c.in-Some.next.0
     (full_of c.in-Some.next.1) (c.loop-next.invariant.walk t x s laid found) n.0 n.1 n.2
@@ -38,7 +41,8 @@ pub loop-next-preserved : goal.loop-next-preserved
 loop-next-preserved g c = record {
   few = omega arith;
   walk = λ t x s laid found.
-      let n = c.in-Some.ensures.row x (full_rows t x) (laid_space t s (g.M.Frames.memory c.args.mem.now) laid c.args.part x
+      let n = c.in-Some.ensures.row x (full_rows t x) (laid_space t s (g.M.Frames.memory c.args.mem.now) laid
+      c.args.part x
       found) (found_name t c.args.part x found) in
       let on = walked_on t s c.args.part x found (start_above c.loop-next.after) c.loop-next.writable c.in-Some.next.0
       (full_of c.in-Some.next.1) (c.loop-next.invariant.walk t x s laid found) n.0 n.1 n.2

@@ -19,20 +19,23 @@ returns-in-None g c w s = none_runs _ (sym (c.runs.ensures w s) ∙ c.in-None.is
 pub returns-then-not-is_own : goal.returns-then-not-is_own
 returns-then-not-is_own g c w s =
     test_here c.args.machine.now w s c.args.machine.now.memory refl c.args.cpu c.in-Some.part
-    (sym (c.runs.ensures w s) ∙ c.in-Some.is) (tests.is_confined c.args.blind.now.own.items w.tree) (confined_by c.args.blind.now.own.items w.tree) (λ r. refl) false
+    (sym (c.runs.ensures w s) ∙ c.in-Some.is) (tests.is_confined c.args.blind.now.own.items w.tree) (confined_by
+    c.args.blind.now.own.items w.tree) (λ r. refl) false
     (other_confined c.args.blind.now.own.items w.tree c.in-Some.part (sym c.is_own.ensures ∙ c.if-not-is_own.true))
 
 pub returns-then-number-eq-ROOT : goal.returns-then-number-eq-ROOT
 returns-then-number-eq-ROOT g c w s =
     test_here c.args.machine.now w s c.args.machine.now.memory refl c.args.cpu c.in-Some.part
-    (sym (c.runs.ensures w s) ∙ c.in-Some.is) (tests.is_confined c.args.blind.now.own.items w.tree) (confined_by c.args.blind.now.own.items w.tree) (λ r. refl) false
+    (sym (c.runs.ensures w s) ∙ c.in-Some.is) (tests.is_confined c.args.blind.now.own.items w.tree) (confined_by
+    c.args.blind.now.own.items w.tree) (λ r. refl) false
     (root_confined c.args.blind.now.own.items w.tree c.in-Some.part (sym c.is_own.ensures ∙ c.if-not-is_own.false)
     (sym c.number.ensures.same ∙ c.if-number-eq-ROOT.true ∙ sym (root_is_one w.tree s.bare.sound.tree)))
 
 pub returns-else-number-eq-ROOT : goal.returns-else-number-eq-ROOT
 returns-else-number-eq-ROOT g c w s =
     test_here c.args.machine.now w s c.args.machine.now.memory refl c.args.cpu c.in-Some.part
-    (sym (c.runs.ensures w s) ∙ c.in-Some.is) (tests.is_confined c.args.blind.now.own.items w.tree) (confined_by c.args.blind.now.own.items w.tree) (λ r. refl) c.is_childless.result
+    (sym (c.runs.ensures w s) ∙ c.in-Some.is) (tests.is_confined c.args.blind.now.own.items w.tree) (confined_by
+    c.args.blind.now.own.items w.tree) (λ r. refl) c.is_childless.result
     (told_here c.args.machine.now w s _ c.mem.ensures c.args.cpu c.in-Some.part
     (sym (c.runs.ensures w s) ∙ c.in-Some.is)
     (λ t. c.is_childless.result ≡ (nat_lt (length (children t c.in-Some.part)) 1

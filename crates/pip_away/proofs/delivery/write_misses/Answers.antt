@@ -1,4 +1,4 @@
-use Rattle.std.proofs.Common.{◌∙◌, not, ap, sym}
+use Rattle.std.proofs.Common.{◌∙◌, ap, sym}
 use Rattle.pip_outside.specs.Tests as tests
 use Rattle.pip_switch.specs.Plain.{plain_world}
 use Rattle.pip_away.specs.Blind.{blind_of}

@@ -1,4 +1,4 @@
-use Rattle.std.proofs.Common.{◌≡◌, ◌∙◌, ap, refl, sym}
+use Rattle.std.proofs.Common.{◌≡◌, ◌∙◌, refl, sym}
 use Rattle.pip_outside.specs.Tests as tests
 use Rattle.pip_away.specs.Blind.{blind_of}
 use Rattle.pip_model.specs.Answers.{five_of}
@@ -18,8 +18,10 @@ pub returns-in-Some : goal.returns-in-Some
 returns-in-Some g c w s =
     test_here c.args.machine.now w s _ c.mem.ensures c.args.cpu c.in-Some.part
     (sym (c.runs.ensures w s) ∙ c.in-Some.is) _
-    (λ p. tests.call_misses c.args.blind.now.own.items (blind_of c.args.blind.now) w.tree p (five_of c.args.args.now) (call_named c.args.number)) (λ r. refl)
+    (λ p. tests.call_misses c.args.blind.now.own.items (blind_of c.args.blind.now) w.tree p (five_of
+    c.args.args.now) (call_named c.args.number)) (λ r. refl)
     c.call_misses.result (told_here c.args.machine.now w s _ c.mem.ensures c.args.cpu c.in-Some.part
     (sym (c.runs.ensures w s) ∙ c.in-Some.is)
-    (λ t. c.call_misses.result ≡ tests.call_misses c.args.blind.now.own.items (blind_of c.args.blind.now) t c.in-Some.part (five_of c.args.args.now)
+    (λ t. c.call_misses.result ≡ tests.call_misses c.args.blind.now.own.items (blind_of c.args.blind.now) t
+    c.in-Some.part (five_of c.args.args.now)
     (call_named c.args.number)) c.call_misses.ensures)

@@ -23,14 +23,17 @@ pub returns : goal.returns
 returns g c w s =
     let away = told_here c.args.machine.now w s _ c.mem-mem.ensures c.args.cpu c.in-Some.part
     (sym (c.runs.ensures w s) ∙ c.in-Some.is)
-    (λ t. c.read_misses.result ≡ tests.load_misses c.args.blind.now.own.items (blind_of c.args.blind.now) (plain_world t c.processors.result.now) c.in-Some.part
+    (λ t. c.read_misses.result ≡ tests.load_misses c.args.blind.now.own.items (blind_of c.args.blind.now)
+    (plain_world t c.processors.result.now) c.in-Some.part
     (reach t c.in-Some.part c.pc_on-pc.result Fetch Word))
     (λ t x sound laid found. c.read_misses.ensures t x sound laid found _
     (c.locate-found.ensures.place t x sound laid found)) in
     run_here c.args.machine.now w s _ c.mem-mem.ensures c.args.cpu c.in-Some.part
     (sym (c.runs.ensures w s) ∙ c.in-Some.is)
     (λ r. not (has c.args.blind.now.own.items r.name)
-    && tests.load_misses c.args.blind.now.own.items (blind_of c.args.blind.now) w r.name (reach w.tree r.name r.ctx.pc Fetch Word)) c.read_misses.result
-    (λ r on name. fetched_by c.args.blind.now.own.items (blind_of c.args.blind.now) w c.processors.result.now (c.processors.ensures ∙ sym s.bare.shows.cpus)
+    && tests.load_misses c.args.blind.now.own.items (blind_of c.args.blind.now) w r.name (reach w.tree r.name
+    r.ctx.pc Fetch Word)) c.read_misses.result
+    (λ r on name. fetched_by c.args.blind.now.own.items (blind_of c.args.blind.now) w c.processors.result.now
+    (c.processors.ensures ∙ sym s.bare.shows.cpus)
     c.in-Some.part c.pc_on-pc.result r name (c.pc_on-pc.ensures w r s on) (sym c.is_own.ensures ∙ c.if-is_own.false)
     c.read_misses.result away)

@@ -1,4 +1,4 @@
-use Rattle.std.proofs.Common.{◌≡◌, ◌∙◌, Some, ap, sym}
+use Rattle.std.proofs.Common.{◌∙◌, ap, sym}
 use Rattle.std.specs.Prelude.{option_map}
 use Rattle.pip_away.proofs.OnMachines.{pc_here, pc_nowhere}
 use Rattle.pip_away.proofs.events.pc_on.Goals as goal

@@ -1,4 +1,4 @@
-use Rattle.std.proofs.Common.{◌∙◌, None, Some, arith, sym}
+use Rattle.std.proofs.Common.{◌∙◌, None, arith, sym}
 use Rattle.pip_away.specs.Blind.{blind_of}
 use Rattle.pip_away.proofs.Reading.{handler_block, handler_is, handler_left, handler_own, late_entry}
 use Rattle.pip_away.proofs.handlers.handler_misses.Goals as goal
@@ -20,7 +20,8 @@ returns-then-has g c t x s laid found =
 
 pub returns-then-is_own : goal.returns-then-is_own
 returns-then-is_own g c t x s laid found =
-    c.if-is_own.true ∙ handler_own c.args.blind.now.own.items (blind_of c.args.blind.now) t c.args.part c.args.vector c.in-Some.entry
+    c.if-is_own.true ∙ handler_own c.args.blind.now.own.items (blind_of c.args.blind.now) t c.args.part
+    c.args.vector c.in-Some.entry
     (sym c.in-Some.is ∙ c.table_word.ensures t x s laid found) (sym c.has.ensures ∙ c.if-has.false)
     (sym c.is_own.ensures ∙ c.if-is_own.true)
 

@@ -1,4 +1,4 @@
-use Rattle.std.proofs.Common.{◌∙◌, None, Some, ap, not, sym}
+use Rattle.std.proofs.Common.{◌∙◌, None, ap, not, sym}
 use Rattle.pip_away.specs.Blind.{blind_of}
 use Rattle.pip_away.proofs.Reading.{save_block, save_is, save_left, save_other}
 use Rattle.pip_away.proofs.handlers.save_misses.Goals as goal
@@ -15,7 +15,8 @@ returns-then-has g c t x s laid found =
 
 pub returns-then-not-is_own : goal.returns-then-not-is_own
 returns-then-not-is_own g c t x s laid found =
-    ap not c.if-not-is_own.true ∙ save_other c.args.blind.now.own.items (blind_of c.args.blind.now) t c.args.part c.args.vector c.in-Some.entry
+    ap not c.if-not-is_own.true ∙ save_other c.args.blind.now.own.items (blind_of c.args.blind.now) t c.args.part
+    c.args.vector c.in-Some.entry
     (sym c.in-Some.is ∙ c.table_word.ensures t x s laid found) (sym c.has.ensures ∙ c.if-has.false)
     (sym c.is_own.ensures ∙ c.if-not-is_own.true)
 

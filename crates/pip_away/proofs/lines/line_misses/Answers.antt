@@ -21,5 +21,6 @@ returns-else-not-is_pending g c t js s laid lines is =
     let one = c.new.ensures ∙ sym (root_is_one t s) in
     c.handler_misses.ensures t t.root s laid (subst (λ n. find_node t n ≡ Some t.root) (sym one) (root_found t))
     ∙ ap (λ n. tests.handler_misses c.args.blind.now.own.items (blind_of c.args.blind.now) t n (32 + c.args.line)) one
-    ∙ sym (ap (λ b. not b || tests.handler_misses c.args.blind.now.own.items (blind_of c.args.blind.now) t t.root.name (32 + c.args.line))
+    ∙ sym (ap (λ b. not b || tests.handler_misses c.args.blind.now.own.items (blind_of c.args.blind.now) t
+    t.root.name (32 + c.args.line))
     (sym (c.is_pending.ensures js lines is) ∙ c.if-not-is_pending.false))

@@ -12,7 +12,9 @@ call_looks_away-requires-clause-stands g c = let (w, s) = c.requires.stands in (
 
 pub returns-clause-away : goal.returns-clause-away
 returns-clause-away g c w s = c.call_looks_away.ensures _ (c.set_ctx.ensures.event w s)
-    ∙ ap (λ z. tests.reads_outside c.args.blind.now.own.items (blind_of c.args.blind.now) (event w (E.SetContext c.args.cpu z)).world
+    ∙ ap (λ z. tests.reads_outside c.args.blind.now.own.items (blind_of c.args.blind.now) (event w (E.SetContext
+    c.args.cpu z)).world
     (E.Call c.args.cpu c.args.number (five_of c.arguments.result))) c.next_of.ensures
-    ∙ ap (λ a. tests.reads_outside c.args.blind.now.own.items (blind_of c.args.blind.now) (event w (E.SetContext c.args.cpu (at_next c.args.ctx.now))).world
+    ∙ ap (λ a. tests.reads_outside c.args.blind.now.own.items (blind_of c.args.blind.now) (event w (E.SetContext
+    c.args.cpu (at_next c.args.ctx.now))).world
     (E.Call c.args.cpu c.args.number a)) c.arguments.ensures

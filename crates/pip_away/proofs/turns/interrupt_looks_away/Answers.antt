@@ -10,5 +10,6 @@ trap_looks_away-requires-clause-stands g c = let (w, s) = c.requires.stands in (
 
 pub returns-clause-away : goal.returns-clause-away
 returns-clause-away g c w s = c.trap_looks_away.ensures _ 0 0 (c.set_ctx.ensures.event w s)
-    ∙ ap (λ z. tests.reads_outside c.args.blind.now.own.items (blind_of c.args.blind.now) (event w (E.SetContext c.args.cpu z)).world (E.Trap c.args.cpu c.args.vector 0 0))
+    ∙ ap (λ z. tests.reads_outside c.args.blind.now.own.items (blind_of c.args.blind.now) (event w (E.SetContext
+    c.args.cpu z)).world (E.Trap c.args.cpu c.args.vector 0 0))
     c.next_of.ensures

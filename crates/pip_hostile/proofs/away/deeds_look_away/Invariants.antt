@@ -6,7 +6,7 @@ use Rattle.pip_hostile.specs.Tests.{deeds_read_outside}
 use Rattle.pip_hostile.proofs.away.deeds_look_away.Given as goal
 
 -- those after the deeds that were looked at decide
-abbrev pub invariant-loop-may : goal.invariant-loop-may
-invariant-loop-may g l = (w : World) → StandsAs l.machine w
-    → deeds_read_outside l.blind.own.items (blind_of l.blind) w l.cpu l.fn.menu
-    ≡ deeds_read_outside l.blind.own.items (blind_of l.blind) w l.cpu (drop l.may-index l.fn.menu)
+abbrev pub invariant-loop-k : goal.invariant-loop-k
+invariant-loop-k g l = (w : World) → StandsAs l.machine w
+    → deeds_read_outside l.blind.own.items (blind_of l.blind) w l.cpu l.menu
+    ≡ deeds_read_outside l.blind.own.items (blind_of l.blind) w l.cpu (drop l.k l.menu)

@@ -1,4 +1,4 @@
-use Rattle.std.proofs.Common.{◌≡◌, ◌∙◌, ◌+◌, ◌-◌, ◌&&◌, Bool, ℕ, not, ap, arith, sym}
+use Rattle.std.proofs.Common.{◌≡◌, ◌∙◌, ◌+◌, ◌-◌, ◌&&◌, Bool, ℕ, ap, arith, sym}
 use Rattle.pip_outside.specs.Tests.{all_from}
 use Rattle.pip_away.specs.Blind.{blind_of}
 use Rattle.pip_away.proofs.Reading.{all_later}
@@ -25,4 +25,5 @@ returns c =
     sym (c.loop-j.invariant ∙ ap (λ n. all_from f (17 - n) (c.args.index + n)) end)
 
 pub loop-j-init : goal.loop-j-init
-loop-j-init c = let z : c.args.index ≡ c.args.index + 0 = omega arith in ap (all_from (λ j. blind_of c.args.self.now c.args.page j) 17) z
+loop-j-init c = let z : c.args.index ≡ c.args.index + 0 = omega arith in ap (all_from (λ j. blind_of c.args.self.now
+    c.args.page j) 17) z

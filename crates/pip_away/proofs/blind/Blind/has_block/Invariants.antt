@@ -1,4 +1,4 @@
-use Rattle.std.proofs.Common.{◌≡◌, ◌+◌, ◌-◌, not}
+use Rattle.std.proofs.Common.{◌≡◌, ◌+◌, ◌-◌}
 use Rattle.pip_outside.specs.Tests.{all_from}
 use Rattle.pip_away.specs.Blind.{blind_of}
 use Rattle.pip_away.proofs.blind.Blind.has_block.Given as goal

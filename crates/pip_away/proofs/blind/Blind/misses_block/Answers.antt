@@ -25,4 +25,5 @@ returns c =
     sym (c.loop-j.invariant ∙ ap (λ n. all_from f (17 - n) (c.args.index + n)) end)
 
 pub loop-j-init : goal.loop-j-init
-loop-j-init c = let z : c.args.index ≡ c.args.index + 0 = omega arith in ap (all_from (λ j. not (blind_of c.args.self.now c.args.page j)) 17) z
+loop-j-init c = let z : c.args.index ≡ c.args.index + 0 = omega arith in ap (all_from (λ j. not (blind_of
+    c.args.self.now c.args.page j)) 17) z
