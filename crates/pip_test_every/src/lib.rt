@@ -1,9 +1,7 @@
-//! Tests of pip_every, pip_journal and pip_hostile: searches of roots whose states are known beforehand, changes of
-//! frames, and roots that read a word that is left out.
+//! Tests of pip_every and pip_journal: searches of roots whose states are known beforehand, and
+//! changes of frames.
 #![tactic(auto)]
 
-#[cfg(test)]
-mod away;
 #[cfg(test)]
 mod changes;
 #[cfg(test)]
