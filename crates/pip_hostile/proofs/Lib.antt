@@ -3,3 +3,4 @@ pub mod Choosing
 pub mod Listed
 pub mod Keeping
 pub mod Testing
+pub mod OnStates

@@ -9,3 +9,4 @@ pub mod Leaving
 pub mod Confined
 pub mod Few
 pub mod Nothing
+pub mod Testing

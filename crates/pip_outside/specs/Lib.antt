@@ -2,3 +2,4 @@ pub mod Outside
 pub mod Unseen
 pub mod Turns
 pub mod Exits
+pub mod Tests
