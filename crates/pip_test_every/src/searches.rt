@@ -43,8 +43,8 @@ fn boot_program<L: Ledger>(
     Ok(mem)
 }
 
-// Frames of a root with a program, for a search.
-fn root_with(alloc: Global, program: &[u32]) -> Result<RawFrames, AllocError>
+/// Frames of a root with a program. Its first page is frame 12.
+pub(crate) fn root_with(alloc: Global, program: &[u32]) -> Result<RawFrames, AllocError>
     requires few { length program.now ≤ 1024 }
     ensures booted { IfOk result (λ mem. HasBooted (⟦<RawFrames as Frames>⟧.memory mem)) }
 {
