@@ -19,8 +19,8 @@ from reference import generate
 from . import cheats, corners
 from . import pages as step_pages
 from .exporting import SECONDS, need_cargo
-from .running import (REPOSITORY, Differs, Skipped, agree, called, contents, each, finished, generated, needed, part,
-                      paths, run, same, text_of, told_path, write)
+from .running import (REPOSITORY, Differs, Skipped, agree, called, contents, each, generated, needed, paths, run, same,
+                      told_path, write)
 
 PLAYGROUND = os.path.join(REPOSITORY, "class", "playground")
 CASES = 20               # of each command

@@ -7,7 +7,7 @@ import re
 from typing import NamedTuple
 
 from .source import Source
-from .tokens import Token, Trouble
+from .tokens import Trouble
 
 # The integers, and from where on a literal may not fit: a usize may have 32 bits.
 INTEGERS = {"u8": 1 << 8, "u16": 1 << 16, "u32": 1 << 32, "u64": 1 << 64, "usize": 1 << 32}

@@ -354,7 +354,7 @@ class Changes(WithStates):
             self.states.go(0)
             debugger.add_watch(f"{child}:0x10000000")
             steps = []
-            while (now := debugger.run(debugger.told_stops(), 200)).stops:
+            while debugger.run(debugger.told_stops(), 200).stops:
                 turn = self.states.turn()
                 assert turn
                 steps.append(turn.line.split(" ", 2)[2])
