@@ -30,7 +30,7 @@ impl Blind {
         ensures { result ≡ has self.now.own.items part }
     {
         let name = part.number();
-        self.own.iter().any(|own| *own == name)
+        self.own.contains(&name)
     }
 
     // Whether a page has words that are left out.
@@ -38,7 +38,7 @@ impl Blind {
         ensures { result ≡ has self.now.pages.items page }
     {
         let number = page.number();
-        self.pages.iter().any(|page| *page == number)
+        self.pages.contains(&number)
     }
 
     // Whether a word of a page is seen.
