@@ -25,6 +25,7 @@ from .reading import ADMITTED, Edit, NotApplied, edited, edits_of
 
 UNJUDGED, SECONDS = "no verdict", 420      # a check that takes longer is ended
 
+TOPS = {"src/lib.rt", "src/main.rt"}       # in which a crate begins
 TOLD = re.compile(r"(?:note: )?\S+?:\d+:\d+: (.*)")         # a line of the prover about a place
 LOST = re.compile(r"has no field|is not in scope|has no `|was not admitted")
 GOAL = re.compile(r"error: `([\w-]+)`|\(`([\w-]+)`\)")
@@ -94,10 +95,11 @@ def over_libraries(crate: str, chain: list[str]) -> list[str] | None:
         return None
     kit = Path(os.path.realpath(shutil.which("rt") or "rt")).parent.parent
     below = crates.crates_of(Path(REPOSITORY))[crate].uses
+    top = next(path for path in sorted(TOPS) if Path(REPOSITORY, "crates", crate, path).is_file())
     places = {name: libraries.get(name, kit / "rlibs") for name in ("std", *below)}
     externs = [word for name, place in places.items() for word in ("--extern", f"{name}={place / name}.rlib")]
     found = [word for place in (kit / "rlibs", *libraries.values()) for word in ("-L", f"dependency={place}")]
-    return [str(kit / "bin" / "rattle"), "check", "--crate-name", crate, "src/lib.rt", *externs, *found,
+    return [str(kit / "bin" / "rattle"), "check", "--crate-name", crate, top, *externs, *found,
             "--antt-project", str(kit / "rattle" / "logic" / "antt-project.json"),
             "--logic-built", str(kit / "logic_built"), "--jobs", "1"]
 
@@ -133,7 +135,7 @@ def place_of(edit: Edit) -> str | None:
     function, or None for the whole crate."""
     sources = [change for change in edit.changes if change.path.startswith("src/")]
     paths = {change.path for change in sources}
-    if len(paths) != 1 or "src/lib.rt" in paths:
+    if len(paths) != 1 or paths & TOPS:
         return None
     path = paths.pop()
     lines = Path(REPOSITORY, "crates", edit.crate, path).read_text(encoding="utf-8").split("\n")
