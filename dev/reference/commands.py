@@ -17,7 +17,7 @@ import sys
 from collections.abc import Callable, Iterable, Sequence
 from typing import Any, Optional
 
-from common.calling import LAB
+from common.calling import LAB, Failed
 from common.machine import assembly, image, runs, script
 
 from . import audit, native, plain
@@ -32,6 +32,7 @@ Ended = tuple[bytes, int, Optional[World]]       # output and status, and the wo
 OnImage = Callable[..., tuple[Iterable[str], Optional[World]]]
 MOST_STEPS, MOST_COUNT = 10000000, 1000000
 STEPS, SEED = (0, MOST_STEPS), (1, script.WORD - 1)        # the limits of these words
+LACKS_A_TOOL = 11        # the status of ./lab where a tool is missing
 SEARCHES = tuple(command for command in LAB if command != "slots")
 ON_IMAGES: dict[str, OnImage] = {"run": runs.run, "tree": runs.tree, "core": runs.core}
 
@@ -164,7 +165,11 @@ def shown(text: bytes) -> None:
 
 def main() -> None:
     if os.path.basename(sys.argv[0]) == "lab.py":
-        output, status = lab(sys.argv[1:], sys.stdin.buffer.read())
+        try:
+            output, status = lab(sys.argv[1:], sys.stdin.buffer.read())
+        except Failed as failed:
+            print(f"lab: {failed}", file=sys.stderr)
+            sys.exit(LACKS_A_TOOL)
         shown(output)
         sys.exit(status)
     if sys.argv[1:] == ["script"]:

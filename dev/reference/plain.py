@@ -20,7 +20,7 @@ def program() -> str:
     """The path of the plain program, which cargo builds."""
     cargo = shutil.which("cargo")
     if cargo is None:
-        raise Failed("cargo is needed: it builds the plain program")
+        raise Failed("cargo is needed: it builds the plain program, which answers searches and certificates")
     done = subprocess.run([cargo, "build", "--release", "--quiet", "--manifest-path", SOURCES, "--target-dir", BUILT])
     if done.returncode:
         raise Failed("cargo doesn't build the plain program")
