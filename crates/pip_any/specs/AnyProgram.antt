@@ -1,12 +1,13 @@
 -- What a search of an image with a menu says of every program of its hostile partitions.
-use Rattle.std.specs.Prelude.{◌≡◌, ℕ, Bool, true, false, List, Option}
+use Rattle.std.specs.Prelude.{◌≡◌, ℕ, ◌<◌, Bool, true, false, List, Option, None, codes}
+use Rattle.pip_away.specs.Blind.{is_left_out, leaves_out}
 use Rattle.pip_any.specs.Programs.{AreNamedTurns, EachTurn, HostileExits, SearchConfines, SearchLooksAway}
 use Rattle.pip_base.specs.Memory.{Memory}
 use Rattle.pip_base.specs.declared.types.Plan.{Plan}
 use Rattle.pip_every.specs.Menus.{Menu, menu_model}
 use Rattle.pip_every.specs.Moments.{Moment}
-use Rattle.pip_hostile.specs.Tests.{looks_away}
-use Rattle.pip_command_contracts.specs.EndsBy.{Response}
+use Rattle.pip_every.specs.Away.{looks_away}
+use Rattle.pip_command_contracts.specs.EndsBy.{Response, plainly}
 use Rattle.pip_command_contracts.specs.Planned.{lines_planned}
 use Rattle.pip_model.specs.Acts.{text_of}
 use Rattle.pip_model.specs.Images.{Image, image_word}
@@ -17,6 +18,7 @@ use Rattle.pip_search.specs.declared.searching.Extent.TheVariants.{Closed}
 use Rattle.pip_search_commands.specs.MenuText.{MenuSaid}
 use Rattle.pip_search_commands.specs.RunLaw.{ArePlansFrom, steps_from}
 use Rattle.pip_search_commands.specs.SearchDues.{IsSearchedAgainst, begun_moment, begun_world, image_menu}
+use Rattle.pip_search_commands.specs.TextLaw.{EndsSo}
 use Rattle.pip_search_commands.specs.declared.start.Start.{Start}
 
 -- where the search closed, at each of its moments looks away from these words, and finds the hostile partitions
@@ -51,7 +53,7 @@ AnyProgramFromStart = (own : List ℕ) (blind : ℕ → ℕ → Bool) (menu : Me
 
 -- a state of a search passes the test, on each processor
 abbrev pub SearchPasses : List ℕ → (ℕ → ℕ → Bool) → Memory → Menu → Moment → Type 0
-SearchPasses own blind first g m = (cs : List ℕ) (cpu : ℕ) → AreChoices (menu_model first g) cs
+SearchPasses own blind first g m = (cs : List ℕ) (cpu : ℕ) → AreChoices (menu_model first g) cs → cpu < g.scope.cpus
     → looks_away own blind g (after_choices (menu_model first g) m cs).world cpu ≡ true
 
 -- so it is where each state of the search passes this test
@@ -65,4 +67,16 @@ TestedNamesAnyProgram = (own : List ℕ) (blind : ℕ → ℕ → Bool) (menu : 
     → EachTurn (HostileExits own blind (image_menu i from menu.may)) (begun_world j start)
     plans seed j.cpus n start.count
     → AreNamedTurns s.found own blind (begun_world j start) plans seed j.cpus n start.count
+    (text_of (steps_from j start plans seed n))
+
+-- so it is where the menu leaves words out, and the text of the search ends with `away yes`
+abbrev pub AwayTextsNamePrograms : Type 0
+AwayTextsNamePrograms = (menu : MenuSaid) (states from : ℕ) (most : Option ℕ) (start : Start) (i j : Image)
+    (text : List ℕ) (s : IsSearchedAgainst menu states from most start i (plainly 0 text None))
+    → leaves_out menu.out ≡ true → EndsSo text (codes "away yes") → j.cpus ≡ i.cpus
+    → Alike menu.out.own (is_left_out menu.out) (begun_world j start) (begun_world i start) → (plans : List Plan)
+    (seed n : ℕ) → ArePlansFrom (lines_planned i.plans) start.count from plans
+    → EachTurn (HostileExits menu.out.own (is_left_out menu.out) (image_menu i from menu.may)) (begun_world j start)
+    plans seed j.cpus n start.count
+    → AreNamedTurns s.found menu.out.own (is_left_out menu.out) (begun_world j start) plans seed j.cpus n start.count
     (text_of (steps_from j start plans seed n))

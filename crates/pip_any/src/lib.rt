@@ -2,7 +2,8 @@
 //! here compute nothing: each is a law, which its contract says.
 #![tactic(auto)]
 
-ghost use Rattle.pip_any.specs.AnyProgram.{AnyProgramFromStart, AnyProgramIsNamed, TestedNamesAnyProgram};
+ghost use Rattle.pip_any.specs.AnyProgram.{AnyProgramFromStart, AnyProgramIsNamed, AwayTextsNamePrograms};
+ghost use Rattle.pip_any.specs.AnyProgram.{TestedNamesAnyProgram};
 ghost use Rattle.pip_any.specs.Begins.{ImagesLookAlike, StepsDependOnOutside};
 ghost use Rattle.pip_any.specs.Programs.{ConfinedProgramsAreNamed, ProgramsAreNamed};
 
@@ -16,9 +17,11 @@ pub fn law_programs()
 {}
 
 /// A search of an image with a menu that closed names each line of each run of each image whose hostile partitions have
-/// other programs, if these are confined and their exits are on the menu.
+/// other programs, if these are confined and their exits are on the menu. That it closed, that all outside looks away,
+/// and that these partitions are confined, a text says that ends with `away yes`.
 pub fn law_any_program()
     ensures named { AnyProgramIsNamed }
     ensures from_start { AnyProgramFromStart }
     ensures tested { TestedNamesAnyProgram }
+    ensures text { AwayTextsNamePrograms }
 {}

@@ -1,12 +1,19 @@
 -- Two searches of one image say the same.
 use Rattle.std.proofs.Common.{◌≡◌, ℕ, suc, ◌<◌, List, [], ◌∷◌, ◌++◌, Option, None, refl, sym, ap, ap₂, ◌∙◌, subst}
-use Rattle.std.proofs.Common.{arith}
+use Rattle.std.proofs.Common.{Bool, Some, arith, false, nat_lt, true}
 use Rattle.std.specs.Prelude.{codes, flat_map, reverse}
+use Rattle.std.proofs.lemmas.Bool.{ltb-true}
+use Rattle.std.proofs.lemmas.Bool.Decides.{nat_tests}
+use Rattle.pip_away.specs.Blind.{LeftOut, leaves_out}
 use Rattle.pip_base.specs.Memory.{Memory}
 use Rattle.pip_base.proofs.Memory.{same_words}
 use Rattle.pip_every.specs.Again.{AreSaid, IsSaid, shown_line}
+use Rattle.pip_every.specs.Away.{IsAwayReply, IsAwaySaid, IsSeenFirst}
+use Rattle.pip_every.specs.declared.away.Away.{Away}
+use Rattle.pip_every.specs.declared.away.Away.TheVariants as A
+use Rattle.pip_every.specs.Moments.{Moment}
 use Rattle.pip_every.specs.Comes.{AreComing, IsComing, own_classes}
-use Rattle.pip_every.specs.Menus.{menu_model, usual_choices}
+use Rattle.pip_every.specs.Menus.{Menu, menu_model, usual_choices}
 use Rattle.pip_every.specs.declared.again.Again.{Again}
 use Rattle.pip_every.specs.declared.again.Again.TheVariants.{Can, Lost, Unknown}
 use Rattle.pip_every.specs.declared.comes.Comes.{Comes}
@@ -31,7 +38,8 @@ use Rattle.pip_ways.specs.Texts.{spaced_run}
 use Rattle.pip_command_contracts.specs.EndsBy.{Response, plainly}
 use Rattle.pip_search_commands.specs.EveryLaw.{SearchesSayOnce}
 use Rattle.pip_command_contracts.specs.Planned.{lines_planned}
-use Rattle.pip_search_commands.specs.EveryText.{again_front, again_text, comes_text, every_text, said_words}
+use Rattle.pip_search_commands.specs.EveryText.{again_front, again_text, away_text, away_words, comes_text}
+use Rattle.pip_search_commands.specs.EveryText.{every_text, said_words, seen_words}
 use Rattle.pip_search_commands.specs.MenuText.{MenuSaid, no_menu}
 
 -- one memory boots with these words
@@ -102,6 +110,53 @@ agree_once m classes s label (Closed depth) C.Unknown b h k = tt
 agree_once m classes s label (Within depth) a b h k = subst (λ x. IsNoContradiction x b) (sym h) tt
 agree_once m classes s label (Stopped depth) a b h k = subst (λ x. IsNoContradiction x b) (sym h) tt
 
+-- ---- what is said of the words that are left out
+
+module _ (first : Memory) (o : LeftOut) (g : Menu) (s : Moment) where
+  -- of two states the first on which one doesn't look away is one, and so is its first processor
+  seen_once : (cs ds : List ℕ) (c d : ℕ) → IsSeenFirst first o g s cs c → IsSeenFirst first o g s ds d
+      → (cs ≡ ds) × (c ≡ d)
+  seen_once cs ds c d h k =
+      let same : cs ≡ ds = no_later_both cs ds (h.soonest ds d k.can k.there k.seen)
+      (k.soonest cs c h.can h.there h.seen) in
+      (same, one c d (subst (λ x. IsSeenFirst first o g s x c) same h) k)
+    where
+      one : (c d : ℕ) → IsSeenFirst first o g s ds c → IsSeenFirst first o g s ds d → c ≡ d
+      one c d h k = by_order (nat_lt c d) (nat_lt d c) refl refl
+        where
+          by_order : (a b : Bool) → nat_lt c d ≡ a → nat_lt d c ≡ b → c ≡ d
+          by_order true b less also = absurd (let e = sym (k.least c (ltb-true c d less)) ∙ h.seen in cc)
+          by_order false true not less = absurd (let e = sym (h.least d (ltb-true d c less)) ∙ k.seen in cc)
+          by_order false false not nor = grind (not, nor, arith, nat_tests)
+
+  module _ (cpus : ℕ) (ls : List ℕ) where
+    said_once : (end : Extent) (a b : Away) → IsAwaySaid first o g s end a → IsAwaySaid first o g s end b
+        → away_words cpus ls a ≡ away_words cpus ls b
+    said_once (Closed depth) A.Yes A.Yes h k = refl
+    said_once (Closed depth) A.Yes (A.No way cpu) h (cs, (is, k)) =
+        absurd (let e = sym (h cs cpu k.can k.there) ∙ k.seen in cc)
+    said_once (Closed depth) (A.No way cpu) A.Yes (cs, (is, h)) k =
+        absurd (let e = sym (k cs cpu h.can h.there) ∙ h.seen in cc)
+    said_once (Closed depth) (A.No way cpu) (A.No other at) (cs, (is, h)) (ds, (also, k)) =
+        let (same, one) = seen_once cs ds cpu at h k in
+        ap₂ (seen_words cpus ls) (is ∙ (ap (λ c. reverse (runs_of c)) same ∙ sym also)) one
+    said_once (Closed depth) A.Unknown b h k = absurd h
+    said_once (Closed depth) A.Yes A.Unknown h k = absurd k
+    said_once (Closed depth) (A.No way cpu) A.Unknown h k = absurd k
+    said_once (Within depth) a b h k = ap (away_words cpus ls) (h ∙ sym k)
+    said_once (Stopped depth) a b h k = ap (away_words cpus ls) (h ∙ sym k)
+
+    away_once : (end : Extent) (a b : Option Away) → IsAwayReply first o g s end a → IsAwayReply first o g s end b
+        → away_text cpus ls a ≡ away_text cpus ls b
+    away_once end a b h k = by_test (leaves_out o) refl
+      where
+        by_test : (t : Bool) → leaves_out o ≡ t → away_text cpus ls a ≡ away_text cpus ls b
+        by_test true e =
+            let (x, (is, said)) = h.asked e in
+            let (y, (also, other)) = k.asked e in
+            ap (away_text cpus ls) is ∙ (said_once end x y said other ∙ sym (ap (away_text cpus ls) also))
+        by_test false e = ap (away_text cpus ls) (h.none e ∙ sym (k.none e))
+
 -- an image and a menu have one text, but for what is said of labels that may come
 pub searched_alike : (menu : MenuSaid) (states from : ℕ) (depth : Option ℕ) (start : Start) (i : Image) (v u : Response)
     → IsSearchedAgainst menu states from depth start i v → IsSearchedAgainst menu states from depth start i u
@@ -133,13 +188,20 @@ searched_alike menu states from depth start i v u a b =
     ∙ (ap (λ n. again_front i b.found n a.verdict menu.again a.again) count
     ∙ (ap (λ d. again_front i b.found b.count d menu.again a.again) verdict
     ∙ ap (λ t. every_text i b.found b.count b.verdict ++ t) lines)) in
+    let looks : IsAwayReply a.first menu.out g s a.verdict b.away =
+    subst (λ d. IsAwayReply a.first menu.out g s d b.away) (sym verdict)
+    (subst (λ k. IsAwayReply k menu.out g s b.verdict b.away) first b.looks) in
+    let away = away_once a.first menu.out g s i.cpus (lines_planned i.plans) a.verdict b.away a.away looks a.looks in
+    let comes : List ℕ = comes_text i.cpus (lines_planned i.plans) menu.comes b.comes in
     record {
       front = again_front i a.found a.count a.verdict menu.again a.again;
       one = a.comes;
       other = b.comes;
+      back = away_text i.cpus (lines_planned i.plans) a.away;
       first = a.text;
-      second = b.text ∙ ap (λ t. plainly 0 (t ++ comes_text i.cpus (lines_planned i.plans) menu.comes b.comes) None)
-          (sym front);
+      second = b.text
+          ∙ (ap (λ t. plainly 0 (t ++ (comes ++ away_text i.cpus (lines_planned i.plans) b.away)) None) (sym front)
+          ∙ ap (λ x. plainly 0 (again_front i a.found a.count a.verdict menu.again a.again ++ (comes ++ x)) None) away);
       agree = λ j label x y at one two. agree_once m (own_classes (usual_choices g)) s (shown_line label) a.verdict x y
           (a.coming.each j label x at one) (coming.each j label y at two);
     }
@@ -152,7 +214,7 @@ differ_in_none i menu v u none d =
     let empty : (said : List Comes) → text said ≡ [] = λ said.
     ap (λ ls. comes_text i.cpus (lines_planned i.plans) ls said) none in
     d.first
-    ∙ (ap (λ t. plainly 0 (d.front ++ t) None) (empty d.one ∙ sym (empty d.other)) ∙ sym d.second)
+    ∙ (ap (λ t. plainly 0 (d.front ++ (t ++ d.back)) None) (empty d.one ∙ sym (empty d.other)) ∙ sym d.second)
 
 pub searches_once : SearchesSayOnce
 searches_once states from depth start i v u a b =

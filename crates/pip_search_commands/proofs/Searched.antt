@@ -5,6 +5,7 @@ use Rattle.std.specs.Prelude.{MatchResult, Result, IsErr, OnErr}
 use Rattle.pip_base.specs.Memory.{Memory}
 use Rattle.pip_base.specs.declared.types.Plan.{Plan}
 use Rattle.pip_every.specs.Again.{AreSaid}
+use Rattle.pip_every.specs.Away.{IsAwayReply}
 use Rattle.pip_every.specs.Comes.{AreComing, own_classes}
 use Rattle.pip_every.specs.Menus.{Menu, menu_model, usual_choices}
 use Rattle.pip_every.specs.Moments.{Moment, moment_at}
@@ -18,7 +19,7 @@ use Rattle.pip_search.specs.Ways.{witnesses_of}
 use Rattle.pip_ways.specs.Texts.{search_text}
 use Rattle.pip_command_contracts.specs.EndsBy.{plainly}
 use Rattle.pip_command_contracts.specs.Planned.{lines_planned}
-use Rattle.pip_search_commands.specs.EveryText.{again_text, against_text, comes_text, every_text}
+use Rattle.pip_search_commands.specs.EveryText.{again_text, against_text, away_text, comes_text, every_text}
 use Rattle.pip_search_commands.specs.MenuText.{MenuSaid}
 use Rattle.pip_search_commands.specs.SearchDues.{IsSearchedAgainst}
 use Rattle.pip_search_commands.specs.SearchDues.{most_choices}
@@ -43,6 +44,9 @@ show_settled (Err e) a b c t all kept some = cut_sent a b c t all kept some
 
 -- ---- the answer
 
+regrouped : (a b c d : List ℕ) → a ++ ((b ++ c) ++ d) ≡ (a ++ b) ++ (c ++ d)
+regrouped a b c d = simp append_assoc
+
 module _ (menu : MenuSaid) (states from : ℕ) (depth : Option ℕ) (start : Start) (h : Header) (m : Memory) (t : Told)
     (i : Image) (b : BeginsFrames i h m) where
   abbrev ws : List Witness
@@ -64,17 +68,20 @@ module _ (menu : MenuSaid) (states from : ℕ) (depth : Option ℕ) (start : Sta
       ws count t.verdict) b.pages))
 
   abbrev replies_after : List ℕ → ℕ → List Plan → List ℕ
-  replies_after front c ps = front ++ (again_text c (lines_planned ps) menu.again t.replies.again.items
+  replies_after front c ps = front ++ ((again_text c (lines_planned ps) menu.again t.replies.again.items
       ++ comes_text c (lines_planned ps) menu.comes t.replies.comes.items)
+      ++ away_text c (lines_planned ps) t.replies.away)
 
   same_text : told_text h t menu ≡ against_text i ws count t.verdict menu t.replies.again.items t.replies.comes.items
+      t.replies.away
   same_text =
       ap (λ k. replies_after k h.cpus h.plans.items) same_front
       ∙ (ap (λ n. replies_after (every_text i ws count t.verdict) n h.plans.items) b.cpus
       ∙ (ap (λ ps. replies_after (every_text i ws count t.verdict) i.cpus ps) b.plans
-      ∙ sym (append_assoc (every_text i ws count t.verdict)
+      ∙ regrouped (every_text i ws count t.verdict)
       (again_text i.cpus (lines_planned i.plans) menu.again t.replies.again.items)
-      (comes_text i.cpus (lines_planned i.plans) menu.comes t.replies.comes.items))))
+      (comes_text i.cpus (lines_planned i.plans) menu.comes t.replies.comes.items)
+      (away_text i.cpus (lines_planned i.plans) t.replies.away)))
 
   abbrev menu_at : ℕ → List Plan → Menu
   menu_at c ps = record { scope = record { cpus = c; lines = lines_planned ps; from = from }; may = menu.may }
@@ -87,8 +94,9 @@ module _ (menu : MenuSaid) (states from : ℕ) (depth : Option ℕ) (start : Sta
       (most_choices depth) states ws count t.verdict
       × (AreSaid (menu_model m (menu_at c ps)) (usual_choices (menu_at c ps))
       (begun_at c ps) menu.again t.verdict t.replies.again.items
-      × AreComing (menu_model m (menu_at c ps)) (own_classes (usual_choices (menu_at c ps)))
-      (begun_at c ps) menu.comes t.verdict t.replies.comes.items)
+      × (AreComing (menu_model m (menu_at c ps)) (own_classes (usual_choices (menu_at c ps)))
+      (begun_at c ps) menu.comes t.verdict t.replies.comes.items
+      × IsAwayReply m menu.out (menu_at c ps) (begun_at c ps) t.verdict t.replies.away))
 
   -- what was found from an image's frames is what can happen to the image
   pub searched : IsToldFrom menu states from depth start h m t
@@ -106,6 +114,8 @@ module _ (menu : MenuSaid) (states from : ℕ) (depth : Option ℕ) (start : Sta
         again = t.replies.again.items;
         said = all.1.0;
         comes = t.replies.comes.items;
-        coming = all.1.1;
+        coming = all.1.1.0;
+        away = t.replies.away;
+        looks = all.1.1.1;
         text = ap (λ text. plainly 0 text None) same_text;
       }

@@ -6,11 +6,14 @@ use Rattle.std.specs.Fmt.{digit_glyph, digits, digits_onto}
 use Rattle.std.specs.Prelude.{codes, drop, flat_map, reverse, slice_index}
 use Rattle.std.proofs.lemmas.Bool.Decides.{nat_tests}
 use Rattle.std.proofs.lemmas.List.{append_cancel_right, reverse-append}
+use Rattle.pip_away.specs.Blind.{leaves_out}
 use Rattle.pip_command_contracts.specs.EndsBy.{plainly}
 use Rattle.pip_command_contracts.specs.Planned.{lines_planned}
 use Rattle.pip_core_text.specs.CoreRead.{AreWholeLines}
 use Rattle.pip_every.specs.declared.again.Again.{Again}
 use Rattle.pip_every.specs.declared.again.Again.TheVariants.{Can, Lost, Unknown}
+use Rattle.pip_every.specs.declared.away.Away.{Away}
+use Rattle.pip_every.specs.declared.away.Away.TheVariants as A
 use Rattle.pip_every.specs.declared.comes.Comes.{Comes}
 use Rattle.pip_io.proofs.Piecewise.{flat_split}
 use Rattle.pip_model.specs.Acts.{text_of}
@@ -21,8 +24,8 @@ use Rattle.pip_search.specs.declared.searching.Extent.{Extent}
 use Rattle.pip_search.specs.declared.searching.Extent.TheVariants.{Closed, Stopped, Within}
 use Rattle.pip_search.specs.declared.ways.Run.{Run}
 use Rattle.pip_search_commands.specs.ApartLaw.{HasLineOf}
-use Rattle.pip_search_commands.specs.EveryText.{again_text, against_text, comes_text, every_text, said_line}
-use Rattle.pip_search_commands.specs.EveryText.{said_words}
+use Rattle.pip_search_commands.specs.EveryText.{again_front, again_text, against_text, away_text, away_words}
+use Rattle.pip_search_commands.specs.EveryText.{comes_text, every_text, said_line, said_words}
 use Rattle.pip_search_commands.specs.MenuText.{MenuSaid, no_menu}
 use Rattle.pip_search_commands.specs.RunLaw.{IsNamedBy, steps_from}
 use Rattle.pip_search_commands.specs.SearchDues.{IsSearchedAgainst}
@@ -160,23 +163,30 @@ has_line i ws count e label n =
     regrouped : (a b line c d : List ℕ) → a ++ ((b ++ (line ++ c)) ++ d) ≡ (a ++ b) ++ (line ++ (c ++ d))
     regrouped a b line c d = simp append_assoc
 
--- a menu that asks of no label adds no line
-asks_none : (i : Image) (ws : List Witness) (count : ℕ) (e : Extent) (menu : MenuSaid) (again : List Again)
-    (comes : List Comes) → menu.again ≡ [] → menu.comes ≡ []
-    → against_text i ws count e menu again comes ≡ every_text i ws count e
-asks_none i ws count e menu again comes none nor =
-    let front = every_text i ws count e in
-    ap (λ l. (front ++ again_text i.cpus (lines_planned i.plans) l again) ++ comes_text i.cpus (lines_planned i.plans)
-    menu.comes comes) none
-    ∙ (ap (λ l. (front ++ []) ++ comes_text i.cpus (lines_planned i.plans) l comes) nor
-    ∙ (append-nil (front ++ []) ∙ append-nil front))
+-- a menu that doesn't ask whether a label comes, and leaves no word out, adds the lines of the others
+asks_less : (i : Image) (ws : List Witness) (count : ℕ) (e : Extent) (menu : MenuSaid) (again : List Again)
+    (comes : List Comes) (away : Option Away) → menu.comes ≡ [] → away ≡ None
+    → against_text i ws count e menu again comes away ≡ again_front i ws count e menu.again again
+asks_less i ws count e menu again comes away nor out =
+    let front = again_front i ws count e menu.again again in
+    ap (λ l. front ++ (comes_text i.cpus (lines_planned i.plans) l comes ++ away_text i.cpus (lines_planned i.plans)
+    away)) nor
+    ∙ (ap (λ a. front ++ away_text i.cpus (lines_planned i.plans) a) out ∙ append-nil front)
+
+module _ (menu : MenuSaid) (states from : ℕ) (most : Option ℕ) (start : Start) (i : Image) (text : List ℕ)
+    (s : IsSearchedAgainst menu states from most start i (plainly 0 text None)) (nor : menu.comes ≡ [])
+    (out : leaves_out menu.out ≡ false) where
+  front_is : text ≡ again_front i s.found s.count s.verdict menu.again s.again
+  front_is = same_answer text (against_text i s.found s.count s.verdict menu s.again s.comes s.away) s.text
+      ∙ asks_less i s.found s.count s.verdict menu s.again s.comes s.away nor (s.looks.none out)
 
 module _ (menu : MenuSaid) (states from : ℕ) (most : Option ℕ) (start : Start) (i : Image) (text : List ℕ)
     (s : IsSearchedAgainst menu states from most start i (plainly 0 text None)) (none : menu.again ≡ [])
-    (nor : menu.comes ≡ []) where
+    (nor : menu.comes ≡ []) (out : leaves_out menu.out ≡ false) where
   text_is : text ≡ every_text i s.found s.count s.verdict
-  text_is = same_answer text (against_text i s.found s.count s.verdict menu s.again s.comes) s.text
-      ∙ asks_none i s.found s.count s.verdict menu s.again s.comes none nor
+  text_is = front_is menu states from most start i text s nor out
+      ∙ (ap (λ l. again_front i s.found s.count s.verdict l s.again) none
+      ∙ append-nil (every_text i s.found s.count s.verdict))
 
   closes : EndsSo text (codes " closed") → (depth : ℕ) × (s.verdict ≡ Closed depth)
   closes h = says_closed i s.found s.count s.verdict (subst (λ t. EndsSo t (codes " closed")) text_is h)
@@ -186,15 +196,15 @@ module _ (menu : MenuSaid) (states from : ℕ) (most : Option ℕ) (start : Star
 
 pub closed_texts_name_runs : ClosedTextsNameRuns
 closed_texts_name_runs states from most start i text s ends plans seed n are =
-    let (depth, closed) = closes no_menu states from most start i text s refl refl ends in
+    let (depth, closed) = closes no_menu states from most start i text s refl refl refl ends in
     lines_known (IsNamedBy s.found) (HasLineOf text) n start.count (text_of (steps_from i start plans seed n))
-    (λ label some. named no_menu states from most start i text s refl refl label)
+    (λ label some. named no_menu states from most start i text s refl refl refl label)
     (closed_names_runs states from depth most start i (plainly 0 text None) s closed plans seed n are)
 
 pub closed_texts_name_menus : ClosedTextsNameMenus
-closed_texts_name_menus menu states from most start i text s none nor ends label choices some shown =
-    let (depth, closed) = closes menu states from most start i text s none nor ends in
-    named menu states from most start i text s none nor label
+closed_texts_name_menus menu states from most start i text s none nor out ends label choices some shown =
+    let (depth, closed) = closes menu states from most start i text s none nor out ends in
+    named menu states from most start i text s none nor out label
     (closed_names_menus menu states from depth most start i (plainly 0 text None) s closed label choices some shown)
 
 -- ---- what was said of the last label
@@ -343,13 +353,50 @@ each_yes cpus lines (l ∷ ls) (r ∷ rs) x y zero count e (suc k) label late at
     k label (omega arith) at
 
 pub yes_texts_come_again : YesTextsComeAgain
-yes_texts_come_again menu states from most start i text front s j k label none whole late at =
+yes_texts_come_again menu states from most start i text front s j k label none out whole late at =
+    yes_comes_again menu states from most start i (plainly 0 text None) s k label at
+    (each_yes i.cpus (lines_planned i.plans) menu.again s.again (every_text i s.found s.count s.verdict) front j
+    s.said.count (sym (front_is menu states from most start i text s none out) ∙ whole) k label late at)
+
+-- ---- whether all outside looks away
+
+-- `no` ends with a digit, and `unknown` with another letter
+says_away : (cpus : ℕ) (lines front : List ℕ) (a : Away)
+    → EndsSo (front ++ away_words cpus lines a) (codes "away yes") → a ≡ A.Yes
+says_away cpus lines front A.Yes h = refl
+says_away cpus lines front A.Unknown (x, e) =
+    let n : ℕ = 110 in
+    let s : ℕ = 115 in
+    let same : Some n ≡ Some s = sym (from_end 1 front (codes "away unknown\n"))
+    ∙ ap (λ v. slice_get (reverse v) 1) e ∙ from_end 1 x (codes "away yes\n") in
+    let z : n ≡ s = cc in absurd (omega (arith, z))
+says_away cpus lines front (A.No way cpu) (x, e) =
+    let (y, end) = decimal_end cpu in
+    let runs = flat_map (spaced_run cpus lines) way.items in
+    let before = front ++ (codes "away no" ++ (runs ++ codes " : ")) in
+    let whole : front ++ away_words cpus lines (A.No way cpu) ≡ before ++ (decimal cpu ++ 10 ∷ []) =
+    seen_grouped front (codes "away no") runs (codes " : ") (decimal cpu) (10 ∷ []) in
+    let last : before ++ (decimal cpu ++ 10 ∷ []) ≡ (before ++ y) ++ (last_digit cpu ∷ 10 ∷ []) =
+    ap (λ d. before ++ (d ++ 10 ∷ [])) end ∙ byte_grouped before y (last_digit cpu) in
+    let own = sym (append_assoc x (codes "away ye") (115 ∷ 10 ∷ [])) in
+    let same = same_end (last_digit cpu) 115 (before ++ y) (x ++ codes "away ye") (sym last ∙ (sym whole ∙ (e ∙ own)))
+    in absurd (omega (arith, same, digit_low cpu))
+  where
+    seen_grouped : (f a b c d e : List ℕ) → f ++ ((a ++ b) ++ (c ++ (d ++ e))) ≡ (f ++ (a ++ (b ++ c))) ++ (d ++ e)
+    seen_grouped f a b c d e = simp append_assoc
+
+-- where a menu leaves words out, a text says so at its end
+pub ends_away : (menu : MenuSaid) (states from : ℕ) (most : Option ℕ) (start : Start) (i : Image) (text : List ℕ)
+    (s : IsSearchedAgainst menu states from most start i (plainly 0 text None)) → leaves_out menu.out ≡ true
+    → EndsSo text (codes "away yes") → s.away ≡ Some A.Yes
+ends_away menu states from most start i text s out ends =
     let cpus = i.cpus in
     let lines = lines_planned i.plans in
-    let every = every_text i s.found s.count s.verdict in
-    let own : text ≡ every ++ again_text cpus lines menu.again s.again =
-    same_answer text (against_text i s.found s.count s.verdict menu s.again s.comes) s.text
-    ∙ (ap (λ l. (every ++ again_text cpus lines menu.again s.again) ++ comes_text cpus lines l s.comes) none
-    ∙ append-nil (every ++ again_text cpus lines menu.again s.again)) in
-    yes_comes_again menu states from most start i (plainly 0 text None) s k label at
-    (each_yes cpus lines menu.again s.again every front j s.said.count (sym own ∙ whole) k label late at)
+    let (a, (is, said)) = s.looks.asked out in
+    let front = again_front i s.found s.count s.verdict menu.again s.again in
+    let comes = comes_text cpus lines menu.comes s.comes in
+    let own : text ≡ (front ++ comes) ++ away_words cpus lines a =
+    same_answer text (against_text i s.found s.count s.verdict menu s.again s.comes s.away) s.text
+    ∙ (ap (λ x. front ++ (comes ++ away_text cpus lines x)) is ∙ sym (append_assoc front comes (away_words cpus lines
+    a))) in
+    is ∙ ap Some (says_away cpus lines (front ++ comes) a (subst (λ t. EndsSo t (codes "away yes")) own ends))

@@ -37,8 +37,9 @@ pub record DifferInComing (i : Image) (menu : MenuSaid) (v u : Response) : Type 
   pub front : List ℕ
   pub one : List Comes
   pub other : List Comes
-  pub first : v ≡ plainly 0 (front ++ comes_text i.cpus (lines_planned i.plans) menu.comes one) None
-  pub second : u ≡ plainly 0 (front ++ comes_text i.cpus (lines_planned i.plans) menu.comes other) None
+  pub back : List ℕ
+  pub first : v ≡ plainly 0 (front ++ (comes_text i.cpus (lines_planned i.plans) menu.comes one ++ back)) None
+  pub second : u ≡ plainly 0 (front ++ (comes_text i.cpus (lines_planned i.plans) menu.comes other ++ back)) None
   pub agree : (j : ℕ) (label : List ℕ) (a b : Comes) → slice_get menu.comes j ≡ Some label → slice_get one j ≡ Some a
       → slice_get other j ≡ Some b → IsNoContradiction a b
 

@@ -1,11 +1,13 @@
 -- The texts of `every` and of `against`.
 use Rattle.std.specs.Prelude.{ℕ, suc, ◌==◌, List, [], ◌∷◌, ◌++◌, length, map, flat_map, codes, decimal}
-use Rattle.std.specs.Prelude.{◌-◌, if◌then◌else◌, nat_lt, slice_index}
+use Rattle.std.specs.Prelude.{◌-◌, if◌then◌else◌, nat_lt, slice_index, Option, Some, None}
 use Rattle.std.specs.List.{zip}
 use Rattle.arrayvec.specs.ArrayVec.{ArrayVec}
 use Rattle.pip_command_contracts.specs.Planned.{lines_planned}
 use Rattle.pip_every.specs.declared.again.Again.{Again}
 use Rattle.pip_every.specs.declared.again.Again.TheVariants.{Can, Lost, Unknown}
+use Rattle.pip_every.specs.declared.away.Away.{Away}
+use Rattle.pip_every.specs.declared.away.Away.TheVariants as A
 use Rattle.pip_every.specs.declared.comes.Comes.{Comes}
 use Rattle.pip_every.specs.declared.comes.Comes.TheVariants as C
 use Rattle.pip_model.specs.Images.{Image}
@@ -86,6 +88,28 @@ coming_line cpus lines label said = codes "comes " ++ label ++ coming_words cpus
 abbrev pub comes_text : ℕ → List ℕ → List (List ℕ) → List Comes → List ℕ
 comes_text cpus lines labels said = flat_map (λ p. coming_line cpus lines p.0 p.1) (zip labels said)
 
+-- ---- whether all that is outside looks away
+
+-- the processor, which ends the line
+abbrev pub processor_words : ℕ → List ℕ
+processor_words cpu = codes " : " ++ decimal cpu ++ codes "\n"
+
+-- after which way what a processor does sees a word that is left out
+abbrev pub seen_words : ℕ → List ℕ → List Run → ℕ → List ℕ
+seen_words cpus lines way cpu =
+    (codes "away no" ++ flat_map (spaced_run cpus lines) way) ++ processor_words cpu
+
+-- the line that says it
+abbrev pub away_words : ℕ → List ℕ → Away → List ℕ
+away_words cpus lines A.Yes = codes "away yes\n"
+away_words cpus lines (A.No way cpu) = seen_words cpus lines way.items cpu
+away_words cpus lines A.Unknown = codes "away unknown\n"
+
+-- if it was asked
+abbrev pub away_text : ℕ → List ℕ → Option Away → List ℕ
+away_text cpus lines None = []
+away_text cpus lines (Some said) = away_words cpus lines said
+
 -- ---- all together
 
 -- the text of `every`, and a line for each label of which a menu asks whether it can come again
@@ -93,7 +117,8 @@ abbrev pub again_front : Image → List Witness → ℕ → Extent → List (Lis
 again_front i ws count verdict labels said =
     every_text i ws count verdict ++ again_text i.cpus (lines_planned i.plans) labels said
 
--- then one for each of which it asks whether it comes
-abbrev pub against_text : Image → List Witness → ℕ → Extent → MenuSaid → List Again → List Comes → List ℕ
-against_text i ws count verdict menu again comes =
-    again_front i ws count verdict menu.again again ++ comes_text i.cpus (lines_planned i.plans) menu.comes comes
+-- then one for each of which it asks whether it comes, and the one of whether all outside looks away
+abbrev pub against_text : Image → List Witness → ℕ → Extent → MenuSaid → List Again → List Comes → Option Away
+    → List ℕ
+against_text i ws count verdict menu again comes away = again_front i ws count verdict menu.again again
+    ++ (comes_text i.cpus (lines_planned i.plans) menu.comes comes ++ away_text i.cpus (lines_planned i.plans) away)

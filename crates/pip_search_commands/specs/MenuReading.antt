@@ -1,6 +1,7 @@
 -- What reading a menu takes from its source.
 use Rattle.std.specs.Prelude.{◌≡◌, ℕ, ◌≤◌, ◌⊎◌, List, ◌++◌, length, Option, Ok, Err}
 use Rattle.std.specs.Io.KnownBytes.{Consumes, IsAtEnd}
+use Rattle.pip_away.specs.Blind.{left_out}
 use Rattle.pip_core_text.specs.CoreRead.{AreWholeLines}
 use Rattle.pip_input.specs.Lines.{HasNoNewline}
 use Rattle.pip_io.specs.Causes.{RoseByOne}
@@ -27,6 +28,7 @@ menu_said menu = record {
   may = menu.may.items;
   again = label_bytes menu.asked.again.items;
   comes = label_bytes menu.asked.comes.items;
+  out = left_out menu.asked.blind;
 }
 
 -- all that the source had is a menu that says this

@@ -1,8 +1,10 @@
 -- The menu of `against`: lines of text, each of which says that partitions may do a deed, or asks whether a label can
--- come again, or whether it comes.
-use Rattle.std.specs.Prelude.{ℕ, ◌+◌, ◌==◌, ◌&&◌, nat_le, nat_lt, if◌then◌else◌, List, [], ◌∷◌, ◌++◌, length, Option}
+-- come again, or whether it comes, or says which words are left out of what the others may read.
+use Rattle.std.specs.Prelude.{ℕ, ◌+◌, ◌==◌, ◌&&◌, nat_le, nat_lt, Bool, if◌then◌else◌, List, [], ◌∷◌, ◌++◌, length, Option}
 use Rattle.std.specs.Prelude.{Some, None, Result, Ok, Err, codes, decimal, option_and_then, option_map}
 use Rattle.std.specs.Str.{bytes_eq}
+use Rattle.pip_away.specs.Blind.{LeftOut}
+use Rattle.pip_away.specs.declared.blind.PageWord.{PageWord}
 use Rattle.pip_base.specs.declared.types.Size.TheVariants.{Byte, Word}
 use Rattle.pip_every.specs.declared.menus.Deed.{Deed}
 use Rattle.pip_every.specs.declared.menus.Deed.TheVariants as D
@@ -12,6 +14,8 @@ use Rattle.pip_model.specs.Text.{line_text}
 use Rattle.pip_model.specs.declared.script.ScriptLine.{ScriptLine}
 use Rattle.pip_model.specs.declared.script.ScriptLine.TheVariants as L
 use Rattle.pip_script.specs.Words.{after_word, first_word}
+use Rattle.pip_search_commands.specs.declared.commands.against.freedom.Freedom.{Freedom}
+use Rattle.pip_search_commands.specs.declared.commands.against.freedom.Freedom.TheVariants as F
 use Rattle.pip_search_commands.specs.declared.commands.against.menu_line.MenuKind.{MenuKind}
 use Rattle.pip_search_commands.specs.declared.commands.against.menu_line.MenuKind.TheVariants as K
 use Rattle.pip_search_commands.specs.declared.commands.against.menu_line.Question.{Question}
@@ -59,11 +63,12 @@ abbrev pub said_of : List ℕ → Result (Option May) MenuKind
 said_of [] = Ok None
 said_of (b ∷ bs) = if b == 35 then Ok None else one_deed (said_by (words_of (b ∷ bs)))
 
--- what a line can say: nothing, a deed, or a label of which it asks
+-- what a line can say: nothing, a deed, a label of which it asks, or what is left out
 pub data Said : Type 0 where
   Nothing : Said
   Does : May → Said
   Asks : Question → List ℕ → Said
+  Frees : Freedom → Said
 
 -- at most a deed
 abbrev pub one_said : Result (Option May) MenuKind → Result Said MenuKind
@@ -89,9 +94,42 @@ abbrev pub asked_of : Question → Result (List ℕ) MenuKind → Result Said Me
 asked_of q (Ok label) = Ok (Asks q label)
 asked_of q (Err kind) = Err kind
 
+-- the number that follows a word, up to the end of the line
+abbrev pub last_number : List ℕ → Option ℕ
+last_number [] = None
+last_number (space ∷ text) = number_of text
+
+-- a word of a page
+abbrev pub page_word : ℕ → ℕ → Option Freedom
+page_word page index = if nat_lt index 1024 then Some (F.Seen (record { page = page; index = index })) else None
+
+-- by the page and by what follows it
+abbrev pub seen_word : Option ℕ → List ℕ → Option Freedom
+seen_word None rest = None
+seen_word (Some page) rest = option_and_then (page_word page) (last_number rest)
+
+-- the two numbers that follow a word
+abbrev pub seen_said : List ℕ → Option Freedom
+seen_said [] = None
+seen_said (space ∷ text) = seen_word (number_of (first_word text)) (after_word text)
+
+-- what is left out or seen, by the word before it
+abbrev pub freedom_of : List ℕ → List ℕ → Option (Option Freedom)
+freedom_of word rest =
+    if bytes_eq word (codes "any") then Some (option_map F.Program (last_number rest))
+    else if bytes_eq word (codes "free") then Some (option_map F.Page (last_number rest))
+    else if bytes_eq word (codes "seen") then Some (seen_said rest)
+    else None
+
+-- what a line says that asks of no label: where its first word leaves something out, that, if it is one
+abbrev pub freed_or : Option (Option Freedom) → List ℕ → Result Said MenuKind
+freed_or None line = one_said (said_of line)
+freed_or (Some None) line = Err K.What
+freed_or (Some (Some freedom)) line = Ok (Frees freedom)
+
 -- what a line says, by the question that its first word is, if it is one
 abbrev pub said_with : Option Question → List ℕ → Result Said MenuKind
-said_with None line = one_said (said_of line)
+said_with None line = freed_or (freedom_of (first_word line) (after_word line)) line
 said_with (Some q) line = asked_of q (label_said (after_word line))
 
 -- what a line says, whose first word says so where it asks of a label
@@ -105,20 +143,33 @@ line_said line = if nat_le (length line) 120 then any_said line else Err K.Long
 -- ---- the lines
 
 -- what the lines of a menu say: the deeds of partitions, the labels of which it is asked whether they can come again,
--- and those of which it is asked whether they come
+-- those of which it is asked whether they come, and the words that are left out
 pub record MenuSaid : Type 0 where
   pub may : List May
   pub again : List (List ℕ)
   pub comes : List (List ℕ)
+  pub out : LeftOut
 
 -- nothing
 abbrev pub no_menu : MenuSaid
-no_menu = record { may = []; again = []; comes = [] }
+no_menu = record { may = []; again = []; comes = []; out = record { own = []; pages = []; seen = [] } }
 
 -- with a label of a question
 abbrev pub with_question : Question → List ℕ → MenuSaid → MenuSaid
 with_question Q.Again label menu = record menu { again = menu.again ++ label ∷ [] }
 with_question Q.Comes label menu = record menu { comes = menu.comes ++ label ∷ [] }
+
+-- with one more that is left out or seen
+abbrev pub with_freedom : Freedom → LeftOut → LeftOut
+with_freedom (F.Program name) out = record out { own = out.own ++ name ∷ [] }
+with_freedom (F.Page page) out = record out { pages = out.pages ++ page ∷ [] }
+with_freedom (F.Seen word) out = record out { seen = out.seen ++ word ∷ [] }
+
+-- there is room for it: 64 partitions, 256 pages, and 256 words that are seen
+abbrev pub has_room : Freedom → LeftOut → Bool
+has_room (F.Program name) out = nat_lt (length out.own) 64
+has_room (F.Page page) out = nat_lt (length out.pages) 256
+has_room (F.Seen word) out = nat_lt (length out.seen) 256
 
 -- what is said up to line n and with it. A menu has at most 65,536 lines, 1024 deeds, and 16 labels in all
 abbrev pub with_line : ℕ → MenuSaid → Result Said MenuKind → Result MenuSaid MenuKind
@@ -129,6 +180,9 @@ with_line n menu (Ok (Does may)) =
     else Err K.Many
 with_line n menu (Ok (Asks q label)) =
     if nat_le n 65536 && nat_lt (length menu.again + length menu.comes) 16 then Ok (with_question q label menu)
+    else Err K.Many
+with_line n menu (Ok (Frees freedom)) =
+    if nat_le n 65536 && has_room freedom menu.out then Ok (record menu { out = with_freedom freedom menu.out })
     else Err K.Many
 
 -- what comes of line n, and then of the further ones

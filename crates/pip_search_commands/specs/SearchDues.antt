@@ -6,10 +6,12 @@ use Rattle.pip_apart.specs.Found.{IsKnownAt, Known}
 use Rattle.pip_base.specs.Memory.{Memory}
 use Rattle.pip_image.specs.Reading.{EndsAtMost, IsFaultWithin}
 use Rattle.pip_every.specs.Again.{AreSaid}
+use Rattle.pip_every.specs.Away.{IsAwayReply}
 use Rattle.pip_every.specs.Comes.{AreComing, own_classes}
 use Rattle.pip_every.specs.Menus.{Menu, menu_model, usual_choices}
 use Rattle.pip_every.specs.Moments.{Moment, Scope, moment_at}
 use Rattle.pip_every.specs.declared.again.Again.{Again}
+use Rattle.pip_every.specs.declared.away.Away.{Away}
 use Rattle.pip_every.specs.declared.comes.Comes.{Comes}
 use Rattle.pip_every.specs.declared.menus.May.{May}
 use Rattle.pip_model.specs.Booted.{IsBooted}
@@ -49,8 +51,9 @@ abbrev pub image_menu : Image → ℕ → List May → Menu
 image_menu i from may = record { scope = image_scope i from; may = may }
 
 -- the text of all that can happen to an image from some steps of a run on, whatever partitions do of a menu, of whether
--- its labels can come again, wherever any choices lead, by those without the deeds, and of whether others come, where
--- choices are fair to each processor and each line
+-- its labels can come again, wherever any choices lead, by those without the deeds, of whether others come, where
+-- choices are fair to each processor and each line, and of whether all that is outside looks away from the words that
+-- the menu leaves out
 pub record IsSearchedAgainst (menu : MenuSaid) (states from : ℕ) (depth : Option ℕ) (start : Start) (i : Image)
     (v : Response) : Type 0
   where
@@ -67,7 +70,9 @@ pub record IsSearchedAgainst (menu : MenuSaid) (states from : ℕ) (depth : Opti
     pub comes : List Comes
     pub coming : AreComing (menu_model first (image_menu i from menu.may))
         (own_classes (usual_choices (image_menu i from menu.may))) (begun_moment i start) menu.comes verdict comes
-    pub text : v ≡ plainly 0 (against_text i found count verdict menu again comes) None
+    pub away : Option Away
+    pub looks : IsAwayReply first menu.out (image_menu i from menu.may) (begun_moment i start) verdict away
+    pub text : v ≡ plainly 0 (against_text i found count verdict menu again comes away) None
 
 -- `every` searches an image with an empty menu
 abbrev pub every_due : ℕ → ℕ → Option ℕ → Start → Due

@@ -2,6 +2,7 @@
 use Rattle.std.specs.Prelude.{◌≡◌, ℕ, ◌⊎◌, List, ◌++◌, length, map, Option, None}
 use Rattle.pip_base.specs.Memory.{Memory}
 use Rattle.pip_every.specs.Again.{AreSaid}
+use Rattle.pip_every.specs.Away.{IsAwayReply}
 use Rattle.pip_every.specs.Comes.{AreComing, own_classes}
 use Rattle.pip_base.specs.declared.types.Plan.{Plan}
 use Rattle.pip_every.specs.Menus.{Menu, menu_model, usual_choices}
@@ -21,7 +22,7 @@ use Rattle.pip_ways.specs.Told.{runs_to}
 use Rattle.pip_search_commands.specs.SearchDues.{most_choices}
 use Rattle.pip_command_contracts.specs.EndsBy.{Response, plainly}
 use Rattle.pip_command_contracts.specs.Planned.{lines_planned}
-use Rattle.pip_search_commands.specs.EveryText.{again_text, comes_text}
+use Rattle.pip_search_commands.specs.EveryText.{again_text, away_text, comes_text}
 use Rattle.pip_search_commands.specs.MenuText.{MenuSaid}
 use Rattle.pip_command_contracts.specs.Streams.{EndsLine}
 use Rattle.pip_search_commands.specs.declared.start.Start.{Start}
@@ -39,9 +40,10 @@ abbrev pub answers_text : Header → Told → MenuSaid → List ℕ
 answers_text h t menu = again_text h.cpus (lines_planned h.plans.items) menu.again t.replies.again.items
     ++ comes_text h.cpus (lines_planned h.plans.items) menu.comes t.replies.comes.items
 
--- of both
+-- of both, and of whether all outside looks away
 abbrev pub told_text : Header → Told → MenuSaid → List ℕ
-told_text h t menu = found_text h t ++ answers_text h t menu
+told_text h t menu = found_text h t
+    ++ (answers_text h t menu ++ away_text h.cpus (lines_planned h.plans.items) t.replies.away)
 
 -- something is said of each label
 pub record HasReplies (t : Told) (menu : MenuSaid) : Type 0 where
@@ -66,7 +68,7 @@ header_menu menu from h = record {
 }
 
 -- what was found is what can happen from some steps on over frames with this header, whatever partitions do of a menu;
--- and what is said of the menu's labels is so
+-- and what is said of the menu's labels, and of the words that it leaves out, is so
 abbrev pub IsToldFrom : MenuSaid → ℕ → ℕ → Option ℕ → Start → Header → Memory → Told → Type 0
 IsToldFrom menu states from depth start h first t = (n : ℕ) (words : ℕ → ℕ → ℕ) → IsBooted n words first →
     IsTold (menu_model first (header_menu menu from h))
@@ -75,9 +77,11 @@ IsToldFrom menu states from depth start h first t = (n : ℕ) (words : ℕ → �
     × (AreSaid (menu_model first (header_menu menu from h)) (usual_choices (header_menu menu from h))
     (moment_at (world_after words n h.cpus h.plans.items start.count start.seed)) menu.again t.verdict
     t.replies.again.items
-    × AreComing (menu_model first (header_menu menu from h)) (own_classes (usual_choices (header_menu menu from h)))
+    × (AreComing (menu_model first (header_menu menu from h)) (own_classes (usual_choices (header_menu menu from h)))
     (moment_at (world_after words n h.cpus h.plans.items start.count start.seed)) menu.comes t.verdict
-    t.replies.comes.items)
+    t.replies.comes.items
+    × IsAwayReply first menu.out (header_menu menu from h)
+    (moment_at (world_after words n h.cpus h.plans.items start.count start.seed)) t.verdict t.replies.away))
 
 -- an answer to an image was written, or a part of it, where a write failed; or there was no memory
 abbrev pub EndsWithFound : (Image → Response → Type 0) → Image → ℕ → Writing → Writing → Type 0

@@ -1,5 +1,7 @@
 -- What the last lines of `every` and of `against` say: where one ends with `closed`, the text names all that can come.
-use Rattle.std.specs.Prelude.{◌≡◌, ◌≢◌, ℕ, ◌≤◌, List, [], ◌++◌, Option, Some, None, codes, drop, flat_map, slice_get}
+use Rattle.std.specs.Prelude.{◌≡◌, ◌≢◌, ℕ, ◌≤◌, false, List, [], ◌++◌, Option, Some, None, codes, drop, flat_map}
+use Rattle.std.specs.Prelude.{slice_get}
+use Rattle.pip_away.specs.Blind.{leaves_out}
 use Rattle.pip_base.specs.declared.types.Plan.{Plan}
 use Rattle.pip_command_contracts.specs.EndsBy.{plainly}
 use Rattle.pip_command_contracts.specs.Planned.{lines_planned}
@@ -28,12 +30,12 @@ ClosedTextsNameRuns = (states from : ℕ) (most : Option ℕ) (start : Start) (i
     → (plans : List Plan) (seed n : ℕ) → ArePlansFrom (lines_planned i.plans) start.count from plans
     → AreLinesOf (HasLineOf text) start.count n (text_of (steps_from i start plans seed n))
 
--- where the last line of `against` does, with a menu that asks of no label, whatever is shown by any choices has a line
--- of the text: turns, lines, and deeds of the menu on any processor
+-- where the last line of `against` does, with a menu that asks nothing, whatever is shown by any choices has a line of
+-- the text: turns, lines, and deeds of the menu on any processor
 abbrev pub ClosedTextsNameMenus : Type 0
 ClosedTextsNameMenus = (menu : MenuSaid) (states from : ℕ) (most : Option ℕ) (start : Start) (i : Image)
     (text : List ℕ) (s : IsSearchedAgainst menu states from most start i (plainly 0 text None)) → menu.again ≡ []
-    → menu.comes ≡ [] → EndsSo text (codes " closed") → (label choices : List ℕ) → label ≢ []
+    → menu.comes ≡ [] → leaves_out menu.out ≡ false → EndsSo text (codes " closed") → (label choices : List ℕ) → label ≢ []
     → IsShownOn (menu_model s.first (image_menu i from menu.may)) (begun_moment i start) label choices
     → HasLineOf text label
 
@@ -46,6 +48,6 @@ comes_again_line label = codes "again " ++ label ++ codes ": yes\n"
 abbrev pub YesTextsComeAgain : Type 0
 YesTextsComeAgain = (menu : MenuSaid) (states from : ℕ) (most : Option ℕ) (start : Start) (i : Image)
     (text front : List ℕ) (s : IsSearchedAgainst menu states from most start i (plainly 0 text None)) (j k : ℕ)
-    (label : List ℕ) → menu.comes ≡ [] → text ≡ front ++ flat_map comes_again_line (drop j menu.again) → j ≤ k
+    (label : List ℕ) → menu.comes ≡ [] → leaves_out menu.out ≡ false → text ≡ front ++ flat_map comes_again_line (drop j menu.again) → j ≤ k
     → slice_get menu.again k ≡ Some label → CanComeAgain (menu_model s.first (image_menu i from menu.may))
     (usual_choices (image_menu i from menu.may)) (begun_moment i start) (shown_line label)

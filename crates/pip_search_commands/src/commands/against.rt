@@ -14,7 +14,9 @@ ghost use Rattle.pip_command_contracts.specs.Streams.{beside};
 ghost use Rattle.pip_command_contracts.specs.Commands.{Fulfils, FulfilsJoined, MayStart, MayStartJoined};
 
 pub(crate) mod again;
+pub(crate) mod away;
 pub(crate) mod comes;
+pub(crate) mod freedom;
 pub(crate) mod menu;
 pub(crate) mod menu_line;
 

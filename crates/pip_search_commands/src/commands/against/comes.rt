@@ -87,8 +87,8 @@ fn write_avoided<K: Sink>(
     write_all(sink, b"\n")
 }
 
-// Writes these bytes, and then runs, each after a space.
-fn write_runs<K: Sink>(
+/// Writes these bytes, and then runs, each after a space.
+pub(super) fn write_runs<K: Sink>(
     sink: &mut K,
     cpus: u32,
     lines: &[u32],

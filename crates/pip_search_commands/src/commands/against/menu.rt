@@ -3,8 +3,9 @@ ghost use Rattle.std.specs.Prelude.{◌≡◌, ◌≤◌, [], Err, MatchResult, 
 ghost use Rattle.pip_io.specs.Moments.{joined};
 ghost use Rattle.pip_io.specs.Pacing.{MayRead};
 ghost use Rattle.pip_search_commands.specs.MenuReading.{BeginsMenu, StopsMenu, TakesMenu, menu_said};
-ghost use Rattle.pip_search_commands.specs.MenuText.{Asks, line_said, no_menu, one_said, said_of, with_line};
+ghost use Rattle.pip_search_commands.specs.MenuText.{Asks, Frees, line_said, no_menu, one_said, said_of, with_line};
 
+use super::freedom::{Freedom, read_freedom};
 use super::menu_line::{MenuKind, Question, question_of, read_label, read_said};
 use arrayvec::ArrayVec;
 use pip_base::never;
@@ -13,7 +14,7 @@ use pip_input::{Input, LineEnd};
 use pip_io::{Joint, Sink, Source};
 use pip_script::split_word;
 
-/// What the lines of a menu say: the deeds of partitions, and the labels of which it asks.
+/// What the lines of a menu say: the deeds of partitions, and what it asks.
 #[derive(Drop)]
 pub struct ReadMenu {
     pub may: ArrayVec<May, MAX_DEEDS>,
@@ -109,12 +110,16 @@ fn add_line(menu: &mut ReadMenu, number: u32, line: &[u8]) -> Result<(), MenuKin
         (λ kind. with_line number (menu_said menu.old) (line_said line.now) ≡ Err kind) }
 {
     let (word, rest) = split_word(line);
-    let Some(question) = question_of(word) else {
-        return add_deed(menu, number, line);
-    };
-    match read_label(rest) {
-        Some(label) => add_label(menu, number, question, label),
-        None => Err(MenuKind::What),
+    if let Some(question) = question_of(word) {
+        return match read_label(rest) {
+            Some(label) => add_label(menu, number, question, label),
+            None => Err(MenuKind::What),
+        };
+    }
+    match read_freedom(word, rest) {
+        Some(Some(freedom)) => add_freedom(menu, number, freedom),
+        Some(None) => Err(MenuKind::What),
+        None => add_deed(menu, number, line),
     }
 }
 
@@ -162,6 +167,29 @@ fn add_label(
     match question {
         Question::Again => asked.again.push(own),
         Question::Comes => asked.comes.push(own),
+    }
+    Ok(())
+}
+
+// Adds what line `number` leaves out, or doesn't.
+fn add_freedom(menu: &mut ReadMenu, number: u32, freedom: Freedom) -> Result<(), MenuKind>
+    ensures { MatchResult result
+        (λ _. with_line number (menu_said menu.old) (Ok (Frees freedom)) ≡ Ok (menu_said menu.new))
+        (λ kind. with_line number (menu_said menu.old) (Ok (Frees freedom)) ≡ Err kind) }
+{
+    let blind = &mut menu.asked.blind;
+    let is_full = match freedom {
+        Freedom::Program { .. } => blind.own.is_full(),
+        Freedom::Page { .. } => blind.pages.is_full(),
+        Freedom::Seen { .. } => blind.seen.is_full(),
+    };
+    if number > MAX_MENU_LINES || is_full {
+        return Err(MenuKind::Many);
+    }
+    match freedom {
+        Freedom::Program { name } => blind.own.push(name),
+        Freedom::Page { page } => blind.pages.push(page),
+        Freedom::Seen { word } => blind.seen.push(word),
     }
     Ok(())
 }

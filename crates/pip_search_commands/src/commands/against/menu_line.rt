@@ -15,11 +15,12 @@ use pip_script::{ScriptLine, read_line, read_number, split_word};
 pub enum MenuKind {
     /// It has more than 120 bytes.
     Long,
-    /// Its first word is neither `each` nor `again` nor `comes` nor a number.
+    /// Its first word is neither `each`, `again`, `comes`, `any`, `free`, `seen` nor a number.
     Who,
-    /// What follows that word is no deed, or after `again` and `comes` no label.
+    /// What follows that word is no deed, after `again` and `comes` no label, or after `any`, `free` and `seen` no such
+    /// numbers.
     What,
-    /// It would be deed 1025 or label 17, or is line 65,537.
+    /// It would be deed 1025, label 17, partition 65, page 257 or seen word 257, or is line 65,537.
     Many,
 }
 

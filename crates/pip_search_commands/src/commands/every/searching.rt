@@ -7,17 +7,21 @@ ghost use Rattle.pip_base.specs.declared.types.Plan.{Plan};
 ghost use Rattle.pip_image.specs.Coming.{IsHeader};
 ghost use Rattle.pip_io.specs.Causes.{HasCause};
 ghost use Rattle.pip_io.specs.Taken.{Appends, SendsPart, Wrote};
+ghost use Rattle.pip_io.specs.Writes.{Writes};
 ghost use Rattle.pip_lines.specs.Due.{AnswersDue};
 ghost use Rattle.pip_model.specs.Booted.{HasBooted};
 ghost use Rattle.pip_model.specs.Images.{Image};
+ghost use Rattle.pip_search_commands.specs.EveryText.{away_text};
 ghost use Rattle.pip_search_commands.specs.MenuReading.{menu_said};
 ghost use Rattle.pip_command_contracts.specs.Loading.{BeginsFrames};
+ghost use Rattle.pip_command_contracts.specs.Planned.{lines_planned};
 ghost use Rattle.pip_search_commands.specs.SearchDues.{IsSearchedAgainst};
 ghost use Rattle.pip_search_commands.specs.Searches.{EndsWithFound, HasReplies, HasWays, IsToldFrom, found_text};
 ghost use Rattle.pip_search_commands.specs.Searches.{answers_text, told_text};
 
 use crate::Start;
 use crate::commands::against::again::write_said;
+use crate::commands::against::away::write_away;
 use crate::commands::against::comes::write_coming;
 use crate::commands::against::menu::ReadMenu;
 use pip_base::{Plan, Steps};
@@ -302,7 +306,8 @@ fn give<K: Sink>(head: &Header, told: &Told, menu: &ReadMenu, sink: &mut K) -> R
     ensures cause { HasCause (K.history sink.old).faults (K.history sink.new).faults result }
 {
     give_found(head, told, sink)?;
-    give_replies(head, told, menu, sink)
+    give_replies(head, told, menu, sink)?;
+    give_away(head, told, sink)
 }
 
 // Writes what was found.
@@ -359,4 +364,14 @@ fn give_replies<K: Sink>(
         menu.asked.comes.as_slice(),
         told.replies.comes.as_slice(),
     )
+}
+
+// Writes whether all outside looks away, if it was asked.
+fn give_away<K: Sink>(head: &Header, told: &Told, sink: &mut K) -> Result<(), Failed>
+    requires { 1 ≤ head.now.cpus }
+    ensures { Writes K.history sink.old sink.new result
+        (away_text head.now.cpus (lines_planned head.now.plans.items) told.now.replies.away) }
+{
+    let lines = planned_lines(head.plans.as_slice());
+    write_away(sink, head.cpus, lines.as_slice(), &told.replies.away)
 }

@@ -3,6 +3,7 @@ use Rattle.std.proofs.Common.{◌≡◌, ◌∙◌, ◌++◌, ap, sym, length, s
 use Rattle.std.specs.List.{All}
 use Rattle.pip_base.specs.declared.types.Plan.{Plan}
 use Rattle.pip_every.specs.Again.{AreSaid}
+use Rattle.pip_every.specs.Away.{IsAwayReply}
 use Rattle.pip_every.specs.Comes.{AreComing, own_classes}
 use Rattle.pip_every.specs.Menus.{Menu, menu_model, usual_choices}
 use Rattle.pip_every.specs.Moments.{Moment, moment_at}
@@ -77,8 +78,9 @@ returns-clause-found g c = λ n words is.
     IsTold (menu_model first (menu k ls may)) (at ps) most c.args.states ws (length visits) verdict
     × (AreSaid (menu_model first (menu k ls may)) (usual_choices (menu k ls may)) (at ps) asked.again verdict
     replies.again.items
-    × AreComing (menu_model first (menu k ls may)) (own_classes (usual_choices (menu k ls may))) (at ps) asked.comes
-    verdict replies.comes.items) in
+    × (AreComing (menu_model first (menu k ls may)) (own_classes (usual_choices (menu k ls may))) (at ps) asked.comes
+    verdict replies.comes.items
+    × IsAwayReply first asked.out (menu k ls may) (at ps) verdict replies.away)) in
     subst (λ ps. IsFound ps (most_choices c.args.depth) h.cpus (lines_planned h.plans.items) asked.may)
     c.requires.same
     (subst (λ m. IsFound c.args.plans.now m h.cpus (lines_planned h.plans.items) asked.may) most
@@ -90,5 +92,11 @@ returns-clause-found g c = λ n words is.
     (c.in_ok-extend_from_slice.ensures.items ∙ ap (λ xs. xs ++ c.as_slice-2.result.now) c.new-may.ensures.items
     ∙ c.as_slice-2.ensures.value) (
       c.in_ok-search.ensures.told _ first stands is.laid.shape c.requires.count,
-      (c.in_ok-search.ensures.said _ first stands, c.in_ok-search.ensures.coming _ first stands),
+      (
+        c.in_ok-search.ensures.said _ first stands,
+        (
+          c.in_ok-search.ensures.coming _ first stands,
+          c.in_ok-search.ensures.away _ first stands is.laid.shape c.requires.count,
+        ),
+      ),
     )))))

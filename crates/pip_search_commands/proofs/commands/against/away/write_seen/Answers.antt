@@ -1,0 +1,21 @@
+use Rattle.std.proofs.Common.{rules, ◌++◌}
+use Rattle.std.specs.Prelude.{codes, flat_map}
+use Rattle.std.proofs.lemmas.Result.{MatchResult-from_err}
+use Rattle.pip_ways.specs.Texts.{spaced_run}
+use Rattle.pip_io.proofs.Piecewise.{part_longer, wrote_of}
+use Rattle.pip_search_commands.proofs.commands.against.away.write_seen.Goals as goal
+
+pub returns-in_err-write_runs : goal.returns-in_err-write_runs
+returns-in_err-write_runs g c = record {
+  wrote = MatchResult-from_err c.from_residual.result _ _ c.from_residual.ensures.0 (λ _.
+      part_longer _ _ (codes "away no" ++ flat_map (spaced_run c.args.cpus c.args.lines.now) c.args.way.now) _
+      c.in_err-write_runs.ensures.wrote);
+  cause = search rules;
+}
+
+pub returns : goal.returns
+returns g c = record {
+  wrote = wrote_of _ _ _ (codes "away no" ++ flat_map (spaced_run c.args.cpus c.args.lines.now) c.args.way.now) _
+      c.write_processor.result c.in_ok-write_runs.ensures.wrote c.write_processor.ensures.wrote;
+  cause = search rules;
+}
