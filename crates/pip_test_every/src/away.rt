@@ -46,13 +46,9 @@ fn check(
     wanted: bool,
     of: &str,
 ) -> Result<(), Fail> {
-    let mut blind = Blind {
-        own: Vec::new(rt.alloc()),
-        pages: Vec::new(rt.alloc()),
-        seen: Vec::new(rt.alloc()),
-    };
-    blind.pages.push(page)?;
-    blind.seen.push(PageWord { page, index: seen })?;
+    let mut blind = Blind::new();
+    blind.pages.try_push(page)?;
+    blind.seen.try_push(PageWord { page, index: seen })?;
     let away = passes_once(rt.alloc(), &[0], &blind)?;
     same(rt, away, wanted, of);
     Ok(())
