@@ -5,7 +5,7 @@ use Rattle.pip_base.specs.Memory.{Memory}
 use Rattle.pip_base.specs.declared.types.Plan.{Plan}
 use Rattle.pip_every.specs.Menus.{Menu, menu_model}
 use Rattle.pip_every.specs.Moments.{Moment}
-use Rattle.pip_hostile.specs.Tests.{looks_away}
+use Rattle.pip_every.specs.Away.{looks_away}
 use Rattle.pip_command_contracts.specs.EndsBy.{Response}
 use Rattle.pip_command_contracts.specs.Planned.{lines_planned}
 use Rattle.pip_model.specs.Acts.{text_of}

@@ -7,7 +7,7 @@ use crate::compare::same;
 use crate::searches::root_with;
 use pip_away::{Blind, PageWord};
 use pip_base::Steps;
-use pip_hostile::looks_away;
+use pip_every::looks_away;
 use pip_switch::Machine;
 use std::alloc::{AllocError, Global};
 use std::marker::Brand;
