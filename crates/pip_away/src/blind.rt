@@ -1,14 +1,24 @@
 //! The words that are left out.
-ghost use Rattle.std.specs.Prelude.{◌≡◌, ◌+◌, ◌≤◌, ◌==◌, ◌&&◌, not};
+ghost use Rattle.std.specs.Prelude.{◌≡◌, ◌+◌, ◌≤◌, ◌==◌, ◌&&◌, [], not};
 ghost use Rattle.pip_outside.specs.Tests.{all_from};
 ghost use Rattle.pip_model.specs.Lists.{has};
 ghost use Rattle.pip_away.specs.Blind as defined;
-ghost use Rattle.pip_away.specs.Blind.{blind_of};
+ghost use Rattle.pip_away.specs.Blind.{blind_of, leaves_out, left_out};
 
+use arrayvec::ArrayVec;
 use pip_base::Frame;
 
+/// How many partitions may be named at most.
+pub const MAX_OWN: usize = 64;
+
+/// How many pages may have words that are left out at most.
+pub const MAX_FREE: usize = 256;
+
+/// How many words of them may be seen at most.
+pub const MAX_SEEN: usize = 256;
+
 /// A word of a page.
-#[derive(Clone, Copy)]
+#[derive(Clone, Copy, Default)]
 pub struct PageWord {
     pub page: u32,
     /// Below 1024.
@@ -19,12 +29,32 @@ pub struct PageWord {
 /// are seen.
 #[derive(Drop)]
 pub struct Blind {
-    pub own: Vec<u32>,
-    pub pages: Vec<u32>,
-    pub seen: Vec<PageWord>,
+    pub own: ArrayVec<u32, MAX_OWN>,
+    pub pages: ArrayVec<u32, MAX_FREE>,
+    pub seen: ArrayVec<PageWord, MAX_SEEN>,
 }
 
 impl Blind {
+    /// None, and no partition.
+    pub fn new() -> Blind
+        ensures own { result.own.items ≡ [] }
+        ensures pages { result.pages.items ≡ [] }
+        ensures seen { result.seen.items ≡ [] }
+    {
+        Blind {
+            own: ArrayVec::new(),
+            pages: ArrayVec::new(),
+            seen: ArrayVec::new(),
+        }
+    }
+
+    /// Whether it names a partition, a page or a word.
+    pub fn is_asked(&self) -> bool
+        ensures { result ≡ leaves_out (left_out self.now) }
+    {
+        !(self.own.is_empty() && self.pages.is_empty() && self.seen.is_empty())
+    }
+
     /// Whether a partition is one of these.
     pub(crate) fn is_own(&self, part: Frame) -> bool
         ensures { result ≡ has self.now.own.items part }

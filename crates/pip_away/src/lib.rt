@@ -17,7 +17,7 @@ mod lines;
 mod places;
 mod turns;
 
-pub use blind::{Blind, PageWord};
+pub use blind::{Blind, MAX_FREE, MAX_OWN, MAX_SEEN, PageWord};
 pub use confined::is_confined;
 pub use events::{
     call_looks_away, fetch_looks_away, load_answers, load_looks_away, poll_looks_away,

@@ -10,3 +10,4 @@ pub mod Usual
 pub mod Rekeyed
 pub mod Rebasing
 pub mod Saying
+pub mod OnStates

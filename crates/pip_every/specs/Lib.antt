@@ -7,3 +7,4 @@ pub mod Laws
 pub mod Explored
 pub mod Again
 pub mod Comes
+pub mod Away

@@ -3,4 +3,3 @@ pub mod Choosing
 pub mod Listed
 pub mod Keeping
 pub mod Testing
-pub mod OnStates

@@ -10,7 +10,8 @@ use Rattle.pip_every.specs.declared.menus.Deed.{Deed}
 use Rattle.pip_every.specs.declared.menus.Deed.TheVariants as D
 use Rattle.pip_every.specs.declared.menus.May.{May}
 use Rattle.pip_hostile.specs.Hostile.{DeedAnswers}
-use Rattle.pip_hostile.specs.Tests as H
+use Rattle.pip_every.specs.Away as H
+use Rattle.pip_hostile.specs.Tests.{IsPassed, TestsPass}
 use Rattle.pip_outside.specs.Tests as T
 use Rattle.pip_outside.proofs.Testing.{all_read, both, confined, not_both, off, one, reads}
 use Rattle.pip_model.specs.Acts.{events_made}
@@ -70,10 +71,10 @@ module _ (own : List ℕ) (blind : ℕ → ℕ → Bool) (g : Menu) (w : World) 
 
   hostile_passes : hostile ≡ true → (T.reads_outside own blind w (E.Poll cpu)
       && ((not (H.is_vain (event w (E.Poll cpu)).outcome) || H.deeds_read_outside own blind w cpu g.may)
-      && T.if_one_runs (runs_on w cpu) (T.is_confined own w.tree))) ≡ true → H.IsPassed own blind g w cpu
+      && T.if_one_runs (runs_on w cpu) (T.is_confined own w.tree))) ≡ true → IsPassed own blind g w cpu
   hostile_passes q e = by (runs_on w cpu) refl
     where
-      by : (o : Option Occupant) → runs_on w cpu ≡ o → H.IsPassed own blind g w cpu
+      by : (o : Option Occupant) → runs_on w cpu ≡ o → IsPassed own blind g w cpu
       by None k = absurd (nobody_hostile w.tree.root.name g.may
           (sym (ap (λ o. is_hostile w.tree.root.name (option_map (λ r. r.name) o) g.may) k) ∙ q))
       by (Some r) k =
@@ -96,7 +97,7 @@ module _ (own : List ℕ) (blind : ℕ → ℕ → Bool) (g : Menu) (w : World) 
           }
 
   outside_passes : hostile ≡ false → T.all_read_outside own blind w (events_made (turn w cpu 0)) ≡ true
-      → H.IsPassed own blind g w cpu
+      → IsPassed own blind g w cpu
   outside_passes q e = record {
     away = record {
       turn = λ f. all_read own blind (events_made (turn w cpu 0)) w e;
@@ -106,12 +107,12 @@ module _ (own : List ℕ) (blind : ℕ → ℕ → Bool) (g : Menu) (w : World) 
     confined = λ p named h. absurd (not_both _ q h);
   }
 
-pub tests_pass : H.TestsPass
+pub tests_pass : TestsPass
 tests_pass own blind g w cpu s e = by (hostile own blind g w cpu s) refl e
   where
     by : (b : Bool) → hostile own blind g w cpu s ≡ b → cond b (T.reads_outside own blind w (E.Poll cpu)
         && ((not (H.is_vain (event w (E.Poll cpu)).outcome) || H.deeds_read_outside own blind w cpu g.may)
         && T.if_one_runs (runs_on w cpu) (T.is_confined own w.tree)))
-        (T.all_read_outside own blind w (events_made (turn w cpu 0))) ≡ true → H.IsPassed own blind g w cpu
+        (T.all_read_outside own blind w (events_made (turn w cpu 0))) ≡ true → IsPassed own blind g w cpu
     by true q e = hostile_passes own blind g w cpu s q e
     by false q e = outside_passes own blind g w cpu s q e

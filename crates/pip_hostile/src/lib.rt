@@ -1,16 +1,12 @@
-//! A search with a menu, and partitions whose programs do nothing outside but what is on it: laws, and the test of a
-//! state by which a search says that it looks away. On a machine [`looks_away`] is exactly this test (specs/Tests).
+//! A search with a menu, and partitions whose programs do nothing outside but what is on it: laws, and what follows from
+//! the test of a state by which a search says that it looks away.
 #![tactic(auto)]
-
-mod away;
 
 ghost use Rattle.pip_hostile.specs.Hostile.{CallsAreOnMenu, ConfinedKeepsToMenu, FetchFaultsAreOnMenu};
 ghost use Rattle.pip_hostile.specs.Hostile.{LoadFaultsAreOnMenu, MasksReadNone, StoreFaultsAreOnMenu};
 ghost use Rattle.pip_hostile.specs.Hostile.{TrapsAreOnMenu, TurnsHaveChoices, UntakenAreOnMenu, YieldsAreOnMenu};
 ghost use Rattle.pip_hostile.specs.Hostile.{YieldsReadThree};
 ghost use Rattle.pip_hostile.specs.Tests.{TestsPass};
-
-pub use away::looks_away;
 
 /// Each turn of a world has a choice at a moment that looks like this world: it shows the same, or the turn stays
 /// inside a partition of the menu.

@@ -27,6 +27,7 @@ pub mod Following
 pub mod Answered
 pub mod Spreading
 pub mod Looking
+pub mod Placing
 pub mod Lost
 pub mod Falling
 pub mod Looping

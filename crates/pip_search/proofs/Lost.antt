@@ -1,26 +1,17 @@
 -- From marks that are spread against the edges of visits to what can come again.
-use Rattle.std.proofs.Common.{◌≡◌, ℕ, zero, suc, ◌+◌, ◌*◌, ◌/◌, ◌%◌, ◌<◌, ◌≤◌, inl, inr, Bool, true, false, List, []}
+use Rattle.std.proofs.Common.{◌≡◌, ℕ, zero, suc, ◌+◌, ◌*◌, ◌/◌, ◌%◌, ◌<◌, ◌≤◌, Bool, true, false, List, []}
 use Rattle.std.proofs.Common.{◌∷◌, ◌++◌, length, Some, slice_get, slice_index, refl, ap, sym, subst, ◌∙◌, arith}
-use Rattle.std.proofs.lemmas.Bool.{cases_eq, cases_lt}
 use Rattle.std.proofs.lemmas.Nat.{div-mul-add, mod-mul-add, mul-add-lt}
 use Rattle.std.specs.List.{AllByRecursion}
 use Rattle.pip_search.specs.Again.{AreEdges, AreFlags, CanComeAgain, CanStillCome, HasClosed, IsEdge, IsLost}
 use Rattle.pip_search.specs.Graphs.{AreFollowed, IsMarked, LeadsToMarked, place_after}
-use Rattle.pip_search.specs.Keys.{Keyed, key_of, step_of, steps_of, visits_of}
-use Rattle.pip_search.specs.Orders.{IsBefore, IsNoLater, IsTrail}
-use Rattle.pip_search.specs.Reached.{AreChoices, Tells}
+use Rattle.pip_search.specs.Keys.{Keyed, key_of, visits_of}
 use Rattle.pip_search.specs.Summary.{IsShownOn}
 use Rattle.pip_search.specs.Systems.{Model, after_choices}
 use Rattle.pip_search.specs.Ways.{way_to}
 use Rattle.pip_search.specs.declared.searching.Search.{Search}
-use Rattle.pip_search.specs.declared.searching.Extent.TheVariants.{Closed}
 use Rattle.pip_search.proofs.Places.{get-below, get-some}
-use Rattle.pip_search.proofs.Ranking.{before_trans, trail_before, trail_same}
-use Rattle.pip_search.proofs.Telling.{closed_tells}
-use Rattle.pip_search.proofs.Traced.{are_traced}
-use Rattle.pip_search.proofs.Tracing.{way_trail}
-use Rattle.pip_search.proofs.Picking.{map_at}
-use Rattle.pip_search.proofs.Steps.{visit_count}
+use Rattle.pip_search.proofs.Placing.{none_before, way_there, wherever}
 
 -- ---- a choice before others
 
@@ -156,55 +147,21 @@ module _ (m : Model) (start : List ℕ) (z : Search) (h : HasClosed m start z) (
   abbrev vs : List Keyed
   vs = visits_of z
 
-  tells_all : Tells m x vs z.found.items (Closed 0)
-  tells_all = closed_tells m start vs z.found.items h.end 0 h.searching.exploring h.searching.ranked
-      (let n = visit_count z h.searching.keyed in let all = h.all in omega arith) 0 x stands
-
   -- all are marked
   pub comes_again : ((j : ℕ) → j < length marks → IsMarked marks j) → CanComeAgain m width x label
-  comes_again all cs can =
-      let t = tells_all in
-      let v = t.all cs can tt in
-      let inside : v.place < length vs = get-below vs v.place v.visit v.at in
-      lasts v.place v.visit (after_choices m x cs) v.at v.stands (all v.place (omega (arith, inside, rows)))
+  comes_again all = wherever m start z h x stands (λ s. CanStillCome m width s label) (λ j u s at own.
+      lasts j u s at own (all j (let inside = get-below vs j u at in omega (arith, inside, rows))))
 
   -- this one isn't, and all before it are
   pub is_lost : (j : ℕ) → slice_get marks j ≡ Some false → ((k : ℕ) → k < j → IsMarked marks k)
-      → IsLost m width x label (way_to (steps_of vs) j)
+      → IsLost m width x label (way_to z.visits.items j)
   is_lost j none before =
-      let t = tells_all in
       let low : j < length marks = get-below marks j false none in
       let (u, at) = get-some vs j (omega (arith, low, rows)) in
-      let r = t.reached j u at in
-      let traced = are_traced m start vs z.found.items h.end 0 h.searching.exploring in
-      let trail = (way_trail (steps_of vs) z.found.items traced (suc j) j (step_of u) (omega arith)
-      (map_at step_of vs j u at)).0 in
-      let same : r.choices ≡ way_to (steps_of vs) j = trail_same (steps_of vs) r.choices (way_to (steps_of vs) j) j
-      r.trail trail in
+      let (can, own) = way_there m start z h x stands j u at in
       record {
-        can = subst (AreChoices m) same r.can;
-        lost = subst (λ cs. CanStillCome m width (after_choices m x cs) label → ⊥) same
-            (ends j u (after_choices m x r.choices) at r.stands none);
-        first = λ cs can lost.
-            let v = t.all cs can tt in
-            later v.place v.way cs trail v.trail v.first (elim (cases_lt v.place j) [
-              | inl less ↦ absurd (lost (lasts v.place v.visit (after_choices m x cs) v.at v.stands
-                  (before v.place less)))
-              | inr most ↦ most
-            ]);
+        can = can;
+        lost = ends j u (after_choices m x (way_to z.visits.items j)) at own none;
+        first = none_before m start z h x stands j u at (λ s. CanStillCome m width s label)
+            (λ k v s less there is. lasts k v s there is (before k less));
       }
-    where
-      later : (k : ℕ) (way cs : List ℕ) → IsTrail (steps_of vs) j (way_to (steps_of vs) j)
-          → IsTrail (steps_of vs) k way → IsNoLater way cs → j ≤ k → IsNoLater (way_to (steps_of vs) j) cs
-      later k way cs own other first le = elim (cases_eq j k) [
-        | inl same ↦ subst (λ ds. IsNoLater ds cs)
-            (trail_same (steps_of vs) way (way_to (steps_of vs) j) j
-            (subst (λ i. IsTrail (steps_of vs) i way) (sym same) other) own) first
-        | inr far ↦
-            let b = trail_before (steps_of vs) z.found.items h.end 0 h.searching.ranked (way_to (steps_of vs) j) way j
-            k (omega arith) own other in
-            elim first [
-              | inl e ↦ inr (subst (λ ds. IsBefore (way_to (steps_of vs) j) ds) e b)
-              | inr f ↦ inr (before_trans (way_to (steps_of vs) j) way cs b f)
-            ]
-      ]

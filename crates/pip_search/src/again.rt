@@ -14,7 +14,7 @@ use crate::graph::spread;
 use crate::hashes::hash_bytes;
 use crate::index::Index;
 use crate::names::{find, is_same};
-use crate::packing::{pack, unpack};
+use crate::packing::pack;
 use crate::searching::{Buffers, Search};
 use crate::system::System;
 use std::alloc::{AllocError, Global};
@@ -90,8 +90,7 @@ fn look_around<S: System>(
     ensures count { IfOk result (λ _. length edges.new.hashes.items ≡ (i + 1) * width) }
     ensures base { S.base system.new ≡ S.base system.old }
 {
-    search.store.read(i, &mut buffers.bytes)?;
-    unpack(&buffers.bytes, &mut buffers.from)?;
+    search.read_key(i, &mut buffers.bytes, &mut buffers.from)?;
     let mut shows = false;
     for choice in 0..width {
         let (to, shown) = look(search, system, start, buffers, label, i, choice)?;

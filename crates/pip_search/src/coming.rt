@@ -11,7 +11,6 @@ ghost use Rattle.pip_search.specs.Summary.{HasOneKey};
 ghost use Rattle.pip_search.specs.Systems.{IsKey};
 
 use crate::again::look;
-use crate::packing::unpack;
 use crate::ranks::{Ranks, rank};
 use crate::searching::{Buffers, Search};
 use crate::system::System;
@@ -69,8 +68,7 @@ fn cut_around<S: System>(
     ensures count { IfOk result (λ _. length targets.new.items ≡ (i + 1) * (S.model (S.base system.old)).choices) }
     ensures base { S.base system.new ≡ S.base system.old }
 {
-    search.store.read(i, &mut buffers.bytes)?;
-    unpack(&buffers.bytes, &mut buffers.from)?;
+    search.read_key(i, &mut buffers.bytes, &mut buffers.from)?;
     let count = system.count();
     for choice in 0..count {
         let (to, shown) = look(search, system, start, buffers, label, i, choice)?;

@@ -56,6 +56,25 @@ pub struct Search {
     pub(crate) labels: HashTable,
 }
 
+impl Search {
+    /// Makes `key` the words of the key of the visit at a place. `bytes` is room for its bytes. The only error is that
+    /// memory is out.
+    pub fn read_key(
+        &self,
+        place: usize,
+        bytes: &mut Vec<u8>,
+        key: &mut Vec<u32>,
+    ) -> Result<(), AllocError>
+        requires keyed { HaveKeys self.now.visits.items self.now.store self.now.keys }
+        requires place { place < length self.now.visits.items }
+        ensures { IfOk result (λ _. IsAtHand (visits_of self.now) place key.new.items) }
+    {
+        self.store.read(place, bytes)?;
+        unpack(bytes, key)?;
+        Ok(())
+    }
+}
+
 /// Buffers that each choice uses again: the words of the key from which it is made, those of the next key, its bytes,
 /// and what was shown.
 #[derive(Drop)]
@@ -205,8 +224,7 @@ fn expand<S: System>(
     ensures room { IfOk result (λ x. vec_len search.new.visits ≤ limit) }
     ensures base { S.base system.new ≡ S.base system.old }
 {
-    search.store.read(i as usize, &mut buffers.bytes)?;
-    unpack(&buffers.bytes, &mut buffers.from)?;
+    search.read_key(i as usize, &mut buffers.bytes, &mut buffers.from)?;
     let count = system.count();
     for choice in 0..count {
         let room = make(search, system, alloc, start, buffers, i, choice, limit)?;

@@ -7,7 +7,7 @@ use crate::compare::same;
 use crate::searches::root_with;
 use pip_away::{Blind, PageWord};
 use pip_base::Steps;
-use pip_hostile::looks_away;
+use pip_every::looks_away;
 use pip_switch::Machine;
 use std::alloc::{AllocError, Global};
 use std::marker::Brand;
@@ -46,13 +46,9 @@ fn check(
     wanted: bool,
     of: &str,
 ) -> Result<(), Fail> {
-    let mut blind = Blind {
-        own: Vec::new(rt.alloc()),
-        pages: Vec::new(rt.alloc()),
-        seen: Vec::new(rt.alloc()),
-    };
-    blind.pages.push(page)?;
-    blind.seen.push(PageWord { page, index: seen })?;
+    let mut blind = Blind::new();
+    blind.pages.try_push(page)?;
+    blind.seen.try_push(PageWord { page, index: seen })?;
     let away = passes_once(rt.alloc(), &[0], &blind)?;
     same(rt, away, wanted, of);
     Ok(())

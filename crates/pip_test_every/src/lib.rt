@@ -1,4 +1,4 @@
-//! Tests of pip_every, pip_journal and pip_hostile: searches of roots whose states are known beforehand, changes of
+//! Tests of pip_every and pip_journal: searches of roots whose states are known beforehand, changes of
 //! frames, and roots that read a word that is left out.
 #![tactic(auto)]
 

@@ -1,4 +1,4 @@
-use Rattle.std.proofs.Common.{◌∙◌, ◌+◌, arith, subst, sym, true}
+use Rattle.std.proofs.Common.{◌∙◌, ◌+◌, arith, subst, sym}
 use Rattle.pip_kern.proofs.Climb.{part_node}
 use Rattle.pip_kern.specs.Tested.{is_writable}
 use Rattle.pip_model.specs.FullRows.{full_rows}

@@ -5,10 +5,8 @@ use Rattle.std.proofs.lemmas.Bool.{cases_lt}
 use Rattle.std.proofs.lemmas.Option.{slice_get_read}
 use Rattle.pip_search.specs.Graphs.{IsMarked}
 use Rattle.pip_search.specs.Keys.{visits_of}
-use Rattle.pip_search.specs.Again.{IsLost}
-use Rattle.pip_search.specs.Ways.{way_to}
 use Rattle.pip_search.proofs.Lost.{comes_again, is_lost, marked_comes, unmarked_lost}
-use Rattle.pip_search.proofs.Steps.{all_steps, visit_count}
+use Rattle.pip_search.proofs.Steps.{visit_count}
 use Rattle.pip_search.proofs.again.come_again.Goals as goal
 
 pub loop-place-preserved : goal.loop-place-preserved
@@ -51,13 +49,12 @@ returns-then-not-index-clause-again g c = λ x stands.
     ) in
     let none : slice_get marks c.loop-place.place ≡ Some false = slice_get_read marks (length marks)
     c.loop-place.place false refl inside (search rules) in
-    subst (λ ws. IsLost m width x label (way_to ws c.loop-place.place)) (all_steps z c.requires.closed.searching.keyed)
-    (is_lost m c.args.start.now z c.requires.closed label width marks rows
+    is_lost m c.args.start.now z c.requires.closed label width marks rows
     (marked_comes m vs label width c.requires.width targets flags marks e.edges e.flags count places rows
     s.sound s.keeps s.closed)
     (unmarked_lost m vs label width c.requires.width targets flags marks e.edges e.flags count places rows
     s.sound s.keeps s.closed)
-    x stands c.loop-place.place none c.loop-place.invariant)
+    x stands c.loop-place.place none c.loop-place.invariant
 
 pub returns-clause-again : goal.returns-clause-again
 returns-clause-again g c = λ x stands.

@@ -1,4 +1,4 @@
-use Rattle.std.proofs.Common.{rules, ◌≡◌, ◌+◌, Some, length, length-append}
+use Rattle.std.proofs.Common.{rules, ◌≡◌, ◌+◌, length, length-append}
 use Rattle.std.proofs.Common.{[], ◌∷◌, ◌++◌, refl, ap, sym, subst, ◌∙◌, arith}
 use Rattle.pip_search.specs.Again.{AreEdges, IsEdge, IsShownAmong, ShowsAt, ShowsOther}
 use Rattle.pip_search.specs.Keys.{key_of, visits_of}
@@ -6,7 +6,7 @@ use Rattle.pip_search.specs.Summary.{HasOneKey}
 use Rattle.pip_search.specs.Systems.{IsKey}
 use Rattle.pip_search.proofs.Looking.{among_other, among_shown, edges_more}
 use Rattle.pip_search.proofs.Places.{get-some}
-use Rattle.pip_search.proofs.Steps.{at_hand, visit_count}
+use Rattle.pip_search.proofs.Steps.{visit_count}
 use Rattle.pip_search.proofs.again.look_around.Goals as goal
 use Rattle.pip_search.proofs.again.look_around.Goals.{else-shown, then-shown}
 
@@ -21,9 +21,7 @@ look-requires-clause-one g c = subst (λ b. HasOneKey (g.S.System.model b)) (sym
 pub loop-choice-init : goal.loop-choice-init
 loop-choice-init g c = record {
   base = refl;
-  hand = at_hand c.args.search.now c.args.i c.deref.result.now c.unpack.new.key.items
-      (c.in_ok-read.ensures ∙ ap Some (sym c.deref.ensures.value))
-      c.in_ok-unpack.ensures;
+  hand = c.in_ok-read_key.ensures;
   filed = c.requires.filed;
   edges = c.requires.edges;
   count = omega (arith, c.requires.count);

@@ -1,4 +1,4 @@
-use Rattle.std.proofs.Common.{◌≡◌, ◌+◌, ◌<◌, length, length-append, Some}
+use Rattle.std.proofs.Common.{◌≡◌, ◌+◌, ◌<◌, length, length-append}
 use Rattle.std.proofs.Common.{[], ◌∷◌, ◌++◌, refl, ap, sym, subst, ◌∙◌, arith}
 use Rattle.pip_search.specs.Comes.{AreCutEdges, IsCutEdge}
 use Rattle.pip_search.specs.Keys.{key_of, visits_of}
@@ -6,7 +6,7 @@ use Rattle.pip_search.specs.Summary.{HasOneKey}
 use Rattle.pip_search.specs.Systems.{IsKey}
 use Rattle.pip_search.proofs.Looping.{cut_is, cut_more}
 use Rattle.pip_search.proofs.Places.{get-some}
-use Rattle.pip_search.proofs.Steps.{at_hand, visit_count}
+use Rattle.pip_search.proofs.Steps.{visit_count}
 use Rattle.pip_search.proofs.coming.cut_around.Goals as goal
 
 pub look-requires-clause-key : goal.look-requires-clause-key
@@ -24,9 +24,7 @@ look-requires-clause-choice g c = subst (λ b. c.loop-choice.choice < (g.S.Syste
 pub loop-choice-init : goal.loop-choice-init
 loop-choice-init g c = record {
   base = refl;
-  hand = at_hand c.args.search.now c.args.i c.deref.result.now c.unpack.new.key.items
-      (c.in_ok-read.ensures ∙ ap Some (sym c.deref.ensures.value))
-      c.in_ok-unpack.ensures;
+  hand = c.in_ok-read_key.ensures;
   cut = c.requires.cut;
   count = omega (arith, c.requires.count);
 }

@@ -1,10 +1,10 @@
-use Rattle.std.proofs.Common.{◌≡◌, ◌∙◌, ◌<◌, Some, ap, arith, refl, sym, subst, length, false}
+use Rattle.std.proofs.Common.{◌≡◌, ◌<◌, arith, refl, sym, subst, length, false}
 use Rattle.pip_search.specs.Ending.{IsBeyond}
 use Rattle.pip_search.specs.Systems.{IsKey}
 use Rattle.pip_search.specs.Keys.{steps_of, visits_of}
 use Rattle.pip_search.proofs.Ranking.{ranked_next}
 use Rattle.pip_search.proofs.Telling.{next_visit}
-use Rattle.pip_search.proofs.Steps.{at_hand, visit_count}
+use Rattle.pip_search.proofs.Steps.{visit_count}
 use Rattle.pip_search.proofs.searching.expand.Goals as goal
 
 pub make-requires-clause-key : goal.make-requires-clause-key
@@ -15,9 +15,7 @@ pub loop-choice-init : goal.loop-choice-init
 loop-choice-init g c = record {
   base = refl;
   searching = c.requires.searching;
-  hand = at_hand c.args.search.now c.args.i c.deref.result.now c.unpack.new.key.items
-      (c.in_ok-read.ensures ∙ ap Some (sym c.deref.ensures.value))
-      c.in_ok-unpack.ensures;
+  hand = c.in_ok-read_key.ensures;
   same = refl;
   grows = omega arith;
   room = c.requires.room;

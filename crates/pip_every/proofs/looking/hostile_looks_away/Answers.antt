@@ -1,8 +1,8 @@
 use Rattle.std.proofs.Common.{◌∙◌, ap, not, sym}
 use Rattle.pip_away.specs.Blind.{blind_of}
-use Rattle.pip_hostile.specs.Tests.{is_vain}
-use Rattle.pip_hostile.proofs.OnStates.{by_deeds, by_poll, large, not_done, poll_off}
-use Rattle.pip_hostile.proofs.away.hostile_looks_away.Goals as goal
+use Rattle.pip_every.specs.Away.{is_vain}
+use Rattle.pip_every.proofs.OnStates.{by_deeds, by_poll, large, not_done, poll_off}
+use Rattle.pip_every.proofs.looking.hostile_looks_away.Goals as goal
 
 pub returns-then-not-poll_looks_away-clause-away : goal.returns-then-not-poll_looks_away-clause-away
 returns-then-not-poll_looks_away-clause-away g c w s =

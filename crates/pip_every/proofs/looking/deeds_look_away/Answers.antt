@@ -1,9 +1,9 @@
 use Rattle.std.proofs.Common.{◌∙◌, ap, arith, sym}
 use Rattle.std.proofs.lemmas.Option.{slice_get-get_or}
 use Rattle.pip_away.specs.Blind.{blind_of}
-use Rattle.pip_hostile.specs.Tests.{deeds_read_outside}
-use Rattle.pip_hostile.proofs.OnStates.{deed_passes, deed_reads, drop_all}
-use Rattle.pip_hostile.proofs.away.deeds_look_away.Goals as goal
+use Rattle.pip_every.specs.Away.{deeds_read_outside}
+use Rattle.pip_every.proofs.OnStates.{deed_passes, deed_reads, drop_all}
+use Rattle.pip_every.proofs.looking.deeds_look_away.Goals as goal
 
 pub returns-then-not-may_looks_away : goal.returns-then-not-may_looks_away
 returns-then-not-may_looks_away g c w s =

@@ -1,7 +1,7 @@
 use Rattle.std.proofs.Common.{◌∙◌, ap, sym}
 use Rattle.pip_away.specs.Blind.{blind_of}
-use Rattle.pip_hostile.proofs.OnStates.{deed_is, load_answered, load_faults}
-use Rattle.pip_hostile.proofs.away.deed_looks_away.Goals as goal
+use Rattle.pip_every.proofs.OnStates.{deed_is, load_answered, load_faults}
+use Rattle.pip_every.proofs.looking.deed_looks_away.Goals as goal
 
 pub returns-then-load_answers : goal.returns-then-load_answers
 returns-then-load_answers g c w s = load_answered c.args.blind.now.own.items (blind_of c.args.blind.now) w

@@ -1,45 +1,24 @@
 //! The test of a state, on a machine that stands there.
 ghost use Rattle.std.specs.Prelude.{◌≡◌, ◌<◌, ◌||◌, ℕ, not, length};
-ghost use Rattle.pip_every.specs.Menus as menus;
 ghost use Rattle.pip_every.specs.Menus.{Menu, deed_event, is_its, name_on};
 ghost use Rattle.pip_model.specs.Events as E;
 ghost use Rattle.pip_model.specs.Worlds.{World};
 ghost use Rattle.pip_outside.specs.Tests.{reads_outside};
 ghost use Rattle.pip_switch.specs.Standing.{StandsAs};
 ghost use Rattle.pip_away.specs.Blind.{blind_of};
-ghost use Rattle.pip_hostile.specs.Tests as tests;
-ghost use Rattle.pip_hostile.specs.Tests.{deed_answers, deeds_read_outside};
+ghost use Rattle.pip_every.specs.Away as tests;
+ghost use Rattle.pip_every.specs.Away.{deed_answers, deeds_read_outside};
 
+use crate::menus::{Deed, May, is_hostile, is_its};
 use pip_away::{
     Blind, call_looks_away, is_confined, load_answers, load_looks_away, poll_looks_away,
     store_looks_away, trap_looks_away, turn_looks_away,
 };
-use pip_base::{Frame, Outcome, Size, Steps};
-use pip_every::{Deed, May};
+use pip_base::{Outcome, Size, Steps};
 use pip_frames::Frames;
-use pip_model::{Port, ROOT};
+use pip_model::Port;
 use pip_switch::Machine;
 use std::sync::ledger::Ledger;
-
-// Whether a line of a menu is of the partition that runs, if one does.
-fn is_its(runs: Option<Frame>, may: &May) -> bool
-    ensures { result ≡ menus.is_its 1 runs may.now }
-{
-    match runs {
-        None => false,
-        Some(part) => match may.name {
-            Some(name) => part.number() == name,
-            None => part.number() != ROOT,
-        },
-    }
-}
-
-// Whether some line of a menu is.
-fn is_hostile(runs: Option<Frame>, menu: &[May]) -> bool
-    ensures { result ≡ menus.is_hostile 1 runs menu.now }
-{
-    menu.iter().any(|may| is_its(runs, may))
-}
 
 // Whether a trap of what runs on a processor reads no word that is left out.
 fn vector_looks_away<M: Frames, L: Ledger>(
@@ -102,7 +81,7 @@ fn may_looks_away<M: Frames, L: Ledger>(
         || (deed_answers w cpu may.now.deed
         || reads_outside blind.now.own.items (blind_of blind.now) w (deed_event cpu may.now.deed))) }
 {
-    !is_its(machine.runs(cpu), may) || deed_looks_away(machine, blind, cpu, &may.deed, steps)
+    !is_its(&machine.runs(cpu), may) || deed_looks_away(machine, blind, cpu, &may.deed, steps)
 }
 
 // Whether each deed of what runs on a processor does.
@@ -171,7 +150,7 @@ pub fn looks_away<M: Frames, L: Ledger>(
         result ≡ tests.looks_away blind.now.own.items (blind_of blind.now) g w cpu }
     ensures count { length machine.new.cpus ≡ length machine.old.cpus }
 {
-    if is_hostile(machine.runs(cpu), menu) {
+    if is_hostile(&machine.runs(cpu), menu) {
         return hostile_looks_away(machine, blind, menu, cpu, steps);
     }
     turn_looks_away(machine, blind, cpu, steps)

@@ -5,9 +5,9 @@ use Rattle.pip_model.specs.Acts.{events_made}
 use Rattle.pip_model.specs.Turn.{turn}
 use Rattle.pip_outside.specs.Tests.{all_read_outside}
 use Rattle.pip_away.specs.Blind.{blind_of}
-use Rattle.pip_hostile.specs.Tests as tests
-use Rattle.pip_hostile.proofs.OnStates.{hostile_here}
-use Rattle.pip_hostile.proofs.away.looks_away.Goals as goal
+use Rattle.pip_every.specs.Away as tests
+use Rattle.pip_every.proofs.OnStates.{hostile_here}
+use Rattle.pip_every.proofs.looking.looks_away.Goals as goal
 
 pub returns-then-is_hostile-clause-away : goal.returns-then-is_hostile-clause-away
 returns-then-is_hostile-clause-away g c w m s same = c.hostile_looks_away.ensures.away w s

@@ -1,10 +1,10 @@
 use Rattle.std.proofs.Common.{◌∙◌, ◌||◌, ap, not, sym}
 use Rattle.pip_every.specs.Menus.{deed_event}
-use Rattle.pip_hostile.specs.Tests.{deed_answers}
+use Rattle.pip_every.specs.Away.{deed_answers}
 use Rattle.pip_outside.specs.Tests.{reads_outside}
 use Rattle.pip_away.specs.Blind.{blind_of}
-use Rattle.pip_hostile.proofs.OnStates.{its_here}
-use Rattle.pip_hostile.proofs.away.may_looks_away.Goals as goal
+use Rattle.pip_every.proofs.OnStates.{its_here}
+use Rattle.pip_every.proofs.looking.may_looks_away.Goals as goal
 
 pub returns-then-not-is_its : goal.returns-then-not-is_its
 returns-then-not-is_its g c w s = ap not c.if-not-is_its.true ∙ sym (ap (λ b. not b || (deed_answers w c.args.cpu

@@ -2,8 +2,8 @@ use Rattle.std.proofs.Common.{◌≡◌, drop}
 use Rattle.pip_model.specs.Worlds.{World}
 use Rattle.pip_switch.specs.Standing.{StandsAs}
 use Rattle.pip_away.specs.Blind.{blind_of}
-use Rattle.pip_hostile.specs.Tests.{deeds_read_outside}
-use Rattle.pip_hostile.proofs.away.deeds_look_away.Given as goal
+use Rattle.pip_every.specs.Away.{deeds_read_outside}
+use Rattle.pip_every.proofs.looking.deeds_look_away.Given as goal
 
 -- those after the deeds that were looked at decide
 abbrev pub invariant-loop-k : goal.invariant-loop-k
