@@ -1,5 +1,8 @@
 -- What a search of an image says of every program.
-use Rattle.std.proofs.Common.{◌≡◌, ℕ, ◌≤◌, List, [], length, sym, ap, subst, arith}
+use Rattle.std.proofs.Common.{◌≡◌, ◌∙◌, ℕ, zero, suc, ◌<◌, ◌≤◌, List, [], ◌∷◌, Option, Some, None, length, sym, ap}
+use Rattle.std.proofs.Common.{Bool, arith, refl, slice_get, subst}
+use Rattle.std.specs.Prelude.{option_map, unwrap_or}
+use Rattle.pip_away.specs.Blind.{LeftOut, is_left_out}
 use Rattle.pip_any.specs.Programs.{AreNamedTurns, EachTurn, HostileExits}
 use Rattle.pip_any.proofs.Beginning.{images_look_alike}
 use Rattle.pip_any.proofs.Naming.{confined_programs_are_named}
@@ -7,15 +10,28 @@ use Rattle.pip_model.specs.Acts.{after_acts, text_of}
 use Rattle.pip_model.specs.Images.{Image}
 use Rattle.pip_model.specs.Run.{image_world, steps}
 use Rattle.pip_model.specs.Worlds.{World}
+use Rattle.pip_model.specs.declared.processors.Occupant.{Occupant}
 use Rattle.pip_outside.specs.Outside.{Alike}
-use Rattle.pip_every.specs.Menus.{menu_model}
+use Rattle.pip_base.specs.Memory.{Memory}
+use Rattle.pip_command_contracts.specs.EndsBy.{Response, plainly}
+use Rattle.pip_every.specs.Away.{IsAwaySaid}
+use Rattle.pip_every.specs.Menus.{Menu, menu_model, name_on}
+use Rattle.pip_every.specs.Moments.{Moment}
+use Rattle.pip_every.specs.declared.away.Away.TheVariants.{Yes}
 use Rattle.pip_hostile.specs.Tests.{IsPassed}
 use Rattle.pip_hostile.proofs.Testing.{tests_pass}
 use Rattle.pip_search.specs.Reached.{AreChoices, IsCovered}
+use Rattle.pip_search.specs.Summary.{IsAmong}
 use Rattle.pip_search.specs.Systems.{after_choices}
-use Rattle.pip_search_commands.specs.SearchDues.{begun_moment, begun_world, image_menu, most_choices}
+use Rattle.pip_search.specs.declared.searching.Extent.{Extent}
+use Rattle.pip_search.specs.declared.searching.Extent.TheVariants.{Closed, Stopped, Within}
+use Rattle.pip_search_commands.specs.MenuText.{MenuSaid}
+use Rattle.pip_search_commands.specs.SearchDues.{IsSearchedAgainst, begun_moment, begun_world, image_menu}
+use Rattle.pip_search_commands.specs.SearchDues.{most_choices}
 use Rattle.pip_search_commands.specs.declared.start.Start.{Start}
-use Rattle.pip_any.specs.AnyProgram.{AnyProgramFromStart, AnyProgramIsNamed, TestedNamesAnyProgram}
+use Rattle.pip_search_commands.proofs.TextNames.{ends_away}
+use Rattle.pip_any.specs.AnyProgram.{AnyProgramFromStart, AnyProgramIsNamed, AwayTextsNamePrograms, SearchPasses}
+use Rattle.pip_any.specs.AnyProgram.{TestedNamesAnyProgram}
 
 pub any_program_is_named : AnyProgramIsNamed
 any_program_is_named own blind menu states from depth most start i j v s closed cpus away fits alike plans seed n are
@@ -44,19 +60,68 @@ any_program_from_start own blind menu states from depth most start i j v s close
     (images_look_alike own blind j i frames cpus words)))
     plans seed n are exits
 
+module _ (own : List ℕ) (blind : ℕ → ℕ → Bool) (menu : MenuSaid) (states from depth : ℕ) (most : Option ℕ)
+    (start : Start) (i : Image) (v : Response) (s : IsSearchedAgainst menu states from most start i v)
+    (closed : s.verdict ≡ Closed depth) where
+  abbrev g : Menu
+  g = image_menu i from menu.may
+
+  abbrev at : List ℕ → World
+  at cs = (after_choices (menu_model s.first g) (begun_moment i start) cs).world
+
+  stands : (cs : List ℕ) → AreChoices (menu_model s.first g) cs
+      → IsAmong (menu_model s.first g) s.told.keys (after_choices (menu_model s.first g) (begun_moment i start) cs)
+  stands cs can = s.told.counted.all cs can (subst (λ d. IsCovered d (length cs)) (sym closed) tt)
+
+  -- what runs somewhere does so on one of the processors
+  there : (cs : List ℕ) (c p : ℕ) → AreChoices (menu_model s.first g) cs → name_on (at cs) c ≡ Some p → c < i.cpus
+  there cs c p can named =
+      let count = (stands cs can).stands.cpus in
+      let less : c < length (at cs).cpus = within (at cs).cpus c p named in omega (arith, count, less)
+    where
+      within : (os : List (Option Occupant)) (c p : ℕ)
+          → option_map (λ r. r.name) (unwrap_or (slice_get os c) None) ≡ Some p → c < length os
+      within [] c p e = cc
+      within (o ∷ os) zero p e = omega arith
+      within (o ∷ os) (suc c) p e = let less = within os c p e in omega (arith, less)
+
+  passed : SearchPasses own blind s.first g (begun_moment i start) → (cs : List ℕ) (c : ℕ)
+      → AreChoices (menu_model s.first g) cs → c < i.cpus → IsPassed own blind g (at cs) c
+  passed pass cs c can less =
+      tests_pass own blind g (at cs) c (stands cs can).stands.stands.sound (pass cs c can less)
+
 pub tested_names_any_program : TestedNamesAnyProgram
 tested_names_any_program own blind menu states from depth most start i j v s closed cpus pass a plans seed n are exits
     =
     any_program_is_named own blind menu states from depth most start i j v s closed cpus
-    (λ cs c can lt. (passed cs c can).away) (λ cs c p can named h. (passed cs c can).confined p named h)
-    a plans seed n
-    are exits
-  where
-    passed : (cs : List ℕ) (c : ℕ) → AreChoices (menu_model s.first (image_menu i from menu.may)) cs
-        → IsPassed own blind (image_menu i from menu.may)
-        (after_choices (menu_model s.first (image_menu i from menu.may)) (begun_moment i start) cs).world c
-    passed cs c can =
-        let k = s.told.counted.all cs can (subst (λ d. IsCovered d (length cs)) (sym closed) tt) in
-        tests_pass own blind (image_menu i from menu.may)
-        (after_choices (menu_model s.first (image_menu i from menu.may)) (begun_moment i start) cs).world c
-        k.stands.stands.sound (pass cs c can)
+    (λ cs c can lt. (passed own blind menu states from depth most start i v s closed pass cs c can lt).away)
+    (λ cs c p can named h. (passed own blind menu states from depth most start i v s closed pass cs c can
+    (there own blind menu states from depth most start i v s closed cs c p can named)).confined p named h)
+    a plans seed n are exits
+
+-- it is said of a search that closed alone
+closed_away : (first : Memory) (o : LeftOut) (g : Menu) (m : Moment) (end : Extent)
+    → IsAwaySaid first o g m end Yes → (depth : ℕ) × (end ≡ Closed depth)
+closed_away first o g m (Closed depth) h = (depth, refl)
+closed_away first o g m (Within depth) h = absurd cc
+closed_away first o g m (Stopped depth) h = absurd cc
+
+all_away : (first : Memory) (o : LeftOut) (g : Menu) (m : Moment) (end : Extent) (depth : ℕ) → end ≡ Closed depth
+    → IsAwaySaid first o g m end Yes → SearchPasses o.own (is_left_out o) first g m
+all_away first o g m (Closed depth) d is h = h
+all_away first o g m (Within depth) d is h = absurd cc
+all_away first o g m (Stopped depth) d is h = absurd cc
+
+pub away_texts_name_programs : AwayTextsNamePrograms
+away_texts_name_programs menu states from most start i j text s out ends cpus a plans seed n are exits =
+    let g = image_menu i from menu.may in
+    let m = begun_moment i start in
+    let (said, (is, holds)) = s.looks.asked out in
+    let yes : Some said ≡ Some Yes = sym is ∙ ends_away menu states from most start i text s out ends in
+    let same : said ≡ Yes = cc in
+    let h : IsAwaySaid s.first menu.out g m s.verdict Yes = subst (IsAwaySaid s.first menu.out g m s.verdict) same holds
+    in
+    let (depth, closed) = closed_away s.first menu.out g m s.verdict h in
+    tested_names_any_program menu.out.own (is_left_out menu.out) menu states from depth most start i j
+    (plainly 0 text None) s closed cpus (all_away s.first menu.out g m s.verdict depth closed h) a plans seed n are
+    exits
