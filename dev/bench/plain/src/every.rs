@@ -3,6 +3,7 @@
 
 use std::collections::HashSet;
 
+use crate::away::{Away, Look};
 use crate::calls::YIELD;
 use crate::coming::{Coming, Cut, SHOWN};
 use crate::cpu::{put_line, Line};
@@ -184,10 +185,12 @@ fn searched(mut loaded: Loaded<true>, menu: Menu, output: &mut Output, bounds: B
     search.search()?;
     let lost = search.lost(output)?;
     let coming = search.coming(output)?;
+    let away = search.away();
     put_head(output, &head)?;
     search.put(output)?;
     search.put_lost(output, &lost)?;
-    search.put_coming(output, &coming)
+    search.put_coming(output, &coming)?;
+    away.map_or(Ok(()), |away| search.put_away(output, &away))
 }
 
 /// The guest on a processor: the child of the root that runs there, or is above what does.
@@ -453,6 +456,42 @@ impl Search {
             output.end_line()?;
         }
         Ok(())
+    }
+
+    /// Whether each state looks away on each processor, if that is asked.
+    fn away(&mut self) -> Option<Away> {
+        if !self.explorer.menu.blind.is_asked() {
+            return None;
+        }
+        if !matches!(self.end.0, End::Closed) {
+            return Some(Away::Unknown);
+        }
+        for state in 0..self.states.count() {
+            self.explorer.visit(self.states.key(state));
+            for cpu in 0..self.explorer.world.count {
+                self.explorer.restart();
+                let Explorer { world, menu, .. } = &mut self.explorer;
+                let is_away = Look { world, blind: &menu.blind, deeds: &menu.deeds }.is_away(cpu);
+                self.explorer.world.frames.undo();
+                if !is_away {
+                    return Some(Away::No(state, cpu));
+                }
+            }
+        }
+        Some(Away::Yes)
+    }
+
+    fn put_away(&self, output: &mut Output, away: &Away) -> Result<(), Stop> {
+        match *away {
+            Away::Yes => output.text("away yes"),
+            Away::Unknown => output.text("away unknown"),
+            Away::No(state, cpu) => {
+                output.text("away no");
+                self.put_way(output, &self.states.way(state));
+                output.text(" : ").number(cpu as u32)
+            }
+        };
+        output.end_line()
     }
 
     /// What is said of each label.

@@ -63,7 +63,7 @@ pub enum Access {
 impl Access {
     /// The bits that a row needs for it.
     #[inline]
-    fn need(self) -> u32 {
+    pub fn need(self) -> u32 {
         match self {
             Access::Load => READ | USER,
             Access::Store => WRITE | USER,
@@ -353,7 +353,7 @@ impl<const LOGGED: bool> Machine<LOGGED> {
     }
 
     /// The partition that a yield goes to.
-    fn target(&self, from: u32, target: u32) -> Result<u32, Status> {
+    pub fn target(&self, from: u32, target: u32) -> Result<u32, Status> {
         match target {
             0 if from == ROOT => Err(Status::NotChild),
             0 => Ok(self.frames.get(from, PARENT)),
@@ -365,7 +365,7 @@ impl<const LOGGED: bool> Machine<LOGGED> {
 }
 
 /// Why an access by a row is refused.
-fn fault_of(row: u32) -> Fault {
+pub fn fault_of(row: u32) -> Fault {
     match row {
         0 => Fault::Unmapped,
         _ if row & USER == 0 => Fault::Hidden,

@@ -4,6 +4,7 @@
 mod apart;
 mod asm;
 mod audit;
+mod away;
 mod calls;
 mod coming;
 mod cpu;

@@ -1,7 +1,8 @@
 //! What partitions may do, whatever their programs are: the text after an image (docs/FORMATS.md, "against").
 
+use crate::away::Blind;
 use crate::cpu::{moved, Line};
-use crate::frames::ROOT;
+use crate::frames::{ROOT, WORDS};
 use crate::machine::{Machine, Outcome};
 use crate::output::{Input, Output};
 use crate::texts::{newline, number, Words, LONGEST};
@@ -10,15 +11,17 @@ use crate::Stop;
 const MOST_DEEDS: usize = 1024;
 const MOST_LABELS: usize = 16;
 const MOST_LINES: u32 = 65536;
+/// Lines `any`, `free` and `seen`.
+const MOST_LEFT_OUT: [usize; 3] = [64, 256, 256];
 
 /// What a partition of this name may do, or without one each but the root.
 pub struct Deed {
     name: Option<u32>,
-    event: Event,
+    pub event: Event,
 }
 
 #[derive(Clone, Copy)]
-enum Event {
+pub enum Event {
     Load(u32, bool),
     Store(u32, bool, u32),
     Trap(u32, u32, u32),
@@ -55,20 +58,22 @@ pub fn menu(input: &mut Input, output: &mut Output) -> Result<Menu, Stop> {
     }
 }
 
-/// What partitions may do, the labels of which it is asked whether they can come again, and those of which it is asked
-/// whether they come.
+/// What partitions may do, the labels of which it is asked whether they can come again, those of which it is asked
+/// whether they come, and what is left out.
 #[derive(Default)]
 pub struct Menu {
     pub deeds: Vec<Deed>,
     pub labels: Vec<Vec<u8>>,
     pub coming: Vec<Vec<u8>>,
+    pub blind: Blind,
     lines: u32,
 }
 
 impl Menu {
     fn judge(&mut self, line: &[u8]) -> Result<(), Stop> {
         self.lines += 1;
-        let bad = |kind| Stop::Bad(format!("bad line {} {kind}", self.lines));
+        let line_number = self.lines;
+        let bad = |kind| Stop::Bad(format!("bad line {line_number} {kind}"));
         if line.len() > LONGEST {
             return Err(bad("long"));
         }
@@ -85,6 +90,13 @@ impl Menu {
             labels.push(label.to_vec());
             return Ok(());
         }
+        if let Some(kind) = [&b"any"[..], b"free", b"seen"].iter().position(|word| *word == who) {
+            self.leave_out(kind, &mut words).ok_or_else(|| bad("what"))?;
+            if self.blind.lines[kind] > MOST_LEFT_OUT[kind] || self.lines > MOST_LINES {
+                return Err(bad("many"));
+            }
+            return Ok(());
+        }
         let name = match who {
             b"each" => None,
             who => Some(number(who).ok_or_else(|| bad("who"))?),
@@ -96,6 +108,23 @@ impl Menu {
         self.deeds.try_reserve(1)?;
         self.deeds.push(Deed { name, event });
         Ok(())
+    }
+}
+
+impl Menu {
+    fn leave_out(&mut self, kind: usize, words: &mut Words) -> Option<()> {
+        let page = number(words.next()?)?;
+        let index = if kind == 2 { number(words.next()?).filter(|&index| index < WORDS)? } else { 0 };
+        if words.next().is_some() {
+            return None;
+        }
+        match kind {
+            0 => self.blind.own.insert(page),
+            1 => self.blind.pages.insert(page),
+            _ => self.blind.seen.insert((page, index)),
+        };
+        self.blind.lines[kind] += 1;
+        Some(())
     }
 }
 
